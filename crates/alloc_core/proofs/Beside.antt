@@ -9,9 +9,9 @@ use lib.ListN.{get_elem?}
 use Rattle.atomic_table.proofs.Lists.{set_else, at_longer}
 use Rattle.segment_image.specs.Shape.{Dimensions}
 use Rattle.segment_image.specs.Words.{word_at}
-use Rattle.alloc_core.specs.declared.alloc.Stage.{Stage}
-use Rattle.alloc_core.specs.declared.alloc.Stage.TheVariants.{LoadFlags, LoadFree, ExchangeFree, StoreSize, StoreCookie, StoreType, SetFull, Claimed, Full, Corrupt}
-use Rattle.alloc_core.specs.Event.{Event, load_flags, load_free, exchange_free, store_size, store_cookie, store_type, set_flag, spot}
+use Rattle.alloc_core.specs.declared.alloc.AllocStage.{AllocStage}
+use Rattle.alloc_core.specs.declared.alloc.AllocStage.TheVariants.{LoadFlags, LoadFree, ExchangeFree, StoreSize, StoreCookie, StoreType, SetFull, Claimed, Full, Corrupt}
+use Rattle.alloc_core.specs.Event.{Access, load_flags, load_free, exchange_free, store_size, store_cookie, store_type, set_flag, spot}
 use Rattle.alloc_core.specs.Alloc.{Allocation, cookie_of, event_at, next_event, IsAimed}
 use Rattle.alloc_core.specs.Laws.{taken, IsRecord, IsListWord, State, Move, starts, steps, fills, spoils, IsMove, StateKeeps}
 use Rattle.alloc_core.proofs.Layouts.{length_shown, free_word}
@@ -21,12 +21,12 @@ at_zero : (at : ℕ) → at ≡ at + 0
 at_zero at = omega arith
 
 -- an event of an allocation acts on the flags, on the free pointer, or on the first words of its own block
-step_spot : (a : Allocation) (stage : Stage) (event : Event) → event_at a stage ≡ Some event
+step_spot : (a : Allocation) (stage : AllocStage) (event : Access) → event_at a stage ≡ Some event
     → ((6 ≤ spot event) × (spot event ≤ 7)) ⊎ ((block : ℕ × ℕ) × (j : ℕ) × (taken stage ≡ Some block) × (j < 3) × (spot event ≡ block.0 + j))
-step_spot a LoadFlags event is = let same : load_flags ≡ event = cc is in inl (subst (λ (v : Event). (6 ≤ spot v) × (spot v ≤ 7)) same (omega arith, omega arith))
-step_spot a LoadFree event is = let same : load_free ≡ event = cc is in inl (subst (λ (v : Event). (6 ≤ spot v) × (spot v ≤ 7)) same (omega arith, omega arith))
+step_spot a LoadFlags event is = let same : load_flags ≡ event = cc is in inl (subst (λ (v : Access). (6 ≤ spot v) × (spot v ≤ 7)) same (omega arith, omega arith))
+step_spot a LoadFree event is = let same : load_free ≡ event = cc is in inl (subst (λ (v : Access). (6 ≤ spot v) × (spot v ≤ 7)) same (omega arith, omega arith))
 step_spot a (ExchangeFree next purpose) event is =
-    let same : exchange_free a.seen next ≡ event = cc is in inl (subst (λ (v : Event). (6 ≤ spot v) × (spot v ≤ 7)) same (omega arith, omega arith))
+    let same : exchange_free a.seen next ≡ event = cc is in inl (subst (λ (v : Access). (6 ≤ spot v) × (spot v ≤ 7)) same (omega arith, omega arith))
 step_spot a (StoreSize at size purpose) event is =
     let same : store_size at size ≡ event = cc is in
     inr ((at, size), 0, refl, omega arith, ap spot (sym same) ∙ at_zero at)
@@ -36,7 +36,7 @@ step_spot a (StoreCookie at size purpose) event is =
 step_spot a (StoreType at size) event is =
     let same : store_type at a.tag ≡ event = cc is in
     inr ((at, size), 2, refl, omega arith, ap spot (sym same) ∙ refl)
-step_spot a SetFull event is = let same : set_flag 2 ≡ event = cc is in inl (subst (λ (v : Event). (6 ≤ spot v) × (spot v ≤ 7)) same (omega arith, omega arith))
+step_spot a SetFull event is = let same : set_flag 2 ≡ event = cc is in inl (subst (λ (v : Access). (6 ≤ spot v) × (spot v ≤ 7)) same (omega arith, omega arith))
 step_spot a (Claimed at size) event is = absurd (cc is)
 step_spot a Full event is = absurd (cc is)
 step_spot a Corrupt event is = absurd (cc is)
@@ -45,7 +45,7 @@ from_aim : (at size : ℕ) (block : ℕ × ℕ) → (at, size) ≡ block → 16 
 from_aim at size block same from five = subst (λ (p : ℕ × ℕ). (16 ≤ p.0) × (5 ≤ p.1)) same (from, omega (arith, five))
 
 -- the words that are taken lie behind the header and are five or more
-taken_from : (a : Allocation) (stage : Stage) (block : ℕ × ℕ) → IsAimed a stage → taken stage ≡ Some block → (16 ≤ block.0) × (5 ≤ block.1)
+taken_from : (a : Allocation) (stage : AllocStage) (block : ℕ × ℕ) → IsAimed a stage → taken stage ≡ Some block → (16 ≤ block.0) × (5 ≤ block.1)
 taken_from a LoadFlags block aimed e = absurd (cc e)
 taken_from a LoadFree block aimed e = absurd (cc e)
 taken_from a (ExchangeFree next purpose) block aimed e = absurd (cc e)
@@ -64,7 +64,7 @@ claimed_taken : (a : Allocation) (reference size : ℕ) → a.stage ≡ Claimed 
 claimed_taken a reference size e = ap taken e
 
 -- a claimed block's allocation has ended
-ended : (a : Allocation) (reference size : ℕ) (event : Event) → a.stage ≡ Claimed reference size → next_event a ≡ Some event → ⊥
+ended : (a : Allocation) (reference size : ℕ) (event : Access) → a.stage ≡ Claimed reference size → next_event a ≡ Some event → ⊥
 ended a reference size event stage next = absurd (cc (sym next ∙ ap (event_at a) stage))
 
 -- a claimed block stays claimed

@@ -12,7 +12,7 @@ use Rattle.segment_image.specs.Head.{head_of}
 use Rattle.segment_image.specs.Blocks.{is_placed, is_claimed, field_at}
 use Rattle.alloc_core.specs.Layout.{Block, extent}
 use Rattle.alloc_core.specs.Laws.{own, taken, Apart, State, StateKeeps, IsRecord, Has}
-use Rattle.alloc_core.specs.declared.alloc.Stage.TheVariants.{Claimed}
+use Rattle.alloc_core.specs.declared.alloc.AllocStage.TheVariants.{Claimed}
 use Rattle.alloc_core.specs.Alloc.{Allocation, IsAimed}
 use Rattle.alloc_core.proofs.Layouts.{slice_shown, free_word, ends_within}
 use Rattle.alloc_core.proofs.Steps.{taken_apart}

@@ -11,16 +11,16 @@ use Rattle.segment_image.specs.Shape.{Dimensions}
 use Rattle.segment_image.specs.Words.{word_at}
 use Rattle.alloc_core.specs.declared.alloc.Purpose.{Purpose}
 use Rattle.alloc_core.specs.declared.alloc.Purpose.TheVariants as purpose
-use Rattle.alloc_core.specs.declared.alloc.Stage.{Stage}
-use Rattle.alloc_core.specs.declared.alloc.Stage.TheVariants.{LoadFlags, LoadFree, ExchangeFree, StoreSize, StoreCookie, StoreType, SetFull, Claimed, Full, Corrupt}
+use Rattle.alloc_core.specs.declared.alloc.AllocStage.{AllocStage}
+use Rattle.alloc_core.specs.declared.alloc.AllocStage.TheVariants.{LoadFlags, LoadFree, ExchangeFree, StoreSize, StoreCookie, StoreType, SetFull, Claimed, Full, Corrupt}
 use Rattle.alloc_core.specs.declared.alloc.TooLarge.{TooLarge}
 use Rattle.alloc_core.specs.declared.planned.Planned.{Planned}
 use Rattle.alloc_core.specs.declared.planned.Planned.TheVariants as plan
 use Rattle.alloc_core.specs.Layout.{queue_block, Block, Layout, free_of, render, IsShown, IsAmong, put, raw_block, grown}
 use Rattle.alloc_core.specs.Planned.{planned, is_pointer}
-use Rattle.alloc_core.specs.Event.{Event, load_flags, load_free, exchange_free, store_size, store_cookie, store_type, store_payload, set_flag, spot, after}
+use Rattle.alloc_core.specs.Event.{Access, load_flags, load_free, exchange_free, store_size, store_cookie, store_type, store_payload, set_flag, spot, after}
 use Rattle.alloc_core.specs.Alloc.{Allocation, cookie_of, stage_of_plan, stage_of_cookie, stage_after, seen_after, event_at, first_of, started, IsRise, IsAimed, IsLawful}
-use Rattle.alloc_core.specs.Laws.{Behind, own, claimed_words, Has, Fits, Keeps, IsListWord, IsImageWord, Leaves}
+use Rattle.alloc_core.specs.Laws.{Behind, own, claimed_words, Has, AllocationFits, Keeps, IsListWord, IsImageWord, Leaves}
 use Rattle.alloc_core.specs.Layout.{IsShape}
 use Rattle.std.proofs.Math.Nat.{le-max_right, max-le}
 use Rattle.std.proofs.lemmas.Bool.{cases_order, ltb-false}
@@ -35,7 +35,7 @@ Behind-le m n b = ⊎_elim (λ (e : m ≡ n). let h : m ≤ n = omega arith in h
 
 module _ (shape : Dimensions) (words : List ℕ) (allocations : List Allocation) (owner : ℕ) (a : Allocation)
     (keeps : Keeps shape words allocations) (mine : get_elem? allocations owner ≡ some a) where
-  fits : Fits shape keeps.layout owner a
+  fits : AllocationFits shape keeps.layout owner a
   fits = keeps.each owner a mine
 
   -- what the words become, and the allocations become, keeps what holds, and leaves the blocks that nobody owns
@@ -46,14 +46,14 @@ module _ (shape : Dimensions) (words : List ℕ) (allocations : List Allocation)
   Goes words' a' = GoesTo words' (set allocations owner a')
 
   -- where the others fit as they are
-  goes : (words' : List ℕ) (layout' : Layout) (a' : Allocation) → IsShown shape words' layout' → Fits shape layout' owner a'
-      → ((j : ℕ) (x : Allocation) → j ≢ owner → Fits shape keeps.layout j x → Fits shape layout' j x) → Leaves keeps.layout layout' → Goes words' a'
+  goes : (words' : List ℕ) (layout' : Layout) (a' : Allocation) → IsShown shape words' layout' → AllocationFits shape layout' owner a'
+      → ((j : ℕ) (x : Allocation) → j ≢ owner → AllocationFits shape keeps.layout j x → AllocationFits shape layout' j x) → Leaves keeps.layout layout' → Goes words' a'
   goes words' layout' a' shown fits' others leaves = (
     record {
       layout = layout';
       shown = shown;
       each = λ j x there. ⊎_elim
-          (λ (t : (j ≡ owner) × (a' ≡ x)). subst (λ (y : ℕ × Allocation). Fits shape layout' y.0 y.1) (λ i. (sym t.0 i, t.1 i)) fits')
+          (λ (t : (j ≡ owner) × (a' ≡ x)). subst (λ (y : ℕ × Allocation). AllocationFits shape layout' y.0 y.1) (λ i. (sym t.0 i, t.1 i)) fits')
           (λ (t : (j ≢ owner) × (get_elem? allocations j ≡ some x)). others j x t.0 (keeps.each j x t.1))
           (at_set allocations owner j a' x there);
     },
@@ -61,21 +61,21 @@ module _ (shape : Dimensions) (words : List ℕ) (allocations : List Allocation)
   )
 
   -- where no word changes
-  stays : (words' : List ℕ) (a' : Allocation) → words' ≡ words → Fits shape keeps.layout owner a' → Goes words' a'
+  stays : (words' : List ℕ) (a' : Allocation) → words' ≡ words → AllocationFits shape keeps.layout owner a' → Goes words' a'
   stays words' a' same fits' =
       goes words' keeps.layout a' (subst (λ (ws : List ℕ). IsShown shape ws keeps.layout) (sym same) keeps.shown) fits' (λ _ _ _ f. f) (λ b among nobody. among)
 
   -- what the allocation is after an event at a stage
-  abbrev at_stage : ℕ → Stage → Allocation
+  abbrev at_stage : ℕ → AllocStage → Allocation
   at_stage found stage = record a { seen = seen_after a found stage; stage = stage_after a found stage }
 
-  lawful_at : (found : ℕ) (stage : Stage) → a.stage ≡ stage → IsLawful (at_stage found stage)
-  lawful_at found stage e = subst (λ (s : Stage). IsLawful (at_stage found s)) e (moved_lawful a found fits.lawful)
+  lawful_at : (found : ℕ) (stage : AllocStage) → a.stage ≡ stage → IsLawful (at_stage found stage)
+  lawful_at found stage e = subst (λ (s : AllocStage). IsLawful (at_stage found s)) e (moved_lawful a found fits.lawful)
 
-  pub aimed_at : (stage : Stage) → a.stage ≡ stage → IsAimed a stage
+  pub aimed_at : (stage : AllocStage) → a.stage ≡ stage → IsAimed a stage
   aimed_at stage e = subst (IsAimed a) e fits.lawful.aimed
 
-  pub has_at : (stage : Stage) → a.stage ≡ stage → Has keeps.layout.blocks owner stage
+  pub has_at : (stage : AllocStage) → a.stage ≡ stage → Has keeps.layout.blocks owner stage
   has_at stage e = subst (Has keeps.layout.blocks owner) e fits.has
 
   has_flags : (clear : Bool) → Has keeps.layout.blocks owner (if clear then LoadFree else Corrupt)
@@ -138,7 +138,7 @@ module _ (shape : Dimensions) (words : List ℕ) (allocations : List Allocation)
       → Goes (after (exchange_free a.seen next) words) (at_stage (word_at words 7) (ExchangeFree next purpose))
   exchanges next purpose e =
       let found : ℕ = word_at words 7 in
-      let stage_by : Bool → Stage = λ b. if b then StoreSize found (next - found) purpose else LoadFlags in
+      let stage_by : Bool → AllocStage = λ b. if b then StoreSize found (next - found) purpose else LoadFlags in
       let law : IsLawful (record a { stage = stage_by (found == a.seen) }) = lawful_at found (ExchangeFree next purpose) e in
       let up : IsRise shape a.seen next = subst (λ (s : Dimensions). IsRise s a.seen next) fits.shaped (aimed_at (ExchangeFree next purpose) e).1 in
       let ends : Bool → Type 0 = λ b. Goes (after (exchange_free a.seen next) words) (record a { stage = stage_by b }) in
@@ -154,7 +154,7 @@ module _ (shape : Dimensions) (words : List ℕ) (allocations : List Allocation)
       }))
 
   -- a store into the allocation's own block, from one list of words to another
-  own_store : (at k : ℕ) (ws ws' words' : List ℕ) (stage : Stage) → get_elem? keeps.layout.blocks k ≡ some (own owner at ws)
+  own_store : (at k : ℕ) (ws ws' words' : List ℕ) (stage : AllocStage) → get_elem? keeps.layout.blocks k ≡ some (own owner at ws)
       → length ws' ≡ length ws → IsShown shape words' (put keeps.layout k (own owner at ws')) → IsLawful (record a { stage = stage })
       → ((blocks : List Block) → IsAmong blocks (own owner at ws') → Has blocks owner stage) → Goes words' (record a { stage = stage })
   own_store at k ws ws' words' stage there long shown lawful has =
@@ -222,12 +222,12 @@ module _ (shape : Dimensions) (words : List ℕ) (allocations : List Allocation)
       (λ _ _ _ f. record { shaped = f.shaped; lawful = f.lawful; behind = f.behind; has = f.has })
       (λ b among nobody. among)
 
-  by : (stage : Stage) (event other : Event) → event ≡ other → Goes (after event words) (at_stage (word_at words (spot event)) stage)
+  by : (stage : AllocStage) (event other : Access) → event ≡ other → Goes (after event words) (at_stage (word_at words (spot event)) stage)
       → Goes (after other words) (at_stage (word_at words (spot other)) stage)
-  by stage event other same = subst (λ (v : Event). Goes (after v words) (at_stage (word_at words (spot v)) stage)) same
+  by stage event other same = subst (λ (v : Access). Goes (after v words) (at_stage (word_at words (spot v)) stage)) same
 
   -- whatever the next event is
-  pub step_keeps : (stage : Stage) (event : Event) → a.stage ≡ stage → event_at a stage ≡ Some event
+  pub step_keeps : (stage : AllocStage) (event : Access) → a.stage ≡ stage → event_at a stage ≡ Some event
       → Goes (after event words) (at_stage (word_at words (spot event)) stage)
   step_keeps LoadFlags event e is = by LoadFlags load_flags event (cc is) (loads_flags e)
   step_keeps LoadFree event e is = by LoadFree load_free event (cc is) (loads_free e)
@@ -249,12 +249,12 @@ module _ (shape : Dimensions) (words : List ℕ) (allocations : List Allocation)
       let (behind, long, (k, there)) = has_at (Claimed at size) e in
       let stored : List ℕ = set behind index v in
       let same : set allocations owner (record a { stage = Claimed at size }) ≡ allocations =
-      ap (λ (s : Stage). set allocations owner (record a { stage = s })) (sym e) ∙ set_again allocations owner a mine in
+      ap (λ (s : AllocStage). set allocations owner (record a { stage = s })) (sym e) ∙ set_again allocations owner a mine in
       subst (GoesTo (set words (at + (2 + index)) v)) same
       (own_store at k (size ∷ 0xC8799269 ∷ behind) (size ∷ 0xC8799269 ∷ stored) (set words (at + (2 + index)) v) (Claimed at size) there
       (omega (arith, length-set behind index v))
       (behind_stored shape words keeps.layout owner at size 0xC8799269 index v behind k keeps.shown there (omega (arith, long, lt)))
-      (subst (λ (s : Stage). IsLawful (record a { stage = s })) e fits.lawful)
+      (subst (λ (s : AllocStage). IsLawful (record a { stage = s })) e fits.lawful)
       (λ blocks among. (stored, omega (arith, long, length-set behind index v), among)))
 
   -- and into its payload
@@ -315,7 +315,7 @@ module _ (shape : Dimensions) (words : List ℕ) (allocations : List Allocation)
 -- what an allocation is at its start
 started_fits : (shape : Dimensions) (layout : Layout) (owner payload tag : ℕ) (a : Allocation) (over : Bool) → nat_lt shape.page (payload + 4) ≡ over
     → if◌then◌else◌ {A = Result Allocation TooLarge} over (Err (record {})) (Ok (first_of shape payload tag)) ≡ Ok a
-    → IsShape shape → 16 ≤ free_of layout → Fits shape layout owner a
+    → IsShape shape → 16 ≤ free_of layout → AllocationFits shape layout owner a
 started_fits shape layout owner payload tag a true over is lawful from = absurd (cc is)
 started_fits shape layout owner payload tag a false over is lawful from =
     let fits = ltb-false shape.page (payload + 4) over in
@@ -323,7 +323,7 @@ started_fits shape layout owner payload tag a false over is lawful from =
     let least : 1 ≤ max payload 1 = le-max_right payload 1 in
     let most : max payload 1 ≤ shape.page - 4 = max-le (omega (arith, fits)) (omega (arith, wide)) in
     let same : first_of shape payload tag ≡ a = cc is in
-    subst (Fits shape layout owner) same (record {
+    subst (AllocationFits shape layout owner) same (record {
       shaped = refl;
       lawful = record { shaped = lawful; least = omega (arith, least); most = omega (arith, most, wide); aimed = tt };
       behind = inr (omega (arith, from));
@@ -340,7 +340,7 @@ start_keeps shape words allocations payload tag a is keeps = (
     shown = keeps.shown;
     each = λ owner x there. ⊎_elim
         (λ old. keeps.each owner x old)
-        (λ (same : a ≡ x). subst (Fits shape keeps.layout owner) same
+        (λ (same : a ≡ x). subst (AllocationFits shape keeps.layout owner) same
         (started_fits shape keeps.layout owner payload tag a (nat_lt shape.page (payload + 4)) refl is keeps.shown.sound.lawful
         (free_from shape words keeps.layout keeps.shown)))
         (at_snoc allocations a x owner there);

@@ -6,8 +6,8 @@ use Rattle.std.proofs.lemmas.Bool.{leb-true, ltb-true, ltb-false, eqb-true}
 use Rattle.segment_image.specs.Shape.{Dimensions}
 use Rattle.alloc_core.specs.declared.alloc.Purpose.{Purpose}
 use Rattle.alloc_core.specs.declared.alloc.Purpose.TheVariants as purpose
-use Rattle.alloc_core.specs.declared.alloc.Stage.{Stage}
-use Rattle.alloc_core.specs.declared.alloc.Stage.TheVariants.{LoadFlags, LoadFree, ExchangeFree, StoreSize, StoreCookie, StoreType, SetFull, Claimed, Full, Corrupt}
+use Rattle.alloc_core.specs.declared.alloc.AllocStage.{AllocStage}
+use Rattle.alloc_core.specs.declared.alloc.AllocStage.TheVariants.{LoadFlags, LoadFree, ExchangeFree, StoreSize, StoreCookie, StoreType, SetFull, Claimed, Full, Corrupt}
 use Rattle.alloc_core.specs.declared.planned.Planned.TheVariants as plan
 use Rattle.alloc_core.specs.Layout.{IsShape}
 use Rattle.alloc_core.specs.Planned.{room_at, planned, is_pointer}
@@ -87,7 +87,7 @@ module _ (a : Allocation) (lawful : IsShape a.shape) (least : 5 ≤ a.size) (mos
       let one_page = up.one_page in
       record { from = aimed.0; five = omega (arith, five); within = up.within; one_page = omega (arith, one_page) }
 
-  pub aimed_after : (stage : Stage) → IsAimed a stage → IsAimed (record a { seen = seen_after a found stage }) (stage_after a found stage)
+  pub aimed_after : (stage : AllocStage) → IsAimed a stage → IsAimed (record a { seen = seen_after a found stage }) (stage_after a found stage)
   aimed_after LoadFlags aimed = aimed_flags (bit_and found 1 == 0)
   aimed_after LoadFree aimed = aimed_free (is_pointer a.shape found) refl
   aimed_after (ExchangeFree next purpose) aimed = aimed_exchange next purpose (found == a.seen) refl aimed

@@ -5,8 +5,8 @@ use mathlib.Core.Option.{some, some-injective, some-ne-none}
 use native.Mathlib.Decide.{ℕ_discrete}
 use lib.ListN.{get_elem?}
 use Rattle.atomic_table.proofs.Lists.{set_else, at_longer, at_last}
-use Rattle.alloc_core.specs.declared.alloc.Stage.{Stage}
-use Rattle.alloc_core.specs.declared.alloc.Stage.TheVariants.{LoadFlags, LoadFree, ExchangeFree, StoreSize, StoreCookie, StoreType, SetFull, Claimed, Full, Corrupt}
+use Rattle.alloc_core.specs.declared.alloc.AllocStage.{AllocStage}
+use Rattle.alloc_core.specs.declared.alloc.AllocStage.TheVariants.{LoadFlags, LoadFree, ExchangeFree, StoreSize, StoreCookie, StoreType, SetFull, Claimed, Full, Corrupt}
 use Rattle.alloc_core.specs.Layout.{Block, queue_block, IsAmong}
 use Rattle.alloc_core.specs.Laws.{own, Has}
 
@@ -38,7 +38,7 @@ among_last blocks b = (length blocks, at_last blocks b (length blocks) refl)
 
 -- the blocks of an owner stay, so what it has stays
 has_along : (blocks blocks' : List Block) (owner : ℕ) → ((at : ℕ) (words : List ℕ) → IsAmong blocks (own owner at words) → IsAmong blocks' (own owner at words))
-    → (stage : Stage) → Has blocks owner stage → Has blocks' owner stage
+    → (stage : AllocStage) → Has blocks owner stage → Has blocks' owner stage
 has_along blocks blocks' owner stay LoadFlags has = tt
 has_along blocks blocks' owner stay LoadFree has = tt
 has_along blocks blocks' owner stay (ExchangeFree next purpose) has = tt
@@ -52,18 +52,18 @@ has_along blocks blocks' owner stay Corrupt has = tt
 
 -- a store of one owner leaves what another has
 pub has_else : (blocks : List Block) (k : ℕ) (b b' : Block) (owner other : ℕ) → get_elem? blocks k ≡ some b → b.owner ≡ some owner → other ≢ owner
-    → (stage : Stage) → Has blocks other stage → Has (set blocks k b') other stage
+    → (stage : AllocStage) → Has blocks other stage → Has (set blocks k b') other stage
 has_else blocks k b b' owner other here owned ne =
     has_along blocks (set blocks k b') other
     (λ at words. among_else blocks k b b' (own other at words) here (λ e. ne (some-injective other owner (e ∙ owned))))
 
 -- so does another next of the queue block, which nobody has
-pub has_beside_queue : (blocks : List Block) (old new owner : ℕ) → get_elem? blocks 0 ≡ some (queue_block old) → (stage : Stage)
+pub has_beside_queue : (blocks : List Block) (old new owner : ℕ) → get_elem? blocks 0 ≡ some (queue_block old) → (stage : AllocStage)
     → Has blocks owner stage → Has (set blocks 0 (queue_block new)) owner stage
 has_beside_queue blocks old new owner here =
     has_along blocks (set blocks 0 (queue_block new)) owner
     (λ at words. among_else blocks 0 (queue_block old) (queue_block new) (own owner at words) here (λ e. some-ne-none owner e))
 
 -- a block more leaves what all have
-pub has_longer : (blocks : List Block) (b : Block) (owner : ℕ) (stage : Stage) → Has blocks owner stage → Has (blocks ++ b ∷ []) owner stage
+pub has_longer : (blocks : List Block) (b : Block) (owner : ℕ) (stage : AllocStage) → Has blocks owner stage → Has (blocks ++ b ∷ []) owner stage
 has_longer blocks b owner = has_along blocks (blocks ++ b ∷ []) owner (λ at words. among_longer blocks b (own owner at words))

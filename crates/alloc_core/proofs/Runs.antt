@@ -11,11 +11,11 @@ use lib.ListN.{get_elem?}
 use lib.Seq.{set-get_or}
 use Rattle.segment_image.specs.Shape.{Dimensions}
 use Rattle.segment_image.specs.Words.{word_at}
-use Rattle.alloc_core.specs.declared.alloc.Stage.{Stage}
-use Rattle.alloc_core.specs.declared.alloc.Stage.TheVariants.{LoadFlags, LoadFree, ExchangeFree, StoreSize, StoreCookie, StoreType, SetFull, Claimed, Full, Corrupt}
+use Rattle.alloc_core.specs.declared.alloc.AllocStage.{AllocStage}
+use Rattle.alloc_core.specs.declared.alloc.AllocStage.TheVariants.{LoadFlags, LoadFree, ExchangeFree, StoreSize, StoreCookie, StoreType, SetFull, Claimed, Full, Corrupt}
 use Rattle.alloc_core.specs.Layout.{Layout, free_of, IsShape, IsSound, IsShown, fresh}
 use Rattle.alloc_core.specs.Planned.{room_at, is_pointer}
-use Rattle.alloc_core.specs.Event.{Event, load_flags, load_free, exchange_free, store_size, store_cookie, store_type, set_flag, after}
+use Rattle.alloc_core.specs.Event.{Access, load_flags, load_free, exchange_free, store_size, store_cookie, store_type, set_flag, after}
 use Rattle.alloc_core.specs.Alloc.{Allocation, event_at, cookie_of, IsAimed}
 use Rattle.alloc_core.specs.Laws.{Behind, State, Move, starts, steps, fills, spoils, IsMove, IsRun, StateKeeps, opening, FlagsBy, Leaves}
 use Rattle.alloc_core.proofs.Layouts.{free_word, free_from, behind_shown}
@@ -99,32 +99,32 @@ flagged : (words : List ℕ) (v : ℕ) → 6 < length words → word_at (set wor
 flagged words v lt = get_or-set_same words 6 v 0 lt
 
 -- the flags after the next event of an allocation
-step_flags : (words : List ℕ) (a : Allocation) (stage : Stage) (event : Event) → 6 < length words → event_at a stage ≡ Some event → IsAimed a stage
+step_flags : (words : List ℕ) (a : Allocation) (stage : AllocStage) (event : Access) → 6 < length words → event_at a stage ≡ Some event → IsAimed a stage
     → (word_at (after event words) 6 ≡ word_at words 6) ⊎ ((stage ≡ SetFull) × (word_at (after event words) 6 ≡ bit_or (word_at words 6) 2))
 step_flags words a LoadFlags event lt is aimed =
     let same : load_flags ≡ event = cc is in
-    inl (subst (λ (v : Event). word_at (after v words) 6 ≡ word_at words 6) same (ap (λ (ws : List ℕ). word_at ws 6) (set-get_or words 6 0)))
+    inl (subst (λ (v : Access). word_at (after v words) 6 ≡ word_at words 6) same (ap (λ (ws : List ℕ). word_at ws 6) (set-get_or words 6 0)))
 step_flags words a LoadFree event lt is aimed =
     let same : load_free ≡ event = cc is in
-    inl (subst (λ (v : Event). word_at (after v words) 6 ≡ word_at words 6) same (beside words 7 (word_at words 7) (λ e. omega arith)))
+    inl (subst (λ (v : Access). word_at (after v words) 6 ≡ word_at words 6) same (beside words 7 (word_at words 7) (λ e. omega arith)))
 step_flags words a (ExchangeFree next purpose) event lt is aimed =
     let same : exchange_free a.seen next ≡ event = cc is in
-    inl (subst (λ (v : Event). word_at (after v words) 6 ≡ word_at words 6) same (beside words 7 _ (λ e. omega arith)))
+    inl (subst (λ (v : Access). word_at (after v words) 6 ≡ word_at words 6) same (beside words 7 _ (λ e. omega arith)))
 step_flags words a (StoreSize at size purpose) event lt is aimed =
     let same : store_size at size ≡ event = cc is in
     let from = aimed.0 in
-    inl (subst (λ (v : Event). word_at (after v words) 6 ≡ word_at words 6) same (beside words at size (λ e. omega arith)))
+    inl (subst (λ (v : Access). word_at (after v words) 6 ≡ word_at words 6) same (beside words at size (λ e. omega arith)))
 step_flags words a (StoreCookie at size purpose) event lt is aimed =
     let same : store_cookie at (cookie_of purpose) ≡ event = cc is in
     let from = aimed.0 in
-    inl (subst (λ (v : Event). word_at (after v words) 6 ≡ word_at words 6) same (beside words (at + 1) (cookie_of purpose) (λ e. omega arith)))
+    inl (subst (λ (v : Access). word_at (after v words) 6 ≡ word_at words 6) same (beside words (at + 1) (cookie_of purpose) (λ e. omega arith)))
 step_flags words a (StoreType at size) event lt is aimed =
     let same : store_type at a.tag ≡ event = cc is in
     let from = aimed.0 in
-    inl (subst (λ (v : Event). word_at (after v words) 6 ≡ word_at words 6) same (beside words (at + 2) a.tag (λ e. omega arith)))
+    inl (subst (λ (v : Access). word_at (after v words) 6 ≡ word_at words 6) same (beside words (at + 2) a.tag (λ e. omega arith)))
 step_flags words a SetFull event lt is aimed =
     let same : set_flag 2 ≡ event = cc is in
-    inr (refl, subst (λ (v : Event). word_at (after v words) 6 ≡ bit_or (word_at words 6) 2) same (flagged words (bit_or (word_at words 6) 2) lt))
+    inr (refl, subst (λ (v : Access). word_at (after v words) 6 ≡ bit_or (word_at words 6) 2) same (flagged words (bit_or (word_at words 6) 2) lt))
 step_flags words a (Claimed at size) event lt is aimed = absurd (cc is)
 step_flags words a Full event lt is aimed = absurd (cc is)
 step_flags words a Corrupt event lt is aimed = absurd (cc is)

@@ -11,13 +11,13 @@ use Rattle.alloc_core.specs.declared.alloc.AllocStep.{AllocStep}
 use Rattle.alloc_core.specs.declared.alloc.AllocStep.TheVariants as said
 use Rattle.alloc_core.specs.declared.alloc.Purpose.{Purpose}
 use Rattle.alloc_core.specs.declared.alloc.Purpose.TheVariants as purpose
-use Rattle.alloc_core.specs.declared.alloc.Stage.{Stage}
-use Rattle.alloc_core.specs.declared.alloc.Stage.TheVariants.{LoadFlags, LoadFree, ExchangeFree, StoreSize, StoreCookie, StoreType, SetFull, Claimed, Full, Corrupt}
+use Rattle.alloc_core.specs.declared.alloc.AllocStage.{AllocStage}
+use Rattle.alloc_core.specs.declared.alloc.AllocStage.TheVariants.{LoadFlags, LoadFree, ExchangeFree, StoreSize, StoreCookie, StoreType, SetFull, Claimed, Full, Corrupt}
 use Rattle.alloc_core.specs.declared.planned.Planned.{Planned}
 use Rattle.alloc_core.specs.declared.planned.Planned.TheVariants as plan
 use Rattle.alloc_core.specs.Layout.{Block, extent, Layout, IsAmong, put}
 use Rattle.alloc_core.specs.Planned.{planned, is_pointer}
-use Rattle.alloc_core.specs.Event.{Event, load_flags, load_free, store_type, spot, after}
+use Rattle.alloc_core.specs.Event.{Access, load_flags, load_free, store_type, spot, after}
 use Rattle.alloc_core.specs.Alloc.{Allocation, stage_of_plan, stage_of_cookie, stage_after, event_at, next_event, moved, answer, IsStep, IsCorruptBy, IsAimed, IsLawful}
 use Rattle.alloc_core.specs.Laws.{own, claimed_words, Has, Keeps, taken, Apart, IsNewBlock}
 use Rattle.std.proofs.lemmas.Bool.{cases_order}
@@ -28,7 +28,7 @@ use Rattle.alloc_core.proofs.Keeping.{step_keeps, aimed_at, has_at}
 use Rattle.alloc_core.proofs.EventKinds.{marked, length-marked, length-claimed, type_stored}
 
 -- what each answer says of the stage
-full_stage : (stage : Stage) → answer stage ≡ said.Full → stage ≡ Full
+full_stage : (stage : AllocStage) → answer stage ≡ said.Full → stage ≡ Full
 full_stage LoadFlags e = absurd (cc e)
 full_stage LoadFree e = absurd (cc e)
 full_stage (ExchangeFree next purpose) e = absurd (cc e)
@@ -40,7 +40,7 @@ full_stage (Claimed at size) e = absurd (cc e)
 full_stage Full e = refl
 full_stage Corrupt e = absurd (cc e)
 
-corrupt_stage : (stage : Stage) → answer stage ≡ said.Corrupt → stage ≡ Corrupt
+corrupt_stage : (stage : AllocStage) → answer stage ≡ said.Corrupt → stage ≡ Corrupt
 corrupt_stage LoadFlags e = absurd (cc e)
 corrupt_stage LoadFree e = absurd (cc e)
 corrupt_stage (ExchangeFree next purpose) e = absurd (cc e)
@@ -53,7 +53,7 @@ corrupt_stage Full e = absurd (cc e)
 corrupt_stage Corrupt e = refl
 
 -- an allocation that is to go on has a next event
-more_goes : (a : Allocation) (stage : Stage) → answer stage ≡ said.More → is_some (event_at a stage) ≡ true
+more_goes : (a : Allocation) (stage : AllocStage) → answer stage ≡ said.More → is_some (event_at a stage) ≡ true
 more_goes a LoadFlags e = refl
 more_goes a LoadFree e = refl
 more_goes a (ExchangeFree next purpose) e = refl
@@ -92,18 +92,18 @@ cookie_goes at size purpose.Waste is = absurd (cc is)
 
 -- Corrupt has its cause
 module _ (a : Allocation) (words : List ℕ) where
-  corrupt_at : (stage : Stage) (event : Event) → a.stage ≡ stage → event_at a stage ≡ Some event
+  corrupt_at : (stage : AllocStage) (event : Access) → a.stage ≡ stage → event_at a stage ≡ Some event
       → stage_after a (word_at words (spot event)) stage ≡ Corrupt → IsCorruptBy a words
   corrupt_at LoadFlags event e is to =
       let same : event ≡ load_flags = cc is in
-      inl (e, flags_cause (word_at words 6) _ refl (ap (λ (v : Event). stage_after a (word_at words (spot v)) LoadFlags) (sym same) ∙ to))
+      inl (e, flags_cause (word_at words 6) _ refl (ap (λ (v : Access). stage_after a (word_at words (spot v)) LoadFlags) (sym same) ∙ to))
   corrupt_at LoadFree event e is to =
       let same : event ≡ load_free = cc is in
       let free : ℕ = word_at words 7 in
       inr (
         e,
         tried_cause free (is_pointer a.shape free) (planned free a.size a.shape)
-            (ap (λ (v : Event). stage_after a (word_at words (spot v)) LoadFree) (sym same) ∙ to),
+            (ap (λ (v : Access). stage_after a (word_at words (spot v)) LoadFree) (sym same) ∙ to),
       )
   corrupt_at (ExchangeFree next purpose) event e is to =
       let found : ℕ = word_at words (spot event) in absurd (exchange_goes found (next - found) purpose (found == a.seen) to)
@@ -130,13 +130,13 @@ steps_keep old new words new_words step allocations owner is mine keeps =
     (step_keeps old.shape words allocations owner old keeps mine old.stage is.event refl is.next).0
 
 -- what both halves of a step say of the event that was next
-pub record Happened (next : Option Event) (words new_words : List ℕ) (found : ℕ) : Type 0 where
-  pub event : Event
+pub record Happened (next : Option Access) (words new_words : List ℕ) (found : ℕ) : Type 0 where
+  pub event : Access
   pub next_is : next ≡ Some event
   pub changed : new_words ≡ after event words
   pub seen : found ≡ word_at words (spot event)
 
-pub happened : (next : Option Event) (words new_words : List ℕ) (found : ℕ) → is_some next ≡ true
+pub happened : (next : Option Access) (words new_words : List ℕ) (found : ℕ) → is_some next ≡ true
     → IfSome next (λ event. new_words ≡ after event words) → IfSome next (λ event. found ≡ word_at words (spot event))
     → Happened next words new_words found
 happened None words new_words found running changed seen = absurd (cc running)
@@ -151,7 +151,7 @@ stepped old new words new_words step found running changed seen moves says =
     record { event = one.event; next = one.next_is; words_are = one.changed; new_is = moves ∙ ap (moved old) one.seen; answers = says }
 
 -- the words that a stage has taken are a block of its owner
-pub taken_among : (a : Allocation) (blocks : List Block) (owner : ℕ) (block : ℕ × ℕ) (stage : Stage) → IsAimed a stage → Has blocks owner stage
+pub taken_among : (a : Allocation) (blocks : List Block) (owner : ℕ) (block : ℕ × ℕ) (stage : AllocStage) → IsAimed a stage → Has blocks owner stage
     → taken stage ≡ Some block → (ws : List ℕ) × (length ws ≡ block.1) × IsAmong blocks (own owner block.0 ws)
 taken_among a blocks owner block LoadFlags aimed has e = absurd (cc e)
 taken_among a blocks owner block LoadFree aimed has e = absurd (cc e)
@@ -218,7 +218,7 @@ taken_apart shape words allocations i j a b block other keeps ne mine yours e f 
     (owners_apart shape.page keeps.layout.blocks i j (own i block.0 ws) (own j other.0 vs) keeps.shown.sound.laid ne refl refl among there)
 
 -- what Done says of the stages before and behind it
-claimed_stage : (stage : Stage) (reference : ℕ) → answer stage ≡ said.Done reference → (size : ℕ) × (stage ≡ Claimed reference size)
+claimed_stage : (stage : AllocStage) (reference : ℕ) → answer stage ≡ said.Done reference → (size : ℕ) × (stage ≡ Claimed reference size)
 claimed_stage LoadFlags reference e = absurd (cc e)
 claimed_stage LoadFree reference e = absurd (cc e)
 claimed_stage (ExchangeFree next purpose) reference e = absurd (cc e)
@@ -248,7 +248,7 @@ cookie_else : (from n : ℕ) (purpose : Purpose) (at size : ℕ) → stage_of_co
 cookie_else from n purpose.Claim at size is = absurd (cc is)
 cookie_else from n purpose.Waste at size is = absurd (cc is)
 
-typed_stage : (a : Allocation) (found at size : ℕ) (stage : Stage) (event : Event) → event_at a stage ≡ Some event
+typed_stage : (a : Allocation) (found at size : ℕ) (stage : AllocStage) (event : Access) → event_at a stage ≡ Some event
     → stage_after a found stage ≡ Claimed at size → stage ≡ StoreType at size
 typed_stage a found at size LoadFlags event is to = absurd (flags_else (bit_and found 1 == 0) at size to)
 typed_stage a found at size LoadFree event is to = absurd (tried_else found (is_pointer a.shape found) (planned found a.size a.shape) at size to)
@@ -306,7 +306,7 @@ done_block old new words new_words step reference allocations owner is done mine
     let stage = typed_stage old (word_at words (spot is.event)) reference size old.stage is.event is.next
     (sym (ap (λ (a : Allocation). a.stage) is.new_is) ∙ claimed) in
     let event : is.event ≡ store_type reference old.tag = cc (is.next, ap (event_at old) stage) in
-    let changed : new_words ≡ after (store_type reference old.tag) words = is.words_are ∙ ap (λ (v : Event). after v words) event in
+    let changed : new_words ≡ after (store_type reference old.tag) words = is.words_are ∙ ap (λ (v : Access). after v words) event in
     subst (λ (ws : List ℕ). IsNewBlock new reference ws keeps.layout allocations owner) (sym changed)
     (new_block words allocations owner old reference size keeps mine stage new
     (ap (λ (a : Allocation). a.shape) is.new_is) (ap (λ (a : Allocation). a.size) is.new_is) (ap (λ (a : Allocation). a.tag) is.new_is))

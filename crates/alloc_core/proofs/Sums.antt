@@ -4,8 +4,8 @@ use Rattle.std.specs.Prelude.{nat_le, if◌then◌else◌, sum_by, Some, None}
 use Rattle.std.specs.Prelude.{Option as Option'}
 use Rattle.std.specs.List.{count_by}
 use Rattle.std.proofs.lemmas.List.Sums.{sum_by-cons}
-use Rattle.alloc_core.specs.declared.alloc.Stage.{Stage}
-use Rattle.alloc_core.specs.declared.alloc.Stage.TheVariants.{LoadFlags, LoadFree, ExchangeFree, StoreSize, StoreCookie, StoreType, SetFull, Claimed, Full, Corrupt}
+use Rattle.alloc_core.specs.declared.alloc.AllocStage.{AllocStage}
+use Rattle.alloc_core.specs.declared.alloc.AllocStage.TheVariants.{LoadFlags, LoadFree, ExchangeFree, StoreSize, StoreCookie, StoreType, SetFull, Claimed, Full, Corrupt}
 use Rattle.std.proofs.lemmas.Bool.{cases_order, le-leb, lt-leb}
 use mathlib.Core.Option.{Option, some, none, some-injective, some-ne-none}
 use lib.ListN.{get_elem?}
@@ -119,7 +119,7 @@ taken_fit shape state keeps =
     omega (arith, all, is, behind_queue blocks queue.0 queue.1)
 
 -- a claimed block is five words or more
-five_taken : (a : Allocation) (stage : Stage) → IsAimed a stage → 5 * cond (has_claimed stage) 1 0 ≤ words_taken (taken stage)
+five_taken : (a : Allocation) (stage : AllocStage) → IsAimed a stage → 5 * cond (has_claimed stage) 1 0 ≤ words_taken (taken stage)
 five_taken a LoadFlags aimed = omega arith
 five_taken a LoadFree aimed = omega arith
 five_taken a (ExchangeFree next purpose) aimed = omega arith

@@ -8,13 +8,13 @@ use Rattle.alloc_core.specs.declared.planned.Planned.{Planned}
 use Rattle.alloc_core.specs.declared.planned.Planned.TheVariants as plan
 use Rattle.alloc_core.specs.declared.alloc.Purpose.{Purpose}
 use Rattle.alloc_core.specs.declared.alloc.Purpose.TheVariants as purpose
-use Rattle.alloc_core.specs.declared.alloc.Stage.{Stage}
-use Rattle.alloc_core.specs.declared.alloc.Stage.TheVariants.{LoadFlags, LoadFree, ExchangeFree, StoreSize, StoreCookie, StoreType, SetFull, Claimed, Full, Corrupt}
+use Rattle.alloc_core.specs.declared.alloc.AllocStage.{AllocStage}
+use Rattle.alloc_core.specs.declared.alloc.AllocStage.TheVariants.{LoadFlags, LoadFree, ExchangeFree, StoreSize, StoreCookie, StoreType, SetFull, Claimed, Full, Corrupt}
 use Rattle.alloc_core.specs.declared.alloc.AllocStep.{AllocStep}
 use Rattle.alloc_core.specs.declared.alloc.AllocStep.TheVariants as said
 use Rattle.alloc_core.specs.Layout.{IsShape}
 use Rattle.alloc_core.specs.Planned.{planned, is_pointer}
-use Rattle.alloc_core.specs.Event.{Event, load_flags, load_free, exchange_free, store_size, store_cookie, store_type, set_flag, spot, after}
+use Rattle.alloc_core.specs.Event.{Access, load_flags, load_free, exchange_free, store_size, store_cookie, store_type, set_flag, spot, after}
 
 -- a plain record of an allocation: the segment's shape, the words that it wants, the type of its block, the free
 -- pointer that it loaded last (0 before that), and what it does next
@@ -23,7 +23,7 @@ pub record Allocation : Type 0 where
   pub size : ℕ
   pub tag : ℕ
   pub seen : ℕ
-  pub stage : Stage
+  pub stage : AllocStage
 
 -- the cookie of a claimed block, and that of a wasted rest of a page
 abbrev pub cookie_of : Purpose → ℕ
@@ -31,7 +31,7 @@ cookie_of purpose.Claim = CLAIMED_COOKIE
 cookie_of purpose.Waste = WASTED_COOKIE
 
 -- the event that is next at a stage, where the allocation has not ended
-abbrev pub event_at : Allocation → Stage → Option Event
+abbrev pub event_at : Allocation → AllocStage → Option Access
 event_at allocation LoadFlags = Some load_flags
 event_at allocation LoadFree = Some load_free
 event_at allocation (ExchangeFree next purpose) = Some (exchange_free allocation.seen next)
@@ -44,22 +44,22 @@ event_at allocation Full = None
 event_at allocation Corrupt = None
 
 -- the next event of an allocation, or none where it has ended
-abbrev pub next_event : Allocation → Option Event
+abbrev pub next_event : Allocation → Option Access
 next_event allocation = event_at allocation allocation.stage
 
 -- the stage that a plan leads to
-abbrev pub stage_of_plan : ℕ → Planned → Stage
+abbrev pub stage_of_plan : ℕ → Planned → AllocStage
 stage_of_plan free (plan.Claim size next) = ExchangeFree next purpose.Claim
 stage_of_plan free (plan.Waste room) = ExchangeFree (free + room) purpose.Waste
 stage_of_plan free plan.Full = SetFull
 
 -- the stage behind a cookie: a wasted rest leads to a new try
-abbrev pub stage_of_cookie : ℕ → ℕ → Purpose → Stage
+abbrev pub stage_of_cookie : ℕ → ℕ → Purpose → AllocStage
 stage_of_cookie at size purpose.Claim = StoreType at size
 stage_of_cookie at size purpose.Waste = LoadFlags
 
 -- the stage behind an event that found a number
-abbrev pub stage_after : Allocation → ℕ → Stage → Stage
+abbrev pub stage_after : Allocation → ℕ → AllocStage → AllocStage
 stage_after allocation found LoadFlags = if bit_and found FLAG_CORRUPT == 0 then LoadFree else Corrupt
 stage_after allocation found LoadFree =
     if is_pointer allocation.shape found then stage_of_plan found (planned found allocation.size allocation.shape) else Corrupt
@@ -74,7 +74,7 @@ stage_after allocation found Full = Full
 stage_after allocation found Corrupt = Corrupt
 
 -- the free pointer that was loaded last
-abbrev pub seen_after : Allocation → ℕ → Stage → ℕ
+abbrev pub seen_after : Allocation → ℕ → AllocStage → ℕ
 seen_after allocation found LoadFree = found
 seen_after allocation found _ = allocation.seen
 
@@ -84,7 +84,7 @@ moved allocation found =
     record allocation { seen = seen_after allocation found allocation.stage; stage = stage_after allocation found allocation.stage }
 
 -- what a step answers that leads to a stage
-abbrev pub answer : Stage → AllocStep
+abbrev pub answer : AllocStage → AllocStep
 answer (Claimed at size) = said.Done at
 answer Full = said.Full
 answer Corrupt = said.Corrupt
@@ -97,7 +97,7 @@ IsCorruptBy old words =
 
 -- one step: the next event happens, the allocation is what that makes of it, and the answer says how it stands
 pub record IsStep (old : Allocation) (words : List ℕ) (new : Allocation) (new_words : List ℕ) (step : AllocStep) : Type 0 where
-  pub event : Event
+  pub event : Access
   pub next : next_event old ≡ Some event
   pub words_are : new_words ≡ after event words
   pub new_is : new ≡ moved old (word_at words (spot event))
@@ -125,7 +125,7 @@ Suits allocation purpose.Waste size = size < allocation.size
 
 -- what holds at a stage, whatever the words are: what it stores lies in the segment, and it is full where the words that
 -- it wants pass the end of the segment from the free pointer that it loaded
-abbrev pub IsAimed : Allocation → Stage → Type 0
+abbrev pub IsAimed : Allocation → AllocStage → Type 0
 IsAimed allocation (ExchangeFree next purpose) =
     (HEADER_WORDS ≤ allocation.seen) × IsRise allocation.shape allocation.seen next × Suits allocation purpose (next - allocation.seen)
 IsAimed allocation (StoreSize at size purpose) =

@@ -6,10 +6,10 @@ use Rattle.segment_image.specs.Shape.{Dimensions}
 use Rattle.segment_image.specs.Words.{word_at}
 use Rattle.segment_image.specs.declared.layout.TheConstants.{HEADER_WORDS, VERSION_WORD, ID_WORD, FLAGS_WORD, FREE_WORD, TAIL_WORD, QUEUE, FLAG_CORRUPT, FLAG_FULL, BLOCK_HEADER, BLOCK_NEXT, BLOCK_LEAST, CLAIMED_COOKIE}
 use Rattle.segment_image.specs.Image.{blank_words}
-use Rattle.alloc_core.specs.declared.alloc.Stage.{Stage}
-use Rattle.alloc_core.specs.declared.alloc.Stage.TheVariants.{StoreSize, StoreCookie, StoreType, SetFull, Claimed}
+use Rattle.alloc_core.specs.declared.alloc.AllocStage.{AllocStage}
+use Rattle.alloc_core.specs.declared.alloc.AllocStage.TheVariants.{StoreSize, StoreCookie, StoreType, SetFull, Claimed}
 use Rattle.alloc_core.specs.Layout.{Block, Layout, extent, free_of, IsShown, IsAmong}
-use Rattle.alloc_core.specs.Event.{Event, store_payload, set_flag, spot, after}
+use Rattle.alloc_core.specs.Event.{Access, store_payload, set_flag, spot, after}
 use Rattle.alloc_core.specs.Alloc.{Allocation, next_event, moved, started, IsLawful}
 
 -- a number is another one, or at least five below it
@@ -26,7 +26,7 @@ claimed_words size tag = size ∷ CLAIMED_COOKIE ∷ tag ∷ replicate (size - 3
 
 -- what an allocation has at a stage: until its block is claimed nobody else stores in it, and it holds just what was
 -- stored; once it is claimed, its size and its cookie stay, and its next belongs to the list
-abbrev pub Has : List Block → ℕ → Stage → Type 0
+abbrev pub Has : List Block → ℕ → AllocStage → Type 0
 Has blocks owner (StoreSize at size purpose) = IsAmong blocks (own owner at (replicate size 0))
 Has blocks owner (StoreCookie at size purpose) = IsAmong blocks (own owner at (size ∷ replicate (size - 1) 0))
 Has blocks owner (StoreType at size) = IsAmong blocks (own owner at (size ∷ CLAIMED_COOKIE ∷ replicate (size - 2) 0))
@@ -35,7 +35,7 @@ Has blocks owner (Claimed at size) =
 Has blocks owner _ = ⊤
 
 -- what holds of one allocation of a segment
-pub record Fits (shape : Dimensions) (layout : Layout) (owner : ℕ) (allocation : Allocation) : Type 0 where
+pub record AllocationFits (shape : Dimensions) (layout : Layout) (owner : ℕ) (allocation : Allocation) : Type 0 where
   pub shaped : allocation.shape ≡ shape
   pub lawful : IsLawful allocation
   pub behind : Behind allocation.seen (free_of layout)
@@ -45,10 +45,10 @@ pub record Fits (shape : Dimensions) (layout : Layout) (owner : ℕ) (allocation
 pub record Keeps (shape : Dimensions) (words : List ℕ) (allocations : List Allocation) : Type 0 where
   pub layout : Layout
   pub shown : IsShown shape words layout
-  pub each : (owner : ℕ) (allocation : Allocation) → get_elem? allocations owner ≡ some allocation → Fits shape layout owner allocation
+  pub each : (owner : ℕ) (allocation : Allocation) → get_elem? allocations owner ≡ some allocation → AllocationFits shape layout owner allocation
 
 -- the words that an allocation has taken, and has not wasted yet: where they begin, and how many they are
-abbrev pub taken : Stage → Option (ℕ × ℕ)
+abbrev pub taken : AllocStage → Option (ℕ × ℕ)
 taken (StoreSize at size purpose) = Some (at, size)
 taken (StoreCookie at size purpose) = Some (at, size)
 taken (StoreType at size) = Some (at, size)
@@ -61,7 +61,7 @@ words_taken None = 0
 words_taken (Some block) = block.1
 
 -- whether it has claimed its block
-abbrev pub has_claimed : Stage → Bool
+abbrev pub has_claimed : AllocStage → Bool
 has_claimed (Claimed at size) = true
 has_claimed _ = false
 
@@ -119,7 +119,7 @@ abbrev pub IsMove : Dimensions → Move → State → State → Type 0
 IsMove shape (starts payload tag) old new =
     (a : Allocation) × (started shape payload tag ≡ Ok a) × (new ≡ record old { allocations = old.allocations ++ a ∷ [] })
 IsMove shape (steps owner) old new =
-    (a : Allocation) × (get_elem? old.allocations owner ≡ some a) × (event : Event) × (next_event a ≡ Some event)
+    (a : Allocation) × (get_elem? old.allocations owner ≡ some a) × (event : Access) × (next_event a ≡ Some event)
     × (new ≡ record { words = after event old.words; allocations = slice_set old.allocations owner (moved a (word_at old.words (spot event))) })
 IsMove shape (fills owner index value) old new =
     (a : Allocation) × (get_elem? old.allocations owner ≡ some a) × (block : ℕ × ℕ) × (a.stage ≡ Claimed block.0 block.1) × (BLOCK_HEADER + index < block.1)

@@ -22,7 +22,7 @@ pub(crate) enum Purpose {
 
 /// What an allocation does next, or how it has ended.
 #[derive(Clone, Copy, Debug, PartialEq, Eq)]
-pub(crate) enum Stage {
+pub(crate) enum AllocStage {
     /// It loads the flags. Each try begins so.
     LoadFlags,
     /// It loads the free pointer.
@@ -87,7 +87,7 @@ pub struct Alloc {
     size: u64,
     tag: u64,
     seen: u64,
-    stage: Stage,
+    stage: AllocStage,
 }
 
 impl Model for Alloc {
@@ -100,7 +100,7 @@ impl Model for Alloc {
     ghost invariant = { λ a. IsLawful record { shape = a.shape; size = a.size; tag = a.tag; seen = a.seen; stage = a.stage } };
 }
 
-impl Stage {
+impl AllocStage {
     ghost use Rattle.std.specs.Prelude.{◌≡◌};
     ghost use Rattle.alloc_core.specs.Alloc.{answer};
 
@@ -109,9 +109,9 @@ impl Stage {
         ensures { result ≡ answer self }
     {
         match self {
-            Stage::Claimed { at, .. } => AllocStep::Done(at),
-            Stage::Full => AllocStep::Full,
-            Stage::Corrupt => AllocStep::Corrupt,
+            AllocStage::Claimed { at, .. } => AllocStep::Done(at),
+            AllocStage::Full => AllocStep::Full,
+            AllocStage::Corrupt => AllocStep::Corrupt,
             _ => AllocStep::More,
         }
     }
@@ -158,7 +158,7 @@ impl Alloc {
             size: BLOCK_HEADER as u64 + payload.max(1),
             tag,
             seen: 0,
-            stage: Stage::LoadFlags,
+            stage: AllocStage::LoadFlags,
         })
     }
 
@@ -195,7 +195,7 @@ impl Alloc {
         ensures { result ≡ attempt_of (next_event self.now) }
     {
         match self.stage {
-            Stage::ExchangeFree { .. } => Some(Attempt {
+            AllocStage::ExchangeFree { .. } => Some(Attempt {
                 at: FREE_WORD,
                 wanted: self.seen,
             }),
@@ -211,18 +211,18 @@ impl Alloc {
         ensures found { IfSome (next_event self.now) (λ event. result ≡ word_at words.old (spot event)) }
     {
         match self.stage {
-            Stage::LoadFlags => words[FLAGS_WORD],
-            Stage::LoadFree => words[FREE_WORD],
-            Stage::ExchangeFree { next, .. } => exchange(words, FREE_WORD, self.seen, next),
-            Stage::StoreSize { at, size, .. } => store(words, at as usize + BLOCK_SIZE, size),
-            Stage::StoreCookie { at, purpose, .. } => store(
+            AllocStage::LoadFlags => words[FLAGS_WORD],
+            AllocStage::LoadFree => words[FREE_WORD],
+            AllocStage::ExchangeFree { next, .. } => exchange(words, FREE_WORD, self.seen, next),
+            AllocStage::StoreSize { at, size, .. } => store(words, at as usize + BLOCK_SIZE, size),
+            AllocStage::StoreCookie { at, purpose, .. } => store(
                 words,
                 at as usize + BLOCK_COOKIE,
                 purpose.cookie(),
             ),
-            Stage::StoreType { at, .. } => store(words, at as usize + BLOCK_TYPE, self.tag),
-            Stage::SetFull => set_bits(words, FLAGS_WORD, FLAG_FULL),
-            Stage::Claimed { .. } | Stage::Full | Stage::Corrupt => 0,
+            AllocStage::StoreType { at, .. } => store(words, at as usize + BLOCK_TYPE, self.tag),
+            AllocStage::SetFull => set_bits(words, FLAGS_WORD, FLAG_FULL),
+            AllocStage::Claimed { .. } | AllocStage::Full | AllocStage::Corrupt => 0,
         }
     }
 
@@ -241,54 +241,59 @@ impl Alloc {
         ensures { result ≡ seen_after self.now found self.now.stage }
     {
         match self.stage {
-            Stage::LoadFree => found,
+            AllocStage::LoadFree => found,
             _ => self.seen,
         }
     }
 
     // The stage that comes next.
-    fn stage_after(&self, found: u64) -> Stage
+    fn stage_after(&self, found: u64) -> AllocStage
         ensures { result ≡ stage_after self.now found self.now.stage }
     {
         match self.stage {
-            Stage::LoadFlags if found & FLAG_CORRUPT == 0 => Stage::LoadFree,
-            Stage::LoadFlags => Stage::Corrupt,
-            Stage::LoadFree if is_pointer(found, &self.shape) => self.tried(found),
-            Stage::LoadFree => Stage::Corrupt,
-            Stage::ExchangeFree { next, purpose } if found == self.seen => Stage::StoreSize {
-                at: found,
-                size: next - found,
+            AllocStage::LoadFlags if found & FLAG_CORRUPT == 0 => AllocStage::LoadFree,
+            AllocStage::LoadFlags => AllocStage::Corrupt,
+            AllocStage::LoadFree if is_pointer(found, &self.shape) => self.tried(found),
+            AllocStage::LoadFree => AllocStage::Corrupt,
+            AllocStage::ExchangeFree { next, purpose } if found == self.seen =>
+                AllocStage::StoreSize {
+                    at: found,
+                    size: next - found,
+                    purpose,
+                },
+            AllocStage::ExchangeFree { .. } => AllocStage::LoadFlags,
+            AllocStage::StoreSize { at, size, purpose } => AllocStage::StoreCookie {
+                at,
+                size,
                 purpose,
             },
-            Stage::ExchangeFree { .. } => Stage::LoadFlags,
-            Stage::StoreSize { at, size, purpose } => Stage::StoreCookie { at, size, purpose },
-            Stage::StoreCookie {
+            AllocStage::StoreCookie {
                 at,
                 size,
                 purpose: Purpose::Claim,
-            } => Stage::StoreType { at, size },
-            Stage::StoreCookie { .. } => Stage::LoadFlags,
-            Stage::StoreType { at, size } => Stage::Claimed { at, size },
-            Stage::SetFull => Stage::Full,
+            } => AllocStage::StoreType { at, size },
+            AllocStage::StoreCookie { .. } => AllocStage::LoadFlags,
+            AllocStage::StoreType { at, size } => AllocStage::Claimed { at, size },
+            AllocStage::SetFull => AllocStage::Full,
             ended => ended,
         }
     }
 
     // The stage that the plan from a lawful free pointer leads to.
-    fn tried(&self, free: u64) -> Stage
+    fn tried(&self, free: u64) -> AllocStage
         requires { is_pointer self.now.shape free ≡ true }
         ensures { result ≡ stage_of_plan free (planned free self.now.size self.now.shape) }
     {
         match plan(free, self.size, self.shape) {
-            Planned::Claim { next, .. } => Stage::ExchangeFree {
+            Planned::Claim { next, .. } => AllocStage::ExchangeFree {
                 next,
                 purpose: Purpose::Claim,
             },
-            Planned::Waste { room } => Stage::ExchangeFree {
+            Planned::Waste { room } => AllocStage::ExchangeFree {
                 next: free + room,
                 purpose: Purpose::Waste,
             },
-            Planned::Full => Stage::SetFull,
+            Planned::Full => AllocStage::SetFull,
         }
     }
 }

@@ -7,7 +7,7 @@ use Rattle.std.proofs.lemmas.List.FromFn.{length-map-range_with_len, get_or-map-
 use Rattle.std.proofs.lemmas.Bool.{cases_order, or_parts, eqb-false, leb-false, ltb-false}
 use Rattle.std.specs.List.{range_with_len}
 use Rattle.bucket_ranges.specs.Spec.{IsLinear, linear_checks, spec_fault, buckets_of}
-use Rattle.bucket_ranges.specs.Ranges.{IsAscending, IsSplit, inner_boundary, linear_boundaries, boundaries_of}
+use Rattle.bucket_ranges.specs.Ranges.{IsAscending, SplitsValues, inner_boundary, linear_boundaries, boundaries_of}
 use Rattle.bucket_ranges.specs.declared.spec.Spec.{Spec}
 use Rattle.bucket_ranges.specs.declared.spec.Spec.TheVariants.{Linear, Boolean, Custom, Sparse}
 use Rattle.bucket_ranges.proofs.Customs.{is_custom-from_checks, custom_boundaries-split}
@@ -116,7 +116,7 @@ linear_boundaries-ascending min max n lawful i within =
     linear_boundaries-lt min max n lawful i (omega (arith, length-linear_boundaries min max n (omega arith)))
 
 -- so they split the values
-pub linear_boundaries-split : (min max n : ℕ) → IsLinear min max n → IsSplit n (linear_boundaries min max n)
+pub linear_boundaries-split : (min max n : ℕ) → IsLinear min max n → SplitsValues n (linear_boundaries min max n)
 linear_boundaries-split min max n lawful = record {
   count = length-linear_boundaries min max n (omega arith);
   first = refl;
@@ -160,7 +160,7 @@ is_linear-from_checks min max n none =
     }
 
 -- a spec without a fault splits the values, unless it is sparse
-pub boundaries_of-split : (spec : Spec) → spec_fault spec ≡ None → spec ≢ Sparse → IsSplit (buckets_of spec) (boundaries_of spec)
+pub boundaries_of-split : (spec : Spec) → spec_fault spec ≡ None → spec ≢ Sparse → SplitsValues (buckets_of spec) (boundaries_of spec)
 boundaries_of-split (Linear min max n) none split =
     linear_boundaries-split min max n (is_linear-from_checks min max n none)
 boundaries_of-split Boolean none split = linear_boundaries-split 1 2 3 (record {

@@ -16,7 +16,7 @@ use Rattle.segment_image.specs.Checks.{first_fault, checked}
 use Rattle.bucket_ranges.specs.declared.spec.SpecFault.{SpecFault}
 use Rattle.bucket_ranges.specs.declared.spec.SpecFault.TheVariants.{TooMany, BadRange, Empty}
 use Rattle.bucket_ranges.specs.Spec.{put_in_order, distinct_values, custom_checks, IsCustom}
-use Rattle.bucket_ranges.specs.Ranges.{AreBoundaries, IsSplit, custom_boundaries}
+use Rattle.bucket_ranges.specs.Ranges.{AreBoundaries, SplitsValues, custom_boundaries}
 use Rattle.bucket_ranges.proofs.Distinct.{Member, Ascends, member-from, contains-from, ascends-from, increasing-from, ascending-unique, distinct-ascends, distinct-member, member-distinct, distinct-of_ascending}
 
 -- ---- without a fault
@@ -151,7 +151,7 @@ last-by ds (suc n) e = get_or_push ds 2147483647 0 n (omega arith)
 
 -- so they split the values
 pub custom_boundaries-split : (values : List ℕ) → IsCustom values
-    → IsSplit (length (distinct_values values) + 1) (custom_boundaries values)
+    → SplitsValues (length (distinct_values values) + 1) (custom_boundaries values)
 custom_boundaries-split values lawful = record {
   count = omega (arith, length-custom_boundaries values);
   first = refl;

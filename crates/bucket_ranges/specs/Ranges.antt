@@ -53,7 +53,7 @@ pub record IsBucketOf (boundaries : List ℕ) (value bucket : ℕ) : Type 0 wher
   pub high : value < slice_index boundaries (bucket + 1)
 
 -- boundaries that split the values below 2,147,483,647 among so many buckets, none of them empty
-pub record IsSplit (buckets : ℕ) (boundaries : List ℕ) : Type 0 where
+pub record SplitsValues (buckets : ℕ) (boundaries : List ℕ) : Type 0 where
   pub count : length boundaries ≡ buckets + 1
   pub first : slice_index boundaries 0 ≡ 0
   pub last : slice_index boundaries buckets ≡ LAST_BOUNDARY

@@ -112,14 +112,14 @@ ghost use Rattle.segment_image.specs.Checks.{checked};
 ghost use Rattle.bucket_ranges.specs.declared.spec.Spec.{Spec};
 ghost use Rattle.bucket_ranges.specs.declared.spec.Spec.TheVariants.{Sparse};
 ghost use Rattle.bucket_ranges.specs.Spec.{linear_checks, custom_checks, IsLinear, IsCustom, spec_fault, buckets_of};
-ghost use Rattle.bucket_ranges.specs.Ranges.{inner_boundary as inner_boundary_of, linear_boundaries, custom_boundaries, boundaries_of, clamped, IsSplit, IsAscending, IsBucketOf};
+ghost use Rattle.bucket_ranges.specs.Ranges.{inner_boundary as inner_boundary_of, linear_boundaries, custom_boundaries, boundaries_of, clamped, SplitsValues, IsAscending, IsBucketOf};
 
 /// The buckets of a spec without a fault, other than a sparse one, split the values from 0 to 2,147,483,646, and none of
 /// them is empty.
 ///
 /// It does nothing: what it promises is a law of the definitions.
 pub fn buckets_split_values()
-    ensures { (spec : Spec) → spec_fault spec ≡ None → spec ≢ Sparse → IsSplit (buckets_of spec) (boundaries_of spec) }
+    ensures { (spec : Spec) → spec_fault spec ≡ None → spec ≢ Sparse → SplitsValues (buckets_of spec) (boundaries_of spec) }
 {}
 
 /// A value lies in one bucket alone.

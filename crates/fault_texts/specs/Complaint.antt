@@ -19,7 +19,7 @@ may_have Custom count = nat_le 4 count
 
 -- what a complaint says of the fields is so: the field with this index is none that may stand there; there are not as many as the form has.
 -- What it says of the records before is not looked at here.
-abbrev pub IsSo : List (List ℕ) → Complaint → Type 0
-IsSo fields (complaint.Field index wanted) = option_map (may_stand wanted) (field_at fields index) ≡ Some false
-IsSo fields (complaint.Count form) = may_have form (length fields) ≡ false
-IsSo fields _ = ⊤
+abbrev pub IsRightComplaint : List (List ℕ) → Complaint → Type 0
+IsRightComplaint fields (complaint.Field index wanted) = option_map (may_stand wanted) (field_at fields index) ≡ Some false
+IsRightComplaint fields (complaint.Count form) = may_have form (length fields) ≡ false
+IsRightComplaint fields _ = ⊤

@@ -2,7 +2,7 @@
 
 ghost use Rattle.std.specs.Prelude.{◌≡◌, IfSome};
 ghost use Rattle.csv.specs.Records.{fields_of};
-ghost use Rattle.fault_texts.specs.Complaint.{IsSo, may_have};
+ghost use Rattle.fault_texts.specs.Complaint.{IsRightComplaint, may_have};
 
 use crate::field::Wanted;
 use csv::ByteRecord;
@@ -62,7 +62,7 @@ impl RecordForm {
 
     // The complaint where a record has not as many fields as this form.
     fn check(self, fields: &ByteRecord) -> Option<Complaint>
-        ensures { IfSome result (IsSo (fields_of fields.now)) }
+        ensures { IfSome result (IsRightComplaint (fields_of fields.now)) }
     {
         if self.may_have(fields.len()) {
             None
@@ -74,7 +74,7 @@ impl RecordForm {
 
 // The complaint where a field is none that may stand there.
 fn check(fields: &ByteRecord, index: usize, wanted: Wanted) -> Option<Complaint>
-    ensures { IfSome result (IsSo (fields_of fields.now)) }
+    ensures { IfSome result (IsRightComplaint (fields_of fields.now)) }
 {
     let field = fields.get(index)?;
     if wanted.allows(field) {
@@ -86,7 +86,7 @@ fn check(fields: &ByteRecord, index: usize, wanted: Wanted) -> Option<Complaint>
 
 // The complaint of the first field from one on that is no number.
 fn check_numbers(fields: &ByteRecord, start: usize) -> Option<Complaint>
-    ensures { IfSome result (IsSo (fields_of fields.now)) }
+    ensures { IfSome result (IsRightComplaint (fields_of fields.now)) }
 {
     for index in start..fields.len() {
         if let Some(complaint) = check(fields, index, Wanted::Unsigned) {
@@ -98,7 +98,7 @@ fn check_numbers(fields: &ByteRecord, start: usize) -> Option<Complaint>
 
 // The complaint of a `hist` record.
 fn check_hist(fields: &ByteRecord) -> Option<Complaint>
-    ensures { IfSome result (IsSo (fields_of fields.now)) }
+    ensures { IfSome result (IsRightComplaint (fields_of fields.now)) }
 {
     if let Some(complaint) = RecordForm::Hist.check(fields) {
         return Some(complaint);
@@ -122,7 +122,7 @@ fn check_hist(fields: &ByteRecord) -> Option<Complaint>
 /// Returns what is wrong with the form of a record by itself, which is so: the first field that may not stand there,
 /// or that there are too many or too few.
 pub fn complaint_of(fields: &ByteRecord) -> Option<Complaint>
-    ensures { IfSome result (IsSo (fields_of fields.now)) }
+    ensures { IfSome result (IsRightComplaint (fields_of fields.now)) }
 {
     let word = fields.get(0)?;
     if word == b"segment".as_slice() {

@@ -22,7 +22,7 @@ use Rattle.segment_machine.specs.Note.{MayNote, SawAll, TookAll, noted, begins}
 use Rattle.segment_machine.specs.Seats.{giver}
 use Rattle.segment_machine.specs.declared.actor.Answered.{Answered}
 use Rattle.segment_machine.specs.declared.actor.Known.{Known as MachineKnown}
-use Rattle.hist_core.specs.StepsBy.{Deed, DoesOnly, StepsBy, HasMet, IsFree}
+use Rattle.hist_core.specs.StepsBy.{SharedEffect, DoesOnly, StepsBy, HasMetKnown, IsFree}
 use Rattle.hist_core.specs.Add.{NeedsBlock, IsAdd, alone, block_words, counted_entry, IsStarted}
 use Rattle.hist_core.specs.Add.{serves_counted as add_serves}
 use Rattle.hist_core.specs.Batch.{IsBatch, IsSameBatch, counted_entries}
@@ -33,7 +33,7 @@ use Rattle.hist_core.specs.declared.batch.BatchStep.TheVariants as batch
 use Rattle.hist_core.specs.declared.add.Add.{Add as AddCall}
 use Rattle.hist_core.specs.declared.add.AddStep.{AddStep}
 use Rattle.hist_core.specs.declared.add.AddStep.TheVariants as add
-use Rattle.hist_core.specs.Hist.{IsHist, IsBegun, IsCause as IsHistCause, serves_asked}
+use Rattle.hist_core.specs.Hist.{IsHist, IsHistBegun, IsHistCause, serves_asked}
 use Rattle.hist_core.specs.Making.{IsCause, is_full}
 use Rattle.hist_core.specs.SnapshotCall.{IsSnapshotCall, IsStarted as IsSnapshotCallStarted, LooksAnew}
 use Rattle.segment_calls.specs.declared.answer.Snapshot.{Snapshot as SnapshotAnswer}
@@ -52,10 +52,10 @@ use Rattle.std.specs.declared.vec.Vec.{Vec}
 use Rattle.hist_core.specs.declared.hist.Hist.{Hist as HistCall}
 use Rattle.hist_core.specs.declared.hist.HistStep.{HistStep}
 use Rattle.hist_core.specs.declared.hist.HistStep.TheVariants as hist
-use Rattle.hist_core.specs.declared.hist.Known.{Known}
+use Rattle.hist_core.specs.declared.hist.KnownHist.{KnownHist}
 use Rattle.hist_core.specs.declared.entry.Entry.{Entry}
 use Rattle.hist_core.specs.declared.entry.Taken.{Taken}
-use Rattle.hist_core.specs.DeltaCall.{HasBegun, insert_by_key, IsFirst, IsDeltaCall, IsStarted as IsDeltaCallStarted}
+use Rattle.hist_core.specs.DeltaCall.{HasBegun, insert_by_key, IsFirstStage, IsDeltaCall, IsStarted as IsDeltaCallStarted}
 use Rattle.segment_calls.specs.declared.answer.Delta.{Delta as DeltaAnswer}
 use Rattle.segment_promises.specs.Calls.{AreUnits}
 use Rattle.hist_core.specs.declared.delta_call.DeltaCall.{DeltaCall}
@@ -87,7 +87,7 @@ abbrev pub pending_by : ActorRun → List Entry
 pending_by actor_run = drop actor_run.ended actor_run.entries.items
 
 -- one that has done nothing
-pub record IsFresh (actor_run : ActorRun) : Type 0 where
+pub record IsFreshRun (actor_run : ActorRun) : Type 0 where
   pub entries : actor_run.entries.items ≡ []
   pub ended : actor_run.ended ≡ 0
   pub begun : actor_run.begun ≡ 0
@@ -98,11 +98,11 @@ pub record IsFresh (actor_run : ActorRun) : Type 0 where
 -- ---- what it knows
 
 -- a known histogram as the machine has it
-abbrev pub known_of : Known → MachineKnown
+abbrev pub known_of : KnownHist → MachineKnown
 known_of known = record { name = known.name.items; spec = known.spec; reference = known.reference }
 
 -- Its name and its spec are lawful, it has the ranges of the spec, its counts fit in a page, and its record lies in the segment.
-pub record IsKnown (shape : Dimensions) (known : Known) : Type 0 where
+pub record IsKnown (shape : Dimensions) (known : KnownHist) : Type 0 where
   pub name : is_name known.name.items ≡ true
   pub lawful : spec_fault known.spec ≡ None
   pub ranges : known.ranges ≡ boundaries_of known.spec
@@ -110,21 +110,21 @@ pub record IsKnown (shape : Dimensions) (known : Known) : Type 0 where
   pub within : known.reference + HISTOGRAM_NAME ≤ shape.size
 
 -- the histogram of a name stands at a place among those that are known
-abbrev pub IsKnownAt : List Known → ℕ → List ℕ → Type 0
-IsKnownAt list i name = (known : Known) × (get_elem? list i ≡ some known) × (known.name.items ≡ name)
+abbrev pub IsKnownAt : List KnownHist → ℕ → List ℕ → Type 0
+IsKnownAt list i name = (known : KnownHist) × (get_elem? list i ≡ some known) × (known.name.items ≡ name)
 
 -- What an actor knows at a place is lawful, and has the ranges of its spec.
 pub record KnowsAt (actor_run : ActorRun) (i : ℕ) : Type 0 where
   pub near : i < vec_len actor_run.known
-  pub lawful : (known : Known) → get_elem? actor_run.known.items i ≡ some known → spec_fault known.spec ≡ None
-  pub ranges : (known : Known) → get_elem? actor_run.known.items i ≡ some known → known.ranges ≡ boundaries_of known.spec
+  pub lawful : (known : KnownHist) → get_elem? actor_run.known.items i ≡ some known → spec_fault known.spec ≡ None
+  pub ranges : (known : KnownHist) → get_elem? actor_run.known.items i ≡ some known → known.ranges ≡ boundaries_of known.spec
 
 -- none of them has a name
-abbrev pub NoneHasName : List Known → List ℕ → Type 0
-NoneHasName list name = (i : ℕ) (known : Known) → get_elem? list i ≡ some known → known.name.items ≢ name
+abbrev pub NoneHasName : List KnownHist → List ℕ → Type 0
+NoneHasName list name = (i : ℕ) (known : KnownHist) → get_elem? list i ≡ some known → known.name.items ≢ name
 
 -- no two have one name
-abbrev pub HaveOwnNames : List Known → Type 0
+abbrev pub HaveOwnNames : List KnownHist → Type 0
 HaveOwnNames [] = ⊤
 HaveOwnNames (known ∷ rest) = NoneHasName rest known.name.items × HaveOwnNames rest
 
@@ -132,43 +132,43 @@ HaveOwnNames (known ∷ rest) = NoneHasName rest known.name.items × HaveOwnName
 
 -- A delta is shown as the machine has it: of the same histogram, with as many units of each key, and as much of the sum. Its keys ascend,
 -- each with units.
-pub record IsShown (taken : Taken) (machine : MachineTaken) : Type 0 where
+pub record IsDeltaShown (taken : Taken) (machine : MachineTaken) : Type 0 where
   pub name : taken.name.items ≡ machine.name
   pub sum : taken.sum ≡ machine.sum
   pub counts : (key : ℤ) → units_listed taken.counts.items key ≡ units_listed machine.counts key
   pub units : AreUnits taken.counts.items
 
 -- so are all, in order
-abbrev pub AreShown : List Taken → List MachineTaken → Type 0
-AreShown [] [] = ⊤
-AreShown [] (machine ∷ rest) = ⊥
-AreShown (taken ∷ list) [] = ⊥
-AreShown (taken ∷ list) (machine ∷ rest) = IsShown taken machine × AreShown list rest
+abbrev pub AreDeltasShown : List Taken → List MachineTaken → Type 0
+AreDeltasShown [] [] = ⊤
+AreDeltasShown [] (machine ∷ rest) = ⊥
+AreDeltasShown (taken ∷ list) [] = ⊥
+AreDeltasShown (taken ∷ list) (machine ∷ rest) = IsDeltaShown taken machine × AreDeltasShown list rest
 
 -- what stands last
 abbrev pub IsLast : List Taken → Taken → Type 0
 IsLast list taken = get_elem? list (length list - 1) ≡ some taken
 
 -- what a running delta is shown as: it lists what the call has taken, with as much room, and nothing of the sum yet
-abbrev pub IsDraft : DeltaCall → Taken → Type 0
-IsDraft delta_call taken =
+abbrev pub IsDeltaDraft : DeltaCall → Taken → Type 0
+IsDeltaDraft delta_call taken =
     (taken.counts.items ≡ delta_call.counts.items) × (vec_capacity taken.counts ≡ vec_capacity delta_call.counts) × (taken.sum ≡ pos 0)
 
 -- until its first event there is room for that; from then on it stands last
 abbrev pub HasDraft : Option Running → Vec Taken Global → Type 0
-HasDraft (Some (Delta delta_call (Some fresh))) taken = (vec_len taken < vec_capacity taken) × IsDraft delta_call fresh
-HasDraft (Some (Delta delta_call None)) taken = (0 < vec_len taken) × ((last : Taken) → IsLast taken.items last → IsDraft delta_call last)
+HasDraft (Some (Delta delta_call (Some fresh))) taken = (vec_len taken < vec_capacity taken) × IsDeltaDraft delta_call fresh
+HasDraft (Some (Delta delta_call None)) taken = (0 < vec_len taken) × ((last : Taken) → IsLast taken.items last → IsDeltaDraft delta_call last)
 HasDraft running taken = ⊤
 
 -- the name that it is to be shown with stands ready until then
 abbrev pub IsTimely : MachineKnown → DeltaCall → Option Taken → Type 0
-IsTimely known delta_call (Some fresh) = IsFirst delta_call.stage × (fresh.name.items ≡ known.name)
+IsTimely known delta_call (Some fresh) = IsFirstStage delta_call.stage × (fresh.name.items ≡ known.name)
 IsTimely known delta_call None = HasBegun delta_call.stage
 
 -- ---- what it stands for
 
 -- A call that counts nothing: no entries are pending, its actor has none that run, holds no units, has no share, and takes nothing.
-pub record IsQuiet (pending : List Entry) (a : Actor) : Type 0 where
+pub record CountsNoEntries (pending : List Entry) (a : Actor) : Type 0 where
   pub none : pending ≡ []
   pub runs : a.entries.running ≡ []
   pub holds : a.units.held ≡ []
@@ -204,46 +204,46 @@ apart_from_delta a = record a { deltas = record a.deltas { taking = false } }
 -- A `delta`: its actor counts nothing, and takes of a histogram, behind the deltas before.
 abbrev pub IsDrawing : Dimensions → List Entry → DeltaCall → Option Taken → Actor → Type 0
 IsDrawing shape pending delta_call fresh a =
-    IsQuiet pending (apart_from_delta a)
+    CountsNoEntries pending (apart_from_delta a)
     × ((known : MachineKnown) × (earlier : List MachineTaken) × IsDeltaCall shape known earlier delta_call a × IsTimely known delta_call fresh)
 
 -- Where the machine's actor stands whose call is this, or that runs none. A `hist` asks for a histogram that is not known.
-abbrev pub StandsIn : Dimensions → List Known → List Entry → Option Running → Actor → Type 0
-StandsIn shape known pending None a = IsFree a × IsQuiet pending a
-StandsIn shape known pending (Some SetCorrupt) a = IsFree a × IsQuiet pending a
-StandsIn shape known pending (Some (Hist hist)) a = IsHist shape hist a × IsQuiet pending a × NoneHasName known hist.asked.name.items
+abbrev pub StandsIn : Dimensions → List KnownHist → List Entry → Option Running → Actor → Type 0
+StandsIn shape known pending None a = IsFree a × CountsNoEntries pending a
+StandsIn shape known pending (Some SetCorrupt) a = IsFree a × CountsNoEntries pending a
+StandsIn shape known pending (Some (Hist hist)) a = IsHist shape hist a × CountsNoEntries pending a × NoneHasName known hist.asked.name.items
 StandsIn shape known pending (Some (Add add)) a = IsAdding shape pending add a
 StandsIn shape known pending (Some (Delta delta_call fresh)) a = IsDrawing shape pending delta_call fresh a
 StandsIn shape known pending (Some (Batch batch)) a = IsBatching shape pending batch a
-StandsIn shape known pending (Some (Snapshot snapshot_call)) a = IsQuiet pending a × ((seen : MachineKnown) × IsSnapshotCall shape seen snapshot_call a)
+StandsIn shape known pending (Some (Snapshot snapshot_call)) a = CountsNoEntries pending a × ((seen : MachineKnown) × IsSnapshotCall shape seen snapshot_call a)
 
 -- there is room for the histogram that a `hist` asks for, beside so many that are known
-abbrev pub HasRoom : Option Running → ℕ → ℕ → Type 0
-HasRoom (Some (Hist hist)) known capacity = known < capacity
-HasRoom running known capacity = ⊤
+abbrev pub HasRoomForHist : Option Running → ℕ → ℕ → Type 0
+HasRoomForHist (Some (Hist hist)) known capacity = known < capacity
+HasRoomForHist running known capacity = ⊤
 
 -- An actor of a segment of this shape and version is a recorder, whose log is the entries of ended calls, and which has begun those of
 -- the running call that have begun; its deltas took what is shown; it knows the same histograms, each of another name, has met the record of
 -- each, and stands where the running call does.
-pub record IsRun (shape : Dimensions) (version : ℕ) (actor_run : ActorRun) (a : Actor) : Type 0 where
+pub record IsActorRunOf (shape : Dimensions) (version : ℕ) (actor_run : ActorRun) (a : Actor) : Type 0 where
   pub records : is_opener a.role ≡ false
   pub segment : a.segment ≡ record { shape = shape; version = version; cursors = 0 }
   pub first : a.entries.first ≡ []
   pub within : (actor_run.ended ≤ actor_run.begun) × (actor_run.begun ≤ length actor_run.entries.items)
   pub ended : map entry_of (ended_by actor_run) ≡ map (λ c. c.entry) a.entries.log
   pub begun : map entry_of (begun_by actor_run) ≡ map (λ c. c.entry) (a.entries.log ++ a.entries.running)
-  pub taken : AreShown actor_run.taken.items a.deltas.taken
+  pub taken : AreDeltasShown actor_run.taken.items a.deltas.taken
   pub names : map known_of actor_run.known.items ≡ a.answers.names
   pub lawful : All (IsKnown shape) actor_run.known.items
   pub once : HaveOwnNames actor_run.known.items
-  pub met : HasMet a
+  pub met : HasMetKnown a
   pub stands : StandsIn shape actor_run.known.items (pending_by actor_run) actor_run.running a
-  pub room : HasRoom actor_run.running (vec_len actor_run.known) (vec_capacity actor_run.known)
+  pub room : HasRoomForHist actor_run.running (vec_len actor_run.known) (vec_capacity actor_run.known)
   pub draft : HasDraft actor_run.running actor_run.taken
 
 -- an actor that stands for one somewhere, in so many words
 abbrev pub IsSomeRun : ℕ → ActorRun → Type 0
-IsSomeRun n actor_run = (shape : Dimensions) × (version : ℕ) × (a : Actor) × (n ≡ shape.size) × (HEADER_WORDS ≤ n) × IsRun shape version actor_run a
+IsSomeRun n actor_run = (shape : Dimensions) × (version : ℕ) × (a : Actor) × (n ≡ shape.size) × (HEADER_WORDS ≤ n) × IsActorRunOf shape version actor_run a
 
 -- ---- how it goes on
 
@@ -312,7 +312,7 @@ IsRefusedBy running cause a b = ⊥
 
 -- where its actor lands whose call is refused: it gives the units back that are left of it
 abbrev pub LandsBack : Dimensions → ℕ → ℕ → ActorRun → Actor → Type 0
-LandsBack shape version units new b = (b.hand.place ≢ Spent) × (units ≤ b.units.share) × IsRun shape version new (giver b units)
+LandsBack shape version units new b = (b.hand.place ≢ Spent) × (units ≤ b.units.share) × IsActorRunOf shape version new (giver b units)
 
 -- Where its actor lands: a call that is refused gives units back, and has a cause; a snapshot is answered with what was seen, and a delta
 -- with what it took; a call that sets the corrupt flag has done so.
@@ -320,10 +320,10 @@ abbrev pub Lands : Dimensions → ℕ → ActorRun → ActorRun → Stepped → 
 Lands shape version old new (Done (answer.Refused cause)) a b = LandsBack shape version (held_by old.running) new b × IsRefusedBy old.running cause a b
 Lands shape version old new (Done (answer.BatchRefused refusal)) a b =
     LandsBack shape version (held_by old.running) new b × IsRefusedBy old.running refusal.why a b
-Lands shape version old new (Done (answer.Delta delta)) a b = IsRun shape version new b × IsTook (looked_by old.running) delta b
-Lands shape version old new (Done (answer.Snapshot snapshot)) a b = IsRun shape version new b × IsAnswer (looked_by old.running) snapshot b
-Lands shape version old new (Done answer.Flagged) a b = IsRun shape version new b × (b.done.spoiled ≡ true)
-Lands shape version old new said a b = IsRun shape version new b
+Lands shape version old new (Done (answer.Delta delta)) a b = IsActorRunOf shape version new b × IsTook (looked_by old.running) delta b
+Lands shape version old new (Done (answer.Snapshot snapshot)) a b = IsActorRunOf shape version new b × IsAnswer (looked_by old.running) snapshot b
+Lands shape version old new (Done answer.Flagged) a b = IsActorRunOf shape version new b × (b.done.spoiled ≡ true)
+Lands shape version old new said a b = IsActorRunOf shape version new b
 
 -- since when a running snapshot looks: its first event looks anew, and no other does
 abbrev pub LooksSince : Option Running → Actor → Actor → Type 0
@@ -344,7 +344,7 @@ lacks_room said = false
 -- What a running call of an actor may do: a `hist` makes a record of the name and the spec that it asks for; a call that counts makes a sample
 -- of a value that it counts, in its histogram, or claims the counts of that. Where it raises the free pointer, the actor has seen that it needs
 -- the block.
-abbrev pub Serves : Option Running → Actor → Deed → Type 0
+abbrev pub Serves : Option Running → Actor → SharedEffect → Type 0
 Serves (Some (Hist hist)) a deed = serves_asked hist a deed
 Serves (Some (Add add)) a deed = (known : MachineKnown) × Contains a.answers.names known × (known.reference ≡ add.histogram) × add_serves known add a deed
 Serves (Some (Batch batch)) a deed = (known : MachineKnown) × Contains a.answers.names known × (known.reference ≡ batch.histogram) × batch_serves known batch a deed
@@ -365,7 +365,7 @@ abbrev pub AsksOn : Option Running → Option Running → Type 0
 AsksOn old new = (asked : HistCall) → old ≡ Some (Hist asked) → (now : HistCall) × (new ≡ Some (Hist now)) × (now.asked ≡ asked.asked)
 
 -- a known histogram has the name and the spec that a call asks for
-abbrev pub IsAskedBy : Option Running → Known → Type 0
+abbrev pub IsAskedBy : Option Running → KnownHist → Type 0
 IsAskedBy running known =
     (call : HistCall) × (running ≡ Some (Hist call)) × let asked = call.asked in (known.name ≡ asked.name) × (known.spec ≡ asked.spec)
 
@@ -382,12 +382,12 @@ abbrev pub AddsOn : Option Running → Option Running → Type 0
 AddsOn old new = (add : AddCall) → old ≡ Some (Add add) → (now : AddCall) × (new ≡ Some (Add now)) × (now.units ≡ add.units)
 
 -- it goes on with the same snapshot
-abbrev pub LooksOn : Option Running → Option Running → Type 0
-LooksOn old new = (snapshot_call : SnapshotCall) → old ≡ Some (Snapshot snapshot_call) → (now : SnapshotCall) × (new ≡ Some (Snapshot now)) × (now.histogram ≡ snapshot_call.histogram)
+abbrev pub SnapshotGoesOn : Option Running → Option Running → Type 0
+SnapshotGoesOn old new = (snapshot_call : SnapshotCall) → old ≡ Some (Snapshot snapshot_call) → (now : SnapshotCall) × (new ≡ Some (Snapshot now)) × (now.histogram ≡ snapshot_call.histogram)
 
 -- it goes on with the same delta, whose first event has happened
-abbrev pub TakesOn : Option Running → Option Running → Type 0
-TakesOn old new = (delta_call : DeltaCall) (fresh : Option Taken) → old ≡ Some (Delta delta_call fresh)
+abbrev pub DeltaGoesOn : Option Running → Option Running → Type 0
+DeltaGoesOn old new = (delta_call : DeltaCall) (fresh : Option Taken) → old ≡ Some (Delta delta_call fresh)
     → (now : DeltaCall) × (new ≡ Some (Delta now None)) × (now.histogram ≡ delta_call.histogram)
 
 -- it goes on with the same batch
@@ -395,8 +395,8 @@ abbrev pub BatchesOn : Option Running → Option Running → Type 0
 BatchesOn old new = (batch : BatchCall) → old ≡ Some (Batch batch) → (now : BatchCall) × (new ≡ Some (Batch now)) × IsSameBatch batch now
 
 -- it counts: it runs an `add` or a `batch`
-abbrev pub IsCounting : Option Running → Type 0
-IsCounting running = ((add : AddCall) × (running ≡ Some (Add add))) ⊎ ((batch : BatchCall) × (running ≡ Some (Batch batch)))
+abbrev pub RunsAddOrBatch : Option Running → Type 0
+RunsAddOrBatch running = ((add : AddCall) × (running ≡ Some (Add add))) ⊎ ((batch : BatchCall) × (running ≡ Some (Batch batch)))
 
 -- a call that may be refused in the midst, and is no batch
 abbrev pub MayBeRefused : Option Running → Type 0
@@ -409,14 +409,14 @@ MayBeRefused running = ⊥
 -- first items; or a `hist` or an `add` is refused.
 abbrev pub Tells : ActorRun → List ℕ → ActorRun → List ℕ → Stepped → Type 0
 Tells old words new new_words More =
-    (new.known.items ≡ old.known.items) × AsksOn old.running new.running × AddsOn old.running new.running × LooksOn old.running new.running
-    × TakesOn old.running new.running × BatchesOn old.running new.running × (old.running ≢ Some SetCorrupt)
+    (new.known.items ≡ old.known.items) × AsksOn old.running new.running × AddsOn old.running new.running × SnapshotGoesOn old.running new.running
+    × DeltaGoesOn old.running new.running × BatchesOn old.running new.running × (old.running ≢ Some SetCorrupt)
 Tells old words new new_words (Done answer.Flagged) =
     (old.running ≡ Some SetCorrupt) × (word_at new_words FLAGS_WORD ≡ bit_or (word_at words FLAGS_WORD) FLAG_CORRUPT) × (new.running ≡ None) × (new.known.items ≡ old.known.items)
 Tells old words new new_words (Done (answer.Hist reference)) =
-    (known : Known) × IsAskedBy old.running known × (known.reference ≡ reference) × (new.known.items ≡ old.known.items ++ known ∷ []) × (new.running ≡ None)
+    (known : KnownHist) × IsAskedBy old.running known × (known.reference ≡ reference) × (new.known.items ≡ old.known.items ++ known ∷ []) × (new.running ≡ None)
 Tells old words new new_words (Done answer.Added) =
-    IsCounting old.running × (new.running ≡ None) × (new.known.items ≡ old.known.items)
+    RunsAddOrBatch old.running × (new.running ≡ None) × (new.known.items ≡ old.known.items)
 Tells old words new new_words (Done (answer.Delta delta)) =
     ((delta_call : DeltaCall) × (fresh : Option Taken) × (old.running ≡ Some (Delta delta_call fresh))) × (new.running ≡ None) × (new.known.items ≡ old.known.items)
 Tells old words new new_words (Done (answer.Snapshot snapshot)) =
@@ -467,9 +467,9 @@ IsHistAnnounced old (hist.Refused why) new result = (new ≡ record old { runnin
 -- ---- an `add`
 
 -- it counts
-abbrev pub Adds : Option Running → Type 0
-Adds (Some (Add add)) = ⊤
-Adds running = ⊥
+abbrev pub RunsAdd : Option Running → Type 0
+RunsAdd (Some (Add add)) = ⊤
+RunsAdd running = ⊥
 
 -- what becomes of it by what a step of its `add` said: it goes on; its entry has ended; or it is refused, and the entry is gone
 abbrev pub IsAddAnnounced : ActorRun → AddStep → ActorRun → Stepped → Type 0
@@ -488,7 +488,7 @@ pub record BeginsToCount (entries : List MachineEntry) (running : Running) (old 
   pub is : new ≡ record old { entries = new.entries; running = Some running }
 
 -- it begins an `add` in a known histogram
-pub record BeginsAdd (shape : Dimensions) (version : ℕ) (known : Known) (value : ℤ) (units : ℕ) (old new : ActorRun) : Type 0 where
+pub record BeginsAdd (shape : Dimensions) (version : ℕ) (known : KnownHist) (value : ℤ) (units : ℕ) (old new : ActorRun) : Type 0 where
   pub add : AddCall
   pub started : IsStarted shape version (known_of known) value units (amount_of (boundaries_of known.spec) (value, units)) add
   pub small : unsigned_abs add.amount ≤ 2147483648 * units
@@ -497,9 +497,9 @@ pub record BeginsAdd (shape : Dimensions) (version : ℕ) (known : Known) (value
 -- ---- a `batch`
 
 -- it counts items
-abbrev pub Batches : Option Running → Type 0
-Batches (Some (Batch batch)) = ⊤
-Batches running = ⊥
+abbrev pub RunsBatch : Option Running → Type 0
+RunsBatch (Some (Batch batch)) = ⊤
+RunsBatch running = ⊥
 
 -- What becomes of it by what a step of its `batch` said: it goes on; its entries have ended; or it is refused, and those of its first
 -- items have ended, and the others are gone.
@@ -513,7 +513,7 @@ IsBatchAnnounced old (batch.Refused refusal) new result =
     × (result ≡ Done (answer.BatchRefused refusal))
 
 -- it begins a `batch` of a known histogram: no item has begun
-pub record BeginsBatch (shape : Dimensions) (version : ℕ) (known : Known) (items : List (ℤ × ℕ)) (sum : ℤ) (cost : ℕ) (old new : ActorRun) : Type 0 where
+pub record BeginsBatch (shape : Dimensions) (version : ℕ) (known : KnownHist) (items : List (ℤ × ℕ)) (sum : ℤ) (cost : ℕ) (old new : ActorRun) : Type 0 where
   pub call : BatchCall
   pub started : AllZip (λ item add. IsStarted shape version (known_of known) item.0 item.1 (pos 0) add) items call.items.items
   pub fresh : call ≡ record call { histogram = known.reference; added = 0; sum = sum; cost = cost; left = cost }
@@ -527,15 +527,15 @@ TakesOfOne (Some (Delta delta_call fresh)) = ⊤
 TakesOfOne running = ⊥
 
 -- there is room for what a step of it says
-abbrev pub Fits : DeltaCallStep → Taken → Type 0
-Fits (take_step.Took key units) taken = vec_len taken.counts < vec_capacity taken.counts
-Fits said taken = ⊤
+abbrev pub HasRoomForStep : DeltaCallStep → Taken → Type 0
+HasRoomForStep (take_step.Took key units) taken = vec_len taken.counts < vec_capacity taken.counts
+HasRoomForStep said taken = ⊤
 
 -- in what it is shown as, for which there is room, or which stands last
-abbrev pub HasPlace : DeltaCallStep → Option Running → Vec Taken Global → Type 0
-HasPlace said (Some (Delta delta_call (Some fresh))) taken = (vec_len taken < vec_capacity taken) × Fits said fresh
-HasPlace said (Some (Delta delta_call None)) taken = (0 < vec_len taken) × ((last : Taken) → IsLast taken.items last → Fits said last)
-HasPlace said running taken = ⊥
+abbrev pub HasDraftRoom : DeltaCallStep → Option Running → Vec Taken Global → Type 0
+HasDraftRoom said (Some (Delta delta_call (Some fresh))) taken = (vec_len taken < vec_capacity taken) × HasRoomForStep said fresh
+HasDraftRoom said (Some (Delta delta_call None)) taken = (0 < vec_len taken) × ((last : Taken) → IsLast taken.items last → HasRoomForStep said last)
+HasDraftRoom said running taken = ⊥
 
 -- what becomes of what it is shown as
 abbrev pub Becomes : DeltaCallStep → Taken → Taken → Type 0
@@ -570,12 +570,12 @@ IsDeltaAnnounced delta_call fresh old said new result =
     × (new ≡ record old { taken = new.taken; running = Some (Delta delta_call None) }) × (result ≡ More)
 
 -- It begins a `delta` of a known histogram. What it is to be shown as stands ready, with room for it.
-pub record BeginsDelta (shape : Dimensions) (version : ℕ) (known : Known) (old new : ActorRun) : Type 0 where
+pub record BeginsDelta (shape : Dimensions) (version : ℕ) (known : KnownHist) (old new : ActorRun) : Type 0 where
   pub delta_call : DeltaCall
   pub fresh : Taken
   pub started : IsDeltaCallStarted shape version (known_of known) delta_call
   pub named : fresh.name.items ≡ known.name.items
-  pub draft : IsDraft delta_call fresh
+  pub draft : IsDeltaDraft delta_call fresh
   pub taken : new.taken.items ≡ old.taken.items
   pub room : vec_len new.taken < vec_capacity new.taken
   pub is : new ≡ record old { taken = new.taken; running = Some (Delta delta_call (Some fresh)) }
@@ -595,14 +595,14 @@ IsSnapshotAnnounced old (look.Done sum redundant) new result =
     × (result ≡ Done (answer.Snapshot (record { counts = snapshot_call.totals; sum = sum; redundant = redundant })))
 
 -- it begins a `snapshot` of a known histogram
-abbrev pub BeginsSnapshot : Dimensions → ℕ → Known → ActorRun → ActorRun → Type 0
+abbrev pub BeginsSnapshot : Dimensions → ℕ → KnownHist → ActorRun → ActorRun → Type 0
 BeginsSnapshot shape version known old new =
     (snapshot_call : SnapshotCall) × IsSnapshotCallStarted shape version (known_of known) snapshot_call × (new ≡ record old { running = Some (Snapshot snapshot_call) })
 
 -- ---- how it begins a `hist`
 
 -- What a `hist` of a known name is answered: the known reference where the spec is the same, and else that it has another.
-abbrev pub IsKnownAnswer : List Known → List ℕ → Spec → Answer → Type 0
+abbrev pub IsKnownAnswer : List KnownHist → List ℕ → Spec → Answer → Type 0
 IsKnownAnswer list name spec (answer.Hist reference) =
     (i : ℕ) × (known : IsKnownAt list i name) × SameSpec known.0.spec spec × (known.0.reference ≡ reference)
 IsKnownAnswer list name spec (answer.Refused why.OtherSpec) = (i : ℕ) × (known : IsKnownAt list i name) × (¬ (SameSpec known.0.spec spec))
@@ -617,7 +617,7 @@ IsAsItWas old new =
 -- It asks for a histogram that it does not know, with room for it; or is answered at once; or there was no memory for the room.
 abbrev pub BeginsHist : Dimensions → Asked → ActorRun → ActorRun → Result Begun AllocError → Type 0
 BeginsHist shape asked old new (Ok Going) =
-    (hist : HistCall) × IsBegun shape asked hist × (new ≡ record old { known = new.known; running = Some (Hist hist) })
+    (hist : HistCall) × IsHistBegun shape asked hist × (new ≡ record old { known = new.known; running = Some (Hist hist) })
     × (new.known.items ≡ old.known.items) × (vec_len new.known < vec_capacity new.known) × NoneHasName old.known.items asked.name.items
 BeginsHist shape asked old new (Ok (Ended answered)) = (new ≡ old) × IsKnownAnswer old.known.items asked.name.items asked.spec answered
 BeginsHist shape asked old new (Err error) = IsAsItWas old new

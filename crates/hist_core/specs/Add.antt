@@ -29,7 +29,7 @@ use Rattle.segment_machine.specs.Entry.{fresh, has_ended, key_of}
 use Rattle.segment_machine.specs.Form.{is_off, IsPacking}
 use Rattle.segment_machine.specs.Made.{IsFirstSample}
 use Rattle.segment_machine.specs.Packing.{IsBlankCounts}
-use Rattle.segment_machine.specs.Stages.{Allocates}
+use Rattle.segment_machine.specs.Stages.{FollowsAllocation}
 use Rattle.hist_core.specs.declared.add.Add.{Add}
 use Rattle.hist_core.specs.declared.add.AddStep.{AddStep}
 use Rattle.hist_core.specs.declared.add.AddStep.TheVariants.{More, Done, Refused}
@@ -37,7 +37,7 @@ use Rattle.hist_core.specs.declared.add.AddStage.{AddStage}
 use Rattle.hist_core.specs.declared.add.AddStage.TheVariants.{LoadingSingle, Packing, LoadingCounts, SeekingCounts, Allocating, Mounting, Purging, LoadingAgain, Disabling, Moving, Sampling, Counting, Summing, Noting}
 use Rattle.segment_calls.specs.declared.refusal.Refusal.TheVariants as why
 use Rattle.hist_core.specs.Making.{IsCause, is_full}
-use Rattle.hist_core.specs.StepsBy.{Deed, links, raises, DoesOnly, StepsBy, IsFree, LiesWithin}
+use Rattle.hist_core.specs.StepsBy.{SharedEffect, links, raises, DoesOnly, StepsBy, IsFree, LiesWithin}
 use Rattle.hist_core.specs.Sampling.{IsSampling, IsStarted as BeginsToSearch, SawNoSample}
 use Rattle.hist_core.specs.declared.sampling.SamplingStep.{SamplingStep}
 use Rattle.hist_core.specs.declared.sampling.SamplingStep.TheVariants as found
@@ -109,8 +109,8 @@ abbrev pub ended_entry : Known → Add → EntryProgress
 ended_entry known add = record { entry = counted_entry known add; counted = true; summed = not (int_eq add.amount (pos 0)); noted = true }
 
 -- that stands among those of the running call
-abbrev pub HasEnded : Known → Amid → Add → Actor → Type 0
-HasEnded known amid add a = a.entries.running ≡ amid.before ++ ended_entry known add ∷ map fresh amid.behind
+abbrev pub EntryHasEnded : Known → Amid → Add → Actor → Type 0
+EntryHasEnded known amid add a = a.entries.running ≡ amid.before ++ ended_entry known add ∷ map fresh amid.behind
 
 -- its actor looks at the histogram: it has loaded this single word, and this counts reference, or 0
 abbrev pub Looks : Known → Actor → ℕ → ℕ → Type 0
@@ -128,12 +128,12 @@ IsCountOf known add a at =
     × (at ≡ sample + SAMPLE_COUNT))
 
 -- the counts block of the histogram stands there, within the segment
-abbrev pub AreCounts : Dimensions → Add → ℕ → Type 0
-AreCounts shape add counts = (counts ≢ 0) × (counts + (BLOCK_HEADER + 2 * add.buckets) ≤ shape.size)
+abbrev pub CountsLieWithin : Dimensions → Add → ℕ → Type 0
+CountsLieWithin shape add counts = (counts ≢ 0) × (counts + (BLOCK_HEADER + 2 * add.buckets) ≤ shape.size)
 
 -- its actor has a block of its own there, within the segment, which may become the counts block
-abbrev pub HasBlock : Dimensions → Add → Actor → ℕ → Type 0
-HasBlock shape add a at =
+abbrev pub HasCountsBlock : Dimensions → Add → Actor → ℕ → Type 0
+HasCountsBlock shape add a at =
     ((own : Own) × Contains a.hand.own own × (own.at ≡ at) × IsBlankCounts own add.buckets)
     × (HEADER_WORDS ≤ at) × (at + (BLOCK_HEADER + 2 * add.buckets) ≤ shape.size)
 
@@ -166,18 +166,18 @@ StandsBefore shape known add a (Packing old new) =
 StandsBefore shape known add a LoadingCounts = (word counts : ℕ) × Looks known a word counts × HasSeenSingle known a word × (is_off word ≡ true)
 StandsBefore shape known add a SeekingCounts = MayTurn a × CannotPack known (add.value, add.units) a
 StandsBefore shape known add a (Allocating allocation) =
-    Allocates a allocation × (is_some (alloc.next_event allocation) ≡ true) × (allocation.tag ≡ TYPE_COUNTS)
+    FollowsAllocation a allocation × (is_some (alloc.next_event allocation) ≡ true) × (allocation.tag ≡ TYPE_COUNTS)
     × (allocation.size ≡ BLOCK_HEADER + 2 * add.buckets) × NeedsCounts known (add.value, add.units) a
-StandsBefore shape known add a (Mounting at) = MayTurn a × HasBlock shape add a at
+StandsBefore shape known add a (Mounting at) = MayTurn a × HasCountsBlock shape add a at
 StandsBefore shape known add a (Purging at counts) =
-    AreCounts shape add counts × (a.hand.place ≡ Losing (record { histogram = known.reference; single = None; counts = counts }) at)
+    CountsLieWithin shape add counts × (a.hand.place ≡ Losing (record { histogram = known.reference; single = None; counts = counts }) at)
     × (at + BLOCK_LEAST ≤ shape.size)
 StandsBefore shape known add a (LoadingAgain counts) =
-    AreCounts shape add counts × ((single : Option ℕ) × (a.hand.place ≡ Looking (record { histogram = known.reference; single = single; counts = counts })))
+    CountsLieWithin shape add counts × ((single : Option ℕ) × (a.hand.place ≡ Looking (record { histogram = known.reference; single = single; counts = counts })))
 StandsBefore shape known add a (Disabling counts old) =
-    AreCounts shape add counts × Looks known a old counts × (is_off old ≡ false) × (single_of add.version add.buckets old ≢ None)
+    CountsLieWithin shape add counts × Looks known a old counts × (is_off old ≡ false) × (single_of add.version add.buckets old ≢ None)
 StandsBefore shape known add a (Moving counts bucket units) =
-    AreCounts shape add counts × (bucket < add.buckets)
+    CountsLieWithin shape add counts × (bucket < add.buckets)
     × ((word : ℕ) × (is_off word ≡ true)
     × (a.hand.place ≡ PlaceMoving (record { histogram = known.reference; single = Some word; counts = counts }) bucket units))
 StandsBefore shape known add a _ = ⊥
@@ -223,7 +223,7 @@ abbrev pub block_words : Known → ℕ
 block_words known = if has_buckets known.spec then BLOCK_HEADER + 2 * buckets_of known.spec else SAMPLE_LEAST
 
 -- what it may do: it links the sample of its value in its histogram, and raises the free pointer for the block that it needs
-abbrev pub serves_counted : Known → Add → Actor → Deed → Type 0
+abbrev pub serves_counted : Known → Add → Actor → SharedEffect → Type 0
 serves_counted known add a (links made) = made ≡ Sample add.histogram add.value
 serves_counted known add a (raises words) = (words ≡ block_words known) × NeedsBlock known (add.value, add.units) a
 
@@ -235,7 +235,7 @@ StaysOpen a b = (b.units ≡ a.units) × (b.entries ≡ record a.entries { runni
 -- Its actor may turn to another entry or another call then.
 abbrev pub AddGives : Dimensions → Known → Amid → Add → AddStep → Actor → Actor → Type 0
 AddGives shape known amid new More a b = FrameOfAdd a b × StaysOpen a b × DoesOnly false false (serves_counted known new a) a b × IsAdd shape known amid new b
-AddGives shape known amid new Done a b = FrameOfAdd a b × StaysOpen a b × DoesOnly false false (serves_counted known new a) a b × IsFree b × HasEnded known amid new b
+AddGives shape known amid new Done a b = FrameOfAdd a b × StaysOpen a b × DoesOnly false false (serves_counted known new a) a b × IsFree b × EntryHasEnded known amid new b
 AddGives shape known amid new (Refused cause) a b =
     FrameOfAdd a b × StaysOpen a b × DoesOnly false (is_full cause) (serves_counted known new a) a b × IsFree b × IsCause cause (block_words known) a b
     × HasEntry known amid new b false false × NeedsBlock known (new.value, new.units) b

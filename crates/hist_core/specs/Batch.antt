@@ -24,7 +24,7 @@ use Rattle.hist_core.specs.declared.batch.BatchStep.{BatchStep}
 use Rattle.hist_core.specs.declared.batch.BatchStep.TheVariants.{More, Done, Refused}
 use Rattle.hist_core.specs.Add.{Amid, IsAdd, IsCounting, FrameOfAdd, NeedsBlock, StaysOpen, block_words, counted_entry, ended_entry, OpensWith}
 use Rattle.hist_core.specs.Making.{IsCause, is_full}
-use Rattle.hist_core.specs.StepsBy.{Deed, links, raises, DoesOnly, StepsBy, IsFree}
+use Rattle.hist_core.specs.StepsBy.{SharedEffect, links, raises, DoesOnly, StepsBy, IsFree}
 
 -- ---- what it counts
 
@@ -59,8 +59,8 @@ pub record IsItem (shape : Dimensions) (version : ℕ) (known : Known) (item : A
   pub amount : item.amount ≡ pos 0
 
 -- an item that has not begun
-abbrev pub Waits : Dimensions → Known → Add → Type 0
-Waits shape known item = OpensWith shape known item item.stage
+abbrev pub ItemWaits : Dimensions → Known → Add → Type 0
+ItemWaits shape known item = OpensWith shape known item item.stage
 
 -- ---- where it stands
 
@@ -80,7 +80,7 @@ pub record CountsItem (shape : Dimensions) (known : Known) (batch : Batch) (a : 
   pub are : batch.items.items ≡ done ++ item ∷ rest
   pub added : batch.added ≡ length done
   pub left : batch.left + units_among done ≡ batch.cost
-  pub waits : All (Waits shape known) rest
+  pub waits : All (ItemWaits shape known) rest
   pub stands : IsAdd shape known (amid_of known batch done rest) item a
 
 -- all items are counted, and its sum, which is not 0, is added next
@@ -110,22 +110,22 @@ pub record IsBatch (shape : Dimensions) (known : Known) (batch : Batch) (a : Act
 -- ---- what a step makes of its actor
 
 -- the entries that run are these
-abbrev pub Runs : List Entry → Actor → Type 0
-Runs entries a = map (λ c. c.entry) a.entries.running ≡ entries
+abbrev pub RunsEntries : List Entry → Actor → Type 0
+RunsEntries entries a = map (λ c. c.entry) a.entries.running ≡ entries
 
 -- all has happened of them
-abbrev pub HaveEnded : List Entry → Actor → Type 0
-HaveEnded entries a = Runs entries a × All (λ c. has_ended c ≡ true) a.entries.running
+abbrev pub EntriesHaveEnded : List Entry → Actor → Type 0
+EntriesHaveEnded entries a = RunsEntries entries a × All (λ c. has_ended c ≡ true) a.entries.running
 
 -- all has happened of the first ones, of which none has added an amount, and nothing of the others
 pub record IsCutAt (added : ℕ) (entries : List Entry) (a : Actor) : Type 0 where
-  pub runs : Runs entries a
+  pub runs : RunsEntries entries a
   pub ended : All (λ c. has_ended c ≡ true) (take added a.entries.running)
   pub untouched : All (λ c. is_untouched c ≡ true) (drop added a.entries.running)
   pub unsummed : All (λ c. c.summed ≡ false) (take added a.entries.running)
 
 -- what it may do: it links a sample of the value of an item in its histogram, and raises the free pointer for a block that an item needs
-abbrev pub serves_counted : Known → Batch → Actor → Deed → Type 0
+abbrev pub serves_counted : Known → Batch → Actor → SharedEffect → Type 0
 serves_counted known batch a (links made) = (sample : ℤ × ℕ) × Contains (map sample_of batch.items.items) sample × (made ≡ Sample batch.histogram sample.0)
 serves_counted known batch a (raises words) =
     (words ≡ block_words known) × ((sample : ℤ × ℕ) × Contains (map sample_of batch.items.items) sample × NeedsBlock known sample a)
@@ -138,7 +138,7 @@ NextNeedsBlock known batch added a = (sample : ℤ × ℕ) × (get_elem? (map sa
 -- then.
 abbrev pub BatchGives : Dimensions → Known → Batch → BatchStep → Actor → Actor → Type 0
 BatchGives shape known new More a b = FrameOfAdd a b × StaysOpen a b × DoesOnly false false (serves_counted known new a) a b × IsBatch shape known new b
-BatchGives shape known new Done a b = FrameOfAdd a b × StaysOpen a b × DoesOnly false false (serves_counted known new a) a b × IsFree b × HaveEnded (counted_entries known new) b
+BatchGives shape known new Done a b = FrameOfAdd a b × StaysOpen a b × DoesOnly false false (serves_counted known new a) a b × IsFree b × EntriesHaveEnded (counted_entries known new) b
 BatchGives shape known new (Refused refusal) a b =
     FrameOfAdd a b × StaysOpen a b × DoesOnly false (is_full refusal.why) (serves_counted known new a) a b × IsFree b × IsCause refusal.why (block_words known) a b × IsCutAt refusal.added (counted_entries known new) b
     × (refusal.added ≤ length new.items.items) × (new.left + units_among (take refusal.added new.items.items) ≡ new.cost) × NextNeedsBlock known new refusal.added b

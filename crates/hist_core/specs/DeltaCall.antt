@@ -34,7 +34,7 @@ use Rattle.hist_core.specs.declared.walk.Met.{Met}
 use Rattle.hist_core.specs.declared.walk.Met.TheVariants.{Nothing, Sample, End}
 use Rattle.hist_core.specs.declared.walk.SampleWalk.{SampleWalk}
 use Rattle.hist_core.specs.declared.walk.SampleWalk.TheVariants.{LoadingFirst, LoadingNext}
-use Rattle.hist_core.specs.Walk.{HasPassedAll, HasSetOut, MetSample, WalksAt}
+use Rattle.hist_core.specs.Walk.{HasReachedEnd, HasSetOut, MetSample, WalksAt}
 
 -- ---- what is taken
 
@@ -63,8 +63,8 @@ abbrev pub TookBuckets : Known → Actor → Type 0
 TookBuckets known a = (i : ℕ) → i < buckets_of known.spec → TookBucket a known i
 
 -- a histogram with buckets has room for all of them
-abbrev pub HasBuckets : Known → DeltaCall → Type 0
-HasBuckets known delta_call = (has_buckets known.spec ≡ true) × (buckets_of known.spec ≤ vec_capacity delta_call.counts)
+abbrev pub HasRoomForBuckets : Known → DeltaCall → Type 0
+HasRoomForBuckets known delta_call = (has_buckets known.spec ≡ true) × (buckets_of known.spec ≤ vec_capacity delta_call.counts)
 
 -- there is room for as many values as fit in the segment
 abbrev pub HoldsValues : Dimensions → DeltaCall → Type 0
@@ -76,7 +76,7 @@ ListsTaken known delta_call passed a =
     ListsValues (λ value sample. TookSample a sample) (λ sample units. 1 ≤ units) known.reference passed delta_call.counts.items a.seen
 
 -- it saw the count of a sample of a value, which has units, and none of the records that it passed is a sample of that value
-pub record HasCounted (shape : Dimensions) (known : Known) (delta_call : DeltaCall) (at : ℕ) (value : ℤ) (count : ℕ) (a : Actor) : Type 0 where
+pub record HasLoadedSample (shape : Dimensions) (known : Known) (delta_call : DeltaCall) (at : ℕ) (value : ℤ) (count : ℕ) (a : Actor) : Type 0 where
   pub met : MetSample shape known (ListsTaken known delta_call) at value a
   pub place : a.hand.place ≡ SampleLoaded at count
   pub saw : SawCount a (at + SAMPLE_COUNT) count
@@ -85,15 +85,15 @@ pub record HasCounted (shape : Dimensions) (known : Known) (delta_call : DeltaCa
 
 -- what it saw of all buckets is taken, or of all samples
 abbrev pub TookEach : Known → DeltaCall → Actor → Type 0
-TookEach known delta_call a = ((has_buckets known.spec ≡ true) × TookBuckets known a) ⊎ HasPassedAll known (ListsTaken known delta_call) a
+TookEach known delta_call a = ((has_buckets known.spec ≡ true) × TookBuckets known a) ⊎ HasReachedEnd known (ListsTaken known delta_call) a
 
 -- before its first event its actor takes nothing, and it lists nothing
 abbrev pub IsBeforeAll : List Taken → DeltaCall → Actor → Type 0
 IsBeforeAll earlier delta_call a = (a.deltas.taking ≡ false) × (a.deltas.taken ≡ earlier) × (delta_call.counts.items ≡ [])
 
 -- with a walk that has not set out it is before its first event
-abbrev pub TakesAlong : Known → List Taken → DeltaCall → Actor → SampleWalk → Type 0
-TakesAlong known earlier delta_call a walk =
+abbrev pub TakesOnWalk : Known → List Taken → DeltaCall → Actor → SampleWalk → Type 0
+TakesOnWalk known earlier delta_call a walk =
     ((walk ≡ LoadingFirst) × IsBeforeAll earlier delta_call a) ⊎ (HasSetOut walk × IsUnderWay known earlier delta_call a)
 
 -- so is what it saw of the buckets before one, and it lists units of these alone
@@ -106,27 +106,27 @@ pub record HasDrawn (known : Known) (delta_call : DeltaCall) (bucket : ℕ) (a :
 -- Where its actor stands.
 abbrev pub StandsAtStage : Dimensions → Known → List Taken → DeltaCall → Actor → DeltaStage → Type 0
 StandsAtStage shape known earlier delta_call a LoadingSingle =
-    (a.deltas.taking ≡ false) × (a.deltas.taken ≡ earlier) × (delta_call.counts.items ≡ []) × HasBuckets known delta_call
+    (a.deltas.taking ≡ false) × (a.deltas.taken ≡ earlier) × (delta_call.counts.items ≡ []) × HasRoomForBuckets known delta_call
 StandsAtStage shape known earlier delta_call a (TakingPacked bucket units) =
     IsUnderWay known earlier delta_call a × (delta_call.counts.items ≡ [])
     × ((word : ℕ) × HasWord known word a × (is_off word ≡ false) × SaysPacked delta_call.version (buckets_of known.spec) word (Some bucket) units)
-    × HasBuckets known delta_call
+    × HasRoomForBuckets known delta_call
 StandsAtStage shape known earlier delta_call a (LoadingCounts packed kept) =
     IsUnderWay known earlier delta_call a × (delta_call.counts.items ≡ []) × (kept ≤ 65535)
     × ((word : ℕ) × HasWord known word a × (is_off word ≡ true) × SaysPacked delta_call.version (buckets_of known.spec) word packed kept)
-    × HasBuckets known delta_call
+    × HasRoomForBuckets known delta_call
 StandsAtStage shape known earlier delta_call a (LoadingCount mounted bucket) =
-    IsUnderWay known earlier delta_call a × HasDrawn known delta_call bucket a × ((word : ℕ) × AreMounted known mounted word a) × HasBuckets known delta_call
+    IsUnderWay known earlier delta_call a × HasDrawn known delta_call bucket a × ((word : ℕ) × AreMounted known mounted word a) × HasRoomForBuckets known delta_call
 StandsAtStage shape known earlier delta_call a (Raising mounted bucket total) =
     IsUnderWay known earlier delta_call a × HasDrawn known delta_call bucket a × (1 ≤ total)
     × ((word : ℕ) × AreMounted known mounted word a × HasLoaded known mounted word bucket total a)
-    × HasBuckets known delta_call
+    × HasRoomForBuckets known delta_call
 StandsAtStage shape known earlier delta_call a (Walking walk) =
-    TakesAlong known earlier delta_call a walk × WalksAt shape known (ListsTaken known delta_call) walk a × HoldsValues shape delta_call
+    TakesOnWalk known earlier delta_call a walk × WalksAt shape known (ListsTaken known delta_call) walk a × HoldsValues shape delta_call
 StandsAtStage shape known earlier delta_call a (LoadingSample at value) =
     IsUnderWay known earlier delta_call a × MetSample shape known (ListsTaken known delta_call) at value a × HoldsValues shape delta_call
 StandsAtStage shape known earlier delta_call a (RaisingSample at value count) =
-    IsUnderWay known earlier delta_call a × HasCounted shape known delta_call at value count a × HoldsValues shape delta_call
+    IsUnderWay known earlier delta_call a × HasLoadedSample shape known delta_call at value count a × HoldsValues shape delta_call
 StandsAtStage shape known earlier delta_call a LoadingSum = IsUnderWay known earlier delta_call a × TookEach known delta_call a
 StandsAtStage shape known earlier delta_call a (Swapping sum) =
     IsUnderWay known earlier delta_call a × TookEach known delta_call a × (a.hand.place ≡ SumLoaded known.reference sum)
@@ -151,7 +151,7 @@ pub record IsDeltaCall (shape : Dimensions) (known : Known) (earlier : List Take
 -- It begins with the single word where the histogram has buckets, and with a walk where it is sparse. There is room for all keys.
 abbrev pub OpensWith : Dimensions → Known → DeltaCall → DeltaStage → Type 0
 OpensWith shape known delta_call stage =
-    ((stage ≡ LoadingSingle) × HasBuckets known delta_call) ⊎ ((stage ≡ Walking LoadingFirst) × (known.spec ≡ Sparse) × HoldsValues shape delta_call)
+    ((stage ≡ LoadingSingle) × HasRoomForBuckets known delta_call) ⊎ ((stage ≡ Walking LoadingFirst) × (known.spec ≡ Sparse) × HoldsValues shape delta_call)
 
 -- it has taken nothing
 pub record IsStarted (shape : Dimensions) (version : ℕ) (known : Known) (delta_call : DeltaCall) : Type 0 where
@@ -179,7 +179,7 @@ pub record FrameOfDelta (a b : Actor) : Type 0 where
 
 -- It has ended: it is the last of what its actor's deltas took, with the units that it lists and this of the sum, and took all that its
 -- actor saw of the histogram since it began.
-pub record HasEnded (known : Known) (earlier : List Taken) (delta_call : DeltaCall) (sum : ℤ) (a : Actor) : Type 0 where
+pub record DeltaHasEnded (known : Known) (earlier : List Taken) (delta_call : DeltaCall) (sum : ℤ) (a : Actor) : Type 0 where
   pub taking : a.deltas.taking ≡ false
   pub last : Taken
   pub taken : a.deltas.taken ≡ earlier ++ last ∷ []
@@ -192,7 +192,7 @@ pub record HasEnded (known : Known) (earlier : List Taken) (delta_call : DeltaCa
 
 -- What a step says: it goes on, and may have taken units; or it has ended, and its actor may turn to another call.
 abbrev pub DeltaCallGives : Dimensions → Known → List Taken → DeltaCall → DeltaCallStep → Actor → Actor → Type 0
-DeltaCallGives shape known earlier new (Done sum) a b = FrameOfDelta a b × IsFree b × HasEnded known earlier new sum b
+DeltaCallGives shape known earlier new (Done sum) a b = FrameOfDelta a b × IsFree b × DeltaHasEnded known earlier new sum b
 DeltaCallGives shape known earlier new said a b = FrameOfDelta a b × IsDeltaCall shape known earlier new b
 
 -- what a step makes of the words, and of whatever actor stands so
@@ -217,8 +217,8 @@ HasBegun (Walking walk) = HasSetOut walk
 HasBegun stage = ⊤
 
 -- it stands before that
-abbrev pub IsFirst : DeltaStage → Type 0
-IsFirst stage = (stage ≡ LoadingSingle) ⊎ (stage ≡ Walking LoadingFirst)
+abbrev pub IsFirstStage : DeltaStage → Type 0
+IsFirstStage stage = (stage ≡ LoadingSingle) ⊎ (stage ≡ Walking LoadingFirst)
 
 -- a delta that stands so somewhere does this next
 pub record IsAtStage (stage : DeltaStage) (n : ℕ) (delta_call : DeltaCall) : Type 0 where
@@ -273,5 +273,5 @@ TakesUnits of total mark old new (Took key units) =
 TakesUnits of total mark old new (Done sum) = ⊥
 
 -- of a bucket
-abbrev pub IsTaken : ℕ → ℕ → ℕ → DeltaCall → DeltaCall → DeltaCallStep → Type 0
-IsTaken bucket total mark old new said = TakesUnits (pos (slice_index old.ranges bucket)) total mark old new said
+abbrev pub TakesBucket : ℕ → ℕ → ℕ → DeltaCall → DeltaCall → DeltaCallStep → Type 0
+TakesBucket bucket total mark old new said = TakesUnits (pos (slice_index old.ranges bucket)) total mark old new said

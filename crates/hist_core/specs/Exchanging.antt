@@ -5,7 +5,7 @@ use mathlib.Core.Option.{some, none}
 use lib.ListN.{get_elem?}
 use Rattle.segment_image.specs.declared.layout.TheConstants.{HISTOGRAM_COUNTS, HISTOGRAM_SINGLE}
 use Rattle.alloc_core.specs.declared.attempt.Attempt.{Attempt}
-use Rattle.alloc_core.specs.Event.Event.{exchange}
+use Rattle.alloc_core.specs.Event.Access.{exchange}
 use Rattle.alloc_core.specs.Attempt.{attempt_of}
 use Rattle.alloc_core.specs.Alloc as alloc
 use Rattle.list_core.specs.Publish as publish

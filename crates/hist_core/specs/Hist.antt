@@ -25,7 +25,7 @@ use Rattle.segment_calls.specs.declared.asked.Asked.{Asked}
 use Rattle.hist_core.specs.declared.hist.Hist.{Hist}
 use Rattle.hist_core.specs.declared.hist.HistStep.{HistStep}
 use Rattle.hist_core.specs.declared.hist.HistStep.TheVariants.{More, Done, Refused}
-use Rattle.hist_core.specs.StepsBy.{Deed, links, raises, DoesOnly, FrameOfStep, SawEnd, StepsBy, IsFree}
+use Rattle.hist_core.specs.StepsBy.{SharedEffect, links, raises, DoesOnly, FrameOfStep, SawEnd, StepsBy, IsFree}
 use Rattle.hist_core.specs.declared.hist.HistStage.{HistStage}
 use Rattle.hist_core.specs.declared.hist.HistStage.TheVariants.{Walking, Comparing, Making}
 use Rattle.hist_core.specs.declared.making.MakingStep.{MakingStep}
@@ -139,23 +139,23 @@ HasOtherSpec name spec seen =
     (at : ℕ) × (letters : List ℕ) × IsFirstNamed seen name at × AreNameWords name letters × SawOtherSpec seen spec (length letters) at
 
 -- it has seen the list to its end, and that no record of it has a name
-abbrev pub SawNone : List ℕ → Seen → Type 0
-SawNone name seen = All (SawOtherName seen name) seen.chain × SawEnd seen
+abbrev pub SawNoName : List ℕ → Seen → Type 0
+SawNoName name seen = All (SawOtherName seen name) seen.chain × SawEnd seen
 
 -- No record of a name is on the list, and that of the name and a spec is refused, which has so many words.
 abbrev pub LacksRecord : List ℕ → Spec → Refusal → Actor → Actor → Type 0
 LacksRecord name spec cause a b =
-    SawNone name b.seen × (letters : List ℕ) × AreNameWords name letters × making.IsCause cause (BLOCK_HEADER + length (payload_words name spec letters)) a b
+    SawNoName name b.seen × (letters : List ℕ) × AreNameWords name letters × making.IsCause cause (BLOCK_HEADER + length (payload_words name spec letters)) a b
 
 -- why a `hist` of a name and a spec is refused: for that, or for what refuses its record
-abbrev pub IsCause : List ℕ → Spec → Refusal → Actor → Actor → Type 0
-IsCause name spec cause a b = LacksRecord name spec cause a b ⊎ ((cause ≡ why.OtherSpec) × HasOtherSpec name spec b.seen)
+abbrev pub IsHistCause : List ℕ → Spec → Refusal → Actor → Actor → Type 0
+IsHistCause name spec cause a b = LacksRecord name spec cause a b ⊎ ((cause ≡ why.OtherSpec) × HasOtherSpec name spec b.seen)
 
 -- what it may do: it makes the record of the name and the spec that it asks for, where its actor has seen none of the name
-abbrev pub serves_asked : Hist → Actor → Deed → Type 0
+abbrev pub serves_asked : Hist → Actor → SharedEffect → Type 0
 serves_asked h a (links made) = made ≡ made_of h
 serves_asked h a (raises words) =
-    SawNone h.asked.name.items a.seen
+    SawNoName h.asked.name.items a.seen
     × ((letters : List ℕ) × AreNameWords h.asked.name.items letters × (words ≡ BLOCK_HEADER + length (payload_words h.asked.name.items h.asked.spec letters)))
 
 -- What a step says: it goes on; the record that was compared last, which lies in the segment, is the one that is asked for; or the call is
@@ -165,7 +165,7 @@ HistGives shape new More a b = FrameOfStep a b × DoesOnly false false (serves_a
 HistGives shape new Done a b =
     FrameOfStep a b × DoesOnly false false (serves_asked new a) a b × IsFree b × MayNote b (knows (asked_of new)) × IsAsking shape new × (new.reference + HISTOGRAM_NAME ≤ shape.size)
 HistGives shape new (Refused cause) a b =
-    FrameOfStep a b × DoesOnly false (is_full cause) (serves_asked new a) a b × IsFree b × IsCause new.asked.name.items new.asked.spec cause a b
+    FrameOfStep a b × DoesOnly false (is_full cause) (serves_asked new a) a b × IsFree b × IsHistCause new.asked.name.items new.asked.spec cause a b
 
 -- what a step makes of the words, and of whatever actor stands so
 abbrev pub HistSteps : Hist → List ℕ → Hist → List ℕ → HistStep → Type 0
@@ -188,7 +188,7 @@ IsMade old made.Done new result = (new ≡ record old { stage = Walking }) × (r
 IsMade old (made.Refused cause) new result = (new ≡ old) × (result ≡ Refused cause)
 
 -- It begins: it walks from the start of the list for a record of what is asked, where an actor may turn to it.
-pub record IsBegun (shape : Dimensions) (asked : Asked) (new : Hist) : Type 0 where
+pub record IsHistBegun (shape : Dimensions) (asked : Asked) (new : Hist) : Type 0 where
   pub named : new.asked.name ≡ asked.name
   pub specified : new.asked.spec ≡ asked.spec
   pub stands : (name : List ℕ) (spec : Spec) (a : Actor) → IsAskedFor shape name spec asked → IsShape shape → a.segment.shape ≡ shape → IsFree a → IsHist shape new a

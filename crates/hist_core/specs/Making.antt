@@ -18,13 +18,13 @@ use Rattle.segment_machine.specs.declared.actor.Own.{Own}
 use Rattle.segment_machine.specs.declared.place.Place.TheVariants.{FreeLoaded}
 use Rattle.segment_machine.specs.Made.{IsPayload}
 use Rattle.segment_machine.specs.Publishing.{own_at, MayPublish}
-use Rattle.segment_machine.specs.Stages.{Allocates, PublishesAt}
+use Rattle.segment_machine.specs.Stages.{FollowsAllocation, PublishesAt}
 use Rattle.hist_core.specs.declared.making.Making.{Making}
 use Rattle.hist_core.specs.declared.making.MakingStep.{MakingStep}
 use Rattle.hist_core.specs.declared.making.MakingStep.TheVariants.{More, Done, Refused}
 use Rattle.hist_core.specs.declared.making.MakingStage.{MakingStage}
 use Rattle.hist_core.specs.declared.making.MakingStage.TheVariants.{Allocating, Filling, Publishing}
-use Rattle.hist_core.specs.StepsBy.{Deed, links, raises, DoesOnly, FrameOfStep, SeesNoMore, StepsBy, IsFree}
+use Rattle.hist_core.specs.StepsBy.{SharedEffect, links, raises, DoesOnly, FrameOfStep, SeesNoMore, StepsBy, IsFree}
 
 -- ---- what it makes
 
@@ -64,8 +64,8 @@ pub record IsNextFilled (payload : List ℕ) (from next : ℕ) : Type 0 where
   pub stored : next < length payload → slice_index payload next ≢ 0
 
 -- its own block at a word, which is to be the record
-abbrev pub HasBlock : Wanted → ℕ → Actor → Own → Type 0
-HasBlock wanted at a own =
+abbrev pub HasRecordBlock : Wanted → ℕ → Actor → Own → Type 0
+HasRecordBlock wanted at a own =
     (own_at a.hand.own at ≡ Some own) × (own.next ≡ 0) × (own.made ≡ Some wanted.made) × (own.tag ≡ tag_of wanted.made)
     × (BLOCK_HEADER + wanted.room ≤ own.size)
 
@@ -74,12 +74,12 @@ HasBlock wanted at a own =
 -- where its actor stands
 abbrev pub StandsAtStage : Dimensions → Wanted → Actor → MakingStage → Type 0
 StandsAtStage shape wanted a (Allocating allocation) =
-    Allocates a allocation × (is_some (alloc.next_event allocation) ≡ true) × (allocation.tag ≡ tag_of wanted.made)
+    FollowsAllocation a allocation × (is_some (alloc.next_event allocation) ≡ true) × (allocation.tag ≡ tag_of wanted.made)
     × (allocation.size ≡ BLOCK_HEADER + wanted.room)
 StandsAtStage shape wanted a (Filling at index) =
     IsFree a × (index < length wanted.payload) × (slice_index wanted.payload index ≢ 0)
     × ((HEADER_WORDS ≤ at) × (at + (BLOCK_HEADER + wanted.room) ≤ shape.size))
-    × ((own : Own) × HasBlock wanted at a own × IsFilledTo wanted.payload index own.payload)
+    × ((own : Own) × HasRecordBlock wanted at a own × IsFilledTo wanted.payload index own.payload)
 StandsAtStage shape wanted a (Publishing publishing) =
     PublishesAt a publishing.reference wanted.made publishing.stage × (is_some (publish.next_event publishing) ≡ true)
     × publish.IsReach shape.size publishing
@@ -107,7 +107,7 @@ is_full why.Full = true
 is_full cause = false
 
 -- what it may do: it links the record, and raises the free pointer for the block of that
-abbrev pub serves_wanted : Wanted → Deed → Type 0
+abbrev pub serves_wanted : Wanted → SharedEffect → Type 0
 serves_wanted wanted (links made) = made ≡ wanted.made
 serves_wanted wanted (raises words) = words ≡ BLOCK_HEADER + wanted.room
 
@@ -157,6 +157,6 @@ IsPublished put.Done result = result ≡ Done
 IsPublished put.Stray result = result ≡ More
 
 -- the words of the payload before an index are stored: it stores the next that is not 0, or publishes the record
-abbrev pub IsFilled : List ℕ → ℕ → ℕ → Making → Type 0
-IsFilled payload at from new = (next : ℕ) × IsNextFilled payload from next
+abbrev pub IsPayloadFilled : List ℕ → ℕ → ℕ → Making → Type 0
+IsPayloadFilled payload at from new = (next : ℕ) × IsNextFilled payload from next
     × (new.stage ≡ (if nat_lt next (length payload) then Filling at next else Publishing (publish.started at)))

@@ -45,7 +45,7 @@ FaultsAt (Begin actor call) world_state fault =
 FaultsAt (Step actor) world_state fault = first_fault (step_checks world_state actor) ≡ Some fault
 
 -- the moves before one lead to a world that has this fault at it
-pub record StopsAt (moves : List Move) (old : WorldState) (fault : WorldFault) : Type 0 where
+pub record StopsAtMove (moves : List Move) (old : WorldState) (fault : WorldFault) : Type 0 where
   pub before : List Move
   pub move : Move
   pub rest : List Move
@@ -61,9 +61,9 @@ LeadsTo size page id actors version moves last =
     × ((first : WorldState) × IsNewWorldState (record { size = size; page = page }) version id actors first × MakesAll moves first last)
 
 -- The first fault: that of the new world, or that there was no memory for it; or that of a move, where the moves before it have none.
-abbrev pub StopsWith : (size page id actors version : ℕ) → List Move → WorldFault → Type 0
-StopsWith size page id actors version moves fault = MatchOption (first_fault (world_checks size page actors version))
-    ((fault ≡ NoMemory) ⊎ ((first : WorldState) × IsNewWorldState (record { size = size; page = page }) version id actors first × StopsAt moves first fault))
+abbrev pub MovesStopWith : (size page id actors version : ℕ) → List Move → WorldFault → Type 0
+MovesStopWith size page id actors version moves fault = MatchOption (first_fault (world_checks size page actors version))
+    ((fault ≡ NoMemory) ⊎ ((first : WorldState) × IsNewWorldState (record { size = size; page = page }) version id actors first × StopsAtMove moves first fault))
     (λ why. fault ≡ why)
 
 -- ---- from an image on
@@ -76,5 +76,5 @@ LeadsOn words actors moves last =
 -- The first fault: that of the actors, of the image, or that there was no memory; or that of a move, where the moves before it have none.
 abbrev pub StopsOn : (words : List ℕ) (actors : ℕ) → List Move → WorldFault → Type 0
 StopsOn words actors moves fault = MatchOption (first_fault (actor_checks actors))
-    (IsAdoptFault words fault ⊎ ((first : WorldState) × IsAdoptedWorldState words actors first × StopsAt moves first fault))
+    (IsAdoptFault words fault ⊎ ((first : WorldState) × IsAdoptedWorldState words actors first × StopsAtMove moves first fault))
     (λ why. fault ≡ why)

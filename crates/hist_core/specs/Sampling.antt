@@ -21,8 +21,8 @@ use Rattle.hist_core.specs.declared.sampling.SamplingStep.{SamplingStep}
 use Rattle.hist_core.specs.declared.sampling.SamplingStep.TheVariants.{More, Found, Refused}
 use Rattle.hist_core.specs.declared.sampling.SamplingStage.{SamplingStage}
 use Rattle.hist_core.specs.declared.sampling.SamplingStage.TheVariants.{Walking, LoadingType, LoadingHistogram, LoadingValue, Making}
-use Rattle.hist_core.specs.StepsBy.{Deed, links, raises, DoesOnly, FrameOfStep, SawEnd, StepsBy, IsFree}
-use Rattle.hist_core.specs.Walk.{IsSample}
+use Rattle.hist_core.specs.StepsBy.{SharedEffect, links, raises, DoesOnly, FrameOfStep, SawEnd, StepsBy, IsFree}
+use Rattle.hist_core.specs.Walk.{SawSampleRecord}
 use Rattle.hist_core.specs.Making.{IsCause, IsMaking, Wanted, is_full}
 
 -- ---- what it makes where there is none
@@ -38,7 +38,7 @@ abbrev pub HaveOthers : Sampling → Actor → List ℕ → Type 0
 HaveOthers s a records = All (SawOther a.seen s.histogram s.value) records
 
 -- It stands at a record behind the histogram's, within the segment. None of those between is a sample of its value.
-pub record MetRecord (shape : Dimensions) (s : Sampling) (at : ℕ) (a : Actor) (behind : List ℕ) : Type 0 where
+pub record StandsAtRecord (shape : Dimensions) (s : Sampling) (at : ℕ) (a : Actor) (behind : List ℕ) : Type 0 where
   pub free : IsFree a
   pub passed : List ℕ
   pub are : behind ≡ passed ++ at ∷ []
@@ -48,10 +48,10 @@ pub record MetRecord (shape : Dimensions) (s : Sampling) (at : ℕ) (a : Actor) 
 -- Where its actor stands, whose walk has given these records behind the histogram's.
 abbrev pub StandsAtStage : Dimensions → Sampling → Actor → List ℕ → SamplingStage → Type 0
 StandsAtStage shape s a behind Walking = IsFree a × HaveOthers s a behind
-StandsAtStage shape s a behind (LoadingType at) = MetRecord shape s at a behind
-StandsAtStage shape s a behind (LoadingHistogram at) = MetRecord shape s at a behind × IsSample shape at a
+StandsAtStage shape s a behind (LoadingType at) = StandsAtRecord shape s at a behind
+StandsAtStage shape s a behind (LoadingHistogram at) = StandsAtRecord shape s at a behind × SawSampleRecord shape at a
 StandsAtStage shape s a behind (LoadingValue at of) =
-    MetRecord shape s at a behind × IsSample shape at a × (word_seen a.seen.words (at + SAMPLE_HISTOGRAM) ≡ Some of)
+    StandsAtRecord shape s at a behind × SawSampleRecord shape at a × (word_seen a.seen.words (at + SAMPLE_HISTOGRAM) ≡ Some of)
 StandsAtStage shape s a behind (Making making) = HaveOthers s a behind × IsMaking shape (wanted_of s) making a
 
 -- it is making its sample
@@ -82,7 +82,7 @@ SawNoSample histogram value seen =
     (front behind : List ℕ) × (seen.chain ≡ front ++ histogram ∷ behind) × All (SawOther seen histogram value) behind × SawEnd seen
 
 -- what it may do: it makes the sample of its value, which its actor has seen to be missing
-abbrev pub serves_sample : Sampling → Actor → Deed → Type 0
+abbrev pub serves_sample : Sampling → Actor → SharedEffect → Type 0
 serves_sample s a (links made) = made ≡ Sample s.histogram s.value
 serves_sample s a (raises words) = (words ≡ SAMPLE_LEAST) × SawNoSample s.histogram s.value a.seen
 

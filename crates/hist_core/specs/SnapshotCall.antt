@@ -32,13 +32,13 @@ use Rattle.hist_core.specs.declared.walk.Met.{Met}
 use Rattle.hist_core.specs.declared.walk.Met.TheVariants.{Nothing, Sample, End}
 use Rattle.hist_core.specs.declared.walk.SampleWalk.TheVariants.{LoadingFirst}
 use Rattle.hist_core.specs.Mounted.{AreMounted, HasWord}
-use Rattle.hist_core.specs.Walk.{IsWalkProgress, MetSample, WalksAt}
+use Rattle.hist_core.specs.Walk.{IsSampleWalkProgress, MetSample, WalksAt}
 
 -- ---- what it sees
 
 -- its actor saw these totals of the buckets before one
-abbrev pub SawBefore : Known → List (ℤ × ℕ) → ℕ → Actor → Type 0
-SawBefore known totals bucket a = (i : ℕ) (total : ℤ × ℕ) → i < bucket → get_elem? totals i ≡ some total → SawBucket a known i total.1
+abbrev pub SawTotalsBefore : Known → List (ℤ × ℕ) → ℕ → Actor → Type 0
+SawTotalsBefore known totals bucket a = (i : ℕ) (total : ℤ × ℕ) → i < bucket → get_elem? totals i ≡ some total → SawBucket a known i total.1
 
 -- of all buckets
 abbrev pub SawTotals : Known → List (ℤ × ℕ) → Actor → Type 0
@@ -66,8 +66,8 @@ abbrev pub HasSeenValues : Known → List ℕ → List (ℤ × ℕ) → Actor �
 HasSeenValues known passed listed a = ListsValues (HasListed listed a) (HasTotal a) known.reference passed listed a.seen
 
 -- of a sparse histogram there is room for as many values as fit in the segment
-abbrev pub HasRoom : Dimensions → SnapshotCall → Type 0
-HasRoom shape snapshot_call = (shape.size - HEADER_WORDS) / BLOCK_LEAST ≤ vec_capacity snapshot_call.totals
+abbrev pub HasRoomForValues : Dimensions → SnapshotCall → Type 0
+HasRoomForValues shape snapshot_call = (shape.size - HEADER_WORDS) / BLOCK_LEAST ≤ vec_capacity snapshot_call.totals
 
 -- it lists what it saw of the records that it passed
 abbrev pub ListsSeen : Known → SnapshotCall → List ℕ → Actor → Type 0
@@ -77,7 +77,7 @@ ListsSeen known snapshot_call passed a = HasSeenValues known passed snapshot_cal
 pub record HasSeenAll (known : Known) (totals : List (ℤ × ℕ)) (a : Actor) : Type 0 where
   pub passed : List ℕ
   pub listed : List (ℤ × ℕ)
-  pub way : IsWalkProgress known passed QUEUE a
+  pub way : IsSampleWalkProgress known passed QUEUE a
   pub lists : HasSeenValues known passed listed a
   pub sorted : AreSorted listed totals
 
@@ -93,9 +93,9 @@ StandsAtStage shape known snapshot_call a (LoadingCounts packed kept) =
     HasKeys known snapshot_call × (kept ≤ 65535)
     × ((word : ℕ) × HasWord known word a × (is_off word ≡ true) × SaysPacked snapshot_call.version (buckets_of known.spec) word packed kept)
 StandsAtStage shape known snapshot_call a (LoadingCount mounted bucket) =
-    HasKeys known snapshot_call × SawBefore known snapshot_call.totals.items bucket a × (bucket < buckets_of known.spec) × ((word : ℕ) × AreMounted known mounted word a)
-StandsAtStage shape known snapshot_call a (Walking walk) = HasRoom shape snapshot_call × WalksAt shape known (ListsSeen known snapshot_call) walk a
-StandsAtStage shape known snapshot_call a (LoadingSample at value) = HasRoom shape snapshot_call × MetSample shape known (ListsSeen known snapshot_call) at value a
+    HasKeys known snapshot_call × SawTotalsBefore known snapshot_call.totals.items bucket a × (bucket < buckets_of known.spec) × ((word : ℕ) × AreMounted known mounted word a)
+StandsAtStage shape known snapshot_call a (Walking walk) = HasRoomForValues shape snapshot_call × WalksAt shape known (ListsSeen known snapshot_call) walk a
+StandsAtStage shape known snapshot_call a (LoadingSample at value) = HasRoomForValues shape snapshot_call × MetSample shape known (ListsSeen known snapshot_call) at value a
 StandsAtStage shape known snapshot_call a LoadingSum = SawTotalsOf known snapshot_call a × BeganBefore a
 StandsAtStage shape known snapshot_call a (LoadingRedundant sum) =
     SawTotalsOf known snapshot_call a × BeganBefore a × (a.hand.place ≡ SumLoaded known.reference sum)
@@ -123,7 +123,7 @@ pub record IsSnapshotCall (shape : Dimensions) (known : Known) (snapshot_call : 
 abbrev pub OpensWith : Dimensions → Known → SnapshotCall → SnapshotStage → Type 0
 OpensWith shape known snapshot_call stage =
     ((stage ≡ LoadingSingle) × (has_buckets known.spec ≡ true) × (snapshot_call.totals.items ≡ blank_totals (boundaries_of known.spec)))
-    ⊎ ((stage ≡ Walking LoadingFirst) × (known.spec ≡ Sparse) × (snapshot_call.totals.items ≡ []) × HasRoom shape snapshot_call)
+    ⊎ ((stage ≡ Walking LoadingFirst) × (known.spec ≡ Sparse) × (snapshot_call.totals.items ≡ []) × HasRoomForValues shape snapshot_call)
 
 pub record IsStarted (shape : Dimensions) (version : ℕ) (known : Known) (snapshot_call : SnapshotCall) : Type 0 where
   pub versioned : snapshot_call.version ≡ version
@@ -144,7 +144,7 @@ LooksAnew stage a b = b.since ≡ a.since
 
 -- It has ended: what its actor saw of the histogram since it began is its answer, and the last of its actor's snapshots; the values of a
 -- sparse histogram ascend, each with units. Else an event has left all as it was.
-pub record HasLooked (known : Known) (snapshot_call : SnapshotCall) (sum : ℤ) (redundant : ℕ) (a b : Actor) : Type 0 where
+pub record SnapshotHasEnded (known : Known) (snapshot_call : SnapshotCall) (sum : ℤ) (redundant : ℕ) (a b : Actor) : Type 0 where
   pub beside : FrameOfStep a (record b { deltas = a.deltas })
   pub answered : Answered
   pub deltas : b.deltas ≡ record a.deltas { snapshots = a.deltas.snapshots ++ answered ∷ [] }
@@ -158,7 +158,7 @@ pub record HasLooked (known : Known) (snapshot_call : SnapshotCall) (sum : ℤ) 
 -- What a step says: it goes on; or it has ended, and its actor may turn to another call. It does nothing to the segment for all to see.
 abbrev pub SnapshotCallGives : Dimensions → Known → SnapshotStage → SnapshotCall → SnapshotCallStep → Actor → Actor → Type 0
 SnapshotCallGives shape known stage new More a b = FrameOfStep a b × (b.done ≡ a.done) × LooksAnew stage a b × IsSnapshotCall shape known new b
-SnapshotCallGives shape known stage new (Done sum redundant) a b = IsFree b × (b.done ≡ a.done) × LooksAnew stage a b × HasLooked known new sum redundant a b
+SnapshotCallGives shape known stage new (Done sum redundant) a b = IsFree b × (b.done ≡ a.done) × LooksAnew stage a b × SnapshotHasEnded known new sum redundant a b
 
 -- what a step makes of the words, and of whatever actor stands so
 abbrev pub SnapshotCallSteps : SnapshotCall → List ℕ → SnapshotCall → List ℕ → SnapshotCallStep → Type 0
@@ -178,7 +178,7 @@ pub record IsAtStage (stage : SnapshotStage) (n : ℕ) (snapshot_call : Snapshot
 -- ---- what it does next
 
 -- the total of a bucket is another, and all else is as it was
-pub record IsPut (bucket total : ℕ) (old new : SnapshotCall) : Type 0 where
+pub record IsTotalPut (bucket total : ℕ) (old new : SnapshotCall) : Type 0 where
   pub same : new ≡ record old { totals = new.totals }
   pub long : length new.totals.items ≡ length old.totals.items
   pub keys : map (λ total. total.0) new.totals.items ≡ map (λ total. total.0) old.totals.items
@@ -186,7 +186,7 @@ pub record IsPut (bucket total : ℕ) (old new : SnapshotCall) : Type 0 where
       → ((i ≡ bucket) × (x.1 ≡ total)) ⊎ ((i ≢ bucket) × (get_elem? old.totals.items i ≡ some x))
 
 -- these totals with the units that a single word holds, for those of its bucket
-pub record HavePacked (version word : ℕ) (old new : List (ℤ × ℕ)) : Type 0 where
+pub record ArePackedTotals (version word : ℕ) (old new : List (ℤ × ℕ)) : Type 0 where
   pub long : length new ≡ length old
   pub keys : map (λ total. total.0) new ≡ map (λ total. total.0) old
   pub units : (i : ℕ) (x : ℤ × ℕ) → get_elem? new i ≡ some x
@@ -199,7 +199,7 @@ IsBehindSingle old word new (LoadingCounts packed kept) =
     (is_off word ≡ true) × SaysPacked old.version (length old.totals.items) word packed kept × (kept ≤ 65535)
     × (new ≡ record old { stage = LoadingCounts packed kept })
 IsBehindSingle old word new LoadingSum =
-    (is_off word ≡ false) × HavePacked old.version word old.totals.items new.totals.items
+    (is_off word ≡ false) × ArePackedTotals old.version word old.totals.items new.totals.items
     × (new ≡ record old { totals = new.totals; stage = LoadingSum })
 IsBehindSingle old word new _ = ⊥
 
@@ -214,7 +214,7 @@ IsBehindWalk old (Sample at value) new = new ≡ record old { stage = LoadingSam
 IsBehindWalk old End new = AreSorted old.totals.items new.totals.items × (new ≡ record old { totals = new.totals; stage = LoadingSum })
 
 -- the units of a value are listed, where it has some
-pub record IsListed (value : ℤ) (count : ℕ) (old new : SnapshotCall) : Type 0 where
+pub record IsValueListed (value : ℤ) (count : ℕ) (old new : SnapshotCall) : Type 0 where
   pub same : new ≡ record old { totals = new.totals }
   pub items : new.totals.items ≡ old.totals.items ++ listed_of (if count == 0 then None else Some (value, count))
   pub room : vec_capacity new.totals ≡ vec_capacity old.totals

@@ -33,7 +33,7 @@ new_start shape version id = record {
 
 -- The words of an image that may be adopted, with the references on its list: the opener stands for what they read as along it. The
 -- blocks are those of the words, with which they are kept.
-pub record IsImage (words references : List ℕ) (start : Start) : Type 0 where
+pub record IsImageStart (words references : List ℕ) (start : Start) : Type 0 where
   pub listed : IsListed words (head_of words) references
   pub adoptable : IsAdoptable words references (reading_along words (head_of words) references)
   pub words_are : start.words ≡ words
@@ -44,14 +44,14 @@ pub record IsImage (words references : List ℕ) (start : Start) : Type 0 where
   pub opens : IsOpening (head_of words).shape start.opened
 
 -- a lawful shape and version, and a new segment of these
-abbrev pub IsNew : Dimensions → ℕ → Start → Type 0
-IsNew shape version start = (id : ℕ) × IsShape shape × ((version ≡ 1) ⊎ (version ≡ 2)) × (start ≡ new_start shape version id)
+abbrev pub IsNewStart : Dimensions → ℕ → Start → Type 0
+IsNewStart shape version start = (id : ℕ) × IsShape shape × ((version ≡ 1) ⊎ (version ≡ 2)) × (start ≡ new_start shape version id)
 
 -- the shape and the version of an image that may be adopted, and this image
-abbrev pub IsAdopted : Dimensions → ℕ → Start → Type 0
-IsAdopted shape version start =
-    (words references : List ℕ) × IsImage words references start × (shape ≡ (head_of words).shape) × (version ≡ VERSION_FROZEN)
+abbrev pub IsAdoptedStart : Dimensions → ℕ → Start → Type 0
+IsAdoptedStart shape version start =
+    (words references : List ℕ) × IsImageStart words references start × (shape ≡ (head_of words).shape) × (version ≡ VERSION_FROZEN)
 
 -- a world of a shape and a version starts with one of these
 abbrev pub MayStart : Dimensions → ℕ → Start → Type 0
-MayStart shape version start = IsNew shape version start ⊎ IsAdopted shape version start
+MayStart shape version start = IsNewStart shape version start ⊎ IsAdoptedStart shape version start

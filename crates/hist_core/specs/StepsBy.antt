@@ -11,7 +11,7 @@ use Rattle.segment_machine.specs.declared.actor.Published.{Published}
 use Rattle.segment_machine.specs.declared.actor.Rise.{Rise}
 use Rattle.segment_machine.specs.declared.place.Place.{Place}
 use Rattle.segment_machine.specs.declared.place.Place.TheVariants.{FreeLoaded, Spent}
-use Rattle.segment_machine.specs.Actor.{AreApart, is_bound}
+use Rattle.segment_machine.specs.Actor.{AreOwnBlocksApart, is_bound}
 use Rattle.segment_machine.specs.declared.seen.Seen.{Seen}
 use Rattle.segment_machine.specs.declared.seen.Sighting.{Sighting}
 use Rattle.segment_machine.specs.Event.{Event, spot, after, next, Ready, Learned}
@@ -34,13 +34,13 @@ pub record FrameOfStep (a b : Actor) : Type 0 where
 
 -- What an event may do to the segment for all to see, besides setting a flag: it links a record that is to hold this, or raises the free
 -- pointer for a block that wants so many words.
-pub data Deed : Type 0 where
-  links : Made → Deed
-  raises : ℕ → Deed
+pub data SharedEffect : Type 0 where
+  links : Made → SharedEffect
+  raises : ℕ → SharedEffect
 
 -- What an event does to the segment for all to see: it sets the corrupt flag and the full one where that is said and not else, and it links
 -- no record and raises the free pointer for no block but as it may.
-pub record DoesOnly (corrupt full : Bool) (may : Deed → Type 0) (a b : Actor) : Type 0 where
+pub record DoesOnly (corrupt full : Bool) (may : SharedEffect → Type 0) (a b : Actor) : Type 0 where
   pub spoiled : b.done.spoiled ≡ (corrupt || a.done.spoiled)
   pub filled : b.done.filled ≡ (full || a.done.filled)
   pub linked : (more : List Published) × (b.done.published ≡ a.done.published ++ more) × All (λ (p : Published). may (links p.made)) more
@@ -64,7 +64,7 @@ pub record StepsBy (size version : ℕ) (a : Actor) (words new_words : List ℕ)
   pub event : Event
   pub ready : Ready at event
   pub words_are : new_words ≡ after size version event words
-  pub goes : Learned at event (word_at words (spot size event)) → AreApart (next at event (word_at words (spot size event)))
+  pub goes : Learned at event (word_at words (spot size event)) → AreOwnBlocksApart (next at event (word_at words (spot size event)))
       → WalksInOrder (next at event (word_at words (spot size event)))
       → (behind : List Note) × (then_is : Actor) × Notes (next at event (word_at words (spot size event))) behind then_is × holds then_is
 
@@ -82,8 +82,8 @@ abbrev pub IsFree : Actor → Type 0
 IsFree a = is_tied a.hand.place ≡ false
 
 -- it has met the record of each histogram that it knows
-abbrev pub HasMet : Actor → Type 0
-HasMet a = (known : Known) → Contains a.answers.names known → Contains a.seen.chain known.reference
+abbrev pub HasMetKnown : Actor → Type 0
+HasMetKnown a = (known : Known) → Contains a.answers.names known → Contains a.seen.chain known.reference
 
 -- It has seen the list to its end: the next of the last record that it has met on it, or of the queue block where it has met none, was the
 -- end of the list when it loaded that.

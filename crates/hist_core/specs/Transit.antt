@@ -14,13 +14,13 @@ use Rattle.hist_core.specs.Start.{Start}
 use Rattle.hist_core.specs.WorldState.{IsReachedAs}
 
 -- a running call counts in the histogram of a record
-abbrev pub CountsFor : ℕ → Option Running → Type 0
-CountsFor histogram (Some (Add add)) = add.histogram ≡ histogram
-CountsFor histogram (Some (Batch batch)) = batch.histogram ≡ histogram
-CountsFor histogram running = ⊥
+abbrev pub CountsInRecord : ℕ → Option Running → Type 0
+CountsInRecord histogram (Some (Add add)) = add.histogram ≡ histogram
+CountsInRecord histogram (Some (Batch batch)) = batch.histogram ≡ histogram
+CountsInRecord histogram running = ⊥
 
 -- An actor that has disabled a single word, and has its units to move, runs a call that counts in just that histogram.
 abbrev pub MoveTheirOwn : WorldState → Type 0
 MoveTheirOwn world_state = (start : Start) (state : State) → IsReachedAs start world_state state → (actor : ℕ) (actor_run : ActorRun) (recorder : Actor)
     → get_elem? world_state.actor_runs.items actor ≡ some actor_run → get_elem? state.actors (actor + 1) ≡ some recorder
-    → (look : Look) (bucket units : ℕ) → recorder.hand.place ≡ Moving look bucket units → CountsFor look.histogram actor_run.running
+    → (look : Look) (bucket units : ℕ) → recorder.hand.place ≡ Moving look bucket units → CountsInRecord look.histogram actor_run.running

@@ -20,7 +20,7 @@ use Rattle.hist_core.specs.declared.walk.SampleWalk.TheVariants.{LoadingFirst, L
 -- ---- where it stands
 
 -- It has passed records behind that of a sparse histogram, and comes to one of them, or to the end of the list.
-pub record IsWalkProgress (known : Known) (passed : List ℕ) (at : ℕ) (a : Actor) : Type 0 where
+pub record IsSampleWalkProgress (known : Known) (passed : List ℕ) (at : ℕ) (a : Actor) : Type 0 where
   pub sparse : known.spec ≡ Sparse
   pub apart : is_looking a.hand.place ≡ false
   pub began : BeganBefore a
@@ -33,7 +33,7 @@ OfPassed = List ℕ → Actor → Type 0
 -- It stands at a record behind that of a sparse histogram, and this holds of those that it saw.
 pub record StandsBehind (known : Known) (holds : OfPassed) (at : ℕ) (seen : List ℕ → List ℕ) (a : Actor) : Type 0 where
   pub passed : List ℕ
-  pub way : IsWalkProgress known passed at a
+  pub way : IsSampleWalkProgress known passed at a
   pub record_there : at ≢ QUEUE
   pub lists : holds (seen passed) a
 
@@ -46,8 +46,8 @@ abbrev pub PassedRecord : Known → OfPassed → ℕ → Actor → Type 0
 PassedRecord known holds at a = StandsBehind known holds at (λ passed. passed ++ at ∷ []) a
 
 -- it saw that the record is a sample, which has eight words
-abbrev pub IsSample : Dimensions → ℕ → Actor → Type 0
-IsSample shape at a = (word_seen a.seen.words (at + BLOCK_TYPE) ≡ Some TYPE_SAMPLE) × (at + SAMPLE_LEAST ≤ shape.size)
+abbrev pub SawSampleRecord : Dimensions → ℕ → Actor → Type 0
+SawSampleRecord shape at a = (word_seen a.seen.words (at + BLOCK_TYPE) ≡ Some TYPE_SAMPLE) × (at + SAMPLE_LEAST ≤ shape.size)
 
 -- it stands at a sample of a value of its histogram
 abbrev pub MetSample : Dimensions → Known → OfPassed → ℕ → ℤ → Actor → Type 0
@@ -55,9 +55,9 @@ MetSample shape known holds at value a =
     MetRecord known holds at a × (at + SAMPLE_LEAST ≤ shape.size) × SawSample a.seen known.reference value at
 
 -- it has come to the end of the list, and this holds of all records there
-pub record HasPassedAll (known : Known) (holds : OfPassed) (a : Actor) : Type 0 where
+pub record HasReachedEnd (known : Known) (holds : OfPassed) (a : Actor) : Type 0 where
   pub passed : List ℕ
-  pub way : IsWalkProgress known passed QUEUE a
+  pub way : IsSampleWalkProgress known passed QUEUE a
   pub lists : holds passed a
 
 -- it may begin: the histogram is sparse, and its record was met
@@ -70,9 +70,9 @@ pub record MayWalk (known : Known) (a : Actor) : Type 0 where
 abbrev pub WalksAt : Dimensions → Known → OfPassed → SampleWalk → Actor → Type 0
 WalksAt shape known holds LoadingFirst a = MayWalk known a × ((b : Actor) → holds [] b)
 WalksAt shape known holds (LoadingType at) a = MetRecord known holds at a
-WalksAt shape known holds (LoadingHistogram at) a = MetRecord known holds at a × IsSample shape at a
+WalksAt shape known holds (LoadingHistogram at) a = MetRecord known holds at a × SawSampleRecord shape at a
 WalksAt shape known holds (LoadingValue at of) a =
-    MetRecord known holds at a × IsSample shape at a × (word_seen a.seen.words (at + SAMPLE_HISTOGRAM) ≡ Some of)
+    MetRecord known holds at a × SawSampleRecord shape at a × (word_seen a.seen.words (at + SAMPLE_HISTOGRAM) ≡ Some of)
 WalksAt shape known holds (LoadingNext at) a = PassedRecord known holds at a
 
 -- its first event has happened
@@ -84,7 +84,7 @@ HasSetOut walk = ⊤
 abbrev pub HasComeTo : Dimensions → Known → OfPassed → Met → Actor → Type 0
 HasComeTo shape known holds (Nothing walk) a = HasSetOut walk × WalksAt shape known holds walk a
 HasComeTo shape known holds (Sample at value) a = MetSample shape known holds at value a
-HasComeTo shape known holds End a = HasPassedAll known holds a
+HasComeTo shape known holds End a = HasReachedEnd known holds a
 
 -- ---- a step
 

@@ -1,7 +1,7 @@
 -- What a world shows, and why it takes no move.
 use Rattle.std.specs.List.{list_any}
 use Rattle.std.specs.Str.{bytes_eq}
-use Rattle.hist_core.specs.declared.hist.Known.{Known}
+use Rattle.hist_core.specs.declared.hist.KnownHist.{KnownHist}
 use Rattle.std.specs.Prelude.{◌≡◌, Bool, false, not, ◌&&◌, ◌||◌, ◌==◌, nat_lt, nat_le, ℕ, List, [], ◌∷◌, vec_len, is_some, slice_set, Result, Ok, Err, IfErr, IfOk, OnErr, OnOk, MatchOption, ⊤}
 use mathlib.Core.Option.{Option, some, none}
 use lib.ListN.{get_elem?}
@@ -84,7 +84,7 @@ named_by (Hist name spec) = none
 named_by SetCorrupt = none
 
 -- an actor that is there does not know the histogram of that name
-abbrev pub lacks_name : List Known → Option (List ℕ) → Bool
+abbrev pub lacks_name : List KnownHist → Option (List ℕ) → Bool
 lacks_name list none = false
 lacks_name list (some name) = not (list_any (λ known. bytes_eq known.name.items name) list)
 

@@ -37,17 +37,17 @@ use Rattle.hist_core.specs.declared.call.Answer.{Answer}
 use Rattle.hist_core.specs.declared.call.Answer.TheVariants as answer
 use Rattle.hist_core.specs.declared.call.Begun.{Begun}
 use Rattle.hist_core.specs.declared.call.Begun.TheVariants.{Going, Ended}
-use Rattle.hist_core.specs.declared.hist.Known.{Known}
+use Rattle.hist_core.specs.declared.hist.KnownHist.{KnownHist}
 use Rattle.segment_calls.specs.declared.refusal.Refusal.TheVariants as refusal
 use Rattle.hist_core.specs.declared.actor_run.Running.{Running}
 use Rattle.hist_core.specs.declared.actor_run.Running.TheVariants.{Hist, Add, Delta, Snapshot, Batch, SetCorrupt}
 use Rattle.segment_calls.specs.Asked.{IsRefusedFor, IsTooLarge}
-use Rattle.hist_core.specs.ActorRun.{IsFresh, IsRun, IsAsItWas, IsAnswer, IsTook, IsKnownAnswer, IsRefusedBy, DoesAsSaid, LooksSince, Answers, entry_of, looked_by, pending_by, ended_by, begun_by}
+use Rattle.hist_core.specs.ActorRun.{IsFreshRun, IsActorRunOf, IsAsItWas, IsAnswer, IsTook, IsKnownAnswer, IsRefusedBy, DoesAsSaid, LooksSince, Answers, entry_of, looked_by, pending_by, ended_by, begun_by}
 use Rattle.segment_machine.specs.Entry.{batch_cost, batch_entries, sample_entry, tally_noted}
 use Rattle.segment_machine.specs.declared.entry.Entry.{Entry as MachineEntry}
 use Rattle.hist_core.specs.Batch.{sample_of}
 use Rattle.hist_core.specs.SnapshotCall.{HasJustBegun}
-use Rattle.hist_core.specs.Start.{IsImage, MayStart, Start, new_start, start_state}
+use Rattle.hist_core.specs.Start.{IsImageStart, MayStart, Start, new_start, start_state}
 use Rattle.hist_core.specs.StepsBy.{has_pointer}
 use Rattle.segment_calls.specs.declared.refusal.Refusal.{Refusal}
 use Rattle.bucket_ranges.specs.Ranges.{boundaries_of}
@@ -58,7 +58,7 @@ pub record IsNewWorldState (shape : Dimensions) (version id actors : ℕ) (world
   pub versioned : world_state.version ≡ version
   pub words : world_state.words.items ≡ render shape (fresh shape version id)
   pub count : vec_len world_state.actor_runs ≡ actors
-  pub rest : All IsFresh world_state.actor_runs.items
+  pub rest : All IsFreshRun world_state.actor_runs.items
   pub units : world_state.units ≡ 4294967295
 
 -- an image that may be adopted, with so many actors, which have done nothing; the pool has the units that the image has not used
@@ -70,7 +70,7 @@ pub record IsAdoptedWorldState (words : List ℕ) (actors : ℕ) (world_state : 
   pub versioned : world_state.version ≡ VERSION_FROZEN
   pub words_are : world_state.words.items ≡ words
   pub count : vec_len world_state.actor_runs ≡ actors
-  pub rest : All IsFresh world_state.actor_runs.items
+  pub rest : All IsFreshRun world_state.actor_runs.items
   pub units : world_state.units + used_of (reading_along words (head_of words) references) ≡ 4294967295
 
 -- ---- the state of the machine
@@ -80,7 +80,7 @@ abbrev pub AreRun : Dimensions → ℕ → List ActorRun → List Actor → Type
 AreRun shape version [] [] = ⊤
 AreRun shape version [] (a ∷ rest) = ⊥
 AreRun shape version (actor_run ∷ actor_runs) [] = ⊥
-AreRun shape version (actor_run ∷ actor_runs) (a ∷ rest) = IsRun shape version actor_run a × AreRun shape version actor_runs rest
+AreRun shape version (actor_run ∷ actor_runs) (a ∷ rest) = IsActorRunOf shape version actor_run a × AreRun shape version actor_runs rest
 
 -- The words are those of a state of the machine, without shared cursors. Its first actor is the opener, which has made the others: a
 -- recorder for each actor of the world.
@@ -111,8 +111,8 @@ abbrev pub IsReachedFrom : Start → WorldState → Type 0
 IsReachedFrom start world_state = (state : State) × IsReachedAs start world_state state
 
 -- it reaches one from some start
-abbrev pub IsReached : WorldState → Type 0
-IsReached world_state = (start : Start) × (state : State) × IsReachedAs start world_state state
+abbrev pub IsReachable : WorldState → Type 0
+IsReachable world_state = (start : Start) × (state : State) × IsReachedAs start world_state state
 
 -- it reaches one from a new segment of a shape, a version and an id
 abbrev pub IsReachedFromNew : Dimensions → ℕ → ℕ → WorldState → Type 0
@@ -121,7 +121,7 @@ IsReachedFromNew shape version id world_state = IsReachedFrom (new_start shape v
 -- it reaches one from an image
 abbrev pub IsReachedFromImage : List ℕ → WorldState → Type 0
 IsReachedFromImage words world_state =
-    (references : List ℕ) × (start : Start) × IsImage words references start × IsReachedFrom start world_state
+    (references : List ℕ) × (start : Start) × IsImageStart words references start × IsReachedFrom start world_state
 
 -- ---- the actors
 
@@ -130,8 +130,8 @@ abbrev pub IsBusy : WorldState → ℕ → Type 0
 IsBusy world_state actor = (actor_run : ActorRun) → get_elem? world_state.actor_runs.items actor ≡ some actor_run → IsSome actor_run.running
 
 -- the opener lends units to the actor, or nothing happens
-abbrev pub Lends : ℕ → State → State → Type 0
-Lends actor old new = (new ≡ old) ⊎ ((units : ℕ) × IsLent old 0 (actor + 1) units new)
+abbrev pub LendsOrNothing : ℕ → State → State → Type 0
+LendsOrNothing actor old new = (new ≡ old) ⊎ ((units : ℕ) × IsLent old 0 (actor + 1) units new)
 
 -- units of the actor come back to the opener, or nothing happens
 abbrev pub GivesBack : ℕ → State → State → Type 0
@@ -139,11 +139,11 @@ GivesBack actor old new = (new ≡ old) ⊎ ((units : ℕ) × IsReturned old 0 (
 
 -- the begin of a call takes its units from the pool, where it has any; no word changes
 abbrev pub BeginsFrom : Start → State → ℕ → WorldState → Type 0
-BeginsFrom start state actor new = (then_is : State) × Lends actor state then_is × IsReachedAs start new then_is
+BeginsFrom start state actor new = (then_is : State) × LendsOrNothing actor state then_is × IsReachedAs start new then_is
 
 -- A snapshot of the histogram of a record is what its actor saw since it began. Of each key it has at least the units that the actor
 -- had accepted and those that it had seen before; so has its redundant count, with what an image had.
-pub record HasSeen (actor histogram : ℕ) (snapshot : SnapshotAnswer) (start : Start) (world_state : WorldState) (state : State)
+pub record HasSeenEnough (actor histogram : ℕ) (snapshot : SnapshotAnswer) (start : Start) (world_state : WorldState) (state : State)
     (reach : IsReachedAs start world_state state) : Type 0 where
   pub recorder : Actor
   pub there : get_elem? state.actors (actor + 1) ≡ some recorder
@@ -156,7 +156,7 @@ pub record HasSeen (actor histogram : ℕ) (snapshot : SnapshotAnswer) (start : 
 
 -- A delta of the histogram of a record took all that its actor saw since it began. With it all deltas together took, of each key, at least
 -- the units that the actor had accepted and those that it had seen before.
-pub record HasTaken (actor histogram : ℕ) (delta : DeltaAnswer) (start : Start) (world_state : WorldState) (state : State)
+pub record HasTakenEnough (actor histogram : ℕ) (delta : DeltaAnswer) (start : Start) (world_state : WorldState) (state : State)
     (reach : IsReachedAs start world_state state) : Type 0 where
   pub recorder : Actor
   pub there : get_elem? state.actors (actor + 1) ≡ some recorder
@@ -202,9 +202,9 @@ DoesOnlySo old actor state said last = (before : ActorRun) (a b : Actor) → get
 -- what an answer promises of the states before and behind it, by what the call was to do
 abbrev pub IsPromised : WorldState → ℕ → State → Stepped → (start : Start) (new : WorldState) (last : State) → IsReachedAs start new last → Type 0
 IsPromised old actor state (Done (answer.Delta delta)) start new last reach =
-    (before : ActorRun) → get_elem? old.actor_runs.items actor ≡ some before → HasTaken actor (looked_by before.running) delta start new last reach
+    (before : ActorRun) → get_elem? old.actor_runs.items actor ≡ some before → HasTakenEnough actor (looked_by before.running) delta start new last reach
 IsPromised old actor state (Done (answer.Snapshot snapshot)) start new last reach =
-    (before : ActorRun) → get_elem? old.actor_runs.items actor ≡ some before → HasSeen actor (looked_by before.running) snapshot start new last reach
+    (before : ActorRun) → get_elem? old.actor_runs.items actor ≡ some before → HasSeenEnough actor (looked_by before.running) snapshot start new last reach
 IsPromised old actor state (Done (answer.Refused cause)) start new last reach =
     (before : ActorRun) → get_elem? old.actor_runs.items actor ≡ some before → IsDue actor before.running cause state new last
 IsPromised old actor state (Done (answer.BatchRefused refused)) start new last reach =
@@ -265,10 +265,10 @@ pub record IsResting (world_state : WorldState) (actor : ℕ) (actor_run : Actor
   pub rests : actor_run.running ≡ None
 
 -- it knows the histogram of a name, at a place
-pub record IsReady (world_state : WorldState) (actor : ℕ) (name : List ℕ) (place : ℕ) : Type 0 where
+pub record KnowsHistAt (world_state : WorldState) (actor : ℕ) (name : List ℕ) (place : ℕ) : Type 0 where
   pub actor_run : ActorRun
   pub resting : IsResting world_state actor actor_run
-  pub known : Known
+  pub known : KnownHist
   pub there : get_elem? actor_run.known.items place ≡ some known
   pub named : known.name.items ≡ name
 
@@ -280,7 +280,7 @@ MayBeAsked shape name spec = (is_name name ≡ true) × (spec_fault spec ≡ Non
 
 -- What it is answered without an event, and why: the name or the spec is unlawful, or a record or its counts would be too large; or it may
 -- be asked for, and the actor knows a histogram of that name, with the same spec or with another.
-abbrev pub IsAnsweredAtOnce : Dimensions → List Known → List ℕ → Spec → Answer → Type 0
+abbrev pub IsAnsweredAtOnce : Dimensions → List KnownHist → List ℕ → Spec → Answer → Type 0
 IsAnsweredAtOnce shape known name spec (answer.Refused refusal.OtherSpec) =
     IsKnownAnswer known name spec (answer.Refused refusal.OtherSpec) × MayBeAsked shape name spec
 IsAnsweredAtOnce shape known name spec (answer.Refused refusal.NoMemory) = ⊥
@@ -288,13 +288,13 @@ IsAnsweredAtOnce shape known name spec (answer.Refused why) = IsRefusedFor shape
 IsAnsweredAtOnce shape known name spec answered = IsKnownAnswer known name spec answered × MayBeAsked shape name spec
 
 -- the histogram of a name and a spec that a running call asks for
-abbrev pub AsksFor : List ℕ → Spec → Option Running → Type 0
-AsksFor name spec (Some (Hist hist)) = (hist.asked.name.items ≡ name) × (hist.asked.spec ≡ spec)
-AsksFor name spec running = ⊥
+abbrev pub RunsHistOf : List ℕ → Spec → Option Running → Type 0
+RunsHistOf name spec (Some (Hist hist)) = (hist.asked.name.items ≡ name) × (hist.asked.spec ≡ spec)
+RunsHistOf name spec running = ⊥
 
 -- It goes on, asking for the histogram; or it is answered at once; or there was no memory.
 abbrev pub HistBegins : ℕ → List ℕ → Spec → WorldState → WorldState → Result Begun AllocError → Type 0
-HistBegins actor name spec old new (Ok Going) = (actor_run : ActorRun) × (get_elem? new.actor_runs.items actor ≡ some actor_run) × AsksFor name spec actor_run.running
+HistBegins actor name spec old new (Ok Going) = (actor_run : ActorRun) × (get_elem? new.actor_runs.items actor ≡ some actor_run) × RunsHistOf name spec actor_run.running
 HistBegins actor name spec old new (Ok (Ended answered)) =
     IsAsBefore old new × ((actor_run : ActorRun) → get_elem? old.actor_runs.items actor ≡ some actor_run → IsAnsweredAtOnce old.shape actor_run.known.items name spec answered)
 HistBegins actor name spec old new (Err error) = IsAsBefore old new
@@ -316,7 +316,7 @@ pub record IsCountBegun (actor : ℕ) (name : List ℕ) (cost : ℕ) (entries : 
   pub behind : ActorRun
   pub was : get_elem? old.actor_runs.items actor ≡ some before
   pub is : get_elem? new.actor_runs.items actor ≡ some behind
-  pub known : Known
+  pub known : KnownHist
   pub knows : Contains before.known.items known
   pub named : known.name.items ≡ name
   pub counts : runs behind.running
@@ -339,8 +339,8 @@ AddBegins actor name value units old new (Ended answered) = ⊥
 -- ---- how a `batch` begins
 
 -- there is nothing to count
-abbrev pub CountsNothing : List (ℤ × ℕ) → ℤ → Type 0
-CountsNothing items sum = (items ≡ []) × (sum ≡ pos 0)
+abbrev pub IsNothingToCount : List (ℤ × ℕ) → ℤ → Type 0
+IsNothingToCount items sum = (items ≡ []) × (sum ≡ pos 0)
 
 -- a running call counts these items and adds this sum
 abbrev pub CountsItems : List (ℤ × ℕ) → ℤ → Option Running → Type 0
@@ -366,8 +366,8 @@ IsTooMuch old items sum why = ⊥
 -- is as it was.
 abbrev pub BatchBegins : ℕ → List ℕ → List (ℤ × ℕ) → ℤ → WorldState → WorldState → Begun → Type 0
 BatchBegins actor name items sum old new Going =
-    AreSome items × (¬ (CountsNothing items sum)) × (batch_cost items sum ≤ old.units) × IsBatchBegun actor name items sum old new
-BatchBegins actor name items sum old new (Ended answer.Added) = IsAsBefore old new × CountsNothing items sum
+    AreSome items × (¬ (IsNothingToCount items sum)) × (batch_cost items sum ≤ old.units) × IsBatchBegun actor name items sum old new
+BatchBegins actor name items sum old new (Ended answer.Added) = IsAsBefore old new × IsNothingToCount items sum
 BatchBegins actor name items sum old new (Ended (answer.BatchRefused refused)) =
     IsAsBefore old new × (refused.added ≡ 0) × IsTooMuch old items sum refused.why
 BatchBegins actor name items sum old new (Ended answered) = ⊥
@@ -380,16 +380,16 @@ TakesOf reference (Some (Delta delta_call fresh)) = delta_call.histogram ≡ ref
 TakesOf reference running = ⊥
 
 -- a running call is a snapshot of the histogram of a record, and has looked at nothing yet
-abbrev pub LooksAt : ℕ → Option Running → Type 0
-LooksAt reference (Some (Snapshot snapshot_call)) = (snapshot_call.histogram ≡ reference) × HasJustBegun snapshot_call.stage
-LooksAt reference running = ⊥
+abbrev pub BeginsSnapshotOf : ℕ → Option Running → Type 0
+BeginsSnapshotOf reference (Some (Snapshot snapshot_call)) = (snapshot_call.histogram ≡ reference) × HasJustBegun snapshot_call.stage
+BeginsSnapshotOf reference running = ⊥
 
 -- It goes on with a histogram of the name that the actor knows. No word has changed, and what the actor's deltas took is shown as before.
 abbrev pub GoesWith : (ℕ → Option Running → Type 0) → ℕ → List ℕ → WorldState → WorldState → Begun → Type 0
 GoesWith IsOf actor name old new Going =
     (new.words ≡ old.words) × ((before behind : ActorRun) × (get_elem? old.actor_runs.items actor ≡ some before) × (get_elem? new.actor_runs.items actor ≡ some behind)
     × (behind.taken.items ≡ before.taken.items)
-    × ((known : Known) × Contains behind.known.items known × (known.name.items ≡ name) × IsOf known.reference behind.running))
+    × ((known : KnownHist) × Contains behind.known.items known × (known.name.items ≡ name) × IsOf known.reference behind.running))
 GoesWith IsOf actor name old new (Ended answered) = ⊥
 
 -- a delta begins
@@ -398,7 +398,7 @@ DeltaBegins = GoesWith TakesOf
 
 -- a snapshot begins
 abbrev pub SnapshotBegins : ℕ → List ℕ → WorldState → WorldState → Begun → Type 0
-SnapshotBegins = GoesWith LooksAt
+SnapshotBegins = GoesWith BeginsSnapshotOf
 
 -- ---- how a call that sets the corrupt flag begins
 
@@ -423,8 +423,8 @@ IsConsistentAs world_state = (start : Start) (state : State) → IsReachedAs sta
 
 -- Stopped here, the words read back as exactly the histograms that were published, each once, every bucket holding no unit that was not
 -- begun and all ended ones but those in transit. An image's are there too, and what it counted is begun and ended.
-abbrev pub IsReadAs : WorldState → Type 0
-IsReadAs world_state = (start : Start) (state : State) → IsReachedAs start world_state state → (kept : Invariant world_state.shape start.opened state)
+abbrev pub ReadsBack : WorldState → Type 0
+ReadsBack world_state = (start : Start) (state : State) → IsReachedAs start world_state state → (kept : Invariant world_state.shape start.opened state)
     × ((reading : Reading) → IsReading state.words (head_of state.words) reading
     → HasNoFault reading × ReadsHead start.opened state reading × ReadsNames kept.anatomy.records reading
     × ((h : Histogram) → Contains reading.hists h → ReadsUnits world_state.version state h × ReadsAmounts start.opened state h))
@@ -439,5 +439,5 @@ MayBeAdopted world_state = world_state.version ≡ VERSION_FROZEN → (head_of w
 -- record is the same.
 abbrev pub AreKnownFirst : WorldState → Type 0
 AreKnownFirst world_state = (chain : List ℕ) → IsChain world_state.words.items (head_of world_state.words.items) chain
-    → (i : ℕ) (actor_run : ActorRun) (known : Known) → get_elem? world_state.actor_runs.items i ≡ some actor_run → actor_run.running ≡ None → Contains actor_run.known.items known
+    → (i : ℕ) (actor_run : ActorRun) (known : KnownHist) → get_elem? world_state.actor_runs.items i ≡ some actor_run → actor_run.running ≡ None → Contains actor_run.known.items known
     → ∥ IsHistogram world_state.words.items chain known.name.items known.reference × SameSpec (spec_of world_state.words.items known.reference) known.spec ∥₁

@@ -7,7 +7,7 @@ use crate::call_entries::{batch_entries, entry_of, new_items};
 use crate::delta_call::{DeltaCall, DeltaCallStep};
 use crate::drawing::{draw, draw_sum};
 use crate::entry::{Entry, Taken};
-use crate::hist::{Hist, HistStep, Known};
+use crate::hist::{Hist, HistStep, KnownHist};
 use crate::samples::key_of;
 use crate::snapshot_call::{SnapshotCall, SnapshotCallStep};
 use alloc_core::Attempt;
@@ -46,7 +46,7 @@ pub(crate) struct ActorRun {
     // What its deltas took; a running one stands last, from its first event on. Until then there is room for it.
     pub(crate) taken: Vec<Taken>,
     // The histograms that its `hist` was answered with. Where one is going on, there is room for one more.
-    pub(crate) known: Vec<Known>,
+    pub(crate) known: Vec<KnownHist>,
     pub(crate) running: Option<Running>,
 }
 
@@ -55,7 +55,7 @@ impl ActorRun {
     ghost use mathlib.Core.Option.{some};
     ghost use Rattle.std.specs.List.{All, Contains};
     ghost use lib.ListN.{get_elem?};
-    ghost use Rattle.hist_core.specs.declared.hist.Known.{Known};
+    ghost use Rattle.hist_core.specs.declared.hist.KnownHist.{KnownHist};
     ghost use Rattle.hist_core.specs.declared.entry.Taken.{Taken};
     ghost use Rattle.hist_core.specs.declared.delta_call.DeltaCall.{DeltaCall};
     ghost use Rattle.hist_core.specs.declared.actor_run.Running.TheVariants as runs;
@@ -67,11 +67,11 @@ impl ActorRun {
     ghost use Rattle.hist_core.specs.Batch.{added_of};
     ghost use Rattle.hist_core.specs.Exchanging.{running_attempt};
     ghost use Rattle.hist_core.specs.StepsBy.{WalksInOrder};
-    ghost use Rattle.hist_core.specs.ActorRun.{IsFresh, IsRun, IsSomeRun, NoneHasName, IsKnownAt, KnowsAt, IsKnownAnswer, BeginsHist, HasRoom, AsksForOne, IsHistAnnounced, IsAddAnnounced, Adds, BeginsAdd, IsBatchAnnounced, BeginsBatch, BeginsSnapshot, BeginsDelta, IsNowShown, TakesOfOne, HasEndedDelta, HasPlace, IsDeltaAnnounced, LooksAtOne, IsSnapshotAnnounced, IsAsItWas, held_by, Advances, Answers};
+    ghost use Rattle.hist_core.specs.ActorRun.{IsFreshRun, IsActorRunOf, IsSomeRun, NoneHasName, IsKnownAt, KnowsAt, IsKnownAnswer, BeginsHist, HasRoomForHist, AsksForOne, IsHistAnnounced, IsAddAnnounced, RunsAdd, BeginsAdd, IsBatchAnnounced, BeginsBatch, BeginsSnapshot, BeginsDelta, IsNowShown, TakesOfOne, HasEndedDelta, HasDraftRoom, IsDeltaAnnounced, LooksAtOne, IsSnapshotAnnounced, IsAsItWas, held_by, Advances, Answers};
 
     // An actor that has done nothing.
     pub(crate) fn new(alloc: Global) -> ActorRun
-        ensures { IsFresh result }
+        ensures { IsFreshRun result }
     {
         ActorRun {
             entries: Vec::new(alloc),
@@ -110,7 +110,7 @@ impl ActorRun {
     }
 
     // The histogram that it knows at a place.
-    fn known_at(&self, i: usize) -> &Known
+    fn known_at(&self, i: usize) -> &KnownHist
         requires { KnowsAt self.now i }
         ensures at { get_elem? self.now.known.items i ≡ some result.now }
         ensures lawful { spec_fault result.now.spec ≡ None }
@@ -156,7 +156,7 @@ impl ActorRun {
         units: u32,
     ) -> Result<(), AllocError>
         requires { KnowsAt self.old i }
-        ensures begins { IfOk result (λ _. (known : Known) → get_elem? self.old.known.items i ≡ some known → BeginsAdd shape version known value units self.old self.new) }
+        ensures begins { IfOk result (λ _. (known : KnownHist) → get_elem? self.old.known.items i ≡ some known → BeginsAdd shape version known value units self.old self.new) }
         ensures fails { OnErr result (IsAsItWas self.old self.new) }
     {
         let known = self.known_at(i);
@@ -180,7 +180,7 @@ impl ActorRun {
         cost: u32,
     ) -> Result<(), AllocError>
         requires { KnowsAt self.old i }
-        ensures begins { IfOk result (λ _. (known : Known) → get_elem? self.old.known.items i ≡ some known → BeginsBatch shape version known items.now sum cost self.old self.new) }
+        ensures begins { IfOk result (λ _. (known : KnownHist) → get_elem? self.old.known.items i ≡ some known → BeginsBatch shape version known items.now sum cost self.old self.new) }
         ensures fails { OnErr result (IsAsItWas self.old self.new) }
     {
         let known = self.known_at(i);
@@ -245,7 +245,7 @@ impl ActorRun {
 
     // The histogram that its `hist` asked for is known, and the call has ended.
     fn know(&mut self) -> Stepped
-        requires room { HasRoom self.old.running (vec_len self.old.known) (vec_capacity self.old.known) }
+        requires room { HasRoomForHist self.old.running (vec_len self.old.known) (vec_capacity self.old.known) }
         requires asks { AsksForOne self.old.running }
         ensures { IsHistAnnounced self.old Done self.new result }
     {
@@ -253,7 +253,7 @@ impl ActorRun {
             return Stepped::More;
         };
         let Hist {
-            asked: Known {
+            asked: KnownHist {
                 name,
                 spec,
                 ranges,
@@ -263,7 +263,7 @@ impl ActorRun {
             ..
         } = hist;
         self.known
-            .push(Known {
+            .push(KnownHist {
                 name,
                 spec,
                 ranges,
@@ -275,7 +275,7 @@ impl ActorRun {
 
     // What becomes of it by what a step of its `hist` said.
     fn after_hist(&mut self, said: HistStep) -> Stepped
-        requires room { HasRoom self.old.running (vec_len self.old.known) (vec_capacity self.old.known) }
+        requires room { HasRoomForHist self.old.running (vec_len self.old.known) (vec_capacity self.old.known) }
         requires asks { AsksForOne self.old.running }
         ensures { IsHistAnnounced self.old said self.new result }
     {
@@ -298,7 +298,7 @@ impl ActorRun {
         i: usize,
     ) -> Result<(), AllocError>
         requires { KnowsAt self.old i }
-        ensures begins { IfOk result (λ _. (known : Known) → get_elem? self.old.known.items i ≡ some known → BeginsDelta shape version known self.old self.new) }
+        ensures begins { IfOk result (λ _. (known : KnownHist) → get_elem? self.old.known.items i ≡ some known → BeginsDelta shape version known self.old self.new) }
         ensures fails { OnErr result (IsAsItWas self.old self.new) }
     {
         let known = self.known_at(i);
@@ -341,7 +341,7 @@ impl ActorRun {
 
     // What becomes of it by what a step of its `delta` said.
     fn after_delta(&mut self, said: DeltaCallStep) -> Stepped
-        requires place { HasPlace said self.old.running self.old.taken }
+        requires place { HasDraftRoom said self.old.running self.old.taken }
         ensures { (delta_call : DeltaCall) (fresh : Option Taken) → self.old.running ≡ Some (runs.Delta delta_call fresh) → IsDeltaAnnounced delta_call fresh self.old said self.new result }
     {
         self.show();
@@ -364,7 +364,7 @@ impl ActorRun {
         i: usize,
     ) -> Result<(), AllocError>
         requires { KnowsAt self.old i }
-        ensures begins { IfOk result (λ _. (known : Known) → get_elem? self.old.known.items i ≡ some known → BeginsSnapshot shape version known self.old self.new) }
+        ensures begins { IfOk result (λ _. (known : KnownHist) → get_elem? self.old.known.items i ≡ some known → BeginsSnapshot shape version known self.old self.new) }
         ensures fails { OnErr result (self.new ≡ self.old) }
     {
         let snapshot_call = SnapshotCall::start(alloc, shape, version, self.known_at(i))?;
@@ -407,7 +407,7 @@ impl ActorRun {
     pub(crate) fn advance(&mut self, words: &mut [u64]) -> Stepped
         requires runs { IsSome self.old.running }
         requires stands { ∥ IsSomeRun (length words.old) self.old ∥₁ }
-        ensures advances { (shape : Dimensions) (version : ℕ) (a : Actor) → shape.size ≡ length words.old → WalksInOrder a → IsRun shape version self.old a → Advances shape version self.old words.old self.new words.new result a }
+        ensures advances { (shape : Dimensions) (version : ℕ) (a : Actor) → shape.size ≡ length words.old → WalksInOrder a → IsActorRunOf shape version self.old a → Advances shape version self.old words.old self.new words.new result a }
         ensures answers { Answers self.old words.old self.new words.new result }
     {
         match &mut self.running {

@@ -2,7 +2,7 @@
 
 ghost use Rattle.std.specs.Prelude.{◌≡◌, length};
 
-use crate::hist::Known;
+use crate::hist::KnownHist;
 use crate::sampling::{Sampling, SamplingStep};
 use crate::word_ops::fetch_add;
 use alloc_core::event::{exchange, store};
@@ -114,7 +114,7 @@ impl Add {
     pub(crate) fn start(
         shape: Shape,
         version: u64,
-        known: &Known,
+        known: &KnownHist,
         value: i32,
         units: u32,
         amount: i64,

@@ -11,7 +11,7 @@ ghost use Rattle.hist_core.specs.ActorRun.{known_of, entry_of as machine_entry};
 
 use crate::add::Add;
 use crate::entry::Entry;
-use crate::hist::Known;
+use crate::hist::KnownHist;
 use crate::samples::key_of;
 use segment_image::Shape;
 use std::alloc::{AllocError, Global};
@@ -19,7 +19,7 @@ use std::alloc::{AllocError, Global};
 // An entry of a known histogram.
 pub(crate) fn entry_of(
     alloc: Global,
-    known: &Known,
+    known: &KnownHist,
     key: i32,
     units: u32,
     amount: i64,
@@ -37,7 +37,7 @@ pub(crate) fn entry_of(
 // The entries of a batch: one for each item, then one for its sum, where that is not 0.
 pub(crate) fn batch_entries(
     alloc: Global,
-    known: &Known,
+    known: &KnownHist,
     items: &[(i32, u32)],
     sum: i64,
 ) -> Result<Vec<Entry>, AllocError>
@@ -60,7 +60,7 @@ pub(crate) fn new_items(
     alloc: Global,
     shape: Shape,
     version: u64,
-    known: &Known,
+    known: &KnownHist,
     items: &[(i32, u32)],
 ) -> Result<Vec<Add>, AllocError>
     requires lawful { spec_fault known.now.spec ≡ None }

@@ -1,7 +1,7 @@
 //! A delta that is going on: it takes of each bucket or sample of a histogram the units that no delta has taken yet, and of the sum what
 //! is new.
 
-use crate::hist::Known;
+use crate::hist::KnownHist;
 use crate::mounted::Mounted;
 use crate::samples::list_by_key;
 use crate::walk::{Met, SampleWalk};
@@ -94,7 +94,7 @@ impl DeltaCall {
     ghost use Rattle.hist_core.specs.ActorRun.{known_of};
     ghost use Rattle.hist_core.specs.StepsBy.{LiesWithin};
     ghost use Rattle.hist_core.specs.declared.delta_call.DeltaStage.TheVariants.{LoadingSingle, TakingPacked, LoadingCounts, LoadingCount, Raising, Walking, LoadingSample, RaisingSample, LoadingSum, Swapping};
-    ghost use Rattle.hist_core.specs.DeltaCall.{IsSomeDeltaCall, IsStarted, IsAtStage, DeltaCallSteps, HasGoneOn, IsBehindSingle, behind_bucket, behind_sample, behind_walk, IsTaken, TakesUnits, mark_of};
+    ghost use Rattle.hist_core.specs.DeltaCall.{IsSomeDeltaCall, IsStarted, IsAtStage, DeltaCallSteps, HasGoneOn, IsBehindSingle, behind_bucket, behind_sample, behind_walk, TakesBucket, TakesUnits, mark_of};
 
     // It begins to take of a known histogram: it loads the single word, or, where the histogram is sparse, the next of its record. There
     // is room for all keys.
@@ -102,7 +102,7 @@ impl DeltaCall {
         alloc: Global,
         shape: Shape,
         version: u64,
-        known: &Known,
+        known: &KnownHist,
     ) -> Result<DeltaCall, AllocError>
         requires lawful { spec_fault known.now.spec ≡ None }
         ensures { IfOk result (IsStarted shape version (known_of known.now)) }
@@ -178,7 +178,7 @@ impl DeltaCall {
     fn take_bucket(&mut self, bucket: usize, total: u64, mark: u64) -> DeltaCallStep
         requires inside { bucket + 1 < length self.old.ranges }
         requires room { vec_len self.old.counts < vec_capacity self.old.counts }
-        ensures { IsTaken bucket total mark self.old self.new result }
+        ensures { TakesBucket bucket total mark self.old self.new result }
     {
         let key = self.ranges.low(bucket);
         self.take(key, total, mark)

@@ -12,7 +12,7 @@ use segment_image::layout::{BLOCK_HEADER, BLOCK_TYPE, HISTOGRAM_NAME_LENGTH, TYP
 
 /// A histogram that an actor knows, or asks for.
 #[derive(Debug, Drop)]
-pub(crate) struct Known {
+pub(crate) struct KnownHist {
     pub(crate) name: Vec<u8>,
     pub(crate) spec: Spec,
     pub(crate) ranges: Ranges,
@@ -46,7 +46,7 @@ pub(crate) enum HistStep {
 #[derive(Debug, Drop)]
 pub(crate) struct Hist {
     pub(crate) shape: Shape,
-    pub(crate) asked: Known,
+    pub(crate) asked: KnownHist,
     // What its record has behind its header, and how many words of that are the name's.
     pub(crate) payload: Vec<u64>,
     pub(crate) letters: usize,
@@ -60,16 +60,16 @@ impl Hist {
     ghost use Rattle.std.specs.Prelude.{◌+◌, ◌-◌, ◌*◌, ◌^◌, vec_len, slice_index};
     ghost use Rattle.segment_machine.specs.declared.actor.Actor.{Actor};
     ghost use Rattle.hist_core.specs.Exchanging.{hist_attempt};
-    ghost use Rattle.hist_core.specs.Hist.{compared_place, compared_index, compared_word, IsBegun, IsSomeHist, HistSteps, IsMade, IsMakingRecord, IsMatched, IsDifferent};
+    ghost use Rattle.hist_core.specs.Hist.{compared_place, compared_index, compared_word, IsHistBegun, IsSomeHist, HistSteps, IsMade, IsMakingRecord, IsMatched, IsDifferent};
     ghost use Rattle.hist_core.specs.declared.hist.HistStage.TheVariants.{Walking, Comparing};
 
     // It begins at the start of the list.
     pub(crate) fn start(shape: Shape, asked: Asked) -> Hist
-        ensures { IsBegun shape asked result }
+        ensures { IsHistBegun shape asked result }
     {
         Hist {
             shape,
-            asked: Known {
+            asked: KnownHist {
                 name: asked.name,
                 spec: asked.spec,
                 ranges: asked.ranges,

@@ -42,7 +42,7 @@ impl Making {
     ghost use Rattle.hist_core.specs.Exchanging.{making_attempt};
     ghost use Rattle.alloc_core.specs.Layout.{IsShape};
     ghost use Rattle.hist_core.specs.declared.making.MakingStage.TheVariants.{Filling};
-    ghost use Rattle.hist_core.specs.Making.{IsSomeMaking, MakingSteps, IsStarted, IsAllocated, IsAllocating, IsPublished, IsPublishing, IsNextFilled, IsFilled};
+    ghost use Rattle.hist_core.specs.Making.{IsSomeMaking, MakingSteps, IsStarted, IsAllocated, IsAllocating, IsPublished, IsPublishing, IsNextFilled, IsPayloadFilled};
 
     // It begins to claim words for a record: so many behind the header, which fit in a page.
     pub(crate) fn start(shape: Shape, room: u64, tag: u64) -> Making
@@ -73,7 +73,7 @@ impl Making {
     // The words of the payload before an index are stored: it stores the next, or publishes the record.
     fn filled(&mut self, payload: &[u64], at: u64, from: usize)
         requires { from ≤ length payload.now }
-        ensures { IsFilled payload.now at from self.new }
+        ensures { IsPayloadFilled payload.now at from self.new }
     {
         let index = Making::next_filled(payload, from);
         self.stage = if index < payload.len() {

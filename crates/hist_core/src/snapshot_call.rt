@@ -1,6 +1,6 @@
 //! A snapshot that is going on: it looks at all that is counted of a histogram, and changes nothing.
 
-use crate::hist::Known;
+use crate::hist::KnownHist;
 use crate::mounted::Mounted;
 use crate::walk::{Met, SampleWalk};
 use bucket_ranges::empty_buckets;
@@ -60,14 +60,14 @@ impl SnapshotCall {
     ghost use Rattle.hist_core.specs.ActorRun.{known_of};
     ghost use Rattle.hist_core.specs.StepsBy.{LiesWithin};
     ghost use Rattle.hist_core.specs.declared.snapshot_call.SnapshotStage.TheVariants.{LoadingSingle, LoadingCounts, LoadingCount, Walking, LoadingSample, LoadingSum, LoadingRedundant};
-    ghost use Rattle.hist_core.specs.SnapshotCall.{IsAtStage, IsSomeSnapshotCall, IsStarted, SnapshotCallSteps, IsPut, IsBehindSingle, IsBehindWalk, IsListed, behind_bucket};
+    ghost use Rattle.hist_core.specs.SnapshotCall.{IsAtStage, IsSomeSnapshotCall, IsStarted, SnapshotCallSteps, IsTotalPut, IsBehindSingle, IsBehindWalk, IsValueListed, behind_bucket};
 
     // It begins to look at a known histogram: it loads the single word, or, where the histogram is sparse, the next of its record.
     pub(crate) fn start(
         alloc: Global,
         shape: Shape,
         version: u64,
-        known: &Known,
+        known: &KnownHist,
     ) -> Result<SnapshotCall, AllocError>
         requires lawful { spec_fault known.now.spec ≡ None }
         requires ranges { known.now.ranges ≡ boundaries_of known.now.spec }
@@ -95,7 +95,7 @@ impl SnapshotCall {
     // The units of a bucket that it saw.
     fn put(&mut self, bucket: usize, total: u64)
         requires { bucket < length self.old.totals.items }
-        ensures { IsPut bucket total self.old self.new }
+        ensures { IsTotalPut bucket total self.old self.new }
     {
         self.totals[bucket].1 = total;
     }
@@ -198,7 +198,7 @@ impl SnapshotCall {
     // The units of a value that it met, where it has some.
     fn list(&mut self, value: i32, count: u64)
         requires { vec_len self.old.totals < vec_capacity self.old.totals }
-        ensures { IsListed value count self.old self.new }
+        ensures { IsValueListed value count self.old self.new }
     {
         if count != 0 {
             self.totals.push_reserved((value, count));

@@ -19,10 +19,10 @@ pub const MAX_ACTORS: usize = 64;
 #[derive(Debug, Drop)]
 pub struct World {
     world_state: WorldState,
-    ghost reached: { ∥ IsReached world_state ∥₁ },
+    ghost reached: { ∥ IsReachable world_state ∥₁ },
 }
 
-ghost use Rattle.hist_core.specs.WorldState.{IsReached};
+ghost use Rattle.hist_core.specs.WorldState.{IsReachable};
 
 impl World {
     ghost use Rattle.std.specs.Prelude.{◌≡◌, ◌≢◌, ◌≤◌, ◌<◌, ◌⊎◌, ℕ, true, Ok, Err, OnOk, OnErr, IfOk, IfErr, IsOk, MatchOption, MatchResult, vec_len};
@@ -34,10 +34,10 @@ impl World {
     ghost use Rattle.segment_promises.specs.Calls.{AreUnits};
     ghost use Rattle.image_adoption.specs.Checking.{IsAdoption};
     ghost use Rattle.hist_core.specs.Start.{Start};
-    ghost use Rattle.hist_core.specs.WorldState.{IsReachedAs, IsReachedFromImage, IsReachedFromNew, IsAdoptedWorldState, IsNewWorldState, BeginsFrom, HoldsNoPointer, StepsTo, IsAsBefore, OthersStay, Says, IsConsistentAs, IsReadAs, MayBeAdopted, AreKnownFirst};
+    ghost use Rattle.hist_core.specs.WorldState.{IsReachedAs, IsReachedFromImage, IsReachedFromNew, IsAdoptedWorldState, IsNewWorldState, BeginsFrom, HoldsNoPointer, StepsTo, IsAsBefore, OthersStay, Says, IsConsistentAs, ReadsBack, MayBeAdopted, AreKnownFirst};
     ghost use Rattle.hist_core.specs.Transit.{MoveTheirOwn};
     ghost use Rattle.hist_core.specs.Exchanging.{next_attempt};
-    ghost use Rattle.hist_core.specs.Moves.{Makes, MakesAll, FaultsAt, StopsAt};
+    ghost use Rattle.hist_core.specs.Moves.{Makes, MakesAll, FaultsAt, StopsAtMove};
     ghost use Rattle.hist_core.specs.World.{actor_checks, world_checks, IsAdoptFault, begin_checks, TakesMemory, BeginSays, step_checks, ChangesOneWord, ended_of, begun_of, taken_of};
 
     /// Returns a world with a new segment of `size` words in pages of `page` words, of version 1 or 2, and so many
@@ -141,9 +141,9 @@ impl World {
     pub fn words(&self) -> &[u64]
         ensures words { result.now ≡ self.now.world_state.words.items }
         ensures header { header_of self.now.world_state.words.items ≡ Ok (head_of self.now.world_state.words.items) }
-        ensures reached { ∥ IsReached self.now.world_state ∥₁ }
+        ensures reached { ∥ IsReachable self.now.world_state ∥₁ }
         ensures consistent { IsConsistentAs self.now.world_state }
-        ensures reads { IsReadAs self.now.world_state }
+        ensures reads { ReadsBack self.now.world_state }
         ensures adoptable { MayBeAdopted self.now.world_state }
         ensures names { AreKnownFirst self.now.world_state }
         ensures moves { MoveTheirOwn self.now.world_state }
@@ -307,7 +307,7 @@ impl World {
     // Makes moves, one after the other, up to the first fault.
     fn make_all(&mut self, moves: &[Move]) -> Result<(), WorldFault>
         ensures makes { OnOk result (MakesAll moves.now self.old.world_state self.new.world_state) }
-        ensures stops { IfErr result (StopsAt moves.now self.old.world_state) }
+        ensures stops { IfErr result (StopsAtMove moves.now self.old.world_state) }
     {
         for step in moves {
             self.make(step)?;
@@ -329,7 +329,7 @@ impl World {
 }
 
 ghost use Rattle.std.specs.Prelude.{IfOk, IfErr};
-ghost use Rattle.hist_core.specs.Moves.{LeadsOn, LeadsTo, StopsOn, StopsWith};
+ghost use Rattle.hist_core.specs.Moves.{LeadsOn, LeadsTo, StopsOn, MovesStopWith};
 
 /// Returns the world after these moves, one after the other, none with a fault [world]. Or the first fault, that of
 /// [`World::new`] or of a move after moves without one [fault].
@@ -343,7 +343,7 @@ pub fn run_schedule(
     moves: &[Move],
 ) -> Result<World, WorldFault>
     ensures world { IfOk result (λ world. LeadsTo size page id actors version moves.now world.world_state) }
-    ensures fault { IfErr result (StopsWith size page id actors version moves.now) }
+    ensures fault { IfErr result (MovesStopWith size page id actors version moves.now) }
 {
     let mut world = World::new(alloc, size, page, id, actors, version)?;
     world.make_all(moves)?;

@@ -25,7 +25,7 @@ pub(crate) struct WorldState {
 
 ghost use Rattle.std.specs.Prelude.{◌≡◌, IfOk, All, vec_len};
 ghost use Rattle.alloc_core.specs.Layout.{render, fresh};
-ghost use Rattle.hist_core.specs.ActorRun.{IsFresh};
+ghost use Rattle.hist_core.specs.ActorRun.{IsFreshRun};
 ghost use Rattle.hist_core.specs.declared.call.Answer.TheVariants.{BatchRefused};
 
 // The words of a new segment.
@@ -42,7 +42,7 @@ fn new_words(alloc: Global, shape: Shape, version: u64, id: u64) -> Result<Vec<u
 // So many actors that have done nothing.
 fn new_actor_runs(alloc: Global, actors: usize) -> Result<Vec<ActorRun>, AllocError>
     ensures count { IfOk result (λ actor_runs. vec_len actor_runs ≡ actors) }
-    ensures new { IfOk result (λ actor_runs. All IsFresh actor_runs.items) }
+    ensures new { IfOk result (λ actor_runs. All IsFreshRun actor_runs.items) }
 {
     let mut actor_runs = Vec::with_capacity(alloc, actors)?;
     for _ in 0..actors {
@@ -65,7 +65,7 @@ impl WorldState {
     ghost use Rattle.segment_machine.specs.State.{State};
     ghost use Rattle.image_adoption.specs.Checking.{IsAdoption};
     ghost use Rattle.hist_core.specs.Start.{Start};
-    ghost use Rattle.hist_core.specs.WorldState.{IsAdoptedWorldState, IsNewWorldState, IsReached, IsReachedAs, StepsTo, IsBusy, IsReady, IsResting, IsThere, OthersStay, HistBegins, AddBegins, BatchBegins, DeltaBegins, SnapshotBegins, SetCorruptBegins, Says};
+    ghost use Rattle.hist_core.specs.WorldState.{IsAdoptedWorldState, IsNewWorldState, IsReachable, IsReachedAs, StepsTo, IsBusy, KnowsHistAt, IsResting, IsThere, OthersStay, HistBegins, AddBegins, BatchBegins, DeltaBegins, SnapshotBegins, SetCorruptBegins, Says};
     ghost use Rattle.hist_core.specs.World.{BeginsCall, BeginSays, TakesMemory, name_checks, named_by, rest_checks};
 
     // A new segment with so many actors.
@@ -139,7 +139,7 @@ impl WorldState {
     // The place of the histogram of a name among those that an actor knows, which is there and rests.
     fn known_place(&self, actor: usize, name: &[u8]) -> Result<usize, WorldFault>
         ensures faults { MatchOption (first_fault (name_checks self.now actor (some name.now))) (IsOk result) (λ fault. result ≡ Err fault) }
-        ensures ready { IfOk result (IsReady self.now actor name.now) }
+        ensures ready { IfOk result (KnowsHistAt self.now actor name.now) }
     {
         let Some(place) = self.resting(actor)?.place_of(name) else {
             return Err(WorldFault::Unknown);
@@ -149,7 +149,7 @@ impl WorldState {
 
     // An actor begins a call, or the call is answered at once.
     pub(crate) fn begin(&mut self, actor: usize, call: &Call) -> Result<Begun, WorldFault>
-        requires reached { ∥ IsReached self.old ∥₁ }
+        requires reached { ∥ IsReachable self.old ∥₁ }
         ensures { BeginsCall actor (named_by call.now) (TakesMemory call.now) (BeginSays actor call.now self.old self.new) self.old result self.new }
     {
         match call {
@@ -164,7 +164,7 @@ impl WorldState {
 
     // It sets the corrupt flag.
     fn begin_set_corrupt(&mut self, actor: usize) -> Result<Begun, WorldFault>
-        requires reached { ∥ IsReached self.old ∥₁ }
+        requires reached { ∥ IsReachable self.old ∥₁ }
         ensures { BeginsCall actor none ⊥ (SetCorruptBegins actor self.new) self.old result self.new }
     {
         self.resting(actor)?;
@@ -175,7 +175,7 @@ impl WorldState {
 
     // It asks for a histogram of a name and a spec.
     fn begin_hist(&mut self, actor: usize, name: &[u8], spec: &Spec) -> Result<Begun, WorldFault>
-        requires reached { ∥ IsReached self.old ∥₁ }
+        requires reached { ∥ IsReachable self.old ∥₁ }
         ensures { BeginsCall actor none ⊤ (λ said. HistBegins actor name.now spec.now self.old self.new (Ok said)) self.old result self.new }
     {
         self.resting(actor)?;
@@ -197,7 +197,7 @@ impl WorldState {
         value: i32,
         count: u32,
     ) -> Result<Begun, WorldFault>
-        requires reached { ∥ IsReached self.old ∥₁ }
+        requires reached { ∥ IsReachable self.old ∥₁ }
         ensures { BeginsCall actor (some name.now) ⊤ (AddBegins actor name.now value count self.old self.new) self.old result self.new }
     {
         let place = self.known_place(actor, name)?;
@@ -221,7 +221,7 @@ impl WorldState {
         items: &[(i32, u32)],
         sum: i64,
     ) -> Result<Begun, WorldFault>
-        requires reached { ∥ IsReached self.old ∥₁ }
+        requires reached { ∥ IsReachable self.old ∥₁ }
         ensures { BeginsCall actor (some name.now) ⊤ (BatchBegins actor name.now items.now sum self.old self.new) self.old result self.new }
     {
         let place = self.known_place(actor, name)?;
@@ -251,7 +251,7 @@ impl WorldState {
 
     // It looks at a histogram that it knows.
     fn begin_snapshot(&mut self, actor: usize, name: &[u8]) -> Result<Begun, WorldFault>
-        requires reached { ∥ IsReached self.old ∥₁ }
+        requires reached { ∥ IsReachable self.old ∥₁ }
         ensures { BeginsCall actor (some name.now) ⊤ (SnapshotBegins actor name.now self.old self.new) self.old result self.new }
     {
         let place = self.known_place(actor, name)?;
@@ -262,7 +262,7 @@ impl WorldState {
 
     // It takes of a histogram that it knows.
     fn begin_delta(&mut self, actor: usize, name: &[u8]) -> Result<Begun, WorldFault>
-        requires reached { ∥ IsReached self.old ∥₁ }
+        requires reached { ∥ IsReachable self.old ∥₁ }
         ensures { BeginsCall actor (some name.now) ⊤ (DeltaBegins actor name.now self.old self.new) self.old result self.new }
     {
         let place = self.known_place(actor, name)?;
@@ -273,7 +273,7 @@ impl WorldState {
 
     // An actor goes on with its call by one event.
     pub(crate) fn step(&mut self, actor: usize) -> Stepped
-        requires reached { ∥ IsReached self.old ∥₁ }
+        requires reached { ∥ IsReachable self.old ∥₁ }
         requires near { actor < vec_len self.old.actor_runs }
         requires busy { IsBusy self.old actor }
         ensures steps { (start : Start) (state : State) → IsReachedAs start self.old state → StepsTo self.old actor start state self.new result }

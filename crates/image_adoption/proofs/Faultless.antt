@@ -14,13 +14,13 @@ use Rattle.bucket_ranges.specs.declared.reading.RecordFault.TheVariants.{BadSamp
 use Rattle.bucket_ranges.specs.Reading.{bad_record, fault_behind, has_bad_sample, is_bad_sample, is_counts_block, is_sample, is_of_type, is_sparse, record_buckets, record_fault, totals_of, has_large, with_earlier}
 use Rattle.image_reader.proofs.Headers.{block_in_words}
 use Rattle.image_reader.proofs.Sound.{HasBuckets-from_none, IsReadable-from_none}
-use Rattle.image_adoption.specs.Records.{AreFaultless, HasNoBad, HasRoom, IsFaultless}
+use Rattle.image_adoption.specs.Records.{AreFaultless, HasNoBad, LiesInWords, IsFaultless}
 
 -- ---- one record
 
 module _ (words : List ℕ) (head : SegmentHead) (at : ℕ) (header : header_of words ≡ Ok head) where
   -- a histogram's lies in the words, and its counts do
-  pub room_of : is_block words head at ≡ true → record_fault words head at ≡ None → HasRoom words at
+  pub room_of : is_block words head at ≡ true → record_fault words head at ≡ None → LiesInWords words at
   room_of block none =
       let readable = IsReadable-from_none words head at none in
       let lies = block_in_words words head at header block in

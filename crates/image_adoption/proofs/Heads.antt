@@ -9,7 +9,7 @@ use Rattle.image_reader.proofs.Headers.{checked_ok}
 use Rattle.image_rules.specs.Adoption.{IsAdoptable, IsUndamaged, used_of}
 use Rattle.image_rules.specs.Adoption.{HasNoFault}
 use Rattle.image_adoption.specs.Checking.{IsAdoption, IsFaultOf, IsIntact, Reads}
-use Rattle.image_adoption.specs.Conditions.{IsWhole}
+use Rattle.image_adoption.specs.Conditions.{IsWholeImage}
 use Rattle.image_adoption.specs.Damage.{IsDamageOf}
 use Rattle.image_adoption.specs.declared.checking.Adoptable.{Adoptable}
 use Rattle.segment_calls.specs.declared.adopt_fault.AdoptFault.{AdoptFault}
@@ -73,10 +73,10 @@ module _ (words : List ℕ) (head : SegmentHead) (header : header_of words ≡ O
 
   -- where no record is bad, the rest settles whether an image is damaged
   pub undamaged_decides : (references : List ℕ) (reading : Reading) (whole : Bool) → HasNoFault reading
-      → Decides whole (IsWhole words head references) → Decides whole (IsUndamaged words references reading)
+      → Decides whole (IsWholeImage words head references) → Decides whole (IsUndamaged words references reading)
   undamaged_decides references reading whole good test =
       Decides-like whole
-      (λ (w : IsWhole words (head_of words) references). record {
+      (λ (w : IsWholeImage words (head_of words) references). record {
         lawful = good;
         apart = w.apart;
         zeros = w.zeros;
@@ -99,7 +99,7 @@ module _ (words : List ℕ) (head : SegmentHead) (header : header_of words ≡ O
         later = u.later;
         apart = u.apart;
       })
-      (subst (λ (h : SegmentHead). Decides whole (IsWhole words h references)) (sym same) test)
+      (subst (λ (h : SegmentHead). Decides whole (IsWholeImage words h references)) (sym same) test)
 
 -- an image that is intact and not damaged, and has used no more units than there are, may be adopted
 pub adoptable_of : (words references : List ℕ) (reading : Reading) → IsIntact words → IsUndamaged words references reading

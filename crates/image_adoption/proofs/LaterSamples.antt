@@ -22,7 +22,7 @@ use Rattle.image_reader.proofs.Laters.{later-push, later-same}
 use Rattle.image_reader.proofs.Marks.{list_any-push}
 use Rattle.image_rules.specs.Records.{IsSample, IsSampleOf}
 use Rattle.list_lemmas.proofs.Firsts.{first_there}
-use Rattle.image_adoption.specs.Conditions.{AreLaterEmpty, CountsNothing}
+use Rattle.image_adoption.specs.Conditions.{AreLaterEmpty, IsEmptySample}
 use Rattle.image_adoption.specs.Records.{HasNoBad}
 use Rattle.image_adoption.proofs.Faultless.{read_sample}
 
@@ -62,7 +62,7 @@ module _ (words references : List ℕ) where
       list_any_at test (take k references) f 0 (omega (arith, length-take k references, first, below)) (ap test (get_or-take k references f 0 first) ∙ passes)
 
   -- where each counts nothing, each later sample is empty
-  pub later_empty : EachLater (CountsNothing words) words references (length references) → AreLaterEmpty words references
+  pub later_empty : EachLater (IsEmptySample words) words references (length references) → AreLaterEmpty words references
   later_empty nothing at first (k, below, is) three (front, behind, split, before, its) other = by_order (cases_order (length front) k)
     where
       -- at its place stands the first one
@@ -75,10 +75,10 @@ module _ (words references : List ℕ) where
       is_first : is_sample_like words at first ≡ true
       is_first = (like_decides words at first).1 its
 
-      by_order : (length front ≡ k) ⊎ ((length front < k) ⊎ (k < length front)) → CountsNothing words at
+      by_order : (length front ≡ k) ⊎ ((length front < k) ⊎ (k < length front)) → IsEmptySample words at
       by_order (inl same) = absurd (other (sym place ∙ (ap (λ (k : ℕ). get_or references k 0) same ∙ here)))
       by_order (inr (inl earlier)) =
-          subst (CountsNothing words) here
+          subst (IsEmptySample words) here
           (nothing k below (ap (λ (at : ℕ). field_at words at 2) here ∙ three)
           (subst (λ (x : ℕ). list_any (is_sample_like words x) (take k references) ≡ true) (sym here)
           (front_found (is_sample_like words at) k (length front) earlier below (ap (is_sample_like words at) place ∙ is_first))))
@@ -88,7 +88,7 @@ module _ (words references : List ℕ) where
 
   -- where each later sample is empty, each counts nothing
   pub later_nothing : ((i j : ℕ) → i < j → j < length references → get_or references i 0 ≢ get_or references j 0)
-      → AreLaterEmpty words references → EachLater (CountsNothing words) words references (length references)
+      → AreLaterEmpty words references → EachLater (IsEmptySample words) words references (length references)
   later_nothing distinct empty k below three found =
       let (f, x, within, is, same) = Any-from_list_any (is_sample_like words at) (take k references) found in
       let first : f < k = omega (arith, within, length-take k references) in

@@ -10,8 +10,8 @@ use Rattle.list_core.specs.Chain.{IsStop}
 use Rattle.image_rules.specs.Adoption.{blocks_of, AreApart, AreZerosFrom, AreLaterEmpty, HasPaddedName, HasUnusedCounts, HasPackedMark}
 
 -- a sample has no units, and deltas took none of it
-abbrev pub CountsNothing : List ℕ → ℕ → Type 0
-CountsNothing words at = (field_at words at SAMPLE_COUNT ≡ 0) × (field_at words at SAMPLE_MARK ≡ 0)
+abbrev pub IsEmptySample : List ℕ → ℕ → Type 0
+IsEmptySample words at = (field_at words at SAMPLE_COUNT ≡ 0) × (field_at words at SAMPLE_MARK ≡ 0)
 
 -- all three of a histogram's record
 pub record IsSettled (words : List ℕ) (at : ℕ) : Type 0 where
@@ -25,7 +25,7 @@ AreSettled words references = (at : ℕ) → Contains references at → field_at
 
 -- All that the words of a header and a list have to be, beside that no record is bad: the free pointer has room for a block in its page, and
 -- behind it all is 0; the tail is on the list; and so on.
-pub record IsWhole (words : List ℕ) (head : SegmentHead) (references : List ℕ) : Type 0 where
+pub record IsWholeImage (words : List ℕ) (head : SegmentHead) (references : List ℕ) : Type 0 where
   pub room : is_pointer head.shape head.free ≡ true
   pub zeros : AreZerosFrom words head.free
   pub tail : IsStop references head.tail

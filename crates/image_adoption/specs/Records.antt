@@ -22,7 +22,7 @@ abbrev pub AreFaultless : List ℕ → SegmentHead → List ℕ → Type 0
 AreFaultless words head references = All (IsFaultless words head) references
 
 -- a histogram's record lies in the words, and so does the block of counts that it names
-pub record HasRoom (words : List ℕ) (at : ℕ) : Type 0 where
+pub record LiesInWords (words : List ℕ) (at : ℕ) : Type 0 where
   pub within : at + HISTOGRAM_LEAST ≤ length words
   pub buckets : record_buckets words at ≡ field_at words at HISTOGRAM_BUCKETS
   pub few : field_at words at HISTOGRAM_BUCKETS ≤ MAX_BUCKETS

@@ -5,7 +5,7 @@ ghost use Rattle.segment_image.specs.Blocks.{field_at};
 ghost use Rattle.bucket_ranges.specs.Reading.{is_sparse, record_single};
 ghost use Rattle.bucket_ranges.specs.Single.{packed_bucket as packed_bucket_of};
 ghost use Rattle.image_adoption.specs.Conditions.{HasUnusedCounts, HasPackedMark};
-ghost use Rattle.image_adoption.specs.Records.{HasRoom};
+ghost use Rattle.image_adoption.specs.Records.{LiesInWords};
 
 use crate::ends::are_zeros;
 use bucket_ranges::SingleWord;
@@ -16,7 +16,7 @@ use segment_image::layout::{
 
 // Whether the record of a histogram names a block of counts.
 fn has_block(words: &[u64], at: usize) -> bool
-    requires { HasRoom words.now at }
+    requires { LiesInWords words.now at }
     ensures { result ≡ (not (is_sparse words.now at) && not (field_at words.now at HISTOGRAM_COUNTS == 0)) }
 {
     words[at + HISTOGRAM_KIND] != KIND_SPARSE && words[at + HISTOGRAM_COUNTS] != 0
@@ -24,7 +24,7 @@ fn has_block(words: &[u64], at: usize) -> bool
 
 /// Whether the counts and marks of the record of a histogram are 0 until its single word is frozen.
 pub(crate) fn has_unused_counts(words: &[u64], at: usize) -> bool
-    requires { HasRoom words.now at }
+    requires { LiesInWords words.now at }
     ensures { Decides result (HasUnusedCounts words.now at) }
 {
     if !has_block(words, at) || words[at + HISTOGRAM_SINGLE] >= DISABLED_BIT {
@@ -36,7 +36,7 @@ pub(crate) fn has_unused_counts(words: &[u64], at: usize) -> bool
 
 // The packed bucket of the record of a histogram, if there is one.
 fn packed_bucket(words: &[u64], at: usize) -> Option<usize>
-    requires { HasRoom words.now at }
+    requires { LiesInWords words.now at }
     ensures bucket { result ≡ packed_bucket_of (record_single VERSION_FROZEN words.now at) }
     ensures within { IfSome result (λ bucket. bucket < field_at words.now at HISTOGRAM_BUCKETS) }
 {
@@ -51,7 +51,7 @@ fn packed_bucket(words: &[u64], at: usize) -> Option<usize>
 
 /// Whether the mark of the packed bucket, if there is one, stands in the record alone.
 pub(crate) fn has_packed_mark(words: &[u64], at: usize) -> bool
-    requires { HasRoom words.now at }
+    requires { LiesInWords words.now at }
     ensures { Decides result (HasPackedMark words.now at) }
 {
     if !has_block(words, at) {

@@ -6,7 +6,7 @@ ghost use Rattle.segment_image.specs.Blocks.{is_block};
 ghost use Rattle.bucket_ranges.specs.Reading.{reading_along, record_fault};
 ghost use Rattle.image_reader.specs.Survey.{IsSurvey};
 ghost use Rattle.image_rules.specs.Adoption.{IsUndamaged, blocks_of};
-ghost use Rattle.image_adoption.specs.Conditions.{AreApart, AreSettled, IsSettled, IsWhole};
+ghost use Rattle.image_adoption.specs.Conditions.{AreApart, AreSettled, IsSettled, IsWholeImage};
 ghost use Rattle.image_adoption.specs.Damage.{IsDamageOf, IsUndamagedSurvey};
 ghost use Rattle.image_adoption.specs.Records.{AreFaultless, HasNoBad};
 
@@ -62,7 +62,7 @@ fn is_whole(words: &[u64], head: &SegmentHead, survey: &Survey) -> bool
     requires survey { IsSurvey words.now head.now survey.now }
     requires good { HasNoBad words.now head.now survey.now.references.items }
     requires apart { AreApart words.now (blocks_of words.now survey.now.references.items) }
-    ensures { Decides result (IsWhole words.now head.now survey.now.references.items) }
+    ensures { Decides result (IsWholeImage words.now head.now survey.now.references.items) }
 {
     if !has_room(&head.shape, head.free) {
         return false;

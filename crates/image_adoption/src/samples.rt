@@ -3,7 +3,7 @@
 ghost use Rattle.std.specs.Prelude.{◌≡◌, ◌≤◌, ◌+◌, Ok, length, All, Decides};
 ghost use Rattle.segment_image.specs.Head.{header_of};
 ghost use Rattle.image_reader.specs.Survey.{IsSurvey};
-ghost use Rattle.image_adoption.specs.Conditions.{AreLaterEmpty, CountsNothing};
+ghost use Rattle.image_adoption.specs.Conditions.{AreLaterEmpty, IsEmptySample};
 ghost use Rattle.image_adoption.specs.Records.{HasNoBad};
 
 use image_reader::Survey;
@@ -24,7 +24,7 @@ pub(crate) fn are_later_empty(words: &[u64], head: &SegmentHead, survey: &Survey
 // Whether each of these samples counts nothing.
 fn count_nothing(words: &[u64], samples: &[u64]) -> bool
     requires { All (λ at. at + SAMPLE_LEAST ≤ length words.now) samples.now }
-    ensures { Decides result (All (CountsNothing words.now) samples.now) }
+    ensures { Decides result (All (IsEmptySample words.now) samples.now) }
 {
     for sample in samples {
         if !counts_nothing(words, *sample as usize) {
@@ -37,7 +37,7 @@ fn count_nothing(words: &[u64], samples: &[u64]) -> bool
 // Whether a sample has no units, and deltas took none of it.
 fn counts_nothing(words: &[u64], at: usize) -> bool
     requires { at + SAMPLE_LEAST ≤ length words.now }
-    ensures { Decides result (CountsNothing words.now at) }
+    ensures { Decides result (IsEmptySample words.now at) }
 {
     words[at + SAMPLE_COUNT] == 0 && words[at + SAMPLE_MARK] == 0
 }

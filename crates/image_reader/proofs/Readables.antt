@@ -19,7 +19,7 @@ use Rattle.bucket_ranges.proofs.Walks.{IsWalk-length}
 use Rattle.bucket_ranges.specs.declared.reading.RecordFault.TheVariants.{BadSpec}
 use Rattle.bucket_ranges.specs.Spec.{spec_fault, buckets_of}
 use Rattle.bucket_ranges.specs.Reading.{IsListed, histogram_of, lawful_samples, first_samples, bucket_counts, sample_counts, is_sparse, is_bad_counts, has_large, inner_ranges, record_fault, has_spec, spec_of, totals_of, record_buckets, record_checks, has_counts}
-use Rattle.image_reader.specs.Readable.{IsCounted, IsReadable}
+use Rattle.image_reader.specs.Readable.{IsOnePerBucket, IsReadable}
 use Rattle.image_reader.specs.Survey.{hist_at}
 use Rattle.image_reader.proofs.Lawful.{IsSmallSample, all_pass, bucket_at, bucket_counts-small, lawful_samples-few, lawful_samples-small, sample_counts-few, sample_counts-small}
 
@@ -46,7 +46,7 @@ spec_lawful words reference e =
     (inner_ranges words reference) (and_parts _ _ e).1
 
 -- so many counts as there are buckets
-counted-from : (spec : Spec) (n : ℕ) → n ≡ buckets_of spec → IsCounted spec n
+counted-from : (spec : Spec) (n : ℕ) → n ≡ buckets_of spec → IsOnePerBucket spec n
 counted-from (Linear min max m) n e = e
 counted-from Boolean n e = e
 counted-from (Custom values) n e = e
@@ -67,7 +67,7 @@ record AreSmall (counts : List (ℤ × ℕ)) : Type 0 where
 -- the counts of a histogram, of samples or of buckets
 of_either : (sparse : Bool) (other : Spec) (sampled bucketed : List (ℤ × ℕ)) (a b : Bool) → (if sparse then a else b) ≡ false
     → AreSmall sampled → (b ≡ false → AreSmall bucketed) → length bucketed ≡ buckets_of (if sparse then Sparse else other)
-    → IsCounted (if sparse then Sparse else other) (length (if sparse then sampled else bucketed)) × AreSmall (if sparse then sampled else bucketed)
+    → IsOnePerBucket (if sparse then Sparse else other) (length (if sparse then sampled else bucketed)) × AreSmall (if sparse then sampled else bucketed)
 of_either true other sampled bucketed a b e first second counted = (tt, first)
 of_either false other sampled bucketed a b e first second counted = (counted-from other (length bucketed) counted, second e)
 

@@ -22,7 +22,7 @@ pub record IsGathered (words : List ℕ) (head : SegmentHead) (references : List
   pub later_are : gathering.later.items ≡ later_samples words head references
 
 -- what holds of it all along
-pub record IsReady (words : List ℕ) (gathering : Gathering) : Type 0 where
+pub record IsGatheringOf (words : List ℕ) (gathering : Gathering) : Type 0 where
   pub keys : AreKeys gathering.names
   pub samples : AreSamples gathering.samples
   pub long : length gathering.sparse.items ≡ length words

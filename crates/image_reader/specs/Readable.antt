@@ -6,12 +6,12 @@ use Rattle.bucket_ranges.specs.Spec.{spec_fault, buckets_of}
 use Rattle.bucket_ranges.specs.Reading.{Histogram}
 
 -- so many counts: one for each bucket, where there are buckets
-abbrev pub IsCounted : Spec → ℕ → Type 0
-IsCounted Sparse counts = ⊤
-IsCounted spec counts = counts ≡ buckets_of spec
+abbrev pub IsOnePerBucket : Spec → ℕ → Type 0
+IsOnePerBucket Sparse counts = ⊤
+IsOnePerBucket spec counts = counts ≡ buckets_of spec
 
 -- its spec is lawful, each bucket has its count, and the units fit a word
 pub record IsReadable (hist : Histogram) : Type 0 where
   pub lawful : spec_fault hist.spec ≡ None
-  pub counted : IsCounted hist.spec (length hist.counts)
+  pub counted : IsOnePerBucket hist.spec (length hist.counts)
   pub small : sum_by (λ count. count.1) hist.counts < 2 ^ 64

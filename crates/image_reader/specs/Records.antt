@@ -14,9 +14,9 @@ pub record IsNamedAt (words : List ℕ) (head : SegmentHead) (at : ℕ) (name : 
   pub name_is : name.items ≡ name_of words at
 
 -- there was no memory, or this is the record's first fault
-abbrev pub IsRefusedBy : List ℕ → SegmentHead → ℕ → Refusal → Type 0
-IsRefusedBy words head at Memory = ⊤
-IsRefusedBy words head at (Fault fault) = record_fault words head at ≡ Some fault
+abbrev pub IsRecordRefusal : List ℕ → SegmentHead → ℕ → Refusal → Type 0
+IsRecordRefusal words head at Memory = ⊤
+IsRecordRefusal words head at (Fault fault) = record_fault words head at ≡ Some fault
 
 -- where a call is refused, there was no memory, or it is this fault, for this cause
 abbrev pub RefusedOnly : {X : Type 0} → RecordFault → Type 0 → Result X Refusal → Type 0

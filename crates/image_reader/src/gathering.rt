@@ -4,7 +4,7 @@ ghost use Rattle.std.specs.Prelude.{◌≡◌, ◌+◌, ◌<◌, ◌≤◌, ◌+
 ghost use Rattle.segment_image.specs.Head.{header_of};
 ghost use Rattle.segment_image.specs.Blocks.{field_at};
 ghost use Rattle.bucket_ranges.specs.Reading.{is_block, is_name, name_of, record_fault};
-ghost use Rattle.image_reader.specs.Gathering.{IsGathered, IsReady};
+ghost use Rattle.image_reader.specs.Gathering.{IsGathered, IsGatheringOf};
 
 use crate::names::Names;
 use crate::reading::BadRecord;
@@ -42,7 +42,7 @@ impl Gathering {
         head: &SegmentHead,
     ) -> Result<Gathering, AllocError>
         ensures gathered { IfOk result (IsGathered words.now head.now []) }
-        ensures ready { IfOk result (IsReady words.now) }
+        ensures ready { IfOk result (IsGatheringOf words.now) }
     {
         Ok(Gathering {
             hists: Vec::new(alloc),
@@ -64,9 +64,9 @@ impl Gathering {
     ) -> Result<(), AllocError>
         requires header { header_of words.now ≡ Ok head.now }
         requires block { is_block words.now head.now reference ≡ true }
-        requires ready { IsReady words.now self.old }
+        requires ready { IsGatheringOf words.now self.old }
         ensures gathered { OnOk result ((earlier : List ℕ) → IsGathered words.now head.now earlier self.old → IsGathered words.now head.now (earlier ++ reference ∷ []) self.new) }
-        ensures ready { OnOk result (IsReady words.now self.new) }
+        ensures ready { OnOk result (IsGatheringOf words.now self.new) }
     {
         match words[reference as usize + BLOCK_TYPE] {
             TYPE_HISTOGRAM => self.add_histogram(alloc, words, head, reference),
@@ -87,9 +87,9 @@ impl Gathering {
         requires tag { field_at words.now reference BLOCK_TYPE ≡ TYPE_HISTOGRAM }
         requires least { BLOCK_LEAST ≤ field_at words.now reference BLOCK_SIZE }
         requires within { reference + field_at words.now reference BLOCK_SIZE ≤ length words.now }
-        requires ready { IsReady words.now self.old }
+        requires ready { IsGatheringOf words.now self.old }
         ensures gathered { OnOk result ((earlier : List ℕ) → IsGathered words.now head.now earlier self.old → IsGathered words.now head.now (earlier ++ reference ∷ []) self.new) }
-        ensures ready { OnOk result (IsReady words.now self.new) }
+        ensures ready { OnOk result (IsGatheringOf words.now self.new) }
     {
         match check_record(alloc, words, head, reference as usize) {
             Ok(name) => self.keep(alloc, words, head, reference, &name),
@@ -116,9 +116,9 @@ impl Gathering {
         requires lawful { record_fault words.now head.now reference ≡ None }
         requires name { name.now ≡ name_of words.now reference }
         requires bytes { is_name name.now ≡ true }
-        requires ready { IsReady words.now self.old }
+        requires ready { IsGatheringOf words.now self.old }
         ensures gathered { OnOk result ((earlier : List ℕ) → IsGathered words.now head.now earlier self.old → IsGathered words.now head.now (earlier ++ reference ∷ []) self.new) }
-        ensures ready { OnOk result (IsReady words.now self.new) }
+        ensures ready { OnOk result (IsGatheringOf words.now self.new) }
     {
         if !self.names.insert(alloc, name)? {
             return Ok(());
@@ -142,9 +142,9 @@ impl Gathering {
         requires tag { field_at words.now reference BLOCK_TYPE ≡ TYPE_SAMPLE }
         requires least { BLOCK_LEAST ≤ field_at words.now reference BLOCK_SIZE }
         requires within { reference + field_at words.now reference BLOCK_SIZE ≤ length words.now }
-        requires ready { IsReady words.now self.old }
+        requires ready { IsGatheringOf words.now self.old }
         ensures gathered { OnOk result ((earlier : List ℕ) → IsGathered words.now head.now earlier self.old → IsGathered words.now head.now (earlier ++ reference ∷ []) self.new) }
-        ensures ready { OnOk result (IsReady words.now self.new) }
+        ensures ready { OnOk result (IsGatheringOf words.now self.new) }
     {
         let Some(sample) = sample_at(words, reference as usize, &self.sparse) else {
             let fault = RecordFault::BadSample;

@@ -8,7 +8,7 @@ ghost use Rattle.segment_image.specs.Checks.{first_fault};
 ghost use Rattle.segment_image.specs.Head.{header_of};
 ghost use Rattle.segment_image.specs.Blocks.{field_at};
 ghost use Rattle.bucket_ranges.specs.Reading.{is_name, has_name, is_bad_kind as is_bad_kind_of, is_bad_sum as is_bad_sum_of, record_buckets, units_checks, checks_behind_name};
-ghost use Rattle.image_reader.specs.Records.{IsRefusedBy, IsNamedAt};
+ghost use Rattle.image_reader.specs.Records.{IsRecordRefusal, IsNamedAt};
 
 use crate::buckets::{Buckets, buckets_fault};
 use crate::name::name_at;
@@ -63,7 +63,7 @@ pub(crate) fn check_record(
     requires header { header_of words.now ≡ Ok head.now }
     requires least { BLOCK_LEAST ≤ field_at words.now at BLOCK_SIZE }
     requires within { at + field_at words.now at BLOCK_SIZE ≤ length words.now }
-    ensures found { MatchResult result (IsNamedAt words.now head.now at) (IsRefusedBy words.now head.now at) }
+    ensures found { MatchResult result (IsNamedAt words.now head.now at) (IsRecordRefusal words.now head.now at) }
     ensures lawful { IfOk result (λ name. is_name name.items ≡ true) }
 {
     if is_bad_kind(words, at) {

@@ -3,7 +3,7 @@
 ghost use Rattle.std.specs.Prelude.{◌≡◌, ◌<◌, ℕ, Ok, true, length, min, nat_lt, slice_index, sum_by, Contains, IfOk};
 ghost use Rattle.segment_image.specs.Head.{header_of};
 ghost use Rattle.bucket_ranges.specs.Reading.{IsListed, is_block, stop_of};
-ghost use Rattle.image_reader.specs.Gathering.{IsGathered, IsReady};
+ghost use Rattle.image_reader.specs.Gathering.{IsGathered, IsGatheringOf};
 ghost use Rattle.image_reader.specs.Readable.{IsReadable};
 ghost use Rattle.image_reader.specs.Survey.{IsSurvey, keys_at, hist_at};
 ghost use Rattle.image_reader.specs.Views.{histogram_view};
@@ -46,7 +46,7 @@ fn gather(
     requires header { header_of words.now ≡ Ok head.now }
     requires lawful { (i : ℕ) → i < length references.now → is_block words.now head.now (slice_index references.now i) ≡ true }
     ensures gathered { IfOk result (IsGathered words.now head.now references.now) }
-    ensures ready { IfOk result (IsReady words.now) }
+    ensures ready { IfOk result (IsGatheringOf words.now) }
 {
     let mut gathering = Gathering::new(alloc, words, head)?;
     for reference in references {

@@ -5,13 +5,13 @@ use Rattle.std.proofs.lemmas.List.{get_or_append_left}
 use mathlib.Core.Logic.{dite}
 use native.Mathlib.Decide.{ℕ_discrete}
 use Rattle.segment_image.specs.Words.{word_at}
-use Rattle.list_core.specs.declared.cursor.Stage.{Stage}
-use Rattle.list_core.specs.declared.cursor.Stage.TheVariants.{LoadCursor, LoadNext, MoveCursor}
+use Rattle.list_core.specs.declared.cursor.CursorStage.{CursorStage}
+use Rattle.list_core.specs.declared.cursor.CursorStage.TheVariants.{LoadCursor, LoadNext, MoveCursor}
 use Rattle.list_core.specs.declared.cursor.CursorStep.{CursorStep}
 use Rattle.list_core.specs.declared.cursor.CursorStep.TheVariants.{More, Record, End, Stray}
 use Rattle.list_core.specs.Chain.{is_reference, stops, IsList}
 use Rattle.list_core.specs.Walk.{IsPrefix}
-use Rattle.list_core.specs.Cursor.{found_by, said_of, stage_after, shared_after, IsStep, IsShared, Stands, MaySay, given_after, Sharing, AreSharing, GivesFront}
+use Rattle.list_core.specs.Cursor.{found_by, said_of, stage_after, shared_after, IsStep, IsShared, CursorStands, MaySay, given_after, Sharing, AreSharing, GivesFront}
 use Rattle.list_core.specs.Cursor.AreSharing.{opened, grown, stepped}
 use Rattle.list_core.proofs.Chains.{one_place, no_queue, next_inside, next_last, stops_last, length-longer}
 use Rattle.list_core.proofs.Prefixes.{prefix_of_prefix}
@@ -20,14 +20,14 @@ use Rattle.list_core.proofs.Walks.{record_behind, nothing_behind, place_of}
 -- ---- where cursors stand
 
 -- where a cursor stands stays when one more record was given
-stands_longer : (chain given : List ℕ) (reference : ℕ) (stage : Stage) → Stands chain given stage → Stands chain (given ++ reference ∷ []) stage
+stands_longer : (chain given : List ℕ) (reference : ℕ) (stage : CursorStage) → CursorStands chain given stage → CursorStands chain (given ++ reference ∷ []) stage
 stands_longer chain given reference LoadCursor on = tt
 stands_longer chain given reference (LoadNext at) (k, le, is) = (k, omega (arith, le, length-longer given reference), is)
 stands_longer chain given reference (MoveCursor at next) (k, le, lt, is, behind) =
     (k, omega (arith, le, length-longer given reference), lt, is, behind)
 
 -- whatever one of them says
-pub stands_on : (chain given : List ℕ) (step : CursorStep) (stage : Stage) → Stands chain given stage → Stands chain (given_after given step) stage
+pub stands_on : (chain given : List ℕ) (step : CursorStep) (stage : CursorStage) → CursorStands chain given stage → CursorStands chain (given_after given step) stage
 stands_on chain given (Record reference) stage on = stands_longer chain given reference stage on
 stands_on chain given More stage on = on
 stands_on chain given End stage on = on
@@ -39,7 +39,7 @@ stop_left chain rest zero le = refl
 stop_left chain rest (suc k) le = get_or_append_left chain rest 0 k (omega (arith, le))
 
 -- where a cursor stands stays when the chain grows
-stands_grown : (chain given rest : List ℕ) (stage : Stage) → length given ≤ length chain → Stands chain given stage → Stands (chain ++ rest) given stage
+stands_grown : (chain given rest : List ℕ) (stage : CursorStage) → length given ≤ length chain → CursorStands chain given stage → CursorStands (chain ++ rest) given stage
 stands_grown chain given rest LoadCursor few on = tt
 stands_grown chain given rest (LoadNext at) few (k, le, is) = (k, le, stop_left chain rest k (omega (arith, le, few)) ∙ is)
 stands_grown chain given rest (MoveCursor at next) few (k, le, lt, is, behind) = (
@@ -57,10 +57,10 @@ front_within given chain (rest, is) = omega (arith, ap length is, length-append 
 -- ---- one step
 
 -- what is so after a step of a cursor
-pub record Goes (words chain given : List ℕ) (shared : ℕ) (stage : Stage) (step : CursorStep) : Type 0 where
+pub record Goes (words chain given : List ℕ) (shared : ℕ) (stage : CursorStage) (step : CursorStep) : Type 0 where
   pub says : MaySay chain given step
   pub word : IsShared words chain (given_after given step) (shared_after shared step)
-  pub stands : Stands chain (given_after given step) stage
+  pub stands : CursorStands chain (given_after given step) stage
 
 module _ (words chain given : List ℕ) (shared : ℕ) (is : IsShared words chain given shared) where
   few : length given ≤ length chain
@@ -78,7 +78,7 @@ module _ (words chain given : List ℕ) (shared : ℕ) (is : IsShared words chai
       record { says = tt; word = is; stands = (length given, omega arith, here) }
 
   -- the next of a block where a cursor stands is the record behind it, or the end
-  loads_next : (at : ℕ) → Stands chain given (LoadNext at)
+  loads_next : (at : ℕ) → CursorStands chain given (LoadNext at)
       → Goes words chain given shared (stage_after (length words) (word_at words (at + 3)) (LoadNext at)) (said_of (length words) (word_at words (at + 3)) (LoadNext at))
   loads_next at (k, le, place) =
       let found : ℕ = word_at words (at + 3) in
@@ -100,7 +100,7 @@ module _ (words chain given : List ℕ) (shared : ℕ) (is : IsShared words chai
       (subst by_good (sym on) record { says = tt; word = is; stands = (k, le, inside, place, next) }))
 
   -- an exchange that goes through gives the record behind all that was given
-  moves : (at next : ℕ) → Stands chain given (MoveCursor at next)
+  moves : (at next : ℕ) → CursorStands chain given (MoveCursor at next)
       → Goes words chain given shared (stage_after (length words) shared (MoveCursor at next)) (said_of (length words) shared (MoveCursor at next))
   moves at next (k, le, inside, place, behind) =
       let by : Bool → Type 0 = λ b. Goes words chain given shared LoadCursor (if b then Record next else More) in
@@ -122,24 +122,24 @@ module _ (words chain given : List ℕ) (shared : ℕ) (is : IsShared words chai
       (λ miss. subst by (sym (ne_eqb shared at miss)) record { says = tt; word = is; stands = tt })
 
   -- whatever it does next
-  pub goes : (stage : Stage) → Stands chain given stage
+  pub goes : (stage : CursorStage) → CursorStands chain given stage
       → Goes words chain given shared (stage_after (length words) (found_by words shared stage) stage) (said_of (length words) (found_by words shared stage) stage)
   goes LoadCursor on = loads
   goes (LoadNext at) on = loads_next at on
   goes (MoveCursor at next) on = moves at next on
 
 -- so does a step
-pub step_goes : (words chain given : List ℕ) (shared shared' : ℕ) (old new : Stage) (step : CursorStep) → IsStep old words shared new shared' step
-    → IsShared words chain given shared → Stands chain given old
-    → MaySay chain given step × IsShared words chain (given_after given step) shared' × Stands chain (given_after given step) new
+pub step_goes : (words chain given : List ℕ) (shared shared' : ℕ) (old new : CursorStage) (step : CursorStep) → IsStep old words shared new shared' step
+    → IsShared words chain given shared → CursorStands chain given old
+    → MaySay chain given step × IsShared words chain (given_after given step) shared' × CursorStands chain (given_after given step) new
 step_goes words chain given shared shared' old new step is word on =
     let went = goes words chain given shared word old on in
     let same : said_of (length words) (found_by words shared old) old ≡ step = sym is.says in (
       subst (MaySay chain given) same went.says,
       subst (IsShared words chain (given_after given step)) (sym is.shared_is)
           (subst (λ (s : CursorStep). IsShared words chain (given_after given s) (shared_after shared s)) same went.word),
-      subst (Stands chain (given_after given step)) (sym is.stage)
-          (subst (λ (s : CursorStep). Stands chain (given_after given s) (stage_after (length words) (found_by words shared old) old)) same went.stands),
+      subst (CursorStands chain (given_after given step)) (sym is.stage)
+          (subst (λ (s : CursorStep). CursorStands chain (given_after given s) (stage_after (length words) (found_by words shared old) old)) same went.stands),
     )
 
 -- ---- many steps
@@ -147,7 +147,7 @@ step_goes words chain given shared shared' old new step is word on =
 -- what is kept of cursors that share a word
 record Kept (state : Sharing) : Type 0 where
   word : IsShared state.words state.chain state.given state.shared
-  each : (id : ℕ) → Stands state.chain state.given (state.cursors id)
+  each : (id : ℕ) → CursorStands state.chain state.given (state.cursors id)
 
 kept : (state : Sharing) → AreSharing state → Kept state
 kept _ (opened words chain list) = record {
@@ -157,7 +157,7 @@ kept _ (opened words chain list) = record {
 kept _ (grown old words chain before list front) =
     let was = kept old before in record {
       word = record { list = list; front = prefix_of_prefix old.given old.chain chain was.word.front front; behind = was.word.behind };
-      each = λ id. subst (λ (longer : List ℕ). Stands longer old.given (old.cursors id)) (sym front.1)
+      each = λ id. subst (λ (longer : List ℕ). CursorStands longer old.given (old.cursors id)) (sym front.1)
           (stands_grown old.chain old.given front.0 (old.cursors id) (front_within old.given old.chain was.word.front) (was.each id));
     }
 kept _ (stepped old id shared cursors step before is others) =
@@ -166,8 +166,8 @@ kept _ (stepped old id shared cursors step before is others) =
     record {
       word = word;
       each = λ other. dite (ℕ_discrete other id)
-          (λ same. subst (λ (n : ℕ). Stands old.chain (given_after old.given step) (cursors n)) (sym same) on)
-          (λ ne. subst (Stands old.chain (given_after old.given step)) (sym (others other ne))
+          (λ same. subst (λ (n : ℕ). CursorStands old.chain (given_after old.given step) (cursors n)) (sym same) on)
+          (λ ne. subst (CursorStands old.chain (given_after old.given step)) (sym (others other ne))
           (stands_on old.chain old.given step (old.cursors other) (was.each other)));
     }
 

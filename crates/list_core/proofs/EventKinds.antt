@@ -10,13 +10,13 @@ use Rattle.segment_image.specs.Words.{word_at}
 use Rattle.alloc_core.specs.Event.{after}
 use Rattle.list_core.specs.declared.walk.WalkStep.TheVariants.{Record, End, Stray}
 use Rattle.list_core.specs.Chain.{is_reference, stops, IsStop, AreNeighbours, IsLinked}
-use Rattle.list_core.specs.Publish.{store_own_next, load_tail, Waits}
+use Rattle.list_core.specs.Publish.{store_own_next, load_tail, AwaitsLink}
 use Rattle.list_core.specs.Walk.{said_of, GivesNext}
 use Rattle.list_core.proofs.Chains.{no_queue, next_inside, next_last, last_stop, new_neighbours, linked_beside, links}
 
 -- the own next of a record that is off the chain is stored: the chain stays, and the record waits for its link
 pub own_next_stored : (words chain : List ℕ) (reference : ℕ) → IsLinked words chain → (IsStop chain reference → ⊥) → reference + 3 < length words
-    → IsLinked (after (store_own_next reference) words) chain × Waits (after (store_own_next reference) words) chain reference
+    → IsLinked (after (store_own_next reference) words) chain × AwaitsLink (after (store_own_next reference) words) chain reference
 own_next_stored words chain reference linked other within = (
   linked_beside words chain (reference + 3) 12 linked (λ i le same. other (i, le, omega (arith, same))),
   (other, get_or-set_same words (reference + 3) 12 0 within),
@@ -27,7 +27,7 @@ pub tail_loaded : (words : List ℕ) → after load_tail words ≡ words
 tail_loaded words = set-get_or words 8 0
 
 -- a link that finds the end goes through: the record is behind the tail, which was last
-pub link_through : (words chain : List ℕ) (tail reference : ℕ) → IsLinked words chain → Waits words chain reference → IsStop chain tail
+pub link_through : (words chain : List ℕ) (tail reference : ℕ) → IsLinked words chain → AwaitsLink words chain reference → IsStop chain tail
     → word_at words (tail + 3) ≡ 12 → tail + 3 < length words
     → IsLinked (set words (tail + 3) reference) (chain ++ reference ∷ []) × AreNeighbours (chain ++ reference ∷ []) tail reference
 link_through words chain tail reference linked (other, own_end) (k, le, is) ends within =

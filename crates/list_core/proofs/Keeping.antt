@@ -7,11 +7,11 @@ use native.Mathlib.Decide.{ℕ_discrete}
 use lib.Seq.{set-get_or}
 use Rattle.segment_image.specs.Words.{word_at}
 use Rattle.segment_image.specs.Image.{blank_words}
-use Rattle.alloc_core.specs.Event.{Event, spot, after}
-use Rattle.list_core.specs.declared.publish.Stage.{Stage}
-use Rattle.list_core.specs.declared.publish.Stage.TheVariants.{StoreOwnNext, LoadTail, Link, MoveTail, Published, Strayed}
+use Rattle.alloc_core.specs.Event.{Access, spot, after}
+use Rattle.list_core.specs.declared.publish.PubStage.{PubStage}
+use Rattle.list_core.specs.declared.publish.PubStage.TheVariants.{StoreOwnNext, LoadTail, Link, MoveTail, Published, Strayed}
 use Rattle.list_core.specs.Chain.{is_reference, stops, IsStop, AreNeighbours, IsLinked, IsList}
-use Rattle.list_core.specs.Publish.{Publishing, store_own_next, load_tail, link, move_tail, event_at, stage_of_move, stage_after, chain_at, Stands, StandsOn, TailGoesOn}
+use Rattle.list_core.specs.Publish.{Publishing, store_own_next, load_tail, link, move_tail, event_at, stage_of_move, stage_after, chain_at, PublishStands, StandsOn, TailGoesOn}
 use Rattle.list_core.proofs.References.{reference_place, place_reference}
 use Rattle.list_core.proofs.Chains.{stop_stays, neighbours_stay, old_or_new}
 use Rattle.list_core.proofs.EventKinds.{own_next_stored, tail_loaded, link_through, link_missed, behind_stop, tail_moved}
@@ -35,7 +35,7 @@ stands_along : (words words' chain chain' : List ℕ) (reference : ℕ) → ((at
     → ((at next : ℕ) → AreNeighbours chain at next → AreNeighbours chain' at next)
     → ((IsStop chain reference → ⊥) → IsStop chain' reference → ⊥)
     → ((IsStop chain reference → ⊥) → word_at words' (reference + 3) ≡ word_at words (reference + 3))
-    → (stage : Stage) → Stands words chain reference stage → Stands words' chain' reference stage
+    → (stage : PubStage) → PublishStands words chain reference stage → PublishStands words' chain' reference stage
 stands_along words words' chain chain' reference stop near off same StoreOwnNext other = off other
 stands_along words words' chain chain' reference stop near off same LoadTail (other, ends) = (off other, same other ∙ ends)
 stands_along words words' chain chain' reference stop near off same (Link tail) ((other, ends), on) = ((off other, same other ∙ ends), stop tail on)
@@ -48,10 +48,10 @@ stands_along words words' chain chain' reference stop near off same Strayed none
 module _ (words chain : List ℕ) (p : Publishing) (on : StandsOn words chain p) (from : 16 ≤ p.reference) (ends : p.reference + 5 ≤ length words) where
   -- what is kept by an event that leads to these words, this chain and this stage: the list, where this publish stands and
   -- where any other does, and the tail does not go back
-  pub record Kept (words' chain' : List ℕ) (stage : Stage) : Type 0 where
+  pub record Kept (words' chain' : List ℕ) (stage : PubStage) : Type 0 where
     pub list : IsList words' chain'
-    pub stands : Stands words' chain' p.reference stage
-    pub others : (other : ℕ) (at : Stage) → 16 ≤ other → other ≢ p.reference → Stands words chain other at → Stands words' chain' other at
+    pub stands : PublishStands words' chain' p.reference stage
+    pub others : (other : ℕ) (at : PubStage) → 16 ≤ other → other ≢ p.reference → PublishStands words chain other at → PublishStands words' chain' other at
     pub tail : TailGoesOn chain words words'
 
   -- a stop lies behind the words of the header, and its next within the words
@@ -62,14 +62,14 @@ module _ (words chain : List ℕ) (p : Publishing) (on : StandsOn words chain p)
       (reference_place (length words) at (on.list.references at stop))
 
   -- where no word changes and the chain stays
-  stays : (words' : List ℕ) (stage : Stage) → words' ≡ words → Stands words chain p.reference stage → Kept words' chain stage
+  stays : (words' : List ℕ) (stage : PubStage) → words' ≡ words → PublishStands words chain p.reference stage → Kept words' chain stage
   stays words' stage same stands =
       subst (λ (ws : List ℕ). Kept ws chain stage) (sym same)
       record { list = on.list; stands = stands; others = λ other at low ne is. is; tail = inl refl }
 
   -- a store into a word that is no next of the chain
-  beside : (place v : ℕ) (stage : Stage) → IsLinked (set words place v) chain → IsStop chain (word_at (set words place v) 8)
-      → Stands (set words place v) chain p.reference stage → ((other : ℕ) → 16 ≤ other → other ≢ p.reference → other + 3 ≢ place)
+  beside : (place v : ℕ) (stage : PubStage) → IsLinked (set words place v) chain → IsStop chain (word_at (set words place v) 8)
+      → PublishStands (set words place v) chain p.reference stage → ((other : ℕ) → 16 ≤ other → other ≢ p.reference → other + 3 ≢ place)
       → TailGoesOn chain words (set words place v) → Kept (set words place v) chain stage
   beside place v stage linked tail stands apart goes = record {
     list = record {
@@ -83,8 +83,8 @@ module _ (words chain : List ℕ) (p : Publishing) (on : StandsOn words chain p)
     tail = goes;
   }
 
-  at_stage : (stage : Stage) → p.stage ≡ stage → Stands words chain p.reference stage
-  at_stage stage e = subst (Stands words chain p.reference) e on.stands
+  at_stage : (stage : PubStage) → p.stage ≡ stage → PublishStands words chain p.reference stage
+  at_stage stage e = subst (PublishStands words chain p.reference) e on.stands
 
   stores_own : p.stage ≡ StoreOwnNext → Kept (after (store_own_next p.reference) words) chain LoadTail
   stores_own e =
@@ -147,7 +147,7 @@ module _ (words chain : List ℕ) (p : Publishing) (on : StandsOn words chain p)
       (stays (set words (tail + 3) found) (MoveTail tail found false) (set-get_or words (tail + 3) 0) (near, waits))))
 
   -- another tail, which is a stop
-  other_tail : (v : ℕ) (stage : Stage) → IsStop chain v → Stands words chain p.reference stage
+  other_tail : (v : ℕ) (stage : PubStage) → IsStop chain v → PublishStands words chain p.reference stage
       → ((v ≡ word_at words 8) ⊎ AreNeighbours chain (word_at words 8) v) → Kept (set words 8 v) chain stage
   other_tail v stage stop stands goes =
       let now : word_at (set words 8 v) 8 ≡ v = get_or-set_same words 8 v 0 (omega (arith, from, ends)) in
@@ -160,7 +160,7 @@ module _ (words chain : List ℕ) (p : Publishing) (on : StandsOn words chain p)
       (λ (near : AreNeighbours chain (word_at words 8) v). inr (subst (AreNeighbours chain (word_at words 8)) (sym now) near)) goes)
 
   -- the tail moves on to the next stop, or stays
-  moved_by : (old new : ℕ) (stage : Stage) → AreNeighbours chain old new → Stands words chain p.reference stage
+  moved_by : (old new : ℕ) (stage : PubStage) → AreNeighbours chain old new → PublishStands words chain p.reference stage
       → Kept (after (move_tail old new) words) chain stage
   moved_by old new stage near stands =
       let found : ℕ = word_at words 8 in
@@ -170,19 +170,19 @@ module _ (words chain : List ℕ) (p : Publishing) (on : StandsOn words chain p)
       (other_tail new stage (behind_stop chain old new near) stands (inr (subst (λ (n : ℕ). AreNeighbours chain n new) (sym hit) near))))
       (λ miss. subst moved (sym (ne_eqb found old miss)) (other_tail found stage on.list.tail stands (inl refl)))
 
-  moves_tail : (old new : ℕ) (now : Bool) → Stands words chain p.reference (MoveTail old new now)
+  moves_tail : (old new : ℕ) (now : Bool) → PublishStands words chain p.reference (MoveTail old new now)
       → Kept (after (move_tail old new) words) chain (stage_of_move now)
   moves_tail old new true (near, same) = moved_by old new Published near (subst (IsStop chain) same (behind_stop chain old new near))
   moves_tail old new false (near, waits) = moved_by old new LoadTail near waits
 
-  by : (stage : Stage) (event other : Event) → event ≡ other
+  by : (stage : PubStage) (event other : Access) → event ≡ other
       → Kept (after event words) (chain_at words chain p.reference stage) (stage_after (length words) p.reference (word_at words (spot event)) stage)
       → Kept (after other words) (chain_at words chain p.reference stage) (stage_after (length words) p.reference (word_at words (spot other)) stage)
-  by stage event other same = subst (λ (v : Event). Kept (after v words) (chain_at words chain p.reference stage)
+  by stage event other same = subst (λ (v : Access). Kept (after v words) (chain_at words chain p.reference stage)
       (stage_after (length words) p.reference (word_at words (spot v)) stage)) same
 
   -- whatever the next event is
-  pub event_keeps : (stage : Stage) (event : Event) → p.stage ≡ stage → event_at p.reference stage ≡ Some event
+  pub event_keeps : (stage : PubStage) (event : Access) → p.stage ≡ stage → event_at p.reference stage ≡ Some event
       → Kept (after event words) (chain_at words chain p.reference stage) (stage_after (length words) p.reference (word_at words (spot event)) stage)
   event_keeps StoreOwnNext event e next = by StoreOwnNext (store_own_next p.reference) event (cc next) (stores_own e)
   event_keeps LoadTail event e next = by LoadTail load_tail event (cc next) (loads_tail e)

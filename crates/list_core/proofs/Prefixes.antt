@@ -3,8 +3,8 @@ use Rattle.std.proofs.Common.{◌==◌, ◌+◌, Bool, true, false, ◌∷◌, r
 use Rattle.std.specs.Prelude.{if◌then◌else◌}
 use Rattle.std.proofs.lemmas.List.{append-nil}
 use Rattle.segment_image.specs.Words.{word_at}
-use Rattle.list_core.specs.declared.publish.Stage.{Stage}
-use Rattle.list_core.specs.declared.publish.Stage.TheVariants.{StoreOwnNext, LoadTail, Link, MoveTail, Published, Strayed}
+use Rattle.list_core.specs.declared.publish.PubStage.{PubStage}
+use Rattle.list_core.specs.declared.publish.PubStage.TheVariants.{StoreOwnNext, LoadTail, Link, MoveTail, Published, Strayed}
 use Rattle.list_core.specs.Publish.{chain_at}
 use Rattle.list_core.specs.Walk.{IsPrefix}
 
@@ -20,7 +20,7 @@ grown_by chain reference true = (reference ∷ [], refl)
 grown_by chain reference false = whole_prefix chain
 
 -- an event of a publish leaves the chain, or makes it longer at its end
-pub chain_grown : (words chain : List ℕ) (reference : ℕ) (stage : Stage) → IsPrefix chain (chain_at words chain reference stage)
+pub chain_grown : (words chain : List ℕ) (reference : ℕ) (stage : PubStage) → IsPrefix chain (chain_at words chain reference stage)
 chain_grown words chain reference StoreOwnNext = whole_prefix chain
 chain_grown words chain reference LoadTail = whole_prefix chain
 chain_grown words chain reference (Link tail) = grown_by chain reference (word_at words (tail + 3) == 12)

@@ -3,13 +3,13 @@ use Rattle.std.proofs.Common.{◌≡◌, ◌≢◌, ℕ, ◌+◌, ◌==◌, Bool
 use Rattle.std.specs.Prelude.{Some, is_some, IfSome, if◌then◌else◌}
 use lib.Seq.{set-get_or}
 use Rattle.segment_image.specs.Words.{word_at}
-use Rattle.alloc_core.specs.Event.{Event, spot, after}
+use Rattle.alloc_core.specs.Event.{Access, spot, after}
 use Rattle.list_core.specs.declared.publish.PubStep.{PubStep}
 use Rattle.list_core.specs.declared.publish.PubStep.TheVariants as said
-use Rattle.list_core.specs.declared.publish.Stage.{Stage}
-use Rattle.list_core.specs.declared.publish.Stage.TheVariants.{StoreOwnNext, LoadTail, Link, MoveTail, Published, Strayed}
+use Rattle.list_core.specs.declared.publish.PubStage.{PubStage}
+use Rattle.list_core.specs.declared.publish.PubStage.TheVariants.{StoreOwnNext, LoadTail, Link, MoveTail, Published, Strayed}
 use Rattle.list_core.specs.Chain.{is_reference, IsStop}
-use Rattle.list_core.specs.Publish.{Publishing, load_tail, link, event_at, next_event, stage_after, stage_of_move, moved, answer, IsStep, IsStrayBy, IsReach, chain_after, Stands, StandsOn}
+use Rattle.list_core.specs.Publish.{Publishing, load_tail, link, event_at, next_event, stage_after, stage_of_move, moved, answer, IsStep, IsStrayBy, IsReach, chain_after, PublishStands, StandsOn}
 use Rattle.alloc_core.proofs.Steps.{happened}
 use Rattle.list_core.proofs.Keeping.{Kept, event_keeps}
 
@@ -28,7 +28,7 @@ is_step old new words new_words step found running changed seen moves says =
     }
 
 -- what each answer says of the stage
-more_goes : (reference : ℕ) (stage : Stage) → answer stage ≡ said.More → is_some (event_at reference stage) ≡ true
+more_goes : (reference : ℕ) (stage : PubStage) → answer stage ≡ said.More → is_some (event_at reference stage) ≡ true
 more_goes reference StoreOwnNext e = refl
 more_goes reference LoadTail e = refl
 more_goes reference (Link tail) e = refl
@@ -36,7 +36,7 @@ more_goes reference (MoveTail old new linked) e = refl
 more_goes reference Published e = absurd (cc e)
 more_goes reference Strayed e = absurd (cc e)
 
-done_stage : (stage : Stage) → answer stage ≡ said.Done → stage ≡ Published
+done_stage : (stage : PubStage) → answer stage ≡ said.Done → stage ≡ Published
 done_stage StoreOwnNext e = absurd (cc e)
 done_stage LoadTail e = absurd (cc e)
 done_stage (Link tail) e = absurd (cc e)
@@ -44,7 +44,7 @@ done_stage (MoveTail old new linked) e = absurd (cc e)
 done_stage Published e = refl
 done_stage Strayed e = absurd (cc e)
 
-stray_stage : (stage : Stage) → answer stage ≡ said.Stray → stage ≡ Strayed
+stray_stage : (stage : PubStage) → answer stage ≡ said.Stray → stage ≡ Strayed
 stray_stage StoreOwnNext e = absurd (cc e)
 stray_stage LoadTail e = absurd (cc e)
 stray_stage (Link tail) e = absurd (cc e)
@@ -60,7 +60,7 @@ pub step_keeps : (old new : Publishing) (words new_words chain : List ℕ) (step
     → (on : StandsOn words chain old) → Kept words chain old on reach.from reach.ends new_words (chain_after words chain old) new.stage
 step_keeps old new words new_words chain step is reach on =
     let kept = event_keeps words chain old on reach.from reach.ends old.stage is.event refl is.next in
-    subst (λ (x : List ℕ × Stage). Kept words chain old on reach.from reach.ends x.0 (chain_after words chain old) x.1)
+    subst (λ (x : List ℕ × PubStage). Kept words chain old on reach.from reach.ends x.0 (chain_after words chain old) x.1)
     (λ i. (sym is.words_are i, sym (ap (λ (p : Publishing). p.stage) is.new_is) i)) kept
 
 -- so the publish stands on it, as its stage then says
@@ -70,7 +70,7 @@ step_stands old new words new_words chain step is reach on =
     let kept = step_keeps old new words new_words chain step is reach on in
     record {
       list = kept.list;
-      stands = subst (λ (r : ℕ). Stands new_words (chain_after words chain old) r new.stage) (sym (ap (λ (p : Publishing). p.reference) is.new_is)) kept.stands;
+      stands = subst (λ (r : ℕ). PublishStands new_words (chain_after words chain old) r new.stage) (sym (ap (λ (p : Publishing). p.reference) is.new_is)) kept.stands;
     }
 
 -- and so does any other
@@ -84,11 +84,11 @@ other_stands old new other words new_words chain step is reach on also within ne
 -- what is published is on the chain
 pub done_stop : (p : Publishing) (words chain : List ℕ) (step : PubStep) → StandsOn words chain p → step ≡ answer p.stage → step ≡ said.Done
     → IsStop chain p.reference
-done_stop p words chain step on is done = subst (Stands words chain p.reference) (done_stage p.stage (sym is ∙ done)) on.stands
+done_stop p words chain step on is done = subst (PublishStands words chain p.reference) (done_stage p.stage (sym is ∙ done)) on.stands
 
 -- and none that stands on a list has strayed
 pub no_stray : (p : Publishing) (words chain : List ℕ) (step : PubStep) → StandsOn words chain p → step ≡ answer p.stage → step ≢ said.Stray
-no_stray p words chain step on is stray = subst (Stands words chain p.reference) (stray_stage p.stage (sym is ∙ stray)) on.stands
+no_stray p words chain step on is stray = subst (PublishStands words chain p.reference) (stray_stage p.stage (sym is ∙ stray)) on.stands
 
 tail_stray : (good : Bool) (found : ℕ) → (if good then Link found else Strayed) ≡ Strayed → good ≡ false
 tail_stray true found e = absurd (cc e)
@@ -104,21 +104,21 @@ moved_else : (linked : Bool) → stage_of_move linked ≢ Strayed
 moved_else true e = absurd (cc e)
 moved_else false e = absurd (cc e)
 
-stray_at : (p : Publishing) (words : List ℕ) (stage : Stage) (event : Event) → p.stage ≡ stage → event_at p.reference stage ≡ Some event
+stray_at : (p : Publishing) (words : List ℕ) (stage : PubStage) (event : Access) → p.stage ≡ stage → event_at p.reference stage ≡ Some event
     → stage_after (length words) p.reference (word_at words (spot event)) stage ≡ Strayed → IsStrayBy p words × (after event words ≡ words)
 stray_at p words StoreOwnNext event e is to = absurd (cc to)
 stray_at p words LoadTail event e is to =
     let same : event ≡ load_tail = cc is in
     let bad = tail_stray (is_reference (length words) (word_at words 8)) (word_at words 8)
-    (ap (λ (v : Event). stage_after (length words) p.reference (word_at words (spot v)) LoadTail) (sym same) ∙ to) in
-    (inl (e, bad), ap (λ (v : Event). after v words) same ∙ set-get_or words 8 0)
+    (ap (λ (v : Access). stage_after (length words) p.reference (word_at words (spot v)) LoadTail) (sym same) ∙ to) in
+    (inl (e, bad), ap (λ (v : Access). after v words) same ∙ set-get_or words 8 0)
 stray_at p words (Link tail) event e is to =
     let same : event ≡ link tail p.reference = cc is in
     let found : ℕ = word_at words (tail + 3) in
     let (miss, bad) = link_stray (found == 12) (is_reference (length words) found) tail p.reference found
-    (ap (λ (v : Event). stage_after (length words) p.reference (word_at words (spot v)) (Link tail)) (sym same) ∙ to) in (
+    (ap (λ (v : Access). stage_after (length words) p.reference (word_at words (spot v)) (Link tail)) (sym same) ∙ to) in (
       inr (tail, e, bad),
-      ap (λ (v : Event). after v words) same
+      ap (λ (v : Access). after v words) same
           ∙ (ap (λ (b : Bool). set words (tail + 3) (if b then p.reference else found)) miss ∙ set-get_or words (tail + 3) 0),
     )
 stray_at p words (MoveTail old new linked) event e is to = absurd (moved_else linked to)

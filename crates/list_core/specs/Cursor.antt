@@ -3,8 +3,8 @@
 use Rattle.std.specs.Prelude.{◌≡◌, ◌≢◌, ◌⊎◌, ℕ, ◌+◌, ◌<◌, ◌≤◌, ◌==◌, true, false, List, [], ◌∷◌, ◌++◌, length, slice_index, if◌then◌else◌, ⊤}
 use Rattle.segment_image.specs.Words.{word_at}
 use Rattle.segment_image.specs.declared.layout.TheConstants.{QUEUE, BLOCK_NEXT}
-use Rattle.list_core.specs.declared.cursor.Stage.{Stage}
-use Rattle.list_core.specs.declared.cursor.Stage.TheVariants.{LoadCursor, LoadNext, MoveCursor}
+use Rattle.list_core.specs.declared.cursor.CursorStage.{CursorStage}
+use Rattle.list_core.specs.declared.cursor.CursorStage.TheVariants.{LoadCursor, LoadNext, MoveCursor}
 use Rattle.list_core.specs.declared.cursor.CursorStep.{CursorStep}
 use Rattle.list_core.specs.declared.cursor.CursorStep.TheVariants.{More, Record, End, Stray}
 use Rattle.list_core.specs.Chain.{is_reference, stops, IsList}
@@ -13,20 +13,20 @@ use Rattle.list_core.specs.Walk.{IsPrefix, stands_behind}
 -- ---- one step
 
 -- the number that a step finds: the shared word, or the next of the block that the cursor loaded from it
-abbrev pub found_by : List ℕ → ℕ → Stage → ℕ
+abbrev pub found_by : List ℕ → ℕ → CursorStage → ℕ
 found_by words shared LoadCursor = shared
 found_by words shared (LoadNext at) = word_at words (at + BLOCK_NEXT)
 found_by words shared (MoveCursor at next) = shared
 
 -- what a step says that found a number, in n words
-abbrev pub said_of : ℕ → ℕ → Stage → CursorStep
+abbrev pub said_of : ℕ → ℕ → CursorStage → CursorStep
 said_of n found LoadCursor = if is_reference n found then More else Stray
 said_of n found (LoadNext at) = if found == QUEUE then End else if is_reference n found then More else Stray
 said_of n found (MoveCursor at next) = if found == at then Record next else More
 
 -- what the cursor does after that: it begins anew where it gave a record, met the end or came too late, and a step that strays
 -- leaves it
-abbrev pub stage_after : ℕ → ℕ → Stage → Stage
+abbrev pub stage_after : ℕ → ℕ → CursorStage → CursorStage
 stage_after n found LoadCursor = if is_reference n found then LoadNext found else LoadCursor
 stage_after n found (LoadNext at) = if found == QUEUE then LoadCursor else if is_reference n found then MoveCursor at found else LoadNext at
 stage_after n found (MoveCursor at next) = LoadCursor
@@ -39,26 +39,26 @@ shared_after shared End = shared
 shared_after shared Stray = shared
 
 -- one step of a cursor, with the word that it shares before and behind it
-pub record IsStep (old : Stage) (words : List ℕ) (shared : ℕ) (new : Stage) (new_shared : ℕ) (step : CursorStep) : Type 0 where
+pub record IsStep (old : CursorStage) (words : List ℕ) (shared : ℕ) (new : CursorStage) (new_shared : ℕ) (step : CursorStep) : Type 0 where
   pub says : step ≡ said_of (length words) (found_by words shared old) old
   pub stage : new ≡ stage_after (length words) (found_by words shared old) old
   pub shared_is : new_shared ≡ shared_after shared step
 
 -- a block whose next a cursor loads lies within n words
-abbrev pub IsReach : ℕ → Stage → Type 0
+abbrev pub IsReach : ℕ → CursorStage → Type 0
 IsReach n (LoadNext at) = is_reference n at ≡ true
 IsReach n _ = ⊤
 
 -- why a step gives a record: the shared word is still what the cursor had loaded, and that record was the next there
-abbrev pub IsRecordBy : Stage → ℕ → ℕ → Type 0
+abbrev pub IsRecordBy : CursorStage → ℕ → ℕ → Type 0
 IsRecordBy old shared reference = old ≡ MoveCursor shared reference
 
 -- why a step says that the list ends: it loaded the next of the block where the cursor stood, and that is the queue block
-abbrev pub IsEndBy : Stage → List ℕ → Type 0
+abbrev pub IsEndBy : CursorStage → List ℕ → Type 0
 IsEndBy old words = (at : ℕ) × (old ≡ LoadNext at) × (word_at words (at + BLOCK_NEXT) ≡ QUEUE)
 
 -- why a step strays: the shared word, or the next that it loaded, is no reference that a list can have
-abbrev pub IsStrayBy : Stage → List ℕ → ℕ → Type 0
+abbrev pub IsStrayBy : CursorStage → List ℕ → ℕ → Type 0
 IsStrayBy old words shared =
     ((old ≡ LoadCursor) × (is_reference (length words) shared ≡ false))
     ⊎ ((at : ℕ) × (old ≡ LoadNext at) × (is_reference (length words) (word_at words (at + BLOCK_NEXT)) ≡ false))
@@ -73,10 +73,10 @@ pub record IsShared (words chain given : List ℕ) (shared : ℕ) : Type 0 where
 
 -- where a cursor stands: what it loaded from the shared word is the queue block or a record that was given, and the next that
 -- it loaded there is the record behind that on the chain
-abbrev pub Stands : List ℕ → List ℕ → Stage → Type 0
-Stands chain given LoadCursor = ⊤
-Stands chain given (LoadNext at) = (k : ℕ) × (k ≤ length given) × (slice_index (stops chain) k ≡ at)
-Stands chain given (MoveCursor at next) =
+abbrev pub CursorStands : List ℕ → List ℕ → CursorStage → Type 0
+CursorStands chain given LoadCursor = ⊤
+CursorStands chain given (LoadNext at) = (k : ℕ) × (k ≤ length given) × (slice_index (stops chain) k ≡ at)
+CursorStands chain given (MoveCursor at next) =
     (k : ℕ) × (k ≤ length given) × (k < length chain) × (slice_index (stops chain) k ≡ at) × (slice_index chain k ≡ next)
 
 -- what cursors have given after one of them said this
@@ -101,7 +101,7 @@ pub record Sharing : Type 0 where
   pub words : List ℕ
   pub chain : List ℕ
   pub shared : ℕ
-  pub cursors : ℕ → Stage
+  pub cursors : ℕ → CursorStage
   pub given : List ℕ
 
 -- Cursors share a word that began at the queue block, when each was at its start. In whatever order, one of them steps, or the list
@@ -111,7 +111,7 @@ pub data AreSharing : Sharing → Type 0 where
       → AreSharing (record { words = words; chain = chain; shared = QUEUE; cursors = λ id. LoadCursor; given = [] })
   grown : (old : Sharing) (words chain : List ℕ) → AreSharing old → IsList words chain → IsPrefix old.chain chain
       → AreSharing (record old { words = words; chain = chain })
-  stepped : (old : Sharing) (id shared : ℕ) (cursors : ℕ → Stage) (step : CursorStep) → AreSharing old
+  stepped : (old : Sharing) (id shared : ℕ) (cursors : ℕ → CursorStage) (step : CursorStep) → AreSharing old
       → IsStep (old.cursors id) old.words old.shared (cursors id) shared step → ((other : ℕ) → other ≢ id → cursors other ≡ old.cursors other)
       → AreSharing (record old { shared = shared; cursors = cursors; given = given_after old.given step })
 

@@ -2,9 +2,9 @@
 use Rattle.std.specs.Prelude.{◌≡◌, ℕ, ◌+◌, ◌≤◌, ◌==◌, ◌⊎◌, Bool, true, false, List, [], ◌∷◌, ◌++◌, length, Option, Some, None, if◌then◌else◌, ⊤}
 use Rattle.segment_image.specs.Words.{word_at}
 use Rattle.segment_image.specs.declared.layout.TheConstants.{HEADER_WORDS, TAIL_WORD, QUEUE, BLOCK_NEXT, BLOCK_LEAST}
-use Rattle.alloc_core.specs.Event.{Event, load, store, exchange, spot, after}
-use Rattle.list_core.specs.declared.publish.Stage.{Stage}
-use Rattle.list_core.specs.declared.publish.Stage.TheVariants.{StoreOwnNext, LoadTail, Link, MoveTail, Published, Strayed}
+use Rattle.alloc_core.specs.Event.{Access, load, store, exchange, spot, after}
+use Rattle.list_core.specs.declared.publish.PubStage.{PubStage}
+use Rattle.list_core.specs.declared.publish.PubStage.TheVariants.{StoreOwnNext, LoadTail, Link, MoveTail, Published, Strayed}
 use Rattle.list_core.specs.declared.publish.PubStep.{PubStep}
 use Rattle.list_core.specs.declared.publish.PubStep.TheVariants as said
 use Rattle.list_core.specs.Chain.{is_reference, IsStop, AreNeighbours, IsList}
@@ -12,23 +12,23 @@ use Rattle.list_core.specs.Chain.{is_reference, IsStop, AreNeighbours, IsList}
 -- a plain record of a publish: the record that it publishes, and what it does next
 pub record Publishing : Type 0 where
   pub reference : ℕ
-  pub stage : Stage
+  pub stage : PubStage
 
 -- the events of a publish
-abbrev pub store_own_next : ℕ → Event
+abbrev pub store_own_next : ℕ → Access
 store_own_next reference = store (reference + BLOCK_NEXT) QUEUE
 
-abbrev pub load_tail : Event
+abbrev pub load_tail : Access
 load_tail = load TAIL_WORD
 
-abbrev pub link : ℕ → ℕ → Event
+abbrev pub link : ℕ → ℕ → Access
 link tail reference = exchange (tail + BLOCK_NEXT) QUEUE reference
 
-abbrev pub move_tail : ℕ → ℕ → Event
+abbrev pub move_tail : ℕ → ℕ → Access
 move_tail old new = exchange TAIL_WORD old new
 
 -- the event that is next at a stage, where the publish has not ended
-abbrev pub event_at : ℕ → Stage → Option Event
+abbrev pub event_at : ℕ → PubStage → Option Access
 event_at reference StoreOwnNext = Some (store_own_next reference)
 event_at reference LoadTail = Some load_tail
 event_at reference (Link tail) = Some (link tail reference)
@@ -37,16 +37,16 @@ event_at reference Published = None
 event_at reference Strayed = None
 
 -- the next event of a publish, or none where it has ended
-abbrev pub next_event : Publishing → Option Event
+abbrev pub next_event : Publishing → Option Access
 next_event publish = event_at publish.reference publish.stage
 
 -- the stage behind a tail that was moved: a record that is linked is published, and another tries again
-abbrev pub stage_of_move : Bool → Stage
+abbrev pub stage_of_move : Bool → PubStage
 stage_of_move true = Published
 stage_of_move false = LoadTail
 
 -- the stage behind an event that found a number, in n words
-abbrev pub stage_after : ℕ → ℕ → ℕ → Stage → Stage
+abbrev pub stage_after : ℕ → ℕ → ℕ → PubStage → PubStage
 stage_after n reference found StoreOwnNext = LoadTail
 stage_after n reference found LoadTail = if is_reference n found then Link found else Strayed
 stage_after n reference found (Link tail) =
@@ -62,14 +62,14 @@ abbrev pub moved : ℕ → Publishing → ℕ → Publishing
 moved n publish found = record publish { stage = stage_after n publish.reference found publish.stage }
 
 -- what a step answers that leads to a stage
-abbrev pub answer : Stage → PubStep
+abbrev pub answer : PubStage → PubStep
 answer Published = said.Done
 answer Strayed = said.Stray
 answer _ = said.More
 
 -- one step: the next event happens, the publish is what that makes of it, and the answer says how it stands
 pub record IsStep (old : Publishing) (words : List ℕ) (new : Publishing) (new_words : List ℕ) (step : PubStep) : Type 0 where
-  pub event : Event
+  pub event : Access
   pub next : next_event old ≡ Some event
   pub words_are : new_words ≡ after event words
   pub new_is : new ≡ moved (length words) old (word_at words (spot event))
@@ -82,7 +82,7 @@ IsStrayBy old words =
     ⊎ ((tail : ℕ) × (old.stage ≡ Link tail) × (is_reference (length words) (word_at words (tail + BLOCK_NEXT)) ≡ false))
 
 -- what a publish stores into lies within n words
-abbrev pub IsWithin : ℕ → Stage → Type 0
+abbrev pub IsWithin : ℕ → PubStage → Type 0
 IsWithin n (Link tail) = is_reference n tail ≡ true
 IsWithin n _ = ⊤
 
@@ -98,7 +98,7 @@ abbrev pub started : ℕ → Publishing
 started reference = record { reference = reference; stage = StoreOwnNext }
 
 -- the chain after the event of a stage: longer by the record, at its end, where the link succeeds
-abbrev pub chain_at : List ℕ → List ℕ → ℕ → Stage → List ℕ
+abbrev pub chain_at : List ℕ → List ℕ → ℕ → PubStage → List ℕ
 chain_at words chain reference (Link tail) = if word_at words (tail + BLOCK_NEXT) == QUEUE then chain ++ reference ∷ [] else chain
 chain_at words chain reference _ = chain
 
@@ -107,23 +107,23 @@ abbrev pub chain_after : List ℕ → List ℕ → Publishing → List ℕ
 chain_after words chain publish = chain_at words chain publish.reference publish.stage
 
 -- a record that is not on the chain yet, and whose next is stored
-abbrev pub Waits : List ℕ → List ℕ → ℕ → Type 0
-Waits words chain reference = (¬ (IsStop chain reference)) × (word_at words (reference + BLOCK_NEXT) ≡ QUEUE)
+abbrev pub AwaitsLink : List ℕ → List ℕ → ℕ → Type 0
+AwaitsLink words chain reference = (¬ (IsStop chain reference)) × (word_at words (reference + BLOCK_NEXT) ≡ QUEUE)
 
 -- where a publish stands, by its stage: its record is off the chain until it is linked
-abbrev pub Stands : List ℕ → List ℕ → ℕ → Stage → Type 0
-Stands words chain reference StoreOwnNext = ¬ (IsStop chain reference)
-Stands words chain reference LoadTail = Waits words chain reference
-Stands words chain reference (Link tail) = Waits words chain reference × IsStop chain tail
-Stands words chain reference (MoveTail old new true) = AreNeighbours chain old new × (new ≡ reference)
-Stands words chain reference (MoveTail old new false) = AreNeighbours chain old new × Waits words chain reference
-Stands words chain reference Published = IsStop chain reference
-Stands words chain reference Strayed = ⊥
+abbrev pub PublishStands : List ℕ → List ℕ → ℕ → PubStage → Type 0
+PublishStands words chain reference StoreOwnNext = ¬ (IsStop chain reference)
+PublishStands words chain reference LoadTail = AwaitsLink words chain reference
+PublishStands words chain reference (Link tail) = AwaitsLink words chain reference × IsStop chain tail
+PublishStands words chain reference (MoveTail old new true) = AreNeighbours chain old new × (new ≡ reference)
+PublishStands words chain reference (MoveTail old new false) = AreNeighbours chain old new × AwaitsLink words chain reference
+PublishStands words chain reference Published = IsStop chain reference
+PublishStands words chain reference Strayed = ⊥
 
 -- words with a list, and a publish that stands where its stage says
 pub record StandsOn (words chain : List ℕ) (publish : Publishing) : Type 0 where
   pub list : IsList words chain
-  pub stands : Stands words chain publish.reference publish.stage
+  pub stands : PublishStands words chain publish.reference publish.stage
 
 -- the tail of a list is where it was in earlier words, or at the next stop of their chain
 abbrev pub TailGoesOn : List ℕ → List ℕ → List ℕ → Type 0

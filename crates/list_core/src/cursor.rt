@@ -6,7 +6,7 @@ use std::marker::Model;
 
 /// What a cursor does next.
 #[derive(Clone, Copy, Debug, PartialEq, Eq)]
-pub(crate) enum Stage {
+pub(crate) enum CursorStage {
     /// It loads the shared word.
     LoadCursor,
     /// It loads the next of the block where the shared word stood.
@@ -32,18 +32,18 @@ pub enum CursorStep {
 /// word, which is 12 at first: the block where they stand together. A clause sees what it does next.
 #[derive(Debug, Drop)]
 pub struct Cursor {
-    stage: Stage,
+    stage: CursorStage,
 }
 
 impl Model for Cursor {
-    ghost use Rattle.list_core.specs.declared.cursor.Stage.{Stage};
+    ghost use Rattle.list_core.specs.declared.cursor.CursorStage.{CursorStage};
 
-    ghost Value = { Stage };
+    ghost Value = { CursorStage };
 
     ghost view = { λ c. c.stage };
 }
 
-impl Stage {
+impl CursorStage {
     ghost use Rattle.std.specs.Prelude.{◌≡◌};
     ghost use Rattle.list_core.specs.Cursor.{said_of, stage_after};
 
@@ -52,25 +52,27 @@ impl Stage {
         ensures { result ≡ said_of count found self }
     {
         match self {
-            Stage::MoveCursor { at, next } if found == at => CursorStep::Record(next),
-            Stage::MoveCursor { .. } => CursorStep::More,
-            Stage::LoadNext { .. } if found == QUEUE => CursorStep::End,
+            CursorStage::MoveCursor { at, next } if found == at => CursorStep::Record(next),
+            CursorStage::MoveCursor { .. } => CursorStep::More,
+            CursorStage::LoadNext { .. } if found == QUEUE => CursorStep::End,
             _ if is_reference(found, count) => CursorStep::More,
             _ => CursorStep::Stray,
         }
     }
 
     // What comes next.
-    fn after(self, found: u64, count: usize) -> Stage
+    fn after(self, found: u64, count: usize) -> CursorStage
         ensures { result ≡ stage_after count found self }
     {
         match self {
-            Stage::LoadCursor if is_reference(found, count) => Stage::LoadNext { at: found },
-            Stage::LoadNext { .. } if found == QUEUE => Stage::LoadCursor,
-            Stage::LoadNext { at } if is_reference(found, count) => {
-                Stage::MoveCursor { at, next: found }
+            CursorStage::LoadCursor if is_reference(found, count) => CursorStage::LoadNext {
+                at: found,
+            },
+            CursorStage::LoadNext { .. } if found == QUEUE => CursorStage::LoadCursor,
+            CursorStage::LoadNext { at } if is_reference(found, count) => {
+                CursorStage::MoveCursor { at, next: found }
             }
-            Stage::MoveCursor { .. } => Stage::LoadCursor,
+            CursorStage::MoveCursor { .. } => CursorStage::LoadCursor,
             strayed => strayed,
         }
     }
@@ -79,15 +81,15 @@ impl Stage {
 impl Cursor {
     ghost use Rattle.std.specs.Prelude.{◌≡◌, ℕ, List, ◌≤◌, length};
     ghost use Rattle.segment_image.specs.declared.layout.TheConstants.{HEADER_WORDS};
-    ghost use Rattle.list_core.specs.declared.cursor.Stage.{Stage};
-    ghost use Rattle.list_core.specs.Cursor.{found_by, said_of, shared_after, IsStep, IsReach, IsRecordBy, IsEndBy, IsStrayBy, IsShared, Stands, MaySay, given_after};
+    ghost use Rattle.list_core.specs.declared.cursor.CursorStage.{CursorStage};
+    ghost use Rattle.list_core.specs.Cursor.{found_by, said_of, shared_after, IsStep, IsReach, IsRecordBy, IsEndBy, IsStrayBy, IsShared, CursorStands, MaySay, given_after};
 
     /// Returns a cursor that has not begun.
     pub fn start() -> Cursor
-        ensures { result ≡ Stage.LoadCursor }
+        ensures { result ≡ CursorStage.LoadCursor }
     {
         Cursor {
-            stage: Stage::LoadCursor,
+            stage: CursorStage::LoadCursor,
         }
     }
 
@@ -113,12 +115,12 @@ impl Cursor {
         requires reach { IsReach (length words.now) self.old }
         ensures step { IsStep self.old words.now shared.old self.new shared.new result }
         ensures reach { IsReach (length words.now) self.new }
-        ensures record { (reference : ℕ) → result ≡ CursorStep.Record reference → IsRecordBy self.old shared.old reference × (shared.new ≡ reference) × (self.new ≡ Stage.LoadCursor) }
+        ensures record { (reference : ℕ) → result ≡ CursorStep.Record reference → IsRecordBy self.old shared.old reference × (shared.new ≡ reference) × (self.new ≡ CursorStage.LoadCursor) }
         ensures more { result ≡ CursorStep.More → shared.new ≡ shared.old }
-        ensures end { result ≡ CursorStep.End → IsEndBy self.old words.now × (shared.new ≡ shared.old) × (self.new ≡ Stage.LoadCursor) }
+        ensures end { result ≡ CursorStep.End → IsEndBy self.old words.now × (shared.new ≡ shared.old) × (self.new ≡ CursorStage.LoadCursor) }
         ensures stray { result ≡ CursorStep.Stray → IsStrayBy self.old words.now shared.old × (shared.new ≡ shared.old) × (self.new ≡ self.old) }
-        ensures given { (chain given : List ℕ) → IsShared words.now chain given shared.old → Stands chain given self.old → MaySay chain given result × IsShared words.now chain (given_after given result) shared.new × Stands chain (given_after given result) self.new }
-        ensures others { (chain given : List ℕ) (other : Stage) → Stands chain given other → Stands chain (given_after given result) other }
+        ensures given { (chain given : List ℕ) → IsShared words.now chain given shared.old → CursorStands chain given self.old → MaySay chain given result × IsShared words.now chain (given_after given result) shared.new × CursorStands chain (given_after given result) self.new }
+        ensures others { (chain given : List ℕ) (other : CursorStage) → CursorStands chain given other → CursorStands chain (given_after given result) other }
     {
         let found = self.act(words, shared);
         let said = self.stage.said(found, words.len());
@@ -134,9 +136,9 @@ impl Cursor {
         ensures shared { shared.new ≡ shared_after shared.old (said_of (length words.now) result self.now) }
     {
         match self.stage {
-            Stage::LoadCursor => *shared,
-            Stage::LoadNext { at } => words[at as usize + BLOCK_NEXT],
-            Stage::MoveCursor { at, next } => exchange_word(shared, at, next),
+            CursorStage::LoadCursor => *shared,
+            CursorStage::LoadNext { at } => words[at as usize + BLOCK_NEXT],
+            CursorStage::MoveCursor { at, next } => exchange_word(shared, at, next),
         }
     }
 }

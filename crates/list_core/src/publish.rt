@@ -8,7 +8,7 @@ use std::marker::Model;
 
 /// What a publish does next, or how it has ended.
 #[derive(Clone, Copy, Debug, PartialEq, Eq)]
-pub(crate) enum Stage {
+pub(crate) enum PubStage {
     /// It stores the end of the list in the next of its record.
     StoreOwnNext,
     /// It loads the tail.
@@ -39,7 +39,7 @@ pub enum PubStep {
 #[derive(Debug, Drop)]
 pub struct Publish {
     reference: u64,
-    stage: Stage,
+    stage: PubStage,
 }
 
 impl Model for Publish {
@@ -50,7 +50,7 @@ impl Model for Publish {
     ghost view = { λ p. record { reference = p.reference; stage = p.stage } };
 }
 
-impl Stage {
+impl PubStage {
     ghost use Rattle.std.specs.Prelude.{◌≡◌};
     ghost use Rattle.list_core.specs.Publish.{answer};
 
@@ -59,8 +59,8 @@ impl Stage {
         ensures { result ≡ answer self }
     {
         match self {
-            Stage::Published => PubStep::Done,
-            Stage::Strayed => PubStep::Stray,
+            PubStage::Published => PubStep::Done,
+            PubStage::Strayed => PubStep::Stray,
             _ => PubStep::More,
         }
     }
@@ -80,7 +80,7 @@ impl Publish {
     {
         Publish {
             reference,
-            stage: Stage::StoreOwnNext,
+            stage: PubStage::StoreOwnNext,
         }
     }
 
@@ -125,11 +125,11 @@ impl Publish {
         ensures { result ≡ attempt_of (next_event self.now) }
     {
         match self.stage {
-            Stage::Link { tail } => Some(Attempt {
+            PubStage::Link { tail } => Some(Attempt {
                 at: (tail as usize).wrapping_add(BLOCK_NEXT),
                 wanted: QUEUE,
             }),
-            Stage::MoveTail { old, .. } => Some(Attempt {
+            PubStage::MoveTail { old, .. } => Some(Attempt {
                 at: TAIL_WORD,
                 wanted: old,
             }),
@@ -145,16 +145,16 @@ impl Publish {
         ensures found { IfSome (next_event self.now) (λ event. result ≡ word_at words.old (spot event)) }
     {
         match self.stage {
-            Stage::StoreOwnNext => store(words, self.reference as usize + BLOCK_NEXT, QUEUE),
-            Stage::LoadTail => words[TAIL_WORD],
-            Stage::Link { tail } => exchange(
+            PubStage::StoreOwnNext => store(words, self.reference as usize + BLOCK_NEXT, QUEUE),
+            PubStage::LoadTail => words[TAIL_WORD],
+            PubStage::Link { tail } => exchange(
                 words,
                 tail as usize + BLOCK_NEXT,
                 QUEUE,
                 self.reference,
             ),
-            Stage::MoveTail { old, new, .. } => exchange(words, TAIL_WORD, old, new),
-            Stage::Published | Stage::Strayed => 0,
+            PubStage::MoveTail { old, new, .. } => exchange(words, TAIL_WORD, old, new),
+            PubStage::Published | PubStage::Strayed => 0,
         }
     }
 
@@ -166,26 +166,26 @@ impl Publish {
     }
 
     // The stage that comes next.
-    fn stage_after(&self, count: usize, found: u64) -> Stage
+    fn stage_after(&self, count: usize, found: u64) -> PubStage
         ensures { result ≡ stage_after count self.now.reference found self.now.stage }
     {
         match self.stage {
-            Stage::StoreOwnNext => Stage::LoadTail,
-            Stage::LoadTail if is_reference(found, count) => Stage::Link { tail: found },
-            Stage::LoadTail => Stage::Strayed,
-            Stage::Link { tail } if found == QUEUE => Stage::MoveTail {
+            PubStage::StoreOwnNext => PubStage::LoadTail,
+            PubStage::LoadTail if is_reference(found, count) => PubStage::Link { tail: found },
+            PubStage::LoadTail => PubStage::Strayed,
+            PubStage::Link { tail } if found == QUEUE => PubStage::MoveTail {
                 old: tail,
                 new: self.reference,
                 linked: true,
             },
-            Stage::Link { tail } if is_reference(found, count) => Stage::MoveTail {
+            PubStage::Link { tail } if is_reference(found, count) => PubStage::MoveTail {
                 old: tail,
                 new: found,
                 linked: false,
             },
-            Stage::Link { .. } => Stage::Strayed,
-            Stage::MoveTail { linked: true, .. } => Stage::Published,
-            Stage::MoveTail { linked: false, .. } => Stage::LoadTail,
+            PubStage::Link { .. } => PubStage::Strayed,
+            PubStage::MoveTail { linked: true, .. } => PubStage::Published,
+            PubStage::MoveTail { linked: false, .. } => PubStage::LoadTail,
             ended => ended,
         }
     }

@@ -7,7 +7,7 @@ use Rattle.std.proofs.lemmas.List.Kept.{AllPairs-cons}
 use mathlib.Core.Logic.{dite}
 use native.Mathlib.Decide.{ℕ_discrete}
 use Rattle.list_index.specs.declared.firsts.Firsts.{Firsts}
-use Rattle.list_index.specs.Firsts.{Met, HasStill, Holds, all_of, first_met, first_of, is_grouping, met_in}
+use Rattle.list_index.specs.Firsts.{Met, IsUnchanged, Holds, all_of, first_met, first_of, is_grouping, met_in}
 use Rattle.list_index.specs.Groups.{group_of}
 
 -- ---- one more
@@ -67,7 +67,7 @@ holds_passed met firsts at holds = record {
 }
 
 -- where nothing has changed
-pub holds_still : (met : List Met) (old new : Firsts) → Holds met old → HasStill old new → is_grouping new ≡ is_grouping old → Holds met new
+pub holds_still : (met : List Met) (old new : Firsts) → Holds met old → IsUnchanged old new → is_grouping new ≡ is_grouping old → Holds met new
 holds_still met old new holds still same = record {
   first = λ key. still.first key ∙ holds.first key;
   all = λ grouping group. still.all group ∙ holds.all (sym same ∙ grouping) group;

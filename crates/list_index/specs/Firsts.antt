@@ -46,6 +46,6 @@ pub record Holds (met : List Met) (firsts : Firsts) : Type 0 where
   pub all : is_grouping firsts ≡ true → (group : ℕ) → all_of firsts group ≡ met_in met group
 
 -- nothing has changed
-pub record HasStill (old new : Firsts) : Type 0 where
+pub record IsUnchanged (old new : Firsts) : Type 0 where
   pub first : (key : ℕ) → first_of new key ≡ first_of old key
   pub all : (group : ℕ) → all_of new group ≡ all_of old group

@@ -3,7 +3,7 @@
 ghost use Rattle.std.specs.Prelude.{◌≡◌, ◌==◌, ◌++◌, ◌∷◌, ◌<◌, ◌+◌, [], true, false, ℕ, None, Some, if◌then◌else◌};
 ghost use Rattle.std.specs.HashMap.{spare};
 ghost use Rattle.std.specs.Option.{option_or};
-ghost use Rattle.list_index.specs.Firsts.{all_of, entered_of, first_of, HasStill, is_grouping, limit_of};
+ghost use Rattle.list_index.specs.Firsts.{all_of, entered_of, first_of, IsUnchanged, is_grouping, limit_of};
 ghost use Rattle.list_index.specs.Groups.{group_of as group_of_key};
 
 use crate::groups::{Groups, group_of};
@@ -64,7 +64,7 @@ impl Firsts {
     pub fn set_limit(&mut self, numbers: usize)
         ensures limit { limit_of self.new ≡ numbers }
         ensures entered { entered_of self.new ≡ entered_of self.old }
-        ensures still { HasStill self.old self.new }
+        ensures still { IsUnchanged self.old self.new }
         ensures grouping { is_grouping self.new ≡ is_grouping self.old }
     {
         self.limit = numbers;
@@ -94,7 +94,7 @@ impl Firsts {
     pub fn enter(&mut self, key: u64, number: u64) -> bool
         ensures entered { result ≡ true → (other : ℕ) → first_of self.new other ≡ option_or (first_of self.old other) (if key == other then Some number else None) }
         ensures listed { result ≡ true → is_grouping self.old ≡ true → (other : ℕ) → all_of self.new other ≡ all_of self.old other ++ (if group_of_key key == other then number ∷ [] else []) }
-        ensures kept { result ≡ false → HasStill self.old self.new }
+        ensures kept { result ≡ false → IsUnchanged self.old self.new }
         ensures grouping { is_grouping self.new ≡ is_grouping self.old }
         ensures few { result ≡ true → entered_of self.old < limit_of self.old }
         ensures counted { entered_of self.new ≡ (if result then entered_of self.old + 1 else entered_of self.old) }
@@ -113,7 +113,7 @@ impl Firsts {
 
     // Whether there is room for the first number of a key, which is made where there is none.
     fn has_room_for(&mut self, key: u64) -> bool
-        ensures still { HasStill self.old self.new }
+        ensures still { IsUnchanged self.old self.new }
         ensures room { result ≡ true → first_of self.new key ≡ None → 0 < spare self.new.map }
         ensures grouping { is_grouping self.new ≡ is_grouping self.old }
         ensures counts { (entered_of self.new ≡ entered_of self.old) × (limit_of self.new ≡ limit_of self.old) }

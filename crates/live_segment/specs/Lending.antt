@@ -5,5 +5,5 @@ use Rattle.segment_calls.specs.declared.refusal.Refusal.TheVariants.{NoUnits}
 use Rattle.segment_machine.specs.declared.actor.Actor.{Actor}
 
 -- it has so many units, and lends them; or it has fewer, and says so
-abbrev pub HasUnits : {A : Type 0} → ℕ → Actor → Result A Refusal → Type 0
-HasUnits units opener result = MatchResult result (λ _. units ≤ opener.units.share) (λ why. (why ≡ NoUnits) × (opener.units.share < units))
+abbrev pub LendsUnits : {A : Type 0} → ℕ → Actor → Result A Refusal → Type 0
+LendsUnits units opener result = MatchResult result (λ _. units ≤ opener.units.share) (λ why. (why ≡ NoUnits) × (opener.units.share < units))

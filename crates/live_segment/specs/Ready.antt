@@ -11,7 +11,7 @@ use Rattle.live_segment.specs.declared.list.index.KeyKind.TheVariants.{Name, Sam
 use Rattle.live_segment.specs.declared.list.index.RecordIndex.{RecordIndex}
 use Rattle.live_segment.specs.declared.recorder.KnownHistogram.{KnownHistogram}
 use Rattle.live_segment.specs.declared.segment.Segment.{Segment}
-use Rattle.live_segment.specs.Hist.ListSearch.{IsAsked, Meets}
+use Rattle.live_segment.specs.Hist.ListSearch.{IsAsked, MayLoadRecord}
 use Rattle.live_segment.specs.Holders.{table_of}
 use Rattle.live_segment.specs.Known.{KnowsRight}
 use Rattle.live_segment.specs.List.Index.{IsIndexed}
@@ -54,7 +54,7 @@ pub record IsSeatedAt (segment : Segment) (histogram : KnownHistogram) (seat : P
 -- a recorder's seat that has met a record on the list, which lies within the segment
 pub record HasMetRecord (segment : Segment) (at : ℕ) (seat : Pass) : Type 0 where
   pub seated : IsSeated segment seat
-  pub met : Meets at seat.me.0
+  pub met : MayLoadRecord at seat.me.0
   pub room : at + 5 ≤ segment.setting.shape.size
 
 -- a recorder's seat that may walk along the list, and its index of records of a kind

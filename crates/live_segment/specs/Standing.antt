@@ -30,8 +30,8 @@ pub record Standing (opening : Opening) (number : ℕ) (a : Actor) : Type 0 wher
   pub stands : get_elem? state.actors number ≡ some a
 
 -- a step changes nothing, and its seat stands in such a state
-abbrev pub Stands : Option Opening → ℕ → Sat → ℕ → Sat → Type 0
-Stands place number me found me' =
+abbrev pub StandsStill : Option Opening → ℕ → Sat → ℕ → Sat → Type 0
+StandsStill place number me found me' =
     (me'.0 ≡ me.0) × (me'.1 ≡ me.1) × ((opening : Opening) → place ≡ Some opening → Standing opening number me'.0)
 
 -- in such a state the next of a block is this

@@ -33,7 +33,7 @@ impl Opener {
     ghost use Rattle.segment_image.specs.Checks.{first_fault};
     ghost use Rattle.segment_machine.specs.Seats.{offering, parent, newcomer, giver, getter, purse, joined};
     ghost use Rattle.live_segment.specs.Steps.{recorder_checks, IsSame};
-    ghost use Rattle.live_segment.specs.Lending.{HasUnits};
+    ghost use Rattle.live_segment.specs.Lending.{LendsUnits};
     ghost use Rattle.live_segment.specs.declared.segment.Segment.{Segment};
     ghost use Rattle.live_segment.specs.Holders.{IsMadeWith, IsRecorderOf, IsSameOpener, RecordsInto, view_of_opener, view_of_recorder};
     ghost use Rattle.live_segment.specs.RecorderState.{given_fresh, IsRecorderAt, IsSameRecorder, view_of_state};
@@ -127,7 +127,7 @@ impl Opener {
         requires { self.old.seat.table_id ≡ segment.now.table.shared.table_id }
         ensures mine { MatchResult result (λ _. IsSameOpener self.old self.new × (view_of_opener self.new ≡ giver (view_of_opener self.old) units)) (λ _. self.new ≡ self.old) }
         ensures filled { IfOk result (λ filled. (filled.table_id ≡ self.old.seat.table_id) × (filled.me ≡ (purse units, []))) }
-        ensures why { HasUnits units (view_of_opener self.old) result }
+        ensures why { LendsUnits units (view_of_opener self.old) result }
     {
         let Some(left) = self.units.checked_sub(units) else {
             return Err(Refusal::NoUnits);
@@ -151,7 +151,7 @@ impl Opener {
         ensures kept { recorder.new.segment ≡ recorder.old.segment }
         ensures mine { MatchResult result (λ _. IsSameOpener self.old self.new × (view_of_opener self.new ≡ giver (view_of_opener self.old) units)) (λ _. self.new ≡ self.old) }
         ensures theirs { MatchResult result (λ _. IsSameRecorder recorder.old.state recorder.new.state × (view_of_recorder recorder.new ≡ getter (view_of_recorder recorder.old) units)) (λ _. recorder.new ≡ recorder.old) }
-        ensures why { HasUnits units (view_of_opener self.old) result }
+        ensures why { LendsUnits units (view_of_opener self.old) result }
         ensures of { IsRecorderOf recorder.new self.new }
         ensures made { (segment : Segment) → IsMadeWith segment self.old → IsMadeWith segment self.new }
     {
@@ -175,7 +175,7 @@ impl Opener {
         ensures at { IsRecorderAt segment.now state.new }
         ensures mine { MatchResult result (λ _. IsSameOpener self.old self.new × (view_of_opener self.new ≡ giver (view_of_opener self.old) units)) (λ _. self.new ≡ self.old) }
         ensures theirs { MatchResult result (λ _. IsSameRecorder state.old state.new × (view_of_state state.new ≡ getter (view_of_state state.old) units)) (λ _. state.new ≡ state.old) }
-        ensures why { HasUnits units (view_of_opener self.old) result }
+        ensures why { LendsUnits units (view_of_opener self.old) result }
         ensures of { state.new.seat.table_id ≡ self.new.seat.table_id }
         ensures made { (other : Segment) → IsMadeWith other self.old → IsMadeWith other self.new }
     {

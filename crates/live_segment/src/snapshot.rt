@@ -30,7 +30,7 @@ fn snapshot_said(said: Announcement) -> Snapshot
 
 impl Segment {
     ghost use Rattle.std.specs.Prelude.{◌≤◌, length, IfOk, IfSome, MatchOption, ◌+◌, [], false, vec_capacity};
-    ghost use Rattle.live_segment.specs.Snapshot.Prelude.{Actor, answered_as, answers, AreFewKeys, AreOwn, AreUnits, HasSeenAll, HasSnapshot, is_opener, IsAtRest, IsSame, IsSeated, known_view, KnowsAlone, KnowsRight, load_sum, MayNote, MayStep, NoRepeats, noted, opened_with, OpensWith, SamplesStandBehind, saw_sum, Setting, Sparse, Standing, table_of, taking_event};
+    ghost use Rattle.live_segment.specs.Snapshot.Prelude.{Actor, answered_as, answers, AreFewKeys, AreOwn, AreUnits, HasLookedAtAll, HasSnapshot, is_opener, IsAtRest, IsSame, IsSeated, known_view, KnowsAlone, KnowsRight, load_sum, MayNote, MayStep, NoRepeats, noted, opened_with, BeginsWithTotals, SamplesStandBehind, saw_sum, Setting, Sparse, Standing, table_of, taking_event};
 
     // The sum of a histogram, and its redundant count, which is loaded last. No sample that was met stands before the record of its
     // histogram.
@@ -81,10 +81,10 @@ impl Segment {
     ) -> Snapshot
         requires table { seat.old.table_id ≡ table_of self.now }
         requires room { histogram.now.reference + 15 ≤ self.now.setting.shape.size }
-        requires saw { (old : Actor) × IsAtRest old × KnowsAlone old (known_view histogram.now) × HasSeenAll (known_view histogram.now) old counts.items seat.old.me.0 }
+        requires saw { (old : Actor) × IsAtRest old × KnowsAlone old (known_view histogram.now) × HasLookedAtAll (known_view histogram.now) old counts.items seat.old.me.0 }
         ensures same { IsSame seat.old seat.new }
         ensures counts { result.counts ≡ counts }
-        ensures answer { (old : Actor) → KnowsAlone old (known_view histogram.now) → HasSeenAll (known_view histogram.now) old counts.items seat.old.me.0 → HasSnapshot (known_view histogram.now) old result seat.new.me.0 }
+        ensures answer { (old : Actor) → KnowsAlone old (known_view histogram.now) → HasLookedAtAll (known_view histogram.now) old counts.items seat.old.me.0 → HasSnapshot (known_view histogram.now) old result seat.new.me.0 }
         ensures stands { Standing (opened_with self.now) seat.new.id seat.new.me.0 }
         ensures behind { SamplesStandBehind seat.old.me.0 }
         ensures once { NoRepeats seat.old.me.0.seen.chain }
@@ -106,7 +106,7 @@ impl Segment {
         samples: Option<&[u64]>,
     ) -> Result<Vec<(i32, u64)>, AllocError>
         requires right { (setting : Setting) × (a : Actor) × KnowsRight setting a histogram.now }
-        ensures { IfOk result (λ totals. MatchOption samples.entry (OpensWith self.now histogram.now totals) (λ own. (totals.items ≡ []) × (length own.now ≤ vec_capacity totals))) }
+        ensures { IfOk result (λ totals. MatchOption samples.entry (BeginsWithTotals self.now histogram.now totals) (λ own. (totals.items ≡ []) × (length own.now ≤ vec_capacity totals))) }
     {
         if samples.is_some() || histogram.ranges.len() == 0 {
             return Vec::with_capacity(alloc, self.most_keys(histogram, samples));
@@ -126,7 +126,7 @@ impl Segment {
         requires rests { IsAtRest seat.old.me.0 }
         requires right { KnowsRight self.now.setting seat.old.me.0 histogram.now }
         requires own { IfSome samples (λ own. (histogram.now.spec ≡ Sparse) × AreOwn self.now.setting.shape.size seat.old.me.0.seen histogram.now.reference own.now) }
-        requires totals { MatchOption samples (OpensWith self.now histogram.now totals) (λ own. (totals.items ≡ []) × (length own.now ≤ vec_capacity totals)) }
+        requires totals { MatchOption samples (BeginsWithTotals self.now histogram.now totals) (λ own. (totals.items ≡ []) × (length own.now ≤ vec_capacity totals)) }
         ensures same { IsSame seat.old seat.new }
         ensures answer { HasSnapshot (known_view histogram.now) seat.old.me.0 result seat.new.me.0 }
         ensures stands { Standing (opened_with self.now) seat.new.id seat.new.me.0 }

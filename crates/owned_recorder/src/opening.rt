@@ -6,7 +6,7 @@ ghost use Rattle.segment_image.specs.Checks.{first_fault};
 ghost use Rattle.segment_machine.specs.Seats.{offering, parent, newcomer, giver, getter, joined};
 ghost use Rattle.live_segment.specs.declared.segment.Segment.{Segment as SomeSegment};
 ghost use Rattle.live_segment.specs.Steps.{recorder_checks};
-ghost use Rattle.live_segment.specs.Lending.{HasUnits};
+ghost use Rattle.live_segment.specs.Lending.{LendsUnits};
 ghost use Rattle.live_segment.specs.Holders.{IsMadeWith, IsSameOpener, view_of_opener};
 ghost use Rattle.live_segment.specs.RecorderState.{given_fresh, IsSameRecorder};
 ghost use Rattle.owned_recorder.specs.Holders.{IsRecorderOf, RecordsInto, view_of_owned};
@@ -45,7 +45,7 @@ pub fn lend(opener: &mut Opener, owned: &mut OwnedRecorder, units: u32) -> Resul
     ensures kept { owned.new.segment ≡ owned.old.segment }
     ensures mine { MatchResult result (λ _. IsSameOpener opener.old opener.new × (view_of_opener opener.new ≡ giver (view_of_opener opener.old) units)) (λ _. opener.new ≡ opener.old) }
     ensures theirs { MatchResult result (λ _. IsSameRecorder owned.old.state owned.new.state × (view_of_owned owned.new ≡ getter (view_of_owned owned.old) units)) (λ _. owned.new ≡ owned.old) }
-    ensures why { HasUnits units (view_of_opener opener.old) result }
+    ensures why { LendsUnits units (view_of_opener opener.old) result }
     ensures of { IsRecorderOf owned.new opener.new }
     ensures made { (segment : SomeSegment) → IsMadeWith segment opener.old → IsMadeWith segment opener.new }
 {

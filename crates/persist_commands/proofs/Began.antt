@@ -16,7 +16,7 @@ use Rattle.live_segment.specs.Adopted.{setting_of}
 use Rattle.live_segment.specs.Rule.{first_view}
 use Rattle.persist_report_core.specs.Script.{HistRecord, Script}
 use Rattle.persist_commands.specs.Entries.{entries_among, entries_of}
-use Rattle.persist_commands.specs.Recorded.{HasOnlyOpened, IsImageFrom}
+use Rattle.persist_commands.specs.Recorded.{HasOnlyOpened, IsRecordedImage}
 use Rattle.persist_commands.specs.Resume.{IsImageOfResume}
 use Rattle.persist_commands.specs.Run.{IsImageOfRun}
 
@@ -27,7 +27,7 @@ new_only setting = record { log = refl; taken = refl; spoiled = refl; filled = r
 
 -- its opener began with nothing
 pub is_image_of_run : (script : Script) (workers : ℕ) (setting : Setting) (words : List ℕ) → setting.shape ≡ script.shape → setting.version ≡ 2
-    → setting.id ≡ script.id → setting.full ≡ false → IsImageFrom setting (first_view setting) script workers words → IsImageOfRun script workers words
+    → setting.id ≡ script.id → setting.full ≡ false → IsRecordedImage setting (first_view setting) script workers words → IsImageOfRun script workers words
 is_image_of_run script workers setting words shape version id empty image = record {
   header = image.header;
   shape = image.shape ∙ shape;
@@ -77,7 +77,7 @@ module _ (image references : List ℕ) where
 
   -- its opener began with what the image has
   pub is_image_of_resume : (script : Script) (workers : ℕ) (words : List ℕ) → (head_of image).version ≡ 2
-      → IsImageFrom (setting_of (head_of image) 0) first script workers words → IsImageOfResume (head_of image) base script workers words
+      → IsRecordedImage (setting_of (head_of image) 0) first script workers words → IsImageOfResume (head_of image) base script workers words
   is_image_of_resume script workers words version written = record {
     header = written.header;
     shape = written.shape;

@@ -25,7 +25,7 @@ use Rattle.live_segment.proofs.Seating.Callers.{knows_on, knows_same}
 use Rattle.persist_report_core.specs.declared.script.CallKind.TheVariants as kind
 use Rattle.persist_report_core.specs.declared.script.ScriptHist.{ScriptHist}
 use Rattle.persist_report_core.specs.Script.{HistRecord, hist_view}
-use Rattle.persist_commands.specs.Entries.{Deed, deeds_in, deeds_of, deeds_of_call}
+use Rattle.persist_commands.specs.Entries.{ScriptAction, deeds_in, deeds_of, deeds_of_call}
 use Rattle.persist_commands.specs.Parts.{part_from, part_of}
 use Rattle.persist_commands.proofs.Parts.{part_append}
 use Rattle.persist_report_core.specs.declared.script.ScriptCall.{ScriptCall}
@@ -231,7 +231,7 @@ calls_next hists calls number workers part x old mid new below is went one =
     ap (part_of workers part) (take_more calls number x below ∙ ap (λ (y : ScriptCall). front ++ y ∷ []) (sym is))
     ∙ (part_append 0 workers part front (x ∷ [])
     ∙ ap (λ n. part_of workers part front ++ part_from n workers part (x ∷ [])) (omega (arith, many))) in
-    subst (λ (l : List Deed). HasRecorded hists l old new) (sym (ap (deeds_of hists) parts ∙ flat_map-append (deeds_of_call hists) (part_of workers part front) (part_from number workers part (x ∷ []))))
+    subst (λ (l : List ScriptAction). HasRecorded hists l old new) (sym (ap (deeds_of hists) parts ∙ flat_map-append (deeds_of_call hists) (part_of workers part front) (part_from number workers part (x ∷ []))))
     (recorded_twice hists (deeds_of hists (part_of workers part front)) (deeds_of hists (part_from number workers part (x ∷ []))) old mid new went one)
 
 got_anyway : {X : Type 0} (xs : List X) (i : ℕ) (d e : X) → i < length xs → get_or xs i d ≡ get_or xs i e

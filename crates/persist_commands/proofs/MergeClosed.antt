@@ -17,7 +17,7 @@ use Rattle.live_segment.specs.Closing.{IsImageOf, ReadsJoined, ReadsStopped}
 use Rattle.live_segment.specs.Holders.{opened_with}
 use Rattle.live_segment.specs.Hist.Answer.{KnowsNone}
 use Rattle.live_segment.specs.Rule.{first_view}
-use Rattle.live_segment.specs.Hist.Search.{SawOther}
+use Rattle.live_segment.specs.Hist.Search.{FirstHasOtherSpec}
 
 -- the opener that gave all units to a recorder and has joined it
 abbrev pub closing : Setting → Actor → Actor
@@ -64,7 +64,7 @@ first_set test (b ∷ actors) a first is =
 
 module _ (setting : Setting) (last : Actor) (words : List ℕ) (closed : IsClosed setting last words) where
   -- a record of a name on the list is that of a histogram that is read, so the recorder knows one of the name
-  pub saw_no_other : (asked : Asked) → SawOther asked last → KnowsNone asked.name.items last → ⊥
+  pub saw_no_other : (asked : Asked) → FirstHasOtherSpec asked last → KnowsNone asked.name.items last → ⊥
   saw_no_other asked (at, letters, named, are, unlike) none =
       let chain : last.seen.chain ≡ (closing setting last).seen.chain = sym (longer_than_none last.seen.chain) in
       let its : IsFirstNamed (closing setting last).seen asked.name.items at =

@@ -26,13 +26,13 @@ use Rattle.segment_calls.specs.Asked.{IsAskedFor, IsRefusedFor, IsTooLarge}
 use Rattle.live_segment.specs.declared.rule.Setting.{Setting}
 use Rattle.live_segment.specs.Add.Sample.{HasNoRoom, block_words}
 use Rattle.live_segment.specs.Hist.Answer.{IsRefusedWith, KnowsNamed, KnowsNone}
-use Rattle.live_segment.specs.Hist.Search.{SawOther}
+use Rattle.live_segment.specs.Hist.Search.{FirstHasOtherSpec}
 use Rattle.segment_invariant.proofs.Lists.Elements.{contains_at}
 use Rattle.live_segment.specs.Rule.{first_view}
-use Rattle.live_segment.specs.Hist.Outcome.{IsRefusedBy}
+use Rattle.live_segment.specs.Hist.Outcome.{IsHistRefusal}
 use Rattle.segment_merge.specs.declared.merging.MergeReport.{MergeReport}
 use Rattle.segment_merge.specs.declared.merging.MergeStop.{MergeStop}
-use Rattle.segment_merge.specs.Merge.{HasCause, IsMerged, IsOneOf, IsStopped, cost_left, items_left}
+use Rattle.segment_merge.specs.Merge.{HasStopCause, IsMerged, IsOneOf, IsStopped, cost_left, items_left}
 use Rattle.segment_merge.proofs.Merged.{merged_then}
 use Rattle.persist_report_core.specs.declared.fault.CliFault.{CliFault}
 use Rattle.persist_report_core.specs.declared.fault.CliFault.TheVariants as cli
@@ -47,7 +47,7 @@ use Rattle.persist_commands.proofs.MergeFilled.{Lacks, counts_long, lacks_room, 
 -- there was no room.
 module _ (first : SegmentHead) (units : ℕ) (front : List Histogram) (h : Histogram) (old new : Actor)
     (knows : (known : Known) → Contains old.answers.names known → IsOneOf front known)
-    (unseen : (asked : Asked) → SawOther asked new → KnowsNone asked.name.items new → ⊥) (sound : new.seen.corrupt ≡ true → ⊥)
+    (unseen : (asked : Asked) → FirstHasOtherSpec asked new → KnowsNone asked.name.items new → ⊥) (sound : new.seen.corrupt ≡ true → ⊥)
     (full : (block : ℕ) → Lacks h new block → new.segment.shape.size < new.seen.free + block → LacksRoomFor first front h) where
   -- no block could be claimed
   no_room : (why : Refusal) (words : ℕ) (before : Actor) → Lacks h new words → HasNoRoom why words before new → MayStop first units front h why
@@ -66,7 +66,7 @@ module _ (first : SegmentHead) (units : ℕ) (front : List Histogram) (h : Histo
 
   -- it was looked for
   not_found : (asked : Asked) (why : Refusal) (before : Actor) → IsAskedFor before.segment.shape h.name h.spec asked → KnowsNone h.name new
-      → IsRefusedBy asked why before new → MayStop first units front h why
+      → IsHistRefusal asked why before new → MayStop first units front h why
   not_found asked refusal.OtherSpec before asks none is = absurd (unseen asked is (subst (λ (name : List ℕ). KnowsNone name new) (sym asks.named) none))
   not_found asked refusal.Full before asks none (others, all, (done, wastes, passes)) =
       full (BLOCK_HEADER + length asked.payload.items) (inl (record_long before.segment.shape h asked asks, none)) passes
@@ -92,7 +92,7 @@ module _ (first : SegmentHead) (units : ℕ) (front : List Histogram) (h : Histo
 
   -- its merge stops
   caused : (items : ℕ) (why : Refusal) → old.segment.shape.page ≡ first.shape.page → old.units.share + sum_by cost_left front ≡ units
-      → why ≢ refusal.NoMemory → new.units.share + units_of (take items (items_left h)) ≡ old.units.share → HasCause h items why old new
+      → why ≢ refusal.NoMemory → new.units.share + units_of (take items (items_left h)) ≡ old.units.share → HasStopCause h items why old new
       → MayStop first units front h why
   caused items why same left other paid (inl (zero, refused)) = unfound why same other refused
   caused items why same left other paid (inr (found, known, has, inl (zero, is, short, unmoved))) =
@@ -180,7 +180,7 @@ stop_both (Err fault) xs ys old mid new before stopped = stop_second xs ys old m
 told_in : (first : SegmentHead) (units : ℕ) (hists : List Histogram) (name : Vec ℕ Global) (why : Refusal) (old new : Actor)
     (is : HasStoppedIn hists name.items why old new)
     → old.segment.shape.page ≡ first.shape.page → old.units.share ≡ units → old.answers.names ≡ []
-    → ((asked : Asked) → SawOther asked new → KnowsNone asked.name.items new → ⊥) → (new.seen.corrupt ≡ true → ⊥)
+    → ((asked : Asked) → FirstHasOtherSpec asked new → KnowsNone asked.name.items new → ⊥) → (new.seen.corrupt ≡ true → ⊥)
     → ((block : ℕ) → Lacks is.last new block → new.segment.shape.size < new.seen.free + block → LacksRoomFor first is.front is.last)
     → StopsIn first units hists name.items why
 told_in first units hists name why old new is pages all none unseen sound full =

@@ -12,8 +12,8 @@ use Rattle.live_segment.specs.Steps.{recorder_checks}
 use Rattle.segment_merge.specs.Image.{IsMergedImage}
 use Rattle.persist_report_core.specs.declared.fault.CliFault.{CliFault}
 use Rattle.persist_report_core.specs.declared.fault.CliFault.TheVariants as cli
-use Rattle.persist_report_core.specs.Report.{IsCausedBy}
-use Rattle.persist_commands.specs.MergeFiles.{AreMerged, IsImage, IsImageOf, IsMergeFault, IsStopOf}
+use Rattle.persist_report_core.specs.Report.{IsCausedByImage}
+use Rattle.persist_commands.specs.MergeFiles.{AreMerged, IsImage, AreImageBytes, IsMergeFault, IsStopOf}
 
 -- a fault has its cause, as far as the bytes of both are known
 abbrev pub HasCauseIn : Option (List ℕ) → Option (List ℕ) → CliFault → Type 0
@@ -21,14 +21,14 @@ HasCauseIn a b fault = IfSome a (λ first. IfSome b (λ second. IsMergeFault fir
 
 -- the second image has a fault
 pub second_cause : (a b : Option (List ℕ)) (head : SegmentHead) (reading : Reading) (fault : CliFault)
-    → IfSome a (λ bytes. IsImageOf bytes head reading) → IfSome b (λ bytes. IsCausedBy bytes fault) → HasCauseIn a b fault
+    → IfSome a (λ bytes. AreImageBytes bytes head reading) → IfSome b (λ bytes. IsCausedByImage bytes fault) → HasCauseIn a b fault
 second_cause None b head reading fault image cause = tt
 second_cause (Some first) None head reading fault image cause = tt
 second_cause (Some first) (Some second) head reading fault image cause = inr (head, reading, image, inl cause)
 
 -- the merge is refused
 pub merge_cause : (a b : Option (List ℕ)) (head dead_head : SegmentHead) (reading dead_reading : Reading) (fault : CliFault)
-    → IfSome a (λ bytes. IsImageOf bytes head reading) → IfSome b (λ bytes. IsImageOf bytes dead_head dead_reading)
+    → IfSome a (λ bytes. AreImageBytes bytes head reading) → IfSome b (λ bytes. AreImageBytes bytes dead_head dead_reading)
     → IsStopOf head 4294967295 (reading.hists ++ dead_reading.hists) fault → HasCauseIn a b fault
 merge_cause None b head dead_head reading dead_reading fault image dead stop = tt
 merge_cause (Some first) None head dead_head reading dead_reading fault image dead stop = tt
@@ -47,7 +47,7 @@ write_cause (Err fault) a b err = subst (HasCauseIn a b) (sym err) (write_cause_
 
 -- it is written
 pub written : (r : Result ⊤ CliFault) (a b : Option (List ℕ)) (Holds : List ℕ → Type 0) (words : List ℕ) (head dead_head : SegmentHead) (reading dead_reading : Reading)
-    → IfSome a (λ bytes. IsImageOf bytes head reading) → IfSome b (λ bytes. IsImageOf bytes dead_head dead_reading)
+    → IfSome a (λ bytes. AreImageBytes bytes head reading) → IfSome b (λ bytes. AreImageBytes bytes dead_head dead_reading)
     → IsMergedImage head (reading.hists ++ dead_reading.hists) words → OnOk r (Holds words)
     → OnOk r (IfSome a (λ first. IfSome b (λ second. (words : List ℕ) × AreMerged first second words × Holds words)))
 written (Err fault) a b Holds words head dead_head reading dead_reading image dead merged holds = tt
@@ -86,12 +86,12 @@ pub sound : (failed : Bool) → (failed ≡ true → ⊥) → failed ≡ false
 sound true other = absurd (other refl)
 sound false other = refl
 
-an_image : (a : Option (List ℕ)) (head : SegmentHead) (reading : Reading) → IfSome a (λ bytes. IsImageOf bytes head reading) → IfSome a IsImage
+an_image : (a : Option (List ℕ)) (head : SegmentHead) (reading : Reading) → IfSome a (λ bytes. AreImageBytes bytes head reading) → IfSome a IsImage
 an_image None head reading image = tt
 an_image (Some bytes) head reading image = (head, reading, image)
 
 pub first_sound : {T : Type 0} (r : Result T CliFault) (x : T) (failed : Bool) (a : Option (List ℕ)) (head : SegmentHead) (reading : Reading) → r ≡ Ok x
-    → (IsErrOf r cli.Read ↔ (failed ≡ true)) → IfSome a (λ bytes. IsImageOf bytes head reading) → (failed ≡ false) × IfSome a IsImage
+    → (IsErrOf r cli.Read ↔ (failed ≡ true)) → IfSome a (λ bytes. AreImageBytes bytes head reading) → (failed ≡ false) × IfSome a IsImage
 first_sound r x failed a head reading is told image = (sound failed (not_failed r x failed is told), an_image a head reading image)
 
 -- ---- a new segment

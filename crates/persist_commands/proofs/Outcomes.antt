@@ -17,7 +17,7 @@ use Rattle.persist_report_core.specs.declared.fault.CliFault.TheVariants as cli
 use Rattle.persist_report_core.specs.declared.script.fault.ScriptFault.{ScriptFault}
 use Rattle.persist_report_core.specs.Report.{AreWordsOf}
 use Rattle.persist_report_core.specs.Script.{Script, script_for, script_of}
-use Rattle.persist_commands.specs.Recorded.{HasOnlyOpened, IsImageFrom, setting_for}
+use Rattle.persist_commands.specs.Recorded.{HasOnlyOpened, IsRecordedImage, setting_for}
 use Rattle.persist_commands.specs.Resume.{IsBase, IsBaseOf, IsFaultOfResume, IsImageOfResume, IsResumeOf}
 use Rattle.persist_commands.specs.Run.{IsFaultOfScript, IsReportOfImage, IsRunOf, MayEndRun, fault_of_script}
 use Rattle.persist_commands.proofs.Began.{adopted_only, is_image_of_resume, is_image_of_run, new_only}
@@ -87,16 +87,16 @@ both_read_late (Err fault) base script late first second = (
 -- what a run in a segment has written, whatever is known of the segment
 abbrev pub Wrote : Setting → Actor → Script → ℕ → (List ℕ → Type 0) → (List ℕ → Type 0) → Type 0
 Wrote setting first script workers A B =
-    (words : List ℕ) × (text : List ℕ) × IsImageFrom setting first script workers words × IsReportOfImage words text × A words × B text
+    (words : List ℕ) × (text : List ℕ) × IsRecordedImage setting first script workers words × IsReportOfImage words text × A words × B text
 
 pub wrote_so : (r : Result ⊤ CliFault) (setting : Setting) (first : Actor) (script : Script) (workers : ℕ) (image words again text : List ℕ) (A B : List ℕ → Type 0)
-    → OnOk r (A again) → OnOk r (B text) → IsImageFrom setting first script workers image → IsReportOfImage words text → words ≡ image → again ≡ image
+    → OnOk r (A again) → OnOk r (B text) → IsRecordedImage setting first script workers image → IsReportOfImage words text → words ≡ image → again ≡ image
     → OnOk r (Wrote setting first script workers A B)
 wrote_so (Err fault) setting first script workers image words again text A B a b run report one two = tt
 wrote_so (Ok x) setting first script workers image words again text A B a b run report one two = (
   again,
   text,
-  subst (IsImageFrom setting first script workers) (sym two) run,
+  subst (IsRecordedImage setting first script workers) (sym two) run,
   subst (λ (l : List ℕ). IsReportOfImage l text) (one ∙ sym two) report,
   a,
   b,
@@ -120,7 +120,7 @@ run_so (Ok x) (Some bytes) script workers segment opener A B new is wrote =
         script = script;
         script_is = is.1;
         image = is_image_of_run script workers (setting_for script) words refl refl refl refl
-            (subst (λ (p : Setting × Actor). IsImageFrom p.0 p.1 script workers words) (λ i. (new.setting_is i, new.view i)) image);
+            (subst (λ (p : Setting × Actor). IsRecordedImage p.0 p.1 script workers words) (λ i. (new.setting_is i, new.view i)) image);
         report = report;
       },
       a,
@@ -207,7 +207,7 @@ module _ (image : List ℕ) (head : SegmentHead) (segment : Segment) (opener : O
                 script_is = subst (λ (units : ℕ). script_for head.shape head.id units bytes ≡ Ok script) (units_left units are_units) is.1;
                 image = subst (λ (h : SegmentHead). IsImageOfResume h read script workers words) (sym head_is)
                     (is_image_of_resume image adopted.references script workers words adopted.adoptable.version
-                    (subst (λ (p : Setting × Actor). IsImageFrom p.0 p.1 script workers words) (λ i. (adopted.opened.setting_is i, adopted.opened.view i)) written));
+                    (subst (λ (p : Setting × Actor). IsRecordedImage p.0 p.1 script workers words) (λ i. (adopted.opened.setting_is i, adopted.opened.view i)) written));
                 report = report;
               },
               one,

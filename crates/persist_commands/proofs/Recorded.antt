@@ -27,9 +27,9 @@ use Rattle.live_segment.specs.declared.rule.Setting.{Setting}
 use Rattle.live_segment.specs.Closing.{DeltasAddUp, IsImageOf, IsJoinedReading, IsTally, ReadsJoined}
 use Rattle.persist_report_core.specs.declared.script.ScriptCall.{ScriptCall}
 use Rattle.persist_report_core.specs.Script.{HistRecord, Script}
-use Rattle.persist_commands.specs.Entries.{Deed, Takes, deeds_of, deeds_of_call, delta_in, deltas_among, deltas_of, entries_among, entries_of, entry_in}
+use Rattle.persist_commands.specs.Entries.{ScriptAction, Takes, deeds_of, deeds_of_call, delta_in, deltas_among, deltas_of, entries_among, entries_of, entry_in}
 use Rattle.persist_commands.specs.Parts.{part_from, part_of}
-use Rattle.persist_commands.specs.Recorded.{AreTakenFrom, HasMarksFrom, HasOnlyOpened, IsImageFrom, IsRecordedFrom, IsTallyFrom, LastDelta}
+use Rattle.persist_commands.specs.Recorded.{AreTakenFrom, HasMarksFrom, HasOnlyOpened, IsRecordedImage, IsRecordedFrom, IsTallyFrom, LastDelta}
 use Rattle.persist_commands.specs.Recording.{HasOpened, HasRun, IsAskedIn, KnowsOf, WentOn, deeds_of_all}
 use Rattle.persist_commands.proofs.Parts.{part_first, parts_add_up}
 use Rattle.persist_commands.proofs.Went.{unset, went_twice}
@@ -54,13 +54,13 @@ does_all script workers one =
 
 deeds_in_turn : (hists : List HistRecord) (g : ℕ → List ScriptCall) (ks : List ℕ) → deeds_of hists (flat_map g ks) ≡ flat_map (λ k. deeds_of hists (g k)) ks
 deeds_in_turn hists g [] = refl
-deeds_in_turn hists g (k ∷ ks) = flat_map-append (deeds_of_call hists) (g k) (flat_map g ks) ∙ ap (λ (l : List Deed). deeds_of hists (g k) ++ l) (deeds_in_turn hists g ks)
+deeds_in_turn hists g (k ∷ ks) = flat_map-append (deeds_of_call hists) (g k) (flat_map g ks) ∙ ap (λ (l : List ScriptAction). deeds_of hists (g k) ++ l) (deeds_in_turn hists g ks)
 
 -- what the deeds of all workers come to is what those of the script come to
-all_come_to : {M : Type 0} (add : M → M → M) (total : List Deed → M) → IsAddition ◌≡◌ add → IsTotal add total → (script : Script) (workers : ℕ) → 0 < workers
+all_come_to : {M : Type 0} (add : M → M → M) (total : List ScriptAction → M) → IsAddition ◌≡◌ add → IsTotal add total → (script : Script) (workers : ℕ) → 0 < workers
     → total (deeds_of_all script workers) ≡ total (deeds_of script.hists script.calls)
 all_come_to add total is sums script workers some =
-    let of : List ScriptCall → List Deed = deeds_of script.hists in
+    let of : List ScriptCall → List ScriptAction = deeds_of script.hists in
     ap total (sym (deeds_in_turn script.hists (λ part. part_of workers part script.calls) (range_with_len 0 workers)))
     ∙ parts_add_up ◌≡◌ add (λ calls. total (of calls)) is (λ xs ys. ap total (flat_map-append (deeds_of_call script.hists) xs ys) ∙ sums (of xs) (of ys)) workers script.calls some
 
@@ -301,7 +301,7 @@ module _ (script : Script) (workers : ℕ) (setting : Setting) (first opened ran
   }
 
   pub is_image_from : (words : List ℕ) → IsImageOf setting words → (outstanding_of ran.role ≡ 0 → ReadsJoined setting ran words)
-      → (outstanding_of ran.role ≡ 0 → DeltasAddUp ran) → IsImageFrom setting first script workers words
+      → (outstanding_of ran.role ≡ 0 → DeltasAddUp ran) → IsRecordedImage setting first script workers words
   is_image_from words image joined add_up = record {
     header = image.header;
     shape = image.shape;

@@ -36,9 +36,9 @@ use Rattle.persist_report_core.specs.declared.fault.CliFault.{CliFault}
 use Rattle.persist_report_core.specs.Script.{HistRecord, Script, script_of, script_view}
 use Rattle.persist_commands.specs.declared.worker.Ended.{Ended}
 use Rattle.persist_commands.specs.declared.worker.Part.{Part}
-use Rattle.persist_commands.specs.Entries.{Deed, Takes, deeds_of, deeds_of_call, delta_in, deltas_among, deltas_of, entries_among, entries_of, entry_in}
+use Rattle.persist_commands.specs.Entries.{ScriptAction, Takes, deeds_of, deeds_of_call, delta_in, deltas_among, deltas_of, entries_among, entries_of, entry_in}
 use Rattle.persist_commands.specs.Parts.{part_from, part_of}
-use Rattle.persist_commands.specs.Recording.{AreOf, EndedAt, EndedWell, HandsOut, HasEnded, HasOpened, HasRun, HasWorked, IsAskedIn, IsReady, KnowsOf, WentOn, all_joined, deeds_of_all, deeds_of_part, view_of_ended}
+use Rattle.persist_commands.specs.Recording.{BeganAtRole, EndedAt, EndedWell, HandsOut, WorkerHasEnded, HasOpened, HasRun, HasWorked, IsAskedIn, IsWorkerReady, KnowsOf, WentOn, all_joined, deeds_of_all, deeds_of_part, view_of_ended}
 use Rattle.persist_commands.specs.Run.{IsImageOfRun, IsReportOfImage, IsRunOf}
 use Rattle.persist_commands.specs.Stop.{StopTellsWant}
 use Rattle.persist_commands.proofs.Meetings.{table_kept}
@@ -58,9 +58,9 @@ one_of (x ∷ rest) k below = x
 
 module _ {W : Type 0} (part : W → Part) (has : W → code.Script) (recorder : W → Recorder) (segment : TableId) (opener : Actor) (script : code.Script) (workers : ℕ)
     (all : List W) (ended : List Ended)
-    (ready : (k : ℕ) (d : W) → k < length all → IsReady segment opener script workers k (part (get_or all k d)) (has (get_or all k d)) (recorder (get_or all k d)))
+    (ready : (k : ℕ) (d : W) → k < length all → IsWorkerReady segment opener script workers k (part (get_or all k d)) (has (get_or all k d)) (recorder (get_or all k d)))
     (same : length ended ≡ length all)
-    (gives : (k : ℕ) (d : W) (e : Ended) → k < length all → HasEnded (has (get_or all k d)) (part (get_or all k d)) (recorder (get_or all k d)) (get_or ended k e)) where
+    (gives : (k : ℕ) (d : W) (e : Ended) → k < length all → WorkerHasEnded (has (get_or all k d)) (part (get_or all k d)) (recorder (get_or all k d)) (get_or ended k e)) where
   -- they may be started
   pub in_parts : length all ≡ workers → (k : ℕ) (d : W) → k < length all → (part (get_or all k d)).part < (part (get_or all k d)).workers
   in_parts count k d below = let is = ready k d below in let number = is.number_is in let of = is.workers_are in omega (arith, number, of, below, count)
@@ -121,8 +121,8 @@ module _ {W : Type 0} (part : W → Part) (has : W → code.Script) (recorder : 
       let last : Actor = view_of_ended e in
       let did : HasWorked (script_view script) workers 0 fresh last =
       subst (λ (l : List Ended). HasWorked (script_view script) workers 0 fresh (view_of_ended (get_or l 0 e))) only (worked_at mine 0 d e here) in
-      let own : AreOf fresh.role last.deltas.taken =
-      did.own (subst (AreOf fresh.role) (sym is.fresh.taken) (λ k t below. absurd (omega (arith, below)))) in
+      let own : BeganAtRole fresh.role last.deltas.taken =
+      did.own (subst (BeganAtRole fresh.role) (sym is.fresh.taken) (λ k t below. absurd (omega (arith, below)))) in
       let new_is : new ≡ joined mid last = joins ∙ ap (λ (l : List Ended). all_joined mid (map view_of_ended l)) only in
       let n : ℕ = length (log_of mid) in
       let taken : new.deltas.taken ≡ shifted_taken n last.deltas.taken =

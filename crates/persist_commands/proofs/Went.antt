@@ -22,26 +22,26 @@ use Rattle.live_segment.specs.Hist.Answer.{IsAnsweredWith}
 use Rattle.persist_report_core.specs.declared.script.CallKind.TheVariants as kind
 use Rattle.persist_report_core.specs.Script.{HistRecord}
 use Rattle.bucket_ranges.specs.Ranges.{boundaries_of}
-use Rattle.persist_commands.specs.Entries.{Deed, Records, Takes, deeds_in, delta_in, deltas_among, entries_among, entry_in}
-use Rattle.persist_commands.specs.Recording.{AreOf, HandsOut, HasRecorded, IsAskedIn, IsFresh, KnowsOf, WentOn, all_joined}
+use Rattle.persist_commands.specs.Entries.{ScriptAction, Records, Takes, deeds_in, delta_in, deltas_among, entries_among, entry_in}
+use Rattle.persist_commands.specs.Recording.{BeganAtRole, HandsOut, HasRecorded, IsAskedIn, IsFresh, KnowsOf, WentOn, all_joined}
 
 -- ---- deeds among deeds
 
 -- no deeds have none
-none_among : (front behind : List Deed) (deed : Deed) → [] ≡ front ++ deed ∷ behind → ⊥
+none_among : (front behind : List ScriptAction) (deed : ScriptAction) → [] ≡ front ++ deed ∷ behind → ⊥
 none_among [] behind deed is = cc is
 none_among (x ∷ front) behind deed is = cc is
 
 -- one deed is the only one
-one_among : (front behind : List Deed) (one deed : Deed) → one ∷ [] ≡ front ++ deed ∷ behind → (front ≡ []) × (one ≡ deed) × (behind ≡ [])
+one_among : (front behind : List ScriptAction) (one deed : ScriptAction) → one ∷ [] ≡ front ++ deed ∷ behind → (front ≡ []) × (one ≡ deed) × (behind ≡ [])
 one_among [] behind one deed is = (refl, cc is, sym (cc is))
 one_among (x ∷ front) behind one deed is = absurd (none_among front behind deed (cc is))
 
 -- one of two lists of deeds is in the first or in the second
-in_either : (xs ys front behind : List Deed) (deed : Deed) → xs ++ ys ≡ front ++ deed ∷ behind
-    → ((more : List Deed) × (xs ≡ front ++ deed ∷ more) × (behind ≡ more ++ ys)) ⊎ ((back : List Deed) × (front ≡ xs ++ back) × (ys ≡ back ++ deed ∷ behind))
+in_either : (xs ys front behind : List ScriptAction) (deed : ScriptAction) → xs ++ ys ≡ front ++ deed ∷ behind
+    → ((more : List ScriptAction) × (xs ≡ front ++ deed ∷ more) × (behind ≡ more ++ ys)) ⊎ ((back : List ScriptAction) × (front ≡ xs ++ back) × (ys ≡ back ++ deed ∷ behind))
 in_either [] ys front behind deed is = inr (front, refl, is)
-in_either (x ∷ xs) ys [] behind deed is = let same : x ≡ deed = cc is in inl (xs, ap (λ (d : Deed). d ∷ xs) same, sym (cc is))
+in_either (x ∷ xs) ys [] behind deed is = let same : x ≡ deed = cc is in inl (xs, ap (λ (d : ScriptAction). d ∷ xs) same, sym (cc is))
 in_either (x ∷ xs) ys (y ∷ front) behind deed is =
     let same : x ≡ y = cc is in
     let rest : xs ++ ys ≡ front ++ deed ∷ behind = cc is in
@@ -76,12 +76,12 @@ went_nowhere hists old new still = record {
 }
 
 -- the names of what was taken for two lists of deeds
-names_joined : (first second : List Taken) (xs ys : List Deed) → map (λ (t : Taken). t.name) first ≡ deltas_among xs → map (λ (t : Taken). t.name) second ≡ deltas_among ys
+names_joined : (first second : List Taken) (xs ys : List ScriptAction) → map (λ (t : Taken). t.name) first ≡ deltas_among xs → map (λ (t : Taken). t.name) second ≡ deltas_among ys
     → map (λ (t : Taken). t.name) (first ++ second) ≡ deltas_among (xs ++ ys)
 names_joined first second xs ys one two =
     map-append (λ (t : Taken). t.name) first second ∙ ((λ i. one i ++ two i) ∙ sym (filter_map-append delta_in xs ys))
 
-pub went_twice : (hists : List HistRecord) (xs ys : List Deed) (a b c : Actor) → WentOn hists xs a b → WentOn hists ys b c → WentOn hists (xs ++ ys) a c
+pub went_twice : (hists : List HistRecord) (xs ys : List ScriptAction) (a b c : Actor) → WentOn hists xs a b → WentOn hists ys b c → WentOn hists (xs ++ ys) a c
 went_twice hists xs ys a b c one two = record {
   first = two.first ∙ one.first;
   first_noted = two.first_noted ∙ one.first_noted;
@@ -113,7 +113,7 @@ went_twice hists xs ys a b c one two = record {
       let did = two.deltas second.0 behind name second.2 in
       let log = did.begun in
       let before = ap length one.logged ∙ length-append (log_of a) (entries_among xs) in
-      let all = ap (λ (deeds : List Deed). length (entries_among deeds)) second.1 ∙ ap length (filter_map-append entry_in xs second.0) in
+      let all = ap (λ (deeds : List ScriptAction). length (entries_among deeds)) second.1 ∙ ap length (filter_map-append entry_in xs second.0) in
       let both = length-append (entries_among xs) (entries_among second.0) in
       record {
         front = did.front;
@@ -212,7 +212,7 @@ went_taking hists hist known counts sum old new named taken = record {
   deltas = λ front behind name is.
       let (none, same, last) = one_among front behind (Takes hist.name) (Takes name) is in
       let called : hist.name ≡ name = cc same in
-      let nothing : length (entries_among front) ≡ 0 = ap (λ (deeds : List Deed). length (entries_among deeds)) none in record {
+      let nothing : length (entries_among front) ≡ 0 = ap (λ (deeds : List ScriptAction). length (entries_among deeds)) none in record {
         front = old.deltas.taken;
         delta = taken_as old known taken.counts sum;
         behind = [];
@@ -231,19 +231,19 @@ went_taking hists hist known counts sum old new named taken = record {
 pub recorded_nowhere : (hists : List HistRecord) (a : Actor) → HasRecorded hists [] a a
 recorded_nowhere hists a = record { went = went_nowhere hists a a refl; role = refl; own = λ all. all }
 
-pub recorded_twice : (hists : List HistRecord) (xs ys : List Deed) (a b c : Actor) → HasRecorded hists xs a b → HasRecorded hists ys b c → HasRecorded hists (xs ++ ys) a c
+pub recorded_twice : (hists : List HistRecord) (xs ys : List ScriptAction) (a b c : Actor) → HasRecorded hists xs a b → HasRecorded hists ys b c → HasRecorded hists (xs ++ ys) a c
 recorded_twice hists xs ys a b c one two = record {
   went = went_twice hists xs ys a b c one.went two.went;
   role = two.role ∙ one.role;
   own = λ all.
-      subst (λ (r : Role). AreOf r c.deltas.taken) one.role
-      (two.own (subst (λ (r : Role). AreOf r b.deltas.taken) (sym one.role) (one.own all)));
+      subst (λ (r : Role). BeganAtRole r c.deltas.taken) one.role
+      (two.own (subst (λ (r : Role). BeganAtRole r b.deltas.taken) (sym one.role) (one.own all)));
 }
 
 -- if it took no delta
-recorded_still : (hists : List HistRecord) (deeds : List Deed) (old new : Actor) → WentOn hists deeds old new → new.role ≡ old.role → new.deltas.taken ≡ old.deltas.taken
+recorded_still : (hists : List HistRecord) (deeds : List ScriptAction) (old new : Actor) → WentOn hists deeds old new → new.role ≡ old.role → new.deltas.taken ≡ old.deltas.taken
     → HasRecorded hists deeds old new
-recorded_still hists deeds old new went role taken = record { went = went; role = role; own = subst (λ (l : List Taken). AreOf old.role old.deltas.taken → AreOf old.role l) (sym taken) (λ all. all) }
+recorded_still hists deeds old new went role taken = record { went = went; role = role; own = subst (λ (l : List Taken). BeganAtRole old.role old.deltas.taken → BeganAtRole old.role l) (sym taken) (λ all. all) }
 
 pub recorded_asking : (hists : List HistRecord) (hist : HistRecord) (histogram : Hist) (old new : Actor) → Contains hists hist
     → IsAnsweredWith hist.name hist.spec histogram old new → HasRecorded hists [] old new
@@ -273,7 +273,7 @@ recorded_taking hists hist known counts sum old new named taken = record {
   own = λ all.
       let mine : Taken = taken_as old known taken.counts sum in
       let own : Taken → Type 0 = λ t. (t.moment.before ≡ made_of old.role) × (t.moment.outstanding ≡ outstanding_of old.role) in
-      subst (AreOf old.role) (sym (ap (λ (a : Actor). a.deltas.taken) taken.same))
+      subst (BeganAtRole old.role) (sym (ap (λ (a : Actor). a.deltas.taken) taken.same))
       (All-append own old.deltas.taken (mine ∷ []) all (All-cons own mine [] (refl, refl) (λ k d below. absurd (omega (arith, below)))));
 }
 
@@ -289,7 +289,7 @@ names_shifted n [] = refl
 names_shifted n (t ∷ taken) = ap (λ (l : List (List ℕ)). t.name ∷ l) (names_shifted n taken)
 
 -- an opener joins a recorder: it has then done what that recorder did
-pub went_joining : (hists : List HistRecord) (deeds : List Deed) (opener fresh recorder : Actor) → IsFresh fresh → WentOn hists deeds fresh recorder
+pub went_joining : (hists : List HistRecord) (deeds : List ScriptAction) (opener fresh recorder : Actor) → IsFresh fresh → WentOn hists deeds fresh recorder
     → WentOn hists deeds opener (joined opener recorder)
 went_joining hists deeds opener fresh recorder is went =
     let entries_of : List EntryProgress → List Entry = map (λ (c : EntryProgress). c.entry) in
@@ -338,11 +338,11 @@ knows_of_recorder opener recorder hist knows =
     let (known, has, named, same) = knows in (known, Contains-append_right opener.answers.names recorder.answers.names known has, named, same)
 
 -- a recorder that had done nothing has done the deeds of a number
-abbrev pub Worked : List HistRecord → (ℕ → List Deed) → ℕ → Actor → Type 0
+abbrev pub Worked : List HistRecord → (ℕ → List ScriptAction) → ℕ → Actor → Type 0
 Worked hists deeds number a = (fresh : Actor) × IsFresh fresh × WentOn hists (deeds number) fresh a
 
 -- recorders are joined, one after the other
-pub went_joining_all : (hists : List HistRecord) (deeds : ℕ → List Deed) (first : ℕ) (opener : Actor) (recorders : List Actor)
+pub went_joining_all : (hists : List HistRecord) (deeds : ℕ → List ScriptAction) (first : ℕ) (opener : Actor) (recorders : List Actor)
     → ((k : ℕ) (d : Actor) → k < length recorders → Worked hists deeds (first + k) (slice_index_or recorders k d))
     → WentOn hists (flat_map deeds (range_with_len first (length recorders))) opener (all_joined opener recorders)
 went_joining_all hists deeds first opener [] each = went_nowhere hists opener opener refl

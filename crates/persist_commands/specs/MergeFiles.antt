@@ -18,13 +18,13 @@ use Rattle.segment_calls.specs.declared.refusal.Refusal.{Refusal}
 use Rattle.segment_calls.specs.declared.refusal.Refusal.TheVariants as refusal
 use Rattle.segment_merge.specs.Image.{IsMergedImage}
 use Rattle.segment_merge.specs.Merge.{IsMerged, StopsAt, cost_left, entries_left, items_left}
-use Rattle.persist_report_core.specs.Report.{AreWordsOf, IsCausedBy}
+use Rattle.persist_report_core.specs.Report.{AreWordsOf, IsCausedByImage}
 use Rattle.persist_report_core.specs.declared.fault.CliFault.{CliFault}
 use Rattle.persist_report_core.specs.declared.fault.CliFault.TheVariants.{Merge, NoMemory}
 use Rattle.persist_commands.specs.Run.{IsTallyOf}
 
 -- bytes are those of an image with this header, which reads as this
-pub record IsImageOf (bytes : List ℕ) (head : SegmentHead) (reading : Reading) : Type 0 where
+pub record AreImageBytes (bytes : List ℕ) (head : SegmentHead) (reading : Reading) : Type 0 where
   pub words : List ℕ
   pub words_are : AreWordsOf bytes words
   pub head_is : header_of words ≡ Ok head
@@ -32,17 +32,17 @@ pub record IsImageOf (bytes : List ℕ) (head : SegmentHead) (reading : Reading)
 
 -- bytes are those of an image
 abbrev pub IsImage : List ℕ → Type 0
-IsImage bytes = (head : SegmentHead) × (reading : Reading) × IsImageOf bytes head reading
+IsImage bytes = (head : SegmentHead) × (reading : Reading) × AreImageBytes bytes head reading
 
 -- words are the image that a merge of two images writes: of the size, the page and the id of the first, with the histograms of the first and
 -- then of the second
 pub record AreMerged (base dead words : List ℕ) : Type 0 where
   pub head : SegmentHead
   pub reading : Reading
-  pub base_is : IsImageOf base head reading
+  pub base_is : AreImageBytes base head reading
   pub dead_head : SegmentHead
   pub dead_reading : Reading
-  pub dead_is : IsImageOf dead dead_head dead_reading
+  pub dead_is : AreImageBytes dead dead_head dead_reading
   pub merged : IsMergedImage head (reading.hists ++ dead_reading.hists) words
 
 -- ---- why nothing is written
@@ -135,8 +135,8 @@ fault_of_stop name why = Merge name why
 -- the shape of the first and with all units
 abbrev pub IsMergeFault : List ℕ → List ℕ → CliFault → Type 0
 IsMergeFault base dead fault =
-    IsCausedBy base fault
-    ⊎ ((head : SegmentHead) × (reading : Reading) × IsImageOf base head reading
-    × (IsCausedBy dead fault
-    ⊎ ((dead_head : SegmentHead) × (dead_reading : Reading) × IsImageOf dead dead_head dead_reading
+    IsCausedByImage base fault
+    ⊎ ((head : SegmentHead) × (reading : Reading) × AreImageBytes base head reading
+    × (IsCausedByImage dead fault
+    ⊎ ((dead_head : SegmentHead) × (dead_reading : Reading) × AreImageBytes dead dead_head dead_reading
     × IsStopOf head 4294967295 (reading.hists ++ dead_reading.hists) fault)))

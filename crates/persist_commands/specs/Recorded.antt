@@ -14,12 +14,12 @@ use Rattle.segment_machine.specs.Entry.{tally_noted, tally_sum, tally_units}
 use Rattle.segment_promises.specs.Reads.{HasNoFault, mark_read, units_read}
 use Rattle.live_segment.specs.declared.rule.Setting.{Setting}
 use Rattle.persist_report_core.specs.Script.{HistRecord, Script}
-use Rattle.persist_commands.specs.Entries.{Deed, Takes, deeds_of, deltas_among, deltas_of, entries_among, entries_of}
+use Rattle.persist_commands.specs.Entries.{ScriptAction, Takes, deeds_of, deltas_among, deltas_of, entries_among, entries_of}
 
 -- a delta of a name is taken, and no later one of the name
-pub record LastDelta (deeds : List Deed) (name : List ℕ) : Type 0 where
-  pub front : List Deed
-  pub behind : List Deed
+pub record LastDelta (deeds : List ScriptAction) (name : List ℕ) : Type 0 where
+  pub front : List ScriptAction
+  pub behind : List ScriptAction
   pub split : deeds ≡ front ++ Takes name ∷ behind
   pub last : ¬ (Contains (deltas_among behind) name)
 
@@ -71,7 +71,7 @@ pub record IsRecordedFrom (setting : Setting) (first : Actor) (script : Script) 
       → AreTakenFrom first (entries_among delta.front) h
 
 -- words are the image of such a segment
-pub record IsImageFrom (setting : Setting) (first : Actor) (script : Script) (workers : ℕ) (words : List ℕ) : Type 0 where
+pub record IsRecordedImage (setting : Setting) (first : Actor) (script : Script) (workers : ℕ) (words : List ℕ) : Type 0 where
   pub header : header_of words ≡ Ok (head_of words)
   pub shape : (head_of words).shape ≡ setting.shape
   pub version : (head_of words).version ≡ setting.version

@@ -17,7 +17,7 @@ use Rattle.persist_report_core.specs.declared.script.Script as code
 use Rattle.persist_report_core.specs.Script.{HistRecord, Script, script_view}
 use Rattle.persist_commands.specs.declared.worker.Part.{Part}
 use Rattle.persist_commands.specs.declared.worker.Ended.{Ended}
-use Rattle.persist_commands.specs.Entries.{Deed, Takes, deeds_of, deltas_among, entries_among}
+use Rattle.persist_commands.specs.Entries.{ScriptAction, Takes, deeds_of, deltas_among, entries_among}
 use Rattle.persist_commands.specs.Parts.{part_of}
 use Rattle.persist_commands.specs.Stop.{StopTellsWant}
 
@@ -48,28 +48,28 @@ pub record HasDelta (name : List ℕ) (entries : ℕ) (later : List (List ℕ)) 
   pub rest : map (λ t. t.name) behind ≡ later
 
 -- deltas began at a recorder of this role
-abbrev pub AreOf : Role → List Taken → Type 0
-AreOf role taken = All (λ t. (t.moment.before ≡ made_of role) × (t.moment.outstanding ≡ outstanding_of role)) taken
+abbrev pub BeganAtRole : Role → List Taken → Type 0
+BeganAtRole role taken = All (λ t. (t.moment.before ≡ made_of role) × (t.moment.outstanding ≡ outstanding_of role)) taken
 
 -- A recorder, or an opener, has done these deeds: the entries are at the end of its log, and the deltas after those that it
 -- had taken, each with what was in the log when it began. All histograms that it came to know are those of `hist` records, and it has set no flag.
-pub record WentOn (hists : List HistRecord) (deeds : List Deed) (old new : Actor) : Type 0 where
+pub record WentOn (hists : List HistRecord) (deeds : List ScriptAction) (old new : Actor) : Type 0 where
   pub first : new.entries.first ≡ old.entries.first
   pub first_noted : new.entries.first_noted ≡ old.entries.first_noted
   pub logged : log_of new ≡ log_of old ++ entries_among deeds
   pub first_taken : new.deltas.first_taken ≡ old.deltas.first_taken
   pub took : (more : List Taken) × (new.deltas.taken ≡ old.deltas.taken ++ more) × (map (λ t. t.name) more ≡ deltas_among deeds)
-  pub deltas : (front behind : List Deed) (name : List ℕ) → deeds ≡ front ++ Takes name ∷ behind
+  pub deltas : (front behind : List ScriptAction) (name : List ℕ) → deeds ≡ front ++ Takes name ∷ behind
       → HasDelta name (length (log_of old) + length (entries_among front)) (deltas_among behind) new
   pub names : (more : List Known) × (new.answers.names ≡ old.answers.names ++ more) × All (IsAskedIn hists) more
   pub spoiled : new.done.spoiled ≡ old.done.spoiled
   pub filled : new.done.filled ≡ old.done.filled
 
 -- a recorder has done these deeds and has the same role: each delta that it took is its own
-pub record HasRecorded (hists : List HistRecord) (deeds : List Deed) (old new : Actor) : Type 0 where
+pub record HasRecorded (hists : List HistRecord) (deeds : List ScriptAction) (old new : Actor) : Type 0 where
   pub went : WentOn hists deeds old new
   pub role : new.role ≡ old.role
-  pub own : AreOf old.role old.deltas.taken → AreOf old.role new.deltas.taken
+  pub own : BeganAtRole old.role old.deltas.taken → BeganAtRole old.role new.deltas.taken
 
 -- it knows the histogram of a `hist` record
 abbrev pub KnowsOf : Actor → HistRecord → Type 0
@@ -104,7 +104,7 @@ pub record HasOpened (hists : List HistRecord) (old new : Actor) : Type 0 where
 -- ---- workers
 
 -- what a worker of some does
-abbrev pub deeds_of_part : Script → ℕ → ℕ → List Deed
+abbrev pub deeds_of_part : Script → ℕ → ℕ → List ScriptAction
 deeds_of_part script workers part = deeds_of script.hists (part_of workers part script.calls)
 
 -- a worker has made all of its calls
@@ -113,7 +113,7 @@ HasWorked script workers part old new = HasRecorded script.hists (deeds_of_part 
 
 -- a worker that is to be started: its number, the script, and a recorder of a segment that has done nothing; as many were made before it
 -- and are outstanding, besides those that its opener had made
-pub record IsReady (segment : TableId) (opener : Actor) (script : code.Script) (workers number : ℕ) (part : Part) (has : code.Script) (recorder : Recorder) : Type 0 where
+pub record IsWorkerReady (segment : TableId) (opener : Actor) (script : code.Script) (workers number : ℕ) (part : Part) (has : code.Script) (recorder : Recorder) : Type 0 where
   pub number_is : part.part ≡ number
   pub workers_are : part.workers ≡ workers
   pub script_is : has ≡ script
@@ -124,7 +124,7 @@ pub record IsReady (segment : TableId) (opener : Actor) (script : code.Script) (
 
 -- a worker that was started has ended: its recorder has the same segment, and if it ended well it has made all of its calls; else it
 -- reports out of memory as such
-pub record HasEnded (script : code.Script) (part : Part) (old : Recorder) (ended : Ended) : Type 0 where
+pub record WorkerHasEnded (script : code.Script) (part : Part) (old : Recorder) (ended : Ended) : Type 0 where
   pub kept : ended.recorder.segment ≡ old.segment
   pub worked : OnOk ended.outcome (HasWorked (script_view script) part.workers part.part (view_of_recorder old) (view_of_recorder ended.recorder))
   pub tells : IfErr ended.outcome StopTellsWant
@@ -149,7 +149,7 @@ all_joined opener [] = opener
 all_joined opener (recorder ∷ rest) = all_joined (joined opener recorder) rest
 
 -- what all workers do, the deeds of each one after the other
-abbrev pub deeds_of_all : Script → ℕ → List Deed
+abbrev pub deeds_of_all : Script → ℕ → List ScriptAction
 deeds_of_all script workers = flat_map (deeds_of_part script workers) (range_with_len 0 workers)
 
 -- The calls of a script were made by this many workers, whose recorders are joined. Of a single one each delta is that of the youngest recorder, made

@@ -14,7 +14,7 @@ use Rattle.segment_promises.specs.Adoption.{IsAdoptable, used_of}
 use Rattle.segment_promises.specs.Reads.{HasNoFault, mark_read, units_read}
 use Rattle.image_adoption.specs.Checking.{IsFaultOf, Reads}
 use Rattle.segment_calls.specs.declared.adopt_fault.AdoptFault.TheVariants as adoption
-use Rattle.persist_report_core.specs.Report.{AreWordsOf, IsCausedBy}
+use Rattle.persist_report_core.specs.Report.{AreWordsOf, IsCausedByImage}
 use Rattle.persist_report_core.specs.declared.fault.CliFault.{CliFault}
 use Rattle.persist_report_core.specs.declared.fault.CliFault.TheVariants as cli
 use Rattle.persist_report_core.specs.Script.{HistRecord, Script, script_for}
@@ -110,7 +110,7 @@ abbrev pub IsFaultOfBase : List ℕ → CliFault → Type 0
 IsFaultOfBase bytes (cli.Adopt fault) = (words : List ℕ) × AreWordsOf bytes words × IsFaultOf words 0 fault × (fault ≢ adoption.NoMemory)
 IsFaultOfBase bytes (cli.Image fault) = ⊥
 IsFaultOfBase bytes cli.Write = ⊥
-IsFaultOfBase bytes fault = IsCausedBy bytes fault
+IsFaultOfBase bytes fault = IsCausedByImage bytes fault
 
 -- A fault of a resume is one of BASE; or BASE is an image that may be adopted, and it is one of the script or of its run, as a script for
 -- the segment of that and with its units.

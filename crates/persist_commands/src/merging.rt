@@ -5,8 +5,8 @@ ghost use Rattle.std.specs.Io.KnownBytes.{Appends};
 ghost use Rattle.image_reader.specs.Views.{reading_view};
 ghost use Rattle.live_segment.specs.Holders.{view_of_recorder};
 ghost use Rattle.live_segment.specs.RecorderState.{KnowsOn};
-ghost use Rattle.persist_commands.specs.MergeFiles.{AreMerged, HasStopped, IsImage, IsImageOf, IsMergeFault, IsStopOf, fault_of_stop};
-ghost use Rattle.persist_report_core.specs.Report.{IsCausedBy};
+ghost use Rattle.persist_commands.specs.MergeFiles.{AreMerged, HasStopped, IsImage, AreImageBytes, IsMergeFault, IsStopOf, fault_of_stop};
+ghost use Rattle.persist_report_core.specs.Report.{IsCausedByImage};
 ghost use Rattle.segment_image.specs.Watched.{has_failed, is_flushed, watched_inner};
 ghost use Rattle.segment_image.specs.Words.{bytes_of_words};
 ghost use Rattle.segment_merge.specs.Image.{IsMergedImage};
@@ -32,8 +32,8 @@ struct Input {
 
 // The image that words are.
 fn image_of_words(alloc: Global, words: &[u64]) -> Result<Input, CliFault>
-    ensures image { IfOk result (λ input. IsImageOf (bytes_of_words words.now) input.head (reading_view input.reading)) }
-    ensures cause { IfErr result (λ fault. IsCausedBy (bytes_of_words words.now) fault) }
+    ensures image { IfOk result (λ input. AreImageBytes (bytes_of_words words.now) input.head (reading_view input.reading)) }
+    ensures cause { IfErr result (λ fault. IsCausedByImage (bytes_of_words words.now) fault) }
     ensures other { IfErr result (λ fault. (fault ≢ CliFault.Read) × (fault ≢ CliFault.Write)) }
 {
     let head = header(words)?;
@@ -44,8 +44,8 @@ fn image_of_words(alloc: Global, words: &[u64]) -> Result<Input, CliFault>
 // The image that the reader has left.
 fn read_image<R: Read>(alloc: Global, reader: &mut Watched<R>) -> Result<Input, CliFault>
     requires { has_failed reader.old ≡ false }
-    ensures image { IfOk result (λ input. IfSome (R.remaining (watched_inner reader.old)) (λ bytes. IsImageOf bytes input.head (reading_view input.reading))) }
-    ensures cause { IfErr result (λ fault. IfSome (R.remaining (watched_inner reader.old)) (λ bytes. IsCausedBy bytes fault)) }
+    ensures image { IfOk result (λ input. IfSome (R.remaining (watched_inner reader.old)) (λ bytes. AreImageBytes bytes input.head (reading_view input.reading))) }
+    ensures cause { IfErr result (λ fault. IfSome (R.remaining (watched_inner reader.old)) (λ bytes. IsCausedByImage bytes fault)) }
     ensures read { IsErrOf result CliFault.Read ↔ (has_failed reader.new ≡ true) }
     ensures other { IfErr result (λ fault. fault ≢ CliFault.Write) }
 {

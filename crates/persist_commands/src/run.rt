@@ -6,8 +6,8 @@ ghost use Rattle.segment_image.specs.Words.{bytes_of_words};
 ghost use Rattle.segment_image.specs.Watched.{has_failed, is_flushed, watched_inner};
 ghost use Rattle.live_segment.specs.Holders.{IsMadeWith, IsNew, IsSameOpener, table_of, view_of_opener};
 ghost use Rattle.persist_report_core.specs.Script.{script_view};
-ghost use Rattle.persist_commands.specs.Recording.{EndedAt, HandsOut, HasRun, IsReady, all_joined, view_of_ended};
-ghost use Rattle.persist_commands.specs.Recorded.{HasOnlyOpened, IsImageFrom, setting_for};
+ghost use Rattle.persist_commands.specs.Recording.{EndedAt, HandsOut, HasRun, IsWorkerReady, all_joined, view_of_ended};
+ghost use Rattle.persist_commands.specs.Recorded.{HasOnlyOpened, IsRecordedImage, setting_for};
 ghost use Rattle.persist_commands.specs.Run.{IsFaultOfRun, IsReportOfImage, IsRunOf, MayEndRun};
 ghost use Rattle.persist_commands.specs.Stop.{EndTogether, StopTellsWant, TellsWant};
 
@@ -41,7 +41,7 @@ fn make_workers<'w, G: Gate>(
     ensures handed { OnOk result (HandsOut workers (view_of_opener opener.old) (view_of_opener opener.new)) }
     ensures tells { IfErr result StopTellsWant }
     ensures len { IfOk result (λ all. length all.items ≡ workers) }
-    ensures each { IfOk result (λ all. (k : ℕ) (d : _) → k < length all.items → IsReady (table_of segment.entry.now) (view_of_opener opener.old) script.entry.now workers k (slice_index_or all.items k d).part (slice_index_or all.items k d).script.now (slice_index_or all.items k d).recorder) }
+    ensures each { IfOk result (λ all. (k : ℕ) (d : _) → k < length all.items → IsWorkerReady (table_of segment.entry.now) (view_of_opener opener.old) script.entry.now workers k (slice_index_or all.items k d).part (slice_index_or all.items k d).script.now (slice_index_or all.items k d).recorder) }
 {
     let mut all = Vec::new(alloc);
     for number in 0..workers {
@@ -121,7 +121,7 @@ fn record_in<R: Threads + Wait, G: Gate + Sync>(
     requires made { IsMadeWith segment opener }
     requires opened { HasOnlyOpened (view_of_opener opener) }
     requires some { 0 < workers }
-    ensures image { IfOk result (IsImageFrom segment.setting (view_of_opener opener) (script_view script.now) workers) }
+    ensures image { IfOk result (IsRecordedImage segment.setting (view_of_opener opener) (script_view script.now) workers) }
     ensures tells { IfErr result StopTellsWant }
 {
     make_histograms(&segment, &mut opener, &script.hists)?;
@@ -167,7 +167,7 @@ pub(crate) fn run_in<R: Threads + Wait, I: Write, W: Write, G: Gate + Sync>(
     requires some { 0 < workers }
     requires image_sound { has_failed image_out.old ≡ false }
     requires report_sound { has_failed report_out.old ≡ false }
-    ensures recorded { OnOk result ((words : List ℕ) × (text : List ℕ) × IsImageFrom segment.setting (view_of_opener opener) (script_view script.now) workers words
+    ensures recorded { OnOk result ((words : List ℕ) × (text : List ℕ) × IsRecordedImage segment.setting (view_of_opener opener) (script_view script.now) workers words
         × IsReportOfImage words text
         × Appends (I.contents (watched_inner image_out.old)) (I.contents (watched_inner image_out.new)) (bytes_of_words words)
         × Appends (W.contents (watched_inner report_out.old)) (W.contents (watched_inner report_out.new)) text) }

@@ -6,7 +6,7 @@ ghost use Rattle.live_segment.specs.RecorderState.{IsNamed, IsSameRecorder, Know
 ghost use Rattle.persist_report_core.specs.Script.{HistRecord, hist_view, script_view};
 ghost use Rattle.persist_commands.specs.Entries.{deeds_in, deeds_of, deeds_of_call};
 ghost use Rattle.persist_commands.specs.Parts.{part_from, part_of};
-ghost use Rattle.persist_commands.specs.Recording.{HasEnded, HasRecorded, HasWorked, HaveMet};
+ghost use Rattle.persist_commands.specs.Recording.{WorkerHasEnded, HasRecorded, HasWorked, HaveMet};
 ghost use Rattle.persist_commands.specs.Stop.{StopTellsWant};
 
 use crate::beside::Job;
@@ -215,7 +215,7 @@ impl<'w, G: Gate> Job for Worker<'w, G> {
 
     ghost can_run = { λ worker. worker.part.part < worker.part.workers };
 
-    ghost gives = { λ worker ended. HasEnded worker.script.now worker.part worker.recorder ended };
+    ghost gives = { λ worker ended. WorkerHasEnded worker.script.now worker.part worker.recorder ended };
 
     fn run(self) -> Ended<'w> {
         let Worker {

@@ -16,7 +16,7 @@ use std::io;
 
 /// What a command knows of a fault.
 #[derive(Clone, Copy)]
-pub struct Known<'a, 'b> {
+pub struct FaultContext<'a, 'b> {
     /// The input that was read last.
     pub input: Source<'a, 'b>,
     /// Of two inputs, the image that was read first.
@@ -32,7 +32,7 @@ fn record_lines(
     alloc: Global,
     fault: &CliFault,
     number: u32,
-    known: Known<'_, '_>,
+    known: FaultContext<'_, '_>,
 ) -> Result<String, AllocError> {
     let mut lines = script_lines(alloc, known.input, number, fault)?;
     if let Some(base) = known.base {
@@ -43,7 +43,11 @@ fn record_lines(
 }
 
 // The lines that follow the line of a fault.
-fn lines_of(alloc: Global, fault: &CliFault, known: Known<'_, '_>) -> Result<String, AllocError> {
+fn lines_of(
+    alloc: Global,
+    fault: &CliFault,
+    known: FaultContext<'_, '_>,
+) -> Result<String, AllocError> {
     let mut lines = match fault {
         CliFault::Read | CliFault::Write => device_lines(alloc, known.device, known.reason)?,
         CliFault::Image(fault) => image_lines(alloc, known.input, *fault)?,
@@ -70,7 +74,7 @@ fn lines_of(alloc: Global, fault: &CliFault, known: Known<'_, '_>) -> Result<Str
 pub fn failure_of<R: AllocGlobal>(
     context: &Context<'_, R>,
     fault: CliFault,
-    known: Known<'_, '_>,
+    known: FaultContext<'_, '_>,
 ) -> Failure
     ensures { UsageIsMistake result }
 {
@@ -93,7 +97,7 @@ pub fn unopened<R: AllocGlobal>(context: &Context<'_, R>, cause: Cause, path: &s
         origin: device,
         bytes: &[],
     };
-    let known = Known {
+    let known = FaultContext {
         input,
         base: None,
         device,

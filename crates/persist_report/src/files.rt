@@ -7,7 +7,7 @@ ghost use Rattle.segment_image.specs.Watched.{has_failed};
 
 use crate::cause::Cause;
 use crate::context::Context;
-use crate::explaining::{Known, failure_of, unopened, unopened_out};
+use crate::explaining::{FaultContext, failure_of, unopened, unopened_out};
 use crate::failure::Failure;
 use crate::noted::{Noted, Stream};
 use crate::output::{Output, open_output};
@@ -74,7 +74,7 @@ fn failed<'a, R: AllocGlobal, I>(
         CliFault::Read => (last.origin(), last.reason()),
         _ => output,
     };
-    let known = Known {
+    let known = FaultContext {
         input: last.source(),
         base: base.map(|base| base.source()),
         device,

@@ -8,15 +8,15 @@ use Rattle.segment_image.specs.declared.fault.ImageFault.{ImageFault}
 use Rattle.segment_image.specs.declared.fault.ImageFault.TheVariants as image
 use Rattle.persist_report_core.specs.declared.fault.CliFault.TheVariants.{Image}
 use Rattle.persist_report_core.specs.Fault.{fault_of_image}
-use Rattle.persist_report_core.specs.Report.{AreWordsOf, IsCausedBy}
+use Rattle.persist_report_core.specs.Report.{AreWordsOf, IsCausedByImage}
 
 -- what an image's header answers is its fault
-image_cause : (bytes words : List ℕ) (fault : ImageFault) → AreWordsOf bytes words → (fault ≡ image.NoMemory) ⊎ (header_of words ≡ Err fault) → fault ≢ image.NoMemory → IsCausedBy bytes (Image fault)
+image_cause : (bytes words : List ℕ) (fault : ImageFault) → AreWordsOf bytes words → (fault ≡ image.NoMemory) ⊎ (header_of words ≡ Err fault) → fault ≢ image.NoMemory → IsCausedByImage bytes (Image fault)
 image_cause bytes words fault same (inl want) other = absurd (other want)
 image_cause bytes words fault same (inr refused) other = (words, same, refused)
 
 -- the cause of a fault of an image
-fault_cause : (bytes words : List ℕ) (fault : ImageFault) → AreWordsOf bytes words → (fault ≡ image.NoMemory) ⊎ (header_of words ≡ Err fault) → IsCausedBy bytes (fault_of_image fault)
+fault_cause : (bytes words : List ℕ) (fault : ImageFault) → AreWordsOf bytes words → (fault ≡ image.NoMemory) ⊎ (header_of words ≡ Err fault) → IsCausedByImage bytes (fault_of_image fault)
 fault_cause bytes words image.NoMemory same h = tt
 fault_cause bytes words fault same h = image_cause bytes words fault same h (λ e. cc e)
 
@@ -28,7 +28,7 @@ header_refused P (Err other) r fault e h = let same : other ≡ fault = cc (e, h
 
 -- the cause of a refused reading
 pub reading_cause : {R : Type 0} (P : SegmentHead → R → Type 0) (bytes words : List ℕ) (r : Result R ImageFault) (fault : ImageFault) → AreWordsOf bytes words → r ≡ Err fault
-    → MatchResult (header_of words) (λ head. MatchResult r (P head) (λ f. f ≡ image.NoMemory)) (λ other. r ≡ Err other) → IsCausedBy bytes (fault_of_image fault)
+    → MatchResult (header_of words) (λ head. MatchResult r (P head) (λ f. f ≡ image.NoMemory)) (λ other. r ≡ Err other) → IsCausedByImage bytes (fault_of_image fault)
 reading_cause P bytes words r fault same e h = fault_cause bytes words fault same (header_refused P (header_of words) r fault e h)
 
 -- the header of a reading that was made

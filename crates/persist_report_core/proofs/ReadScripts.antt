@@ -5,10 +5,10 @@ use Rattle.csv.specs.Reading.{records, default_config, strip_bom}
 use Rattle.persist_report_core.specs.declared.script.draft.Draft.{Draft}
 use Rattle.persist_report_core.specs.declared.script.fault.ScriptFault.{ScriptFault}
 use Rattle.persist_report_core.specs.declared.script.fault.ScriptFault.TheVariants.{Read, TooLong, NoMemory, BadLine, ZeroCount, NoUnits}
-use Rattle.persist_report_core.specs.Request.{Request, request_in}
+use Rattle.persist_report_core.specs.Request.{ScriptRequest, request_in}
 use Rattle.persist_report_core.proofs.Requests.{script_along-one}
 use Rattle.persist_report_core.specs.Script.{IsScriptFault, faults_of, hist_view, later_fault, opening_fault, script_along, script_from, script_of, script_view}
-use Rattle.persist_report_core.specs.Draft.{IsDraft, IsExtended, IsOpened, Tells, extended}
+use Rattle.persist_report_core.specs.Draft.{IsDraft, IsExtended, IsDraftOpened, TellsFault, extended}
 use Rattle.persist_report_core.proofs.ScriptRows.{fault_of-later, faultless-more, length-hists, script_along-more, script_from-fault, script_from-lawful}
 
 -- a draft has these records, none of which has a fault
@@ -21,7 +21,7 @@ pub record IsRead (pool : ℕ) (rows : List (List (List ℕ))) (draft : Draft) (
   pub pool_is : draft.pool ≡ pool
 
 -- the first record
-pub read-first : (pool : ℕ) (fields : List (List ℕ)) (request : Option Request) (draft : Draft) → request ≡ request_in fields → IsOpened pool request draft
+pub read-first : (pool : ℕ) (fields : List (List ℕ)) (request : Option ScriptRequest) (draft : Draft) → request ≡ request_in fields → IsDraftOpened pool request draft
     → IsRead pool (fields ∷ []) draft 1
 read-first pool fields request draft is opened = record {
   some = omega arith;
@@ -33,14 +33,14 @@ read-first pool fields request draft is opened = record {
 }
 
 -- the fault of the next record, by the draft and by the records
-next_fault : (pool : ℕ) (rows : List (List (List ℕ))) (draft : Draft) (number : ℕ) (fields : List (List ℕ)) (request : Option Request) → IsRead pool rows draft number
+next_fault : (pool : ℕ) (rows : List (List (List ℕ))) (draft : Draft) (number : ℕ) (fields : List (List ℕ)) (request : Option ScriptRequest) → IsRead pool rows draft number
     → request ≡ request_in fields
     → later_fault draft.pool (number + 1) (script_view draft.script) request ≡ later_fault pool (length rows + 1) (script_along rows) (request_in fields)
 next_fault pool rows draft number fields request read is =
     λ i. later_fault (read.pool_is i) (read.numbered i + 1) (read.script_is i) (is i)
 
 -- one record more
-pub read-more : (pool : ℕ) (rows : List (List (List ℕ))) (old new : Draft) (number : ℕ) (fields : List (List ℕ)) (request : Option Request)
+pub read-more : (pool : ℕ) (rows : List (List (List ℕ))) (old new : Draft) (number : ℕ) (fields : List (List ℕ)) (request : Option ScriptRequest)
     → IsRead pool rows old number → request ≡ request_in fields → IsExtended old new (number + 1) request → IsRead pool (rows ++ fields ∷ []) new (number + 1)
 read-more pool rows old new number fields request read is more =
     let fine : later_fault pool (length rows + 1) (script_along rows) (request_in fields) ≡ None = sym (next_fault pool rows old number fields request read is) ∙ more.lawful in
@@ -76,13 +76,13 @@ script_of-read pool bytes rows draft number all read =
     ap (script_from pool) all ∙ (script_from-lawful pool rows read.some read.faultless ∙ ap Ok (sym read.script_is))
 
 -- the first record has a fault
-pub script_of-first : (pool : ℕ) (bytes : List ℕ) (fields : List (List ℕ)) (request : Option Request) (more : List (List (List ℕ))) (fault : ScriptFault)
+pub script_of-first : (pool : ℕ) (bytes : List ℕ) (fields : List (List ℕ)) (request : Option ScriptRequest) (more : List (List (List ℕ))) (fault : ScriptFault)
     → records default_config (strip_bom bytes) ≡ (fields ∷ []) ++ more → request ≡ request_in fields → opening_fault request ≡ Some fault → script_of pool bytes ≡ Err fault
 script_of-first pool bytes fields request more fault all asked is =
     ap (script_from pool) all ∙ script_from-fault pool [] fields more fault refl (ap opening_fault (sym asked) ∙ is)
 
 -- a later record has a fault
-pub script_of-later : (pool : ℕ) (bytes : List ℕ) (rows : List (List (List ℕ))) (draft : Draft) (number : ℕ) (fields : List (List ℕ)) (request : Option Request)
+pub script_of-later : (pool : ℕ) (bytes : List ℕ) (rows : List (List (List ℕ))) (draft : Draft) (number : ℕ) (fields : List (List ℕ)) (request : Option ScriptRequest)
     (more : List (List (List ℕ))) (fault : ScriptFault)
     → IsRead pool rows draft number → records default_config (strip_bom bytes) ≡ (rows ++ fields ∷ []) ++ more → request ≡ request_in fields
     → later_fault draft.pool (number + 1) (script_view draft.script) request ≡ Some fault → script_of pool bytes ≡ Err fault
@@ -93,7 +93,7 @@ script_of-later pool bytes rows draft number fields request more fault read all 
 
 -- a fault that is told is that of the script
 pub fault_told : (pool : ℕ) (bytes : List ℕ) (expected : Option ScriptFault) (fault : ScriptFault) → length bytes ≤ 16777216
-    → ((other : ScriptFault) → expected ≡ Some other → script_of pool bytes ≡ Err other) → Tells expected fault → IsScriptFault pool bytes fault
+    → ((other : ScriptFault) → expected ≡ Some other → script_of pool bytes ≡ Err other) → TellsFault expected fault → IsScriptFault pool bytes fault
 fault_told pool bytes expected Read within answers told = tt
 fault_told pool bytes expected TooLong within answers told = absurd told
 fault_told pool bytes expected NoMemory within answers told = tt
@@ -102,7 +102,7 @@ fault_told pool bytes expected (ZeroCount number) within answers told = (within,
 fault_told pool bytes expected (NoUnits number) within answers told = (within, answers (NoUnits number) told)
 
 -- no failed read is told
-pub not_read : (expected : Option ScriptFault) (fault : ScriptFault) → Tells expected fault → fault ≢ Read
+pub not_read : (expected : Option ScriptFault) (fault : ScriptFault) → TellsFault expected fault → fault ≢ Read
 not_read expected Read told = absurd told
 not_read expected TooLong told = absurd told
 not_read expected NoMemory told = λ e. cc e

@@ -14,7 +14,7 @@ use Rattle.csv.specs.declared.parser.Terminator.TheVariants as term
 use Rattle.csv.specs.declared.reader.Reader.{Reader}
 use Rattle.csv.specs.declared.reader.Trim.TheVariants as trim
 use Rattle.csv.proofs.ReadFacts.{rows-end, rows-more}
-use Rattle.persist_report_core.specs.Rows.{IsBehind, IsNext, left_of}
+use Rattle.persist_report_core.specs.Rows.{IsBehind, IsNextRow, left_of}
 
 -- ---- between two records the end of the text ends nothing
 
@@ -163,7 +163,7 @@ source-pending reader rest begun left = rw begun at left
 
 -- what a read of a record does behind others
 pub next_read : (text : List ℕ) (rows : List (List (List ℕ))) (old new : Reader (Bor (List ℕ))) (found : Bool) (fields : List (List ℕ))
-    → IsBehind text rows old → ReadRecord (λ (slice : Bor (List ℕ)). Some slice.now) old new found fields → IsNext text rows old new found fields
+    → IsBehind text rows old → ReadRecord (λ (slice : Bor (List ℕ)). Some slice.now) old new found fields → IsNextRow text rows old new found fields
 next_read text rows old new true fields behind read =
     let (rest, left, reached) = rows-more (λ (slice : Bor (List ℕ)). Some slice.now) old new fields default_config st.StartRecord text behind.rest rows behind.config behind.source behind.reached read in
     let pending : pending_of (Some new.rdr.now) new ≡ Some rest = source-pending new rest read.1 left in
@@ -215,8 +215,8 @@ starts bytes reader plain config start source = record {
 
 -- what a read found, where it is known whether it found a record
 pub found_is : (text : List ℕ) (rows : List (List (List ℕ))) (old new : Reader (Bor (List ℕ))) (found known : Bool) (fields : List (List ℕ)) → found ≡ known
-    → IsNext text rows old new found fields → IsNext text rows old new known fields
-found_is text rows old new found known fields same next = subst (λ f. IsNext text rows old new f fields) same next
+    → IsNextRow text rows old new found fields → IsNextRow text rows old new known fields
+found_is text rows old new found known fields same next = subst (λ f. IsNextRow text rows old new f fields) same next
 
 -- a fault that is passed on
 pub passed_on : {T E : Type 0} (result : Result T E) (P : T → Type 0) (Q : E → Type 0) (fault : E) → IsErrAnd result (λ passed. passed ≡ fault) → Q fault → MatchResult result P Q

@@ -1,7 +1,7 @@
 -- What records ask for, by their first field, and what the first record opens.
 use Rattle.std.proofs.Common.{◌≡◌, ℕ, List, [], ◌∷◌, drop, Option, Some, None, ap, refl}
 use Rattle.csv.specs.Records.{field_at}
-use Rattle.persist_report_core.specs.Request.{Request, Segment, Hist, Add, Delta, request_behind, request_in}
+use Rattle.persist_report_core.specs.Request.{ScriptRequest, Segment, Hist, Add, Delta, request_behind, request_in}
 use Rattle.persist_report_core.specs.Script.{opening_fault, script_along}
 use Rattle.persist_report_core.specs.Draft.{opened_script}
 
@@ -18,7 +18,7 @@ request_in-empty [] missing = refl
 request_in-empty (first ∷ rest) missing = cc missing
 
 -- the script that a first record without a fault makes
-pub script_along-one : (fields : List (List ℕ)) (request : Option Request) → request ≡ request_in fields → opening_fault request ≡ None
+pub script_along-one : (fields : List (List ℕ)) (request : Option ScriptRequest) → request ≡ request_in fields → opening_fault request ≡ None
     → script_along (fields ∷ []) ≡ opened_script request
 script_along-one fields (Some (Segment size page id)) is fine = rw (← is) refl
 script_along-one fields (Some (Hist name spec)) is fine = cc fine

@@ -10,7 +10,7 @@ use Rattle.bucket_ranges.specs.declared.spec.Spec.{Spec}
 use Rattle.persist_report_core.specs.declared.script.ScriptCall.{ScriptCall}
 use Rattle.persist_report_core.specs.declared.script.fault.ScriptFault.{ScriptFault}
 use Rattle.persist_report_core.specs.declared.script.fault.ScriptFault.TheVariants.{BadLine}
-use Rattle.persist_report_core.specs.Request.{Request, Segment, Hist, Add, Delta, request_in}
+use Rattle.persist_report_core.specs.Request.{ScriptRequest, Segment, Hist, Add, Delta, request_in}
 use Rattle.persist_report_core.specs.Script.{HistRecord, hist_from, call_from, opening_of, script_along, later_fault, fault_of, faults_of, unless_faults, script_from}
 use Rattle.persist_report_core.specs.Draft.{extended}
 
@@ -98,7 +98,7 @@ no_calls : (hists others : List HistRecord) (numbered : List (ℕ × List (List 
 no_calls hists others [] none = refl
 no_calls hists others (one ∷ rest) none = by (request_in one.1) (no_calls hists others rest) none
   where
-    by : (request : Option Request) → (calls_by hists rest ≡ [] → calls_by others rest ≡ [])
+    by : (request : Option ScriptRequest) → (calls_by hists rest ≡ [] → calls_by others rest ≡ [])
         → cons_option (call_from hists one.0 request) (calls_by hists rest) ≡ [] → cons_option (call_from others one.0 request) (calls_by others rest) ≡ []
     by None more h = more h
     by (Some (Segment size page id)) more h = more h
@@ -123,7 +123,7 @@ abbrev hists_along : List (List (List ℕ)) → List HistRecord
 hists_along rows = filter_map (λ numbered. hist_from numbered.0 (request_in numbered.1)) (enumerate_from 1 rows)
 
 -- the calls of one record more, which is no `hist` record
-calls-call : (rows : List (List (List ℕ))) (fields : List (List ℕ)) (request : Option Request) → request_in fields ≡ request → hist_from (length rows + 1) request ≡ None
+calls-call : (rows : List (List (List ℕ))) (fields : List (List ℕ)) (request : Option ScriptRequest) → request_in fields ≡ request → hist_from (length rows + 1) request ≡ None
     → calls_by (hists_along rows ++ option_to_list (hist_from (length rows + 1) request)) (enumerate_from 1 (rows ++ fields ∷ []))
     ≡ calls_by (hists_along rows) (enumerate_from 1 rows) ++ option_to_list (call_from (hists_along rows) (length rows + 1) request)
 calls-call rows fields request is no_hist =
@@ -142,7 +142,7 @@ calls-hist rows fields hists name spec is none =
     ∙ ap (λ calls. calls ++ []) (no_calls (hists_along rows) hists (enumerate_from 1 rows) none ∙ sym none))
 
 -- the calls of one record more without a fault
-calls-more : (pool : ℕ) (rows : List (List (List ℕ))) (fields : List (List ℕ)) (request : Option Request) → request_in fields ≡ request
+calls-more : (pool : ℕ) (rows : List (List (List ℕ))) (fields : List (List ℕ)) (request : Option ScriptRequest) → request_in fields ≡ request
     → later_fault pool (length rows + 1) (script_along rows) request ≡ None
     → calls_by (hists_along rows ++ option_to_list (hist_from (length rows + 1) request)) (enumerate_from 1 (rows ++ fields ∷ []))
     ≡ calls_by (hists_along rows) (enumerate_from 1 rows) ++ option_to_list (call_from (hists_along rows) (length rows + 1) request)

@@ -7,7 +7,7 @@ use Rattle.std.specs.Str.{bytes_eq}
 use Rattle.persist_report_core.specs.declared.script.draft.Draft.{Draft}
 use Rattle.persist_report_core.specs.declared.script.fault.ScriptFault.{ScriptFault}
 use Rattle.persist_report_core.specs.declared.script.fault.ScriptFault.TheVariants.{Read, TooLong, NoMemory, BadLine, ZeroCount, NoUnits}
-use Rattle.persist_report_core.specs.Request.{Request}
+use Rattle.persist_report_core.specs.Request.{ScriptRequest}
 use Rattle.persist_report_core.specs.Script.{Script, HistRecord, is_known, place_of, units_of, hist_from, call_from, opening_of, opening_fault, later_fault, script_view}
 
 -- the place of a name
@@ -31,44 +31,44 @@ pub record IsDraft (draft : Draft) : Type 0 where
   pub within : draft.taken ≤ draft.pool
 
 -- the script of a first record alone
-abbrev pub opened_script : Option Request → Script
+abbrev pub opened_script : Option ScriptRequest → Script
 opened_script request = record { shape = (opening_of request).0; id = (opening_of request).1; hists = []; calls = [] }
 
 -- a script with one record more
-abbrev pub extended : ℕ → Script → Option Request → Script
+abbrev pub extended : ℕ → Script → Option ScriptRequest → Script
 extended number script request = record script {
   hists = script.hists ++ option_to_list (hist_from number request);
   calls = script.calls ++ option_to_list (call_from script.hists number request);
 }
 
 -- a call that has this fault to tell answers it, or want of memory
-abbrev pub Tells : Option ScriptFault → ScriptFault → Type 0
-Tells fault Read = ⊥
-Tells fault TooLong = ⊥
-Tells fault NoMemory = ⊤
-Tells fault (BadLine number) = fault ≡ Some (BadLine number)
-Tells fault (ZeroCount number) = fault ≡ Some (ZeroCount number)
-Tells fault (NoUnits number) = fault ≡ Some (NoUnits number)
+abbrev pub TellsFault : Option ScriptFault → ScriptFault → Type 0
+TellsFault fault Read = ⊥
+TellsFault fault TooLong = ⊥
+TellsFault fault NoMemory = ⊤
+TellsFault fault (BadLine number) = fault ≡ Some (BadLine number)
+TellsFault fault (ZeroCount number) = fault ≡ Some (ZeroCount number)
+TellsFault fault (NoUnits number) = fault ≡ Some (NoUnits number)
 
 -- a draft of one record without a fault, by what it asks for
-pub record IsOpened (pool : ℕ) (request : Option Request) (draft : Draft) : Type 0 where
+pub record IsDraftOpened (pool : ℕ) (request : Option ScriptRequest) (draft : Draft) : Type 0 where
   pub lawful : opening_fault request ≡ None
   pub script_is : script_view draft.script ≡ opened_script request
   pub keeps : IsDraft draft
   pub pool_is : draft.pool ≡ pool
 
 -- the first record opens a draft, or its fault is told
-abbrev pub Opens : ℕ → Option Request → Result Draft ScriptFault → Type 0
-Opens pool request result = MatchResult result (IsOpened pool request) (Tells (opening_fault request))
+abbrev pub Opens : ℕ → Option ScriptRequest → Result Draft ScriptFault → Type 0
+Opens pool request result = MatchResult result (IsDraftOpened pool request) (TellsFault (opening_fault request))
 
 -- a draft with one more record, which has no fault
-pub record IsExtended (old new : Draft) (number : ℕ) (request : Option Request) : Type 0 where
+pub record IsExtended (old new : Draft) (number : ℕ) (request : Option ScriptRequest) : Type 0 where
   pub lawful : later_fault old.pool number (script_view old.script) request ≡ None
   pub script_is : script_view new.script ≡ extended number (script_view old.script) request
   pub keeps : IsDraft new
   pub pool_is : new.pool ≡ old.pool
 
 -- a record is put into a draft, or its fault is told
-abbrev pub Puts : Draft → Draft → ℕ → Option Request → Result (Unit {0}) ScriptFault → Type 0
+abbrev pub Puts : Draft → Draft → ℕ → Option ScriptRequest → Result (Unit {0}) ScriptFault → Type 0
 Puts old new number request result =
-    MatchResult result (λ _. IsExtended old new number request) (Tells (later_fault old.pool number (script_view old.script) request))
+    MatchResult result (λ _. IsExtended old new number request) (TellsFault (later_fault old.pool number (script_view old.script) request))

@@ -28,22 +28,22 @@ pub record IsOfBytes (IsOf : Reading → List ℕ → Type 0) (bytes text : List
   pub text_is : IsOf reading text
 
 -- the text is the report of that reading
-abbrev pub IsReportOf : List ℕ → List ℕ → Type 0
-IsReportOf bytes text = IsOfBytes IsTextOf bytes text
+abbrev pub IsReportOfBytes : List ℕ → List ℕ → Type 0
+IsReportOfBytes bytes text = IsOfBytes IsTextOf bytes text
 
 -- A fault has its cause in the bytes of the image. Devices that fail and want of memory have none there. The faults of
 -- scripts, of merges, of workers and of images that are recorded into again come of no report.
-abbrev pub IsCausedBy : List ℕ → CliFault → Type 0
-IsCausedBy bytes Read = ⊤
-IsCausedBy bytes Write = ⊤
-IsCausedBy bytes TooLong = 8388608 < length bytes
-IsCausedBy bytes NotWords = (length bytes ≤ 8388608) × (length bytes % 8 ≢ 0)
-IsCausedBy bytes (Image fault) = (words : List ℕ) × AreWordsOf bytes words × (header_of words ≡ Err fault)
-IsCausedBy bytes (BadLine number) = ⊥
-IsCausedBy bytes (Refused number why) = ⊥
-IsCausedBy bytes Gate = ⊥
-IsCausedBy bytes (Merge name why) = ⊥
-IsCausedBy bytes NoThread = ⊥
-IsCausedBy bytes NoMemory = ⊤
-IsCausedBy bytes (Adopt fault) = ⊥
-IsCausedBy bytes NoSegment = ⊥
+abbrev pub IsCausedByImage : List ℕ → CliFault → Type 0
+IsCausedByImage bytes Read = ⊤
+IsCausedByImage bytes Write = ⊤
+IsCausedByImage bytes TooLong = 8388608 < length bytes
+IsCausedByImage bytes NotWords = (length bytes ≤ 8388608) × (length bytes % 8 ≢ 0)
+IsCausedByImage bytes (Image fault) = (words : List ℕ) × AreWordsOf bytes words × (header_of words ≡ Err fault)
+IsCausedByImage bytes (BadLine number) = ⊥
+IsCausedByImage bytes (Refused number why) = ⊥
+IsCausedByImage bytes Gate = ⊥
+IsCausedByImage bytes (Merge name why) = ⊥
+IsCausedByImage bytes NoThread = ⊥
+IsCausedByImage bytes NoMemory = ⊤
+IsCausedByImage bytes (Adopt fault) = ⊥
+IsCausedByImage bytes NoSegment = ⊥

@@ -4,15 +4,15 @@ use Rattle.std.specs.Str.{bytes_eq}
 use Rattle.bucket_ranges.specs.declared.spec.Spec.{Spec}
 use Rattle.bucket_ranges.specs.declared.spec.Spec.TheVariants.{Linear, Boolean, Custom, Sparse}
 use Rattle.persist_report_core.specs.Number.{unsigned_number, long_number, signed_number}
-use Rattle.persist_report_core.specs.declared.script.request.Request as code
-use Rattle.persist_report_core.specs.declared.script.request.Request.TheVariants as variants
+use Rattle.persist_report_core.specs.declared.script.request.ScriptRequest as code
+use Rattle.persist_report_core.specs.declared.script.request.ScriptRequest.TheVariants as variants
 
 -- a segment of a shape and an id; a histogram; units of a value for the histogram of a name; its delta
-pub data Request : Type 0 where
-  Segment : (size page id : ℕ) → Request
-  Hist : (name : List ℕ) (spec : Spec) → Request
-  Add : (name : List ℕ) (value : ℤ) (count : ℕ) → Request
-  Delta : (name : List ℕ) → Request
+pub data ScriptRequest : Type 0 where
+  Segment : (size page id : ℕ) → ScriptRequest
+  Hist : (name : List ℕ) (spec : Spec) → ScriptRequest
+  Add : (name : List ℕ) (value : ℤ) (count : ℕ) → ScriptRequest
+  Delta : (name : List ℕ) → ScriptRequest
 
 -- a value made of two parts, where both are there
 abbrev pub from_two : {A B X : Type 0} → (A → B → X) → Option A → Option B → Option X
@@ -27,17 +27,17 @@ from_three make _ _ _ = None
 -- ---- the fields behind the word `segment`, `add` or `delta`
 
 -- a size, a page and an id
-abbrev pub segment_in : List (List ℕ) → Option Request
+abbrev pub segment_in : List (List ℕ) → Option ScriptRequest
 segment_in (size ∷ page ∷ id ∷ []) = from_three Segment (unsigned_number size) (unsigned_number page) (long_number id)
 segment_in _ = None
 
 -- a name, a value, and how often it is counted
-abbrev pub add_in : List (List ℕ) → Option Request
+abbrev pub add_in : List (List ℕ) → Option ScriptRequest
 add_in (name ∷ value ∷ count ∷ []) = from_two (Add name) (signed_number value) (unsigned_number count)
 add_in _ = None
 
 -- a name
-abbrev pub delta_in : List (List ℕ) → Option Request
+abbrev pub delta_in : List (List ℕ) → Option ScriptRequest
 delta_in (name ∷ []) = Some (Delta name)
 delta_in _ = None
 
@@ -74,12 +74,12 @@ spec_in kind behind =
 -- ---- a whole record
 
 -- the fields behind the word `hist`: a name, and a kind with what stands behind it
-abbrev pub hist_in : List (List ℕ) → Option Request
+abbrev pub hist_in : List (List ℕ) → Option ScriptRequest
 hist_in (name ∷ kind ∷ behind) = option_map (Hist name) (spec_in kind behind)
 hist_in _ = None
 
 -- what a word and the fields behind it ask for
-abbrev pub request_behind : List ℕ → List (List ℕ) → Option Request
+abbrev pub request_behind : List ℕ → List (List ℕ) → Option ScriptRequest
 request_behind word behind =
     if bytes_eq word (codes "add") then add_in behind
     else (if bytes_eq word (codes "delta") then delta_in behind
@@ -87,14 +87,14 @@ request_behind word behind =
     else (if bytes_eq word (codes "segment") then segment_in behind else None)))
 
 -- what a record asks for, or nothing where it has no lawful form
-abbrev pub request_in : List (List ℕ) → Option Request
+abbrev pub request_in : List (List ℕ) → Option ScriptRequest
 request_in [] = None
 request_in (word ∷ behind) = request_behind word behind
 
 -- ---- the program's values
 
 -- a request of the code, as it is defined here
-abbrev pub request_view : code.Request → Request
+abbrev pub request_view : code.ScriptRequest → ScriptRequest
 request_view (variants.Segment size page id) = Segment size page id
 request_view (variants.Hist name spec) = Hist name.now spec
 request_view (variants.Add name value count) = Add name.now value count

@@ -22,7 +22,7 @@ pub record IsBehind (text : List ℕ) (rows : List (List (List ℕ))) (reader : 
   pub room : length rows + length rest ≤ length text
 
 -- a read found one record more, of fewer bytes that were left, or that there is none
-abbrev pub IsNext : List ℕ → List (List (List ℕ)) → Reader (Bor (List ℕ)) → Reader (Bor (List ℕ)) → Bool → List (List ℕ) → Type 0
-IsNext text rows old new true fields =
+abbrev pub IsNextRow : List ℕ → List (List (List ℕ)) → Reader (Bor (List ℕ)) → Reader (Bor (List ℕ)) → Bool → List (List ℕ) → Type 0
+IsNextRow text rows old new true fields =
     IsBehind text (rows ++ fields ∷ []) new × (length (unwrap_or (left_of new) []) < length (unwrap_or (left_of old) []))
-IsNext text rows old new false fields = records default_config text ≡ rows
+IsNextRow text rows old new false fields = records default_config text ≡ rows

@@ -13,7 +13,7 @@ use Rattle.persist_report_core.specs.declared.script.ScriptHist.{ScriptHist}
 use Rattle.persist_report_core.specs.declared.script.Script as code
 use Rattle.persist_report_core.specs.declared.script.fault.ScriptFault.{ScriptFault}
 use Rattle.persist_report_core.specs.declared.script.fault.ScriptFault.TheVariants.{Read, TooLong, NoMemory, BadLine, ZeroCount, NoUnits}
-use Rattle.persist_report_core.specs.Request.{Request, Segment, Hist, Add, Delta, request_in}
+use Rattle.persist_report_core.specs.Request.{ScriptRequest, Segment, Hist, Add, Delta, request_in}
 
 -- ---- a script
 
@@ -59,19 +59,19 @@ script_fault_number (NoUnits number) = 6
 -- ---- the script that records make
 
 -- the `hist` record that a record is, if it is one
-abbrev pub hist_from : ℕ → Option Request → Option HistRecord
+abbrev pub hist_from : ℕ → Option ScriptRequest → Option HistRecord
 hist_from number (Some (Hist name spec)) = Some (record { name = name; spec = spec; number = number })
 hist_from number _ = None
 
 -- the `add` or `delta` record that a record is, if it is one
-abbrev pub call_from : List HistRecord → ℕ → Option Request → Option ScriptCall
+abbrev pub call_from : List HistRecord → ℕ → Option ScriptRequest → Option ScriptCall
 call_from hists number (Some (Add name value count)) =
     Some (record { hist = place_of name hists; kind = kind.Add value count; number = number })
 call_from hists number (Some (Delta name)) = Some (record { hist = place_of name hists; kind = kind.Delta; number = number })
 call_from hists number _ = None
 
 -- the shape and the id that the first record names
-abbrev pub opening_of : Option Request → Dimensions × ℕ
+abbrev pub opening_of : Option ScriptRequest → Dimensions × ℕ
 opening_of (Some (Segment size page id)) = (record { size = size; page = page }, id)
 opening_of _ = (record { size = 0; page = 0 }, 0)
 
@@ -89,13 +89,13 @@ script_along records =
 -- ---- the faults of records
 
 -- the fault of the first record, which has to name a lawful shape
-abbrev pub opening_fault : Option Request → Option ScriptFault
+abbrev pub opening_fault : Option ScriptRequest → Option ScriptFault
 opening_fault (Some (Segment size page id)) = if is_page page && is_size size page then None else Some (BadLine 1)
 opening_fault _ = Some (BadLine 1)
 
 -- the fault of a later record, by the script that those before it make: `hist` records come before all calls, a call
 -- names a known histogram, and an `add` record adds units, and no more than the pool has left
-abbrev pub later_fault : ℕ → ℕ → Script → Option Request → Option ScriptFault
+abbrev pub later_fault : ℕ → ℕ → Script → Option ScriptRequest → Option ScriptFault
 later_fault pool number script None = Some (BadLine number)
 later_fault pool number script (Some (Segment size page id)) = Some (BadLine number)
 later_fault pool number script (Some (Hist name spec)) = first_fault ((not (length script.calls == 0), BadLine number) ∷ [])
@@ -139,7 +139,7 @@ abbrev pub first_record : List ℕ → List (List ℕ)
 first_record bytes = slice_index_or (records default_config (strip_bom bytes)) 0 []
 
 -- whether a record names the segment of this shape and id
-abbrev pub names_segment : Dimensions → ℕ → Option Request → Bool
+abbrev pub names_segment : Dimensions → ℕ → Option ScriptRequest → Bool
 names_segment shape id (Some (Segment size page other)) = size == shape.size && page == shape.page && other == id
 names_segment shape id _ = false
 

@@ -4,7 +4,7 @@ ghost use Rattle.std.specs.Prelude.{◌≡◌, ◌≢◌, All, map, true, false,
 ghost use Rattle.std.specs.Io.KnownBytes.{Appends};
 ghost use Rattle.segment_image.specs.Words.{bytes_of_words};
 ghost use Rattle.segment_image.specs.Watched.{has_failed, is_flushed, watched_inner};
-ghost use Rattle.persist_report_core.specs.Report.{IsReadingOf, IsReportOf, IsCausedBy};
+ghost use Rattle.persist_report_core.specs.Report.{IsReadingOf, IsReportOfBytes, IsCausedByImage};
 ghost use Rattle.image_reader.specs.Readable.{IsReadable};
 ghost use Rattle.image_reader.specs.Views.{histogram_view, reading_view};
 
@@ -27,7 +27,7 @@ pub const MAX_WORDS: usize = MAX_SIZE as usize;
 pub fn read_image(alloc: Global, words: &[u64]) -> Result<Reading, CliFault>
     ensures reading { IfOk result (λ reading. IsReadingOf (bytes_of_words words.now) (reading_view reading)) }
     ensures readable { IfOk result (λ reading. All IsReadable (map histogram_view reading.hists.items)) }
-    ensures cause { IfErr result (λ fault. IsCausedBy (bytes_of_words words.now) fault) }
+    ensures cause { IfErr result (λ fault. IsCausedByImage (bytes_of_words words.now) fault) }
     ensures other { IfErr result (λ fault. (fault ≢ CliFault.Read) × (fault ≢ CliFault.Write)) }
 {
     let reading = image_reader::read(alloc, words)?;
@@ -40,8 +40,8 @@ pub fn read_image(alloc: Global, words: &[u64]) -> Result<Reading, CliFault>
 /// `Image` with the first fault of the image's header [cause], or `NoMemory` where memory runs out; never `Read` or
 /// `Write` [other].
 pub fn report_of(alloc: Global, words: &[u64]) -> Result<Vec<u8>, CliFault>
-    ensures text { IfOk result (λ text. IsReportOf (bytes_of_words words.now) text.items) }
-    ensures cause { IfErr result (λ fault. IsCausedBy (bytes_of_words words.now) fault) }
+    ensures text { IfOk result (λ text. IsReportOfBytes (bytes_of_words words.now) text.items) }
+    ensures cause { IfErr result (λ fault. IsCausedByImage (bytes_of_words words.now) fault) }
     ensures other { IfErr result (λ fault. (fault ≢ CliFault.Read) × (fault ≢ CliFault.Write)) }
 {
     let reading = read_image(alloc, words)?;

@@ -3,7 +3,7 @@
 ghost use Rattle.std.specs.Prelude.{◌≡◌, ℕ, List, true, IfOk, OnOk, length, map, ◌≤◌};
 ghost use Rattle.csv.specs.Reading.{Ready, default_config, is_flexible, records, strip_bom};
 ghost use Rattle.csv.specs.Records.{fields_of};
-ghost use Rattle.persist_report_core.specs.Rows.{IsBehind, IsNext};
+ghost use Rattle.persist_report_core.specs.Rows.{IsBehind, IsNextRow};
 
 use csv::{ByteRecord, ErrorKind, Reader, ReaderBuilder};
 use std::alloc::{AllocError, Global};
@@ -16,7 +16,7 @@ pub(crate) fn next_fields(
 ) -> Result<bool, AllocError>
     requires flexible { is_flexible reader.old ≡ true }
     requires ready { Ready reader.old }
-    ensures next { IfOk result (λ found. (text : List ℕ) → (rows : List (List (List ℕ))) → IsBehind text rows reader.old → IsNext text rows reader.old reader.new found (fields_of fields.new)) }
+    ensures next { IfOk result (λ found. (text : List ℕ) → (rows : List (List (List ℕ))) → IsBehind text rows reader.old → IsNextRow text rows reader.old reader.new found (fields_of fields.new)) }
     ensures flexible { OnOk result (is_flexible reader.new ≡ true) }
     ensures ready { IfOk result (λ found. found ≡ true → Ready reader.new) }
 {

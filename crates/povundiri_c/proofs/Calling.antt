@@ -10,9 +10,9 @@ use Rattle.povundiri_c.specs.declared.contents.Contents.TheVariants as contents
 use Rattle.povundiri_c.specs.declared.status.Refused.{Refused}
 use Rattle.povundiri_c.specs.declared.joinable_recorder.JoinableRecorder.{JoinableRecorder}
 use Rattle.povundiri_c.specs.declared.owned_segment.OwnedSegment.{OwnedSegment}
-use Rattle.povundiri_c.specs.declared.owned_segment.Request.{Request}
+use Rattle.povundiri_c.specs.declared.owned_segment.JoinOrLend.{JoinOrLend}
 use Rattle.povundiri_c.specs.Calls.{ByHandle, ByRecorder, OnRecorder, SizesOfRecorder}
-use Rattle.povundiri_c.specs.Joins.{BySegment, Serves, ServesPassed, recorder_in}
+use Rattle.povundiri_c.specs.Joins.{BySegment, JoinsOrLends, ServesPassed, recorder_in}
 use Rattle.povundiri_c.specs.Recorders.{AtPlace, AtPlaceInRoom, Batches, Finds, refused_with}
 
 -- the contents are a recorder
@@ -64,18 +64,18 @@ by_segment other Calls it owned after answer is calls =
     subst (λ (one : Contents). BySegment other Calls one answer (contents.Segment after)) (sym is) (after, refl, calls)
 
 -- what is passed is no recorder
-pub serves_none : (request : Request) (passed left : Contents) (owned : OwnedSegment) → recorder_in passed ≡ None → left ≡ passed → ServesPassed request passed owned (5, Some left) owned
+pub serves_none : (request : JoinOrLend) (passed left : Contents) (owned : OwnedSegment) → recorder_in passed ≡ None → left ≡ passed → ServesPassed request passed owned (5, Some left) owned
 serves_none request passed left owned none same =
     subst (λ (one : Option JoinableRecorder). MatchOption one (◌≡◌ {A = ℕ × Option Contents} (5, Some left) (5, Some passed) × (owned ≡ owned))
-    (λ joinable. (back : Option JoinableRecorder) × (Some left ≡ option_map contents.Recorder back) × Serves request joinable owned 5 back owned)) (sym none)
+    (λ joinable. (back : Option JoinableRecorder) × (Some left ≡ option_map contents.Recorder back) × JoinsOrLends request joinable owned 5 back owned)) (sym none)
     (λ i. (5, Some (same i)), refl)
 
 -- it is a recorder
-pub serves_some : (request : Request) (passed : Contents) (joinable : JoinableRecorder) (owned after : OwnedSegment) (answer : ℕ × Option Contents) (back : Option JoinableRecorder) → recorder_in passed ≡ Some joinable
-    → answer.1 ≡ option_map contents.Recorder back → Serves request joinable owned answer.0 back after → ServesPassed request passed owned answer after
+pub serves_some : (request : JoinOrLend) (passed : Contents) (joinable : JoinableRecorder) (owned after : OwnedSegment) (answer : ℕ × Option Contents) (back : Option JoinableRecorder) → recorder_in passed ≡ Some joinable
+    → answer.1 ≡ option_map contents.Recorder back → JoinsOrLends request joinable owned answer.0 back after → ServesPassed request passed owned answer after
 serves_some request passed joinable owned after answer back is same served =
     subst (λ (one : Option JoinableRecorder). MatchOption one ((answer ≡ (5, Some passed)) × (after ≡ owned))
-    (λ joinable. (back : Option JoinableRecorder) × (answer.1 ≡ option_map contents.Recorder back) × Serves request joinable owned answer.0 back after)) (sym is)
+    (λ joinable. (back : Option JoinableRecorder) × (answer.1 ≡ option_map contents.Recorder back) × JoinsOrLends request joinable owned answer.0 back after)) (sym is)
     (back, same, served)
 
 -- ---- with room for all keys of a histogram

@@ -11,7 +11,7 @@ use Rattle.live_segment.specs.declared.opener.Opener.{Opener}
 use Rattle.owned_recorder.specs.declared.owned.OwnedRecorder.{OwnedRecorder}
 use Rattle.live_segment.specs.declared.segment.Segment.{Segment}
 use Rattle.live_segment.specs.Holders.{IsMadeWith, IsSameOpener, view_of_opener}
-use Rattle.live_segment.specs.Lending.{HasUnits}
+use Rattle.live_segment.specs.Lending.{LendsUnits}
 use Rattle.live_segment.specs.RecorderState.{IsSameRecorder, view_of_state}
 use Rattle.owned_recorder.specs.Holders.{IsRecorderOf, RecordsInto, view_of_owned}
 use Rattle.povundiri_c.specs.declared.joinable_recorder.JoinableRecorder.{JoinableRecorder}
@@ -41,7 +41,7 @@ pub belongs_still : (key : Opener) (old new : OwnedRecorder) → new.segment ≡
 belongs_still key old new kept same of = (same.table ∙ of.0, ap (λ (segment : Arc Segment Global). (arc_value segment).setting.cursors) kept ∙ of.1)
 
 -- units that the opener had were lent
-pub lent : (units : ℕ) (result : Result (Unit {0}) Refusal) (old new : Opener) (before after : OwnedRecorder) → HasUnits units (view_of_opener old) result
+pub lent : (units : ℕ) (result : Result (Unit {0}) Refusal) (old new : Opener) (before after : OwnedRecorder) → LendsUnits units (view_of_opener old) result
     → units ≤ (view_of_opener old).units.share
     → MatchResult result (λ _. IsSameOpener old new × (view_of_opener new ≡ giver (view_of_opener old) units)) (λ _. new ≡ old)
     → MatchResult result (λ _. IsSameRecorder before.state after.state × (view_of_owned after ≡ getter (view_of_owned before) units)) (λ _. after ≡ before)

@@ -10,8 +10,8 @@ use Rattle.owned_recorder.specs.declared.owned.OwnedRecorder.{OwnedRecorder}
 use Rattle.povundiri_c.specs.declared.joinable_recorder.JoinableRecorder.{JoinableRecorder}
 use Rattle.povundiri_c.specs.declared.mailbox.Mailbox.{Mailbox}
 use Rattle.povundiri_c.specs.declared.owned_segment.OwnedSegment.{OwnedSegment}
-use Rattle.povundiri_c.specs.Joins.{HasJoined, HasOpener, IsFound, IsLent, IsNotFound, IsPassed, IsSameSegment, KeepsSegment, mailbox_of_recorder, mailbox_of_segment}
-use Rattle.povundiri_c.specs.Mailbox.{BelongsTo, HasMet, IsOfOpener, MailboxSeat, Passes}
+use Rattle.povundiri_c.specs.Joins.{HasJoined, HasOpener, IsRecorderFound, IsLendDone, IsNotFound, IsPassed, IsSameSegment, KeepsSegment, mailbox_of_recorder, mailbox_of_segment}
+use Rattle.povundiri_c.specs.Mailbox.{BelongsTo, HasMetRecorder, IsOfOpener, MailboxSeat, Passes}
 
 -- what a recorder was found to be
 pub matched : {A : Type 0} (P : Type 0) (Q : A → Type 0) (found : Option A) (one : A) → found ≡ Some one → Q one → MatchOption found P Q
@@ -50,13 +50,13 @@ module _ (joinable : JoinableRecorder) (old : OwnedSegment) (its own : Mailbox) 
 
   -- it has not come back, and this was found
   pub found_is : (found : OwnedRecorder) → result ≡ Ok (Some found, None)
-      → BelongsTo found key × (from ≡ to → found ≡ joinable.owned) × (from ≢ to → HasMet from joinable.owned after.1)
+      → BelongsTo found key × (from ≡ to → found ≡ joinable.owned) × (from ≢ to → HasMetRecorder from joinable.owned after.1)
   found_is found is =
       let it = subst Says is said in
       (it.0, (λ e. cc (ap (λ (x : Option OwnedRecorder × Option OwnedRecorder). x.0) (it.3 e))), it.1)
 
   -- it has not come back, and nothing was found
-  pub gone_is : result ≡ Ok (None, None) → (from ≢ to) × (from ≢ to → HasMet from joinable.owned after.1)
+  pub gone_is : result ≡ Ok (None, None) → (from ≢ to) × (from ≢ to → HasMetRecorder from joinable.owned after.1)
   gone_is is =
       let it = subst Says is said in
       ((λ e. absurd (cc (ap (λ (x : Option OwnedRecorder × Option OwnedRecorder). x.0) (it.3 e)))), it.1)
@@ -87,7 +87,7 @@ joined_since found old mid new has is = (
 
 -- and so is what lends it units
 pub lent_since : (units : ℕ) (found : OwnedRecorder) (old mid new : OwnedSegment) (status : ℕ) (back : Option JoinableRecorder)
-    → HasOpener old mid → IsLent units found mid status back new → IsLent units found old status back new
+    → HasOpener old mid → IsLendDone units found mid status back new → IsLendDone units found old status back new
 lent_since units found old mid new status back has (done, (after, is, (keeps, of, shared, kept, mine, theirs, same))) = (
   done,
   (
@@ -108,11 +108,11 @@ lent_since units found old mid new status back has (done, (after, is, (keeps, of
 module _ (Does : OwnedRecorder → OwnedSegment → ℕ → Option JoinableRecorder → OwnedSegment → Type 0) (Refuses : ℕ → Type 0)
     (joinable : JoinableRecorder) (old : OwnedSegment) (status : ℕ) (back : Option JoinableRecorder) (new : OwnedSegment) where
   -- it was found, and this is done with it
-  pub passed : (found : OwnedRecorder) (mid : OwnedSegment) → IsFound joinable found old mid → new.gone ≡ mid.gone → Does found old status back new
+  pub passed : (found : OwnedRecorder) (mid : OwnedSegment) → IsRecorderFound joinable found old mid → new.gone ≡ mid.gone → Does found old status back new
       → IsPassed Does Refuses joinable old status back new
   passed found mid is same does = (
     λ own. inl (subst (λ (one : OwnedRecorder). Does one old status back new) (is.2 own) does),
-    λ other. inr (inr (subst (λ (seat : MailboxSeat). HasMet (mailbox_of_recorder joinable) joinable.owned seat) (sym same) (is.3 other), inr (found, does))),
+    λ other. inr (inr (subst (λ (seat : MailboxSeat). HasMetRecorder (mailbox_of_recorder joinable) joinable.owned seat) (sym same) (is.3 other), inr (found, does))),
   )
 
   -- none was found

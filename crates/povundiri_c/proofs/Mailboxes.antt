@@ -11,7 +11,7 @@ use Rattle.live_segment.specs.declared.opener.Opener.{Opener}
 use Rattle.owned_recorder.specs.declared.owned.OwnedRecorder.{OwnedRecorder}
 use Rattle.povundiri_c.specs.declared.seat_state.SeatState.{SeatState}
 use Rattle.povundiri_c.specs.declared.seat_state.SeatState.TheVariants.{Nothing, Reaches, Laid, Met}
-use Rattle.povundiri_c.specs.Mailbox.{AreSo, Fits, FitsState, HasLaid, HasReached, Home, IsInPlace, IsOfNote, IsOfOpener, IsPut, IsRight, IsSo, IsMailbox, MayReach, MayReachFrom, Replaces, MailboxSeat, View, missed, missed_state, noted, noted_of, stranger}
+use Rattle.povundiri_c.specs.Mailbox.{AreSo, FitsNumber, FitsState, HasLaid, HasReached, Home, IsInPlace, IsOfNote, IsOfOpener, IsPut, IsRight, IsSo, IsMailbox, MayReachInto, MayReachFrom, Replaces, MailboxSeat, View, missed, missed_state, noted, noted_of, stranger}
 
 -- ---- what threads know
 
@@ -95,7 +95,7 @@ lies number home last id view recorder is laid =
 
 -- a seat that looks is the same
 pub sees : (opener : Opener) (slots id : ℕ) (me : Me (Option OwnedRecorder) View)
-    → Allows (IsMailbox opener) slots id me 0 (λ n. n) (λ found after. (after ≡ me) × Fits found me.0)
+    → Allows (IsMailbox opener) slots id me 0 (λ n. n) (λ found after. (after ≡ me) × FitsNumber found me.0)
 sees opener slots id me s g wide mine _ =
     let n = get_or s.words 0 0 in
     let own = g.3.2 id me.0 mine in (
@@ -135,7 +135,7 @@ noticed opener s_words homes views id mine last kept_by own are j view at =
     (λ (t : (j ≢ id) × (get_elem? views j ≡ some view)). are j view t.1)
     (at_set views id j mine view at)
 
-pub reaches : (opener : Opener) (slots id number : ℕ) (me : Me (Option OwnedRecorder) View) → number % 2 ≡ 0 → me.1 ≡ [] → MayReach number me.0
+pub reaches : (opener : Opener) (slots id number : ℕ) (me : Me (Option OwnedRecorder) View) → number % 2 ≡ 0 → me.1 ≡ [] → MayReachInto number me.0
     → Allows (IsMailbox opener) slots id me 0 (λ n. either (n == number) (number + 1) n) (HasReached number me)
 reaches opener slots id number me even none_taken may s g wide mine _ =
     let n = get_or s.words 0 0 in
@@ -156,7 +156,7 @@ reaches opener slots id number me even none_taken may s g wide mine _ =
             kept_by,
             all_later opener n (number + 1) (get_elem? s.homes 0) (some none) s.views last id kept_by id reached (omega (arith, e))
                 (λ other apart odd _. omega (arith, even, e, odd))
-                (alone n last kept_by id (get_elem? s.homes 0) me.0.1 me.0.2 me.0.3 own.1 own.2 (subst (λ (k : ℕ). MayReach k me.0) (sym e) may))
+                (alone n last kept_by id (get_elem? s.homes 0) me.0.1 me.0.2 me.0.3 own.1 own.2 (subst (λ (k : ℕ). MayReachInto k me.0) (sym e) may))
                 (own.0, own.1, (refl, omega (arith, even), refl)) g.3.2,
           ),
       (
@@ -236,5 +236,5 @@ replaced number seen recorder found s0 s1 s2 s3 e table1 reached table2 out back
       subst (IsOfOpener s0.me.0.0) same taken.3,
       subst (IsOfNote number s0.me.0) same taken.4,
       subst (IsRight number) same taken.5,
-      subst (λ (n : ℕ). Fits n s0.me.0) e reached.0,
+      subst (λ (n : ℕ). FitsNumber n s0.me.0) e reached.0,
     )

@@ -9,7 +9,7 @@ use Rattle.povundiri_c.specs.declared.contents.Contents.{Contents}
 use Rattle.povundiri_c.specs.declared.contents.Contents.TheVariants as contents
 use Rattle.povundiri_c.specs.declared.owned_segment.OwnedSegment.{OwnedSegment}
 use Rattle.povundiri_c.specs.OpaqueBoxes.{is_some}
-use Rattle.povundiri_c.specs.Segments.{IntoEmpty, IsFilled, IsFilledWith}
+use Rattle.povundiri_c.specs.Segments.{IntoEmpty, IsHandleFilled, IsFilledWith}
 use Rattle.povundiri_c.specs.Status.{status_of_open_fault}
 
 -- a handle was filled with a segment, or not
@@ -23,7 +23,7 @@ filled_with segment opener owned status old new of (inr same) = inr same
 pub created_with : (Is : Segment → Opener → Type 0) (fault : Option OpenFault) (segment : Segment) (opener : Opener) (status : ℕ) (old new : Option Contents)
     → MatchOption fault (Is segment opener) (λ why. let made : Result (Segment × Opener) OpenFault = Ok (segment, opener) in made ≡ Err why)
     → IsFilledWith segment opener status old new
-    → MatchOption fault (IsFilled Is status old new ⊎ ((status ≡ status_of_open_fault NoMemory) × (new ≡ old)))
+    → MatchOption fault (IsHandleFilled Is status old new ⊎ ((status ≡ status_of_open_fault NoMemory) × (new ≡ old)))
     (λ why. (status ≡ status_of_open_fault why) × (new ≡ old))
 created_with Is None segment opener status old new made filled = inl (segment, opener, made, filled)
 created_with Is (Some why) segment opener status old new made filled = absurd (cc made)

@@ -10,7 +10,7 @@ use Rattle.povundiri_c.specs.Seats.{have_same, is_same_table}
 use Rattle.povundiri_c.specs.declared.seat_state.SeatState.{SeatState}
 use Rattle.povundiri_c.specs.declared.seat_state.SeatState.TheVariants.{Laid, Met, Nothing, Reaches}
 use Rattle.povundiri_c.proofs.Mailboxes.{missed_same, same_seat}
-use Rattle.povundiri_c.specs.Mailbox.{Fits, FitsState, HasLaid, HasMet, IsKeeper, IsOfOpener, MayReach, MayReachBy, MayReachFrom, MayTake, Passes, Replaces, ReplacesBy, Takes, MailboxSeat, View, missed_state}
+use Rattle.povundiri_c.specs.Mailbox.{FitsNumber, FitsState, HasLaid, HasMetRecorder, IsKeeper, IsOfOpener, MayReachInto, MayReachBy, MayReachFrom, MayTake, Passes, Replaces, ReplacesBy, KeeperTakes, MailboxSeat, View, missed_state}
 
 -- ---- tables
 
@@ -80,10 +80,10 @@ acting_at table one other one' other' is mine at theirs =
     ⊎_elim (λ t. (ap (λ (seat : MailboxSeat). seat.table_id) t.1 ∙ t.0 ∙ at, ap (λ (seat : MailboxSeat). seat.me.1) t.1 ∙ mine))
     (λ t. (ap (λ (seat : MailboxSeat). seat.table_id) t.1 ∙ at, ap (λ (seat : MailboxSeat). seat.me.1) t.1 ∙ theirs)) (stand one other one' other' is)
 
-pub may_act : (number : ℕ) (one other one' other' : MailboxSeat) → Arranged one other one' other' → MayReachBy number (one, other) → MayReach number one'.me.0
+pub may_act : (number : ℕ) (one other one' other' : MailboxSeat) → Arranged one other one' other' → MayReachBy number (one, other) → MayReachInto number one'.me.0
 may_act number one other one' other' is may =
-    ⊎_elim (λ t. subst (λ (seat : MailboxSeat). MayReach number seat.me.0) (sym t.1) (may.0 t.0))
-    (λ t. subst (λ (seat : MailboxSeat). MayReach number seat.me.0) (sym t.1) (may.1 t.0)) (stand one other one' other' is)
+    ⊎_elim (λ t. subst (λ (seat : MailboxSeat). MayReachInto number seat.me.0) (sym t.1) (may.0 t.0))
+    (λ t. subst (λ (seat : MailboxSeat). MayReachInto number seat.me.0) (sym t.1) (may.1 t.0)) (stand one other one' other' is)
 
 -- a seat is of the same table when it has put something on its mailbox
 kept_table : (number : ℕ) (recorder : Option OwnedRecorder) (before after : MailboxSeat) (result : Result (Option OwnedRecorder) (Option OwnedRecorder))
@@ -116,7 +116,7 @@ replaced_by number recorder one other one' other' after one'' other'' result bef
 -- ---- a recorder is passed
 
 -- a number that the mailbox has is that at which its keeper has laid a recorder
-pub laid_at : (other number : ℕ) (view : View) (recorder : OwnedRecorder) → HasLaid number recorder view → view.1 ≡ true → Fits other view → other ≡ number
+pub laid_at : (other number : ℕ) (view : View) (recorder : OwnedRecorder) → HasLaid number recorder view → view.1 ≡ true → FitsNumber other view → other ≡ number
 laid_at other number view recorder laid keeper fits =
     subst (λ (x : ℕ × SeatState). FitsState other view.1 x.0 x.1) (λ i. (laid.0 i, laid.1 i)) fits keeper
 
@@ -130,8 +130,8 @@ pub refused : (number : ℕ) (recorder back : Option OwnedRecorder) (k0 s0 k1 s1
 refused number recorder back k0 s0 k1 s1 nothing is =
     ⊎_elim (λ t. let it = (is.0 t.1).0 in (it.0, still number recorder back k0 k1 nothing it)) (λ t. let it = is.1 t.1 in (it.0.0, it.1)) (decided k0.table_id s0.table_id)
 
-missed_by : (number : ℕ) (back : Option OwnedRecorder) (k0 k2 : MailboxSeat) (state : SeatState) → k0.me.0.3 ≡ state → k0.me.0.1 ≡ true → MayTake k0.me.0.2 k0.me.0.3 → Fits number k0.me.0
-    → Replaces number None k0 (Err back) k2 → Takes k0 None k2
+missed_by : (number : ℕ) (back : Option OwnedRecorder) (k0 k2 : MailboxSeat) (state : SeatState) → k0.me.0.3 ≡ state → k0.me.0.1 ≡ true → MayTake k0.me.0.2 k0.me.0.3 → FitsNumber number k0.me.0
+    → Replaces number None k0 (Err back) k2 → KeeperTakes k0 None k2
 missed_by number back k0 k2 Nothing has keeper may fits is = (still number None back k0 k2 has is, λ at recorder laid. absurd (cc (sym has ∙ laid.1)))
 missed_by number back k0 k2 Reaches has keeper may fits is = absurd (subst (λ (state : SeatState). MayTake k0.me.0.2 state) has may)
 missed_by number back k0 k2 (Met recorder) has keeper may fits is = absurd (subst (λ (state : SeatState). MayTake k0.me.0.2 state) has may)
@@ -142,7 +142,7 @@ missed_by number back k0 k2 (Laid recorder) has keeper may fits is =
 
 -- a keeper does not miss what it has found, but where it had nothing there itself
 pub missed_keeper : (number : ℕ) (back : Option OwnedRecorder) (k0 k1 k2 : MailboxSeat) → k0.me.0.1 ≡ true → MayTake k0.me.0.2 k0.me.0.3 → k1.table_id ≡ k0.table_id → k1.id ≡ k0.id
-    → k1.me ≡ k0.me → Fits number k0.me.0 → Replaces number None k1 (Err back) k2 → Takes k0 None k2
+    → k1.me ≡ k0.me → FitsNumber number k0.me.0 → Replaces number None k1 (Err back) k2 → KeeperTakes k0 None k2
 missed_keeper number back k0 k1 k2 keeper may table id me fits is =
     let one : k1 ≡ k0 = same_seat k1 k0 table id me in
     let it : Replaces number None k0 (Err back) k2 = subst (λ (seat : MailboxSeat). Replaces number None seat (Err back) k2) one is in
@@ -198,18 +198,18 @@ may_reach number keeper at (Laid recorder) may is fits = fits is
 may_reach number keeper at (Met recorder) may is fits = may
 
 -- where both are of one mailbox, the keeper takes what it has laid
-met_own : (number : ℕ) (recorder : OwnedRecorder) (k0 k1 k2 : MailboxSeat) (met : Option OwnedRecorder) → HasPut number recorder k0 k1 → Takes k1 met k2 → met ≡ Some recorder
+met_own : (number : ℕ) (recorder : OwnedRecorder) (k0 k1 k2 : MailboxSeat) (met : Option OwnedRecorder) → HasPut number recorder k0 k1 → KeeperTakes k1 met k2 → met ≡ Some recorder
 met_own number recorder k0 k1 k2 met put takes =
     takes.1 (number + 2) recorder (ap (λ (x : Me (Option OwnedRecorder) View). x.0.2) put.1, ap (λ (x : Me (Option OwnedRecorder) View). x.0.3) put.1)
 
 -- what it knows then, where it has taken something
-took : (k1 k2 : MailboxSeat) (met : Option OwnedRecorder) (found : OwnedRecorder) → met ≡ Some found → Takes k1 met k2
-    → (number : ℕ) × (k2.table_id ≡ k1.table_id) × (k2.me ≡ ((k1.me.0.0, true, number + 2, Nothing), [])) × IsOfOpener k1.me.0.0 (Some found) × Fits number k1.me.0
-took k1 k2 met found is takes = (subst (λ (one : Option OwnedRecorder). Takes k1 one k2) is takes).0
+took : (k1 k2 : MailboxSeat) (met : Option OwnedRecorder) (found : OwnedRecorder) → met ≡ Some found → KeeperTakes k1 met k2
+    → (number : ℕ) × (k2.table_id ≡ k1.table_id) × (k2.me ≡ ((k1.me.0.0, true, number + 2, Nothing), [])) × IsOfOpener k1.me.0.0 (Some found) × FitsNumber number k1.me.0
+took k1 k2 met found is takes = (subst (λ (one : Option OwnedRecorder). KeeperTakes k1 one k2) is takes).0
 
 -- the keeper's seat has nothing there, when it has taken what was there
 pub keeper_2 : (to : TableId) (key : Opener) (number : ℕ) (recorder : OwnedRecorder) (k0 s0 k1 s1 k2 : MailboxSeat) (met : Option OwnedRecorder) → IsKeeper to key k0
-    → IsLaid number recorder k0 s0 k1 s1 → Takes k1 met k2 → IsKeeper to key k2
+    → IsLaid number recorder k0 s0 k1 s1 → KeeperTakes k1 met k2 → IsKeeper to key k2
 keeper_2 to key number recorder k0 s0 k1 s1 k2 (Some found) is put takes =
     let kept = keeps_1 to key number recorder k0 s0 k1 s1 is put in
     let t = takes.0 in (
@@ -223,26 +223,26 @@ keeper_2 to key number recorder k0 s0 k1 s1 k2 None is (inl own) takes = absurd 
 keeper_2 to key number recorder k0 s0 k1 s1 k2 None is (inr other) takes = subst (IsKeeper to key) (sym (takes.0 ∙ other.2)) is
 
 pub seats_2 : (from to : TableId) (key : Opener) (number : ℕ) (recorder : OwnedRecorder) (k0 s0 k1 s1 k2 : MailboxSeat) (met : Option OwnedRecorder) → IsKeeper to key k0
-    → s0.table_id ≡ from → s0.me.1 ≡ [] → IsLaid number recorder k0 s0 k1 s1 → Takes k1 met k2 → (k2.me.1 ≡ []) × (s1.table_id ≡ from) × (s1.me.1 ≡ [])
+    → s0.table_id ≡ from → s0.me.1 ≡ [] → IsLaid number recorder k0 s0 k1 s1 → KeeperTakes k1 met k2 → (k2.me.1 ≡ []) × (s1.table_id ≡ from) × (s1.me.1 ≡ [])
 seats_2 from to key number recorder k0 s0 k1 s1 k2 met is at empty (inl own) takes =
     ((keeper_2 to key number recorder k0 s0 k1 s1 k2 met is (inl own) takes).1, ap of_seat own.2 ∙ at, ap (λ (seat : MailboxSeat). seat.me.1) own.2 ∙ empty)
 seats_2 from to key number recorder k0 s0 k1 s1 k2 met is at empty (inr other) takes =
     ((keeper_2 to key number recorder k0 s0 k1 s1 k2 met is (inr other) takes).1, other.1.0 ∙ at, ap (λ (x : Me (Option OwnedRecorder) View). x.1) other.1.1)
 
 -- where both are of one mailbox, it does not lie there any more
-gone : (number : ℕ) (recorder : OwnedRecorder) (k0 k1 k2 : MailboxSeat) (met : Option OwnedRecorder) → k0.me.0.1 ≡ true → HasPut number recorder k0 k1 → Takes k1 met k2
-    → Fits (number + 2) k2.me.0 → ⊥
+gone : (number : ℕ) (recorder : OwnedRecorder) (k0 k1 k2 : MailboxSeat) (met : Option OwnedRecorder) → k0.me.0.1 ≡ true → HasPut number recorder k0 k1 → KeeperTakes k1 met k2
+    → FitsNumber (number + 2) k2.me.0 → ⊥
 gone number recorder k0 k1 k2 met keeper put takes fits =
     let t = took k1 k2 met recorder (met_own number recorder k0 k1 k2 met put takes) takes in
     let at : t.0 ≡ number + 2 = laid_at t.0 (number + 2) k1.me.0 recorder
     (ap (λ (x : Me (Option OwnedRecorder) View). x.0.2) put.1, ap (λ (x : Me (Option OwnedRecorder) View). x.0.3) put.1)
     (ap (λ (x : Me (Option OwnedRecorder) View). x.0.1) put.1 ∙ keeper) t.4 in
-    let late : t.0 + 2 ≤ number + 2 = subst (λ (x : Me (Option OwnedRecorder) View). Fits (number + 2) x.0) t.2 fits in
+    let late : t.0 + 2 ≤ number + 2 = subst (λ (x : Me (Option OwnedRecorder) View). FitsNumber (number + 2) x.0) t.2 fits in
     omega (arith, at, late)
 
 -- the keeper's seat is not the one that took it back
 pub same_3 : (to : TableId) (key : Opener) (number : ℕ) (recorder : OwnedRecorder) (k0 s0 k1 s1 k2 k3 s3 : MailboxSeat) (met : Option OwnedRecorder)
-    (result : Result (Option OwnedRecorder) (Option OwnedRecorder)) → IsKeeper to key k0 → IsLaid number recorder k0 s0 k1 s1 → Takes k1 met k2
+    (result : Result (Option OwnedRecorder) (Option OwnedRecorder)) → IsKeeper to key k0 → IsLaid number recorder k0 s0 k1 s1 → KeeperTakes k1 met k2
     → ReplacesBy (number + 2) None (k2, s1) result (k3, s3) → k3 ≡ k2
 same_3 to key number recorder k0 s0 k1 s1 k2 k3 s3 met (Err back) is put takes by =
     (refused (number + 2) None back k2 s1 k3 s3 (keeper_2 to key number recorder k0 s0 k1 s1 k2 met is put takes).4 by).1
@@ -255,24 +255,24 @@ same_3 to key number recorder k0 s0 k1 s1 k2 k3 s3 met (Ok back) is (inr other) 
 
 -- what has come is of the mailbox's opener
 came : (to : TableId) (key : Opener) (number : ℕ) (recorder : OwnedRecorder) (k0 s0 k1 s1 k2 : MailboxSeat) (met : Option OwnedRecorder) → IsKeeper to key k0
-    → IsLaid number recorder k0 s0 k1 s1 → Takes k1 met k2 → IsOfOpener key met
+    → IsLaid number recorder k0 s0 k1 s1 → KeeperTakes k1 met k2 → IsOfOpener key met
 came to key number recorder k0 s0 k1 s1 k2 None is put takes = tt
 came to key number recorder k0 s0 k1 s1 k2 (Some found) is put takes =
     subst (λ (one : Opener). IsOfOpener one (Some found)) (keeps_1 to key number recorder k0 s0 k1 s1 is put).2 takes.0.3
 
 -- where nothing has come, the keeper's seat is the same
-idle : (number : ℕ) (recorder : OwnedRecorder) (k0 s0 k1 s1 k2 : MailboxSeat) (met : Option OwnedRecorder) → IsLaid number recorder k0 s0 k1 s1 → Takes k1 met k2 → met ≡ None → k2 ≡ k0
+idle : (number : ℕ) (recorder : OwnedRecorder) (k0 s0 k1 s1 k2 : MailboxSeat) (met : Option OwnedRecorder) → IsLaid number recorder k0 s0 k1 s1 → KeeperTakes k1 met k2 → met ≡ None → k2 ≡ k0
 idle number recorder k0 s0 k1 s1 k2 met (inl own) takes none = absurd (cc (sym none ∙ met_own number recorder k0 k1 k2 met own.1 takes))
-idle number recorder k0 s0 k1 s1 k2 met (inr other) takes none = (subst (λ (one : Option OwnedRecorder). Takes k1 one k2) none takes).0 ∙ other.2
+idle number recorder k0 s0 k1 s1 k2 met (inr other) takes none = (subst (λ (one : Option OwnedRecorder). KeeperTakes k1 one k2) none takes).0 ∙ other.2
 
 own_met : (from to : TableId) (key : Opener) (number : ℕ) (recorder : OwnedRecorder) (k0 s0 k1 s1 k2 : MailboxSeat) (met : Option OwnedRecorder) → IsKeeper to key k0
-    → s0.table_id ≡ from → IsLaid number recorder k0 s0 k1 s1 → Takes k1 met k2 → from ≡ to → met ≡ Some recorder
+    → s0.table_id ≡ from → IsLaid number recorder k0 s0 k1 s1 → KeeperTakes k1 met k2 → from ≡ to → met ≡ Some recorder
 own_met from to key number recorder k0 s0 k1 s1 k2 met is at (inl own) takes e = met_own number recorder k0 k1 k2 met own.1 takes
 own_met from to key number recorder k0 s0 k1 s1 k2 met is at (inr other) takes e = absurd (other.0 (is.0 ∙ sym e ∙ sym at))
 
 -- where it is back, that is the one which was laid there
 pub passes_in_ok : (from to : TableId) (key : Opener) (number : ℕ) (recorder : OwnedRecorder) (k0 s0 k1 s1 k2 k3 s3 l0 : MailboxSeat) (met back : Option OwnedRecorder)
-    (result : Result (Option OwnedRecorder) (Option OwnedRecorder)) → IsKeeper to key k0 → s0.table_id ≡ from → IsLaid number recorder k0 s0 k1 s1 → Takes k1 met k2
+    (result : Result (Option OwnedRecorder) (Option OwnedRecorder)) → IsKeeper to key k0 → s0.table_id ≡ from → IsLaid number recorder k0 s0 k1 s1 → KeeperTakes k1 met k2
     → result ≡ Ok back → ReplacesBy (number + 2) None (k2, s1) result (k3, s3) → Passes from to key recorder (k0, l0) (Ok (met, back)) (k3, l0)
 passes_in_ok from to key number recorder k0 s0 k1 s1 k2 k3 s3 l0 met back result is at (inl own) takes ok all =
     let by = subst (λ (one : Result (Option OwnedRecorder) (Option OwnedRecorder)). ReplacesBy (number + 2) None (k2, s1) one (k3, s3)) ok all in
@@ -285,15 +285,15 @@ passes_in_ok from to key number recorder k0 s0 k1 s1 k2 k3 s3 l0 met back result
     let mine : back ≡ Some recorder = theirs.0.3 recorder
     (ap (λ (x : Me (Option OwnedRecorder) View). x.0.2) other.1.1, ap (λ (x : Me (Option OwnedRecorder) View). x.0.3) other.1.1) in (
       came to key number recorder k0 s0 k1 s1 k2 met is (inr other) takes,
-      subst (λ (one : Option OwnedRecorder). MatchOption one (from ≢ to → HasMet from recorder l0) (λ it. (it ≡ recorder) × (l0 ≡ l0))) (sym mine) (refl, refl),
+      subst (λ (one : Option OwnedRecorder). MatchOption one (from ≢ to → HasMetRecorder from recorder l0) (λ it. (it ≡ recorder) × (l0 ≡ l0))) (sym mine) (refl, refl),
       λ none. theirs.1 ∙ idle number recorder k0 s0 k1 s1 k2 met (inr other) takes none,
       λ e. absurd (other.0 (is.0 ∙ sym e ∙ sym at)),
     )
 
 -- where it is not, another has taken it
 has_met : (from to : TableId) (key : Opener) (number : ℕ) (recorder : OwnedRecorder) (k0 s0 k1 s1 k2 k3 s3 : MailboxSeat) (met back : Option OwnedRecorder) → IsKeeper to key k0
-    → s0.table_id ≡ from → IsLaid number recorder k0 s0 k1 s1 → Takes k1 met k2 → ReplacesBy (number + 2) None (k2, s1) (Err back) (k3, s3) → from ≢ to
-    → HasMet from recorder s3
+    → s0.table_id ≡ from → IsLaid number recorder k0 s0 k1 s1 → KeeperTakes k1 met k2 → ReplacesBy (number + 2) None (k2, s1) (Err back) (k3, s3) → from ≢ to
+    → HasMetRecorder from recorder s3
 has_met from to key number recorder k0 s0 k1 s1 k2 k3 s3 met back is at (inl own) takes by apart = absurd (apart (sym at ∙ sym own.0 ∙ is.0))
 has_met from to key number recorder k0 s0 k1 s1 k2 k3 s3 met back is at (inr other) takes by apart =
     let kept = keeper_2 to key number recorder k0 s0 k1 s1 k2 met is (inr other) takes in
@@ -303,7 +303,7 @@ has_met from to key number recorder k0 s0 k1 s1 k2 k3 s3 met back is at (inr oth
     )
 
 pub passes_in_err : (from to : TableId) (key : Opener) (number : ℕ) (recorder : OwnedRecorder) (k0 s0 k1 s1 k2 k3 s3 l0 : MailboxSeat) (met back : Option OwnedRecorder)
-    (result : Result (Option OwnedRecorder) (Option OwnedRecorder)) → IsKeeper to key k0 → s0.table_id ≡ from → IsLaid number recorder k0 s0 k1 s1 → Takes k1 met k2
+    (result : Result (Option OwnedRecorder) (Option OwnedRecorder)) → IsKeeper to key k0 → s0.table_id ≡ from → IsLaid number recorder k0 s0 k1 s1 → KeeperTakes k1 met k2
     → result ≡ Err back → ReplacesBy (number + 2) None (k2, s1) result (k3, s3) → Passes from to key recorder (k0, l0) (Ok (met, None)) (k3, s3)
 passes_in_err from to key number recorder k0 s0 k1 s1 k2 k3 s3 l0 met back result is at put takes err all =
     let by = subst (λ (one : Result (Option OwnedRecorder) (Option OwnedRecorder)). ReplacesBy (number + 2) None (k2, s1) one (k3, s3)) err all in (
@@ -315,25 +315,25 @@ passes_in_err from to key number recorder k0 s0 k1 s1 k2 k3 s3 l0 met back resul
 
 took_one : (number : ℕ) (found : Option OwnedRecorder) (k0 k2 : MailboxSeat) → k0.me.0.1 ≡ true → number % 4 ≡ 2 → Replaces number None k0 (Ok found) k2
     → MatchOption found (k2 ≡ k0)
-    (λ one. (at : ℕ) × (k2.table_id ≡ k0.table_id) × (k2.me ≡ ((k0.me.0.0, true, at + 2, Nothing), [])) × IsOfOpener k0.me.0.0 (Some one) × Fits at k0.me.0)
+    (λ one. (at : ℕ) × (k2.table_id ≡ k0.table_id) × (k2.me ≡ ((k0.me.0.0, true, at + 2, Nothing), [])) × IsOfOpener k0.me.0.0 (Some one) × FitsNumber at k0.me.0)
 took_one number None k0 k2 keeper two it = absurd (omega (arith, two, it.4))
 took_one number (Some one) k0 k2 keeper two it = (number, it.0, it.1 ∙ (λ i. ((k0.me.0.0, keeper i, number + 2, Nothing), [])), it.2, it.5)
 
 -- the keeper has taken what was there
 pub took_it : (number : ℕ) (found : Option OwnedRecorder) (k0 k1 k2 : MailboxSeat) → k0.me.0.1 ≡ true → number % 4 ≡ 2 → k1.table_id ≡ k0.table_id → k1.id ≡ k0.id → k1.me ≡ k0.me
-    → Fits number k0.me.0 → Replaces number None k1 (Ok found) k2 → Takes k0 found k2
+    → FitsNumber number k0.me.0 → Replaces number None k1 (Ok found) k2 → KeeperTakes k0 found k2
 took_it number found k0 k1 k2 keeper two table id me fits is =
     let it : Replaces number None k0 (Ok found) k2 = subst (λ (seat : MailboxSeat). Replaces number None seat (Ok found) k2) (same_seat k1 k0 table id me) is in
     (took_one number found k0 k2 keeper two it, λ at recorder laid. it.3 recorder (laid.0 ∙ sym (laid_at number at k0.me.0 recorder laid keeper fits), laid.1))
 
 may_by : (to : TableId) (key : Opener) (number : ℕ) (recorder : OwnedRecorder) (k0 s0 k1 s1 k2 : MailboxSeat) → IsKeeper to key k0 → IsKeeper to key k2 → k2.table_id ≢ s1.table_id
-    → IsLaid number recorder k0 s0 k1 s1 → MayReach (number + 2) s1.me.0
+    → IsLaid number recorder k0 s0 k1 s1 → MayReachInto (number + 2) s1.me.0
 may_by to key number recorder k0 s0 k1 s1 k2 is kept apart (inl own) = absurd (apart (kept.0 ∙ sym is.0 ∙ own.0 ∙ sym (ap of_seat own.2)))
-may_by to key number recorder k0 s0 k1 s1 k2 is kept apart (inr other) = subst (λ (me : Me (Option OwnedRecorder) View). MayReach (number + 2) me.0) (sym other.1.1) refl
+may_by to key number recorder k0 s0 k1 s1 k2 is kept apart (inr other) = subst (λ (me : Me (Option OwnedRecorder) View). MayReachInto (number + 2) me.0) (sym other.1.1) refl
 
 -- the one of two seats that has laid a recorder may take it back, or the keeper may
 pub may_2 : (to : TableId) (key : Opener) (number : ℕ) (recorder : OwnedRecorder) (k0 s0 k1 s1 k2 : MailboxSeat) (met : Option OwnedRecorder) → IsKeeper to key k0
-    → IsLaid number recorder k0 s0 k1 s1 → Takes k1 met k2 → MayReachBy (number + 2) (k2, s1)
+    → IsLaid number recorder k0 s0 k1 s1 → KeeperTakes k1 met k2 → MayReachBy (number + 2) (k2, s1)
 may_2 to key number recorder k0 s0 k1 s1 k2 met is put takes =
     let kept = keeper_2 to key number recorder k0 s0 k1 s1 k2 met is put takes in (
       λ _. subst (λ (state : SeatState). MayReachFrom (number + 2) k2.me.0.1 k2.me.0.2 state) (sym kept.4) (inr kept.3),

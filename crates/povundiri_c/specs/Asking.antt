@@ -12,7 +12,7 @@ use Rattle.povundiri_c.specs.declared.types.Count.{Count}
 use Rattle.povundiri_c.specs.declared.types.HistSpec.{HistSpec}
 use Rattle.povundiri_c.specs.declared.types.Item.{Item}
 use Rattle.povundiri_c.specs.declared.types.Totals.{Totals}
-use Rattle.povundiri_c.specs.Calls.{GivesOfRecorder, IsGiven, SizesOfRecorder}
+use Rattle.povundiri_c.specs.Calls.{GivesOfRecorder, IsWritten, SizesOfRecorder}
 use Rattle.povundiri_c.specs.Recorders.{AtPlace, AtPlaceInRoom, Batches, FindsHist, refused_with, TakesDelta, TakesNext, TakesSnapshot, WalksAll}
 
 -- ---- `hist`
@@ -30,7 +30,7 @@ IsNoHist held spec status = ((held ≡ None) × (status ≡ 3)) ⊎ (((spec ≡ 
 -- The place of a histogram of that spec is returned, or the status says why not. Or nothing was called, and all is unchanged.
 abbrev pub AnswersHistCall : List ℕ → Option Spec → Option Contents → ℕ → ℕ → ℕ → Option Contents → Type 0
 AnswersHistCall name asked held status place place' held' =
-    ((spec : Spec) × (asked ≡ Some spec) × (answer : Result ℕ ℕ) × GivesOfRecorder (FindsHist name spec) held answer held' × IsGiven answer status place place')
+    ((spec : Spec) × (asked ≡ Some spec) × (answer : Result ℕ ℕ) × GivesOfRecorder (FindsHist name spec) held answer held' × IsWritten answer status place place')
     ⊎ ((held' ≡ held) × (place' ≡ place) × IsNoHist held asked status)
 
 -- ---- `batch`
@@ -40,9 +40,9 @@ abbrev pub pair_of : Item → ℤ × ℕ
 pair_of item = (item.value, item.count)
 
 -- All items are counted; or the status says why not, and it comes with how many are counted all the same.
-abbrev pub IsCounted : ℕ → Result (Unit {0}) Refused → ℕ → ℕ → Type 0
-IsCounted all (Ok _) status added = (status ≡ 0) × (added ≡ all)
-IsCounted all (Err refused) status added = (status ≡ refused.status) × (added ≡ refused.length)
+abbrev pub IsBatchStatus : ℕ → Result (Unit {0}) Refused → ℕ → ℕ → Type 0
+IsBatchStatus all (Ok _) status added = (status ≡ 0) × (added ≡ all)
+IsBatchStatus all (Err refused) status added = (status ≡ refused.status) × (added ≡ refused.length)
 
 -- The batch is counted, or the status says why not. Or nothing was called, since the handle is empty or there was no memory for the items, and
 -- all is unchanged.
@@ -50,7 +50,7 @@ abbrev pub AnswersBatchCall : ℕ → List Item → ℤ → Option Contents → 
 AnswersBatchCall place items sum held status added added' held' =
     ((answer : Result (Unit {0}) Refused) × (held ≢ None)
     × SizesOfRecorder (AtPlace (Err (refused_with 8)) (Batches (map pair_of items) sum) place) held answer held'
-    × IsCounted (length items) answer status added')
+    × IsBatchStatus (length items) answer status added')
     ⊎ ((held' ≡ held) × (added' ≡ added) × (((held ≡ None) × (status ≡ 3)) ⊎ ((held ≢ None) × (status ≡ 13))))
 
 -- ---- `delta` and `snapshot`
@@ -64,8 +64,8 @@ abbrev pub AreGiven : List (ℤ × ℕ) → List Count → List Count → Type 0
 AreGiven counts old new = (length counts ≤ length old) × (new ≡ map count_of counts ++ drop (length counts) old)
 
 -- The status says why a call is refused, and its length is returned; all else is unchanged.
-abbrev pub IsRefused : Refused → ℕ → Totals → Totals → List Count → List Count → Type 0
-IsRefused refused status totals totals' old new =
+abbrev pub IsRefusalStatus : Refused → ℕ → Totals → Totals → List Count → List Count → Type 0
+IsRefusalStatus refused status totals totals' old new =
     (status ≡ refused.status) × (totals' ≡ record totals { length = refused.length }) × (new ≡ old)
 
 -- the counts of a delta and how many they are, and its sum; or why there is none
@@ -73,14 +73,14 @@ abbrev pub IsDeltaGiven : Result Delta Refused → ℕ → Totals → Totals →
 IsDeltaGiven (Ok delta) status totals totals' old new =
     (status ≡ 0) × (totals' ≡ record { length = length delta.counts.items; sum = delta.sum; redundant = 0 })
     × AreGiven delta.counts.items old new
-IsDeltaGiven (Err refused) status totals totals' old new = IsRefused refused status totals totals' old new
+IsDeltaGiven (Err refused) status totals totals' old new = IsRefusalStatus refused status totals totals' old new
 
 -- the counts of a snapshot and how many they are, its sum, and its redundant count; or why there is none
 abbrev pub IsSnapshotGiven : Result Snapshot Refused → ℕ → Totals → Totals → List Count → List Count → Type 0
 IsSnapshotGiven (Ok snapshot) status totals totals' old new =
     (status ≡ 0) × (totals' ≡ record { length = length snapshot.counts.items; sum = snapshot.sum; redundant = snapshot.redundant })
     × AreGiven snapshot.counts.items old new
-IsSnapshotGiven (Err refused) status totals totals' old new = IsRefused refused status totals totals' old new
+IsSnapshotGiven (Err refused) status totals totals' old new = IsRefusalStatus refused status totals totals' old new
 
 -- a delta of the histogram at a place is returned, where the array has room for all of its keys, or the status says why not
 abbrev pub AnswersDeltaCall : ℕ → Option Contents → ℕ → Totals → Totals → List Count → List Count → Option Contents → Type 0
@@ -115,4 +115,4 @@ AnswersRecordsCall held status needed needed' old new held' =
 -- the next record of the cursor is returned, or the status says why not
 abbrev pub AnswersNextCall : ℕ → Option Contents → ℕ → ℕ → ℕ → Option Contents → Type 0
 AnswersNextCall cursor held status next next' held' =
-    (answer : Result ℕ ℕ) × GivesOfRecorder (TakesNext cursor) held answer held' × IsGiven answer status next next'
+    (answer : Result ℕ ℕ) × GivesOfRecorder (TakesNext cursor) held answer held' × IsWritten answer status next next'

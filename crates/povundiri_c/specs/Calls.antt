@@ -30,9 +30,9 @@ asked_of ask None = Err 3
 asked_of ask (Some held) = ask held
 
 -- what is returned is written where C asked for it; else the status says why not, and what stood there is unchanged
-abbrev pub IsGiven : {A : Type 0} → Result A ℕ → ℕ → A → A → Type 0
-IsGiven (Ok found) status old new = (status ≡ 0) × (new ≡ found)
-IsGiven (Err why) status old new = (status ≡ why) × (new ≡ old)
+abbrev pub IsWritten : {A : Type 0} → Result A ℕ → ℕ → A → A → Type 0
+IsWritten (Ok found) status old new = (status ≡ 0) × (new ≡ found)
+IsWritten (Err why) status old new = (status ≡ why) × (new ≡ old)
 
 -- ---- what a call does
 

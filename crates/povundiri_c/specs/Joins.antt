@@ -14,12 +14,12 @@ use Rattle.owned_recorder.specs.declared.owned.OwnedRecorder.{OwnedRecorder}
 use Rattle.povundiri_c.specs.declared.contents.Contents.{Contents}
 use Rattle.povundiri_c.specs.declared.contents.Contents.TheVariants as contents
 use Rattle.povundiri_c.specs.declared.owned_segment.OwnedSegment.{OwnedSegment}
-use Rattle.povundiri_c.specs.declared.owned_segment.Request.{Request}
-use Rattle.povundiri_c.specs.declared.owned_segment.Request.TheVariants.{Join, Lend}
+use Rattle.povundiri_c.specs.declared.owned_segment.JoinOrLend.{JoinOrLend}
+use Rattle.povundiri_c.specs.declared.owned_segment.JoinOrLend.TheVariants.{Join, Lend}
 use Rattle.povundiri_c.specs.declared.joinable_recorder.JoinableRecorder.{JoinableRecorder}
 use Rattle.povundiri_c.specs.Calls.{ByHandle}
 use Rattle.povundiri_c.specs.Status.{status_of_refusal}
-use Rattle.povundiri_c.specs.Mailbox.{BelongsTo, HasMet}
+use Rattle.povundiri_c.specs.Mailbox.{BelongsTo, HasMetRecorder}
 
 -- ---- a call of a segment
 
@@ -44,8 +44,8 @@ abbrev pub fault_of_recorder : OwnedSegment → ℕ → Option Refusal
 fault_of_recorder owned units = first_fault (recorder_checks (view_of_opener owned.opener) units)
 
 -- A recorder of the segment has those units of its opener, as `owned_recorder` says.
-abbrev pub HasMade : ℕ → OwnedSegment → JoinableRecorder → OwnedSegment → Type 0
-HasMade units old joinable new =
+abbrev pub HasMadeJoinable : ℕ → OwnedSegment → JoinableRecorder → OwnedSegment → Type 0
+HasMadeJoinable units old joinable new =
     (fault_of_recorder old units ≡ None) × KeepsSegment old new × IsRecorderOf joinable.owned new.opener × (arc_value joinable.mailbox ≡ arc_value new.mailbox)
     × (view_of_opener new.opener ≡ parent (offering (view_of_opener old.opener) units))
     × (view_of_owned joinable.owned ≡ newcomer (offering (view_of_opener old.opener) units)) × (given_fresh joinable.owned.state ≡ 0)
@@ -56,7 +56,7 @@ IsNoRecorder units owned status = ((why : Refusal) × (fault_of_recorder owned u
 
 -- a recorder is made; or the status says why not, and the segment is unchanged
 abbrev pub GivesRecorder : ℕ → OwnedSegment → Result JoinableRecorder ℕ → OwnedSegment → Type 0
-GivesRecorder units old answer new = MatchResult answer (λ joinable. HasMade units old joinable new) (λ status. (new ≡ old) × IsNoRecorder units old status)
+GivesRecorder units old answer new = MatchResult answer (λ joinable. HasMadeJoinable units old joinable new) (λ status. (new ≡ old) × IsNoRecorder units old status)
 
 -- a recorder is in the handle that was empty; or the status says why not, and it is still empty
 abbrev pub IsHanded : Result JoinableRecorder ℕ → ℕ → Option Contents → Type 0
@@ -107,7 +107,7 @@ IsOfOther joinable old status back new =
 
 -- It was laid in its own mailbox, and that one's keeper has taken it from there: the segment has the seat then that had laid it.
 abbrev pub HasGone : JoinableRecorder → OwnedSegment → Type 0
-HasGone joinable new = HasMet (mailbox_of_recorder joinable) joinable.owned new.gone
+HasGone joinable new = HasMetRecorder (mailbox_of_recorder joinable) joinable.owned new.gone
 
 -- it does not come back, and nothing was met here
 abbrev pub IsElsewhere : OwnedSegment → ℕ → Option JoinableRecorder → OwnedSegment → Type 0
@@ -116,8 +116,8 @@ IsElsewhere old status back new = (status ≡ 14) × (back ≡ None) × HasOpene
 -- ---- how a segment finds a recorder
 
 -- A recorder of the segment is found. It is the one that was passed where that is of this segment; else that one has gone.
-abbrev pub IsFound : JoinableRecorder → OwnedRecorder → OwnedSegment → OwnedSegment → Type 0
-IsFound joinable found old new =
+abbrev pub IsRecorderFound : JoinableRecorder → OwnedRecorder → OwnedSegment → OwnedSegment → Type 0
+IsRecorderFound joinable found old new =
     HasOpener old new × BelongsTo found (arc_value old.mailbox).table.shared.key
     × (mailbox_of_recorder joinable ≡ mailbox_of_segment old → found ≡ joinable.owned)
     × (mailbox_of_recorder joinable ≢ mailbox_of_segment old → HasGone joinable new)
@@ -143,13 +143,13 @@ IsPassed Does Refuses joinable old status back new =
 -- ---- a recorder is taken back
 
 -- it is joined, and does not come back
-abbrev pub IsJoined : OwnedRecorder → OwnedSegment → ℕ → Option JoinableRecorder → OwnedSegment → Type 0
-IsJoined owned old status back new = (status ≡ 0) × (back ≡ None) × HasJoined owned old new
+abbrev pub IsJoinDone : OwnedRecorder → OwnedSegment → ℕ → Option JoinableRecorder → OwnedSegment → Type 0
+IsJoinDone owned old status back new = (status ≡ 0) × (back ≡ None) × HasJoined owned old new
 
 -- What is returned where a segment is given a recorder back. It comes back where another thread passes one of the same segment at the same
 -- moment.
 abbrev pub Joins : JoinableRecorder → OwnedSegment → ℕ → Option JoinableRecorder → OwnedSegment → Type 0
-Joins = IsPassed IsJoined (λ status. status ≡ 15)
+Joins = IsPassed IsJoinDone (λ status. status ≡ 15)
 
 -- ---- a recorder is lent units
 
@@ -161,8 +161,8 @@ HasLent units owned old joinable new =
     × (view_of_owned joinable.owned ≡ getter (view_of_owned owned) units) × IsSameRecorder owned.state joinable.owned.state
 
 -- it is lent them, and comes back
-abbrev pub IsLent : ℕ → OwnedRecorder → OwnedSegment → ℕ → Option JoinableRecorder → OwnedSegment → Type 0
-IsLent units owned old status back new = (status ≡ 0) × ((after : JoinableRecorder) × (back ≡ Some after) × HasLent units owned old after new)
+abbrev pub IsLendDone : ℕ → OwnedRecorder → OwnedSegment → ℕ → Option JoinableRecorder → OwnedSegment → Type 0
+IsLendDone units owned old status back new = (status ≡ 0) × ((after : JoinableRecorder) × (back ≡ Some after) × HasLent units owned old after new)
 
 -- the units that a segment has left to give
 abbrev pub units_left : OwnedSegment → ℕ
@@ -171,7 +171,7 @@ units_left owned = (view_of_opener owned.opener).units.share
 -- What is returned where the segment has the units. It comes back unchanged if no more may share its mailbox, or another thread passes
 -- one of the same segment at the same moment.
 abbrev pub LendsOrNot : ℕ → JoinableRecorder → OwnedSegment → ℕ → Option JoinableRecorder → OwnedSegment → Type 0
-LendsOrNot units = IsPassed (IsLent units) (λ status. (status ≡ 13) ⊎ (status ≡ 15))
+LendsOrNot units = IsPassed (IsLendDone units) (λ status. (status ≡ 13) ⊎ (status ≡ 15))
 
 -- where the segment has fewer, that is returned, whichever segment the recorder is of, and all is unchanged
 abbrev pub Lends : ℕ → JoinableRecorder → OwnedSegment → ℕ → Option JoinableRecorder → OwnedSegment → Type 0
@@ -182,9 +182,9 @@ Lends units joinable old status back new =
 -- ---- a recorder is passed to a segment
 
 -- what is returned, by what it is passed for
-abbrev pub Serves : Request → JoinableRecorder → OwnedSegment → ℕ → Option JoinableRecorder → OwnedSegment → Type 0
-Serves Join = Joins
-Serves (Lend units) = Lends units
+abbrev pub JoinsOrLends : JoinOrLend → JoinableRecorder → OwnedSegment → ℕ → Option JoinableRecorder → OwnedSegment → Type 0
+JoinsOrLends Join = Joins
+JoinsOrLends (Lend units) = Lends units
 
 -- the recorder that contents are, if they are one
 abbrev pub recorder_in : Contents → Option JoinableRecorder
@@ -194,17 +194,17 @@ recorder_in contents.Nothing = None
 
 -- What is passed and is no recorder comes back for that, and the segment is unchanged; else the recorder is served, and may come back. What
 -- is returned is the status, and what was passed if it comes back.
-abbrev pub ServesPassed : Request → Contents → OwnedSegment → ℕ × Option Contents → OwnedSegment → Type 0
+abbrev pub ServesPassed : JoinOrLend → Contents → OwnedSegment → ℕ × Option Contents → OwnedSegment → Type 0
 ServesPassed request passed old answer new =
     MatchOption (recorder_in passed) ((answer ≡ (5, Some passed)) × (new ≡ old))
-    (λ joinable. (back : Option JoinableRecorder) × (answer.1 ≡ option_map contents.Recorder back) × Serves request joinable old answer.0 back new)
+    (λ joinable. (back : Option JoinableRecorder) × (answer.1 ≡ option_map contents.Recorder back) × JoinsOrLends request joinable old answer.0 back new)
 
 -- the same by contents: from those that are no segment what is passed comes back too
-abbrev pub ServesContents : Request → Contents → Contents → ℕ × Option Contents → Contents → Type 0
+abbrev pub ServesContents : JoinOrLend → Contents → Contents → ℕ × Option Contents → Contents → Type 0
 ServesContents request passed = BySegment (5, Some passed) (ServesPassed request passed)
 
 -- and of a handle, which may be empty
-abbrev pub AnswersPassed : Request → Contents → Option Contents → ℕ × Option Contents → Option Contents → Type 0
+abbrev pub AnswersPassed : JoinOrLend → Contents → Option Contents → ℕ × Option Contents → Option Contents → Type 0
 AnswersPassed request passed = ByHandle (3, Some passed) (ServesContents request passed)
 
 -- a recorder is passed to be taken back

@@ -91,8 +91,8 @@ FitsState number keeper at (Laid recorder) = keeper ≡ true → number ≡ at
 FitsState number keeper at (Met recorder) = at < number
 
 -- the same of what a seat has of the mailbox
-abbrev pub Fits : ℕ → View → Type 0
-Fits number view = FitsState number view.1 view.2 view.3
+abbrev pub FitsNumber : ℕ → View → Type 0
+FitsNumber number view = FitsState number view.1 view.2 view.3
 
 -- a seat has laid this recorder in the mailbox, at a number
 abbrev pub HasLaid : ℕ → OwnedRecorder → View → Type 0
@@ -106,8 +106,8 @@ MayReachFrom number keeper at (Laid recorder) = number ≡ at
 MayReachFrom number keeper at (Met recorder) = ⊥
 
 -- the same of what a seat has of the mailbox
-abbrev pub MayReach : ℕ → View → Type 0
-MayReach number view = MayReachFrom number view.1 view.2 view.3
+abbrev pub MayReachInto : ℕ → View → Type 0
+MayReachInto number view = MayReachFrom number view.1 view.2 view.3
 
 -- what was there at a number is the recorder that was laid there at that
 abbrev pub IsOfNote : ℕ → View → Option OwnedRecorder → Type 0
@@ -132,7 +132,7 @@ missed me = ((me.0.0, me.0.1, me.0.2, missed_state me.0.3), me.1)
 -- It was taken from there where the mailbox had that number. Else nothing was done, and a recorder that was laid there was met.
 abbrev pub HasReached : ℕ → Me (Option OwnedRecorder) View → ℕ → Me (Option OwnedRecorder) View → Type 0
 HasReached number before found after =
-    Fits found before.0 × (found ≡ number → IsTaken number before.0 after) × (found ≢ number → after ≡ missed before)
+    FitsNumber found before.0 × (found ≡ number → IsTaken number before.0 after) × (found ≢ number → after ≡ missed before)
 
 -- what a seat knows that puts this there at a number
 abbrev pub noted : ℕ → Opener → Bool → Option OwnedRecorder → View
@@ -156,9 +156,9 @@ abbrev pub Replaces : ℕ → Option OwnedRecorder → MailboxSeat → Result (O
 Replaces number recorder before result after =
     MatchResult result
     (λ found. (after.table_id ≡ before.table_id) × (after.me ≡ (noted (number + 2) before.me.0.0 before.me.0.1 recorder, []))
-    × IsOfOpener before.me.0.0 found × IsOfNote number before.me.0 found × IsRight number found × Fits number before.me.0)
+    × IsOfOpener before.me.0.0 found × IsOfNote number before.me.0 found × IsRight number found × FitsNumber number before.me.0)
     (λ back. (back ≡ recorder) × (after.table_id ≡ before.table_id) × (after.id ≡ before.id) × (after.me ≡ missed before.me)
-    × ((other : ℕ) × (other ≢ number) × Fits other before.me.0))
+    × ((other : ℕ) × (other ≢ number) × FitsNumber other before.me.0))
 
 -- of two seats, the first does so where both are of one mailbox, and else the second; the other one is the same
 abbrev pub ReplacesBy : ℕ → Option OwnedRecorder → MailboxSeat × MailboxSeat → Result (Option OwnedRecorder) (Option OwnedRecorder) → MailboxSeat × MailboxSeat → Type 0
@@ -169,7 +169,7 @@ ReplacesBy number recorder old result new =
 -- whichever of them it is may reach into the mailbox
 abbrev pub MayReachBy : ℕ → MailboxSeat × MailboxSeat → Type 0
 MayReachBy number seats =
-    (seats.0.table_id ≡ seats.1.table_id → MayReach number seats.0.me.0) × (seats.0.table_id ≢ seats.1.table_id → MayReach number seats.1.me.0)
+    (seats.0.table_id ≡ seats.1.table_id → MayReachInto number seats.0.me.0) × (seats.0.table_id ≢ seats.1.table_id → MayReachInto number seats.1.me.0)
 
 -- the keeper's seat of a mailbox, which has nothing there
 abbrev pub IsKeeper : TableId → Opener → MailboxSeat → Type 0
@@ -184,16 +184,16 @@ MayTake at (Laid recorder) = (at % 4 ≡ 2) × (at < 2 ^ 60 + 4)
 MayTake at (Met recorder) = ⊥
 
 -- The keeper takes what is there, or nothing is and its seat is unchanged. A recorder that it has laid there itself is there.
-abbrev pub Takes : MailboxSeat → Option OwnedRecorder → MailboxSeat → Type 0
-Takes before met after =
+abbrev pub KeeperTakes : MailboxSeat → Option OwnedRecorder → MailboxSeat → Type 0
+KeeperTakes before met after =
     MatchOption met (after ≡ before)
     (λ found. (number : ℕ) × (after.table_id ≡ before.table_id) × (after.me ≡ ((before.me.0.0, true, number + 2, Nothing), []))
-    × IsOfOpener before.me.0.0 (Some found) × Fits number before.me.0)
+    × IsOfOpener before.me.0.0 (Some found) × FitsNumber number before.me.0)
     × ((number : ℕ) (recorder : OwnedRecorder) → HasLaid number recorder before.me.0 → met ≡ Some recorder)
 
 -- a recorder was laid in a mailbox, and has been taken from it by that one's keeper
-abbrev pub HasMet : TableId → OwnedRecorder → MailboxSeat → Type 0
-HasMet table recorder seat = (seat.table_id ≡ table) × (seat.me.0.3 ≡ Met recorder)
+abbrev pub HasMetRecorder : TableId → OwnedRecorder → MailboxSeat → Type 0
+HasMetRecorder table recorder seat = (seat.table_id ≡ table) × (seat.me.0.3 ≡ Met recorder)
 
 -- A recorder is passed from its own mailbox to another, which has a keeper: what has come from that one's mailbox, and the recorder where it is
 -- back. Where both are one mailbox, it has come; where they are not, and it is not back, its own mailbox's keeper has taken it. Or the mailbox was
@@ -202,6 +202,6 @@ abbrev pub Passes : TableId → TableId → Opener → OwnedRecorder → Mailbox
     → Result (Option OwnedRecorder × Option OwnedRecorder) OwnedRecorder → MailboxSeat × MailboxSeat → Type 0
 Passes from to opener recorder before result after =
     MatchResult result
-    (λ passed. IsOfOpener opener passed.0 × MatchOption passed.1 (from ≢ to → HasMet from recorder after.1) (λ back. (back ≡ recorder) × (after.1 ≡ before.1))
+    (λ passed. IsOfOpener opener passed.0 × MatchOption passed.1 (from ≢ to → HasMetRecorder from recorder after.1) (λ back. (back ≡ recorder) × (after.1 ≡ before.1))
     × (passed.0 ≡ None → after.0 ≡ before.0) × (from ≡ to → passed ≡ (Some recorder, None)))
     (λ back. (back ≡ recorder) × (after ≡ before))

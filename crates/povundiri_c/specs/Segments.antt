@@ -32,8 +32,8 @@ abbrev pub IsFilledWith : Segment → Opener → ℕ → Option Contents → Opt
 IsFilledWith segment opener status old new = ((status ≡ 0) × HoldsSegment segment opener new) ⊎ ((status ≡ 13) × (new ≡ old))
 
 -- a segment and an opener of this sort were made, and a handle is filled with them, or there was no memory for that
-abbrev pub IsFilled : (Segment → Opener → Type 0) → ℕ → Option Contents → Option Contents → Type 0
-IsFilled Is status old new = (segment : Segment) × (opener : Opener) × Is segment opener × IsFilledWith segment opener status old new
+abbrev pub IsHandleFilled : (Segment → Opener → Type 0) → ℕ → Option Contents → Option Contents → Type 0
+IsHandleFilled Is status old new = (segment : Segment) × (opener : Opener) × Is segment opener × IsFilledWith segment opener status old new
 
 -- a handle is filled so, by a segment in a room; or there was no memory for what lends the room, and it is unchanged
 abbrev pub InLentRoom : (ℕ → Option Contents → Option Contents → Type 0) → ℕ → Option Contents → Option Contents → Type 0
@@ -56,13 +56,13 @@ setting_asked asked =
 abbrev pub IsCreated : SegmentShape → ℕ → Option Contents → Option Contents → Type 0
 IsCreated asked status old new =
     MatchOption (first_fault (open_checks asked.size asked.page asked.cursors asked.version))
-    (IsFilled (IsNew (setting_asked asked)) status old new ⊎ ((status ≡ status_of_open_fault NoMemory) × (new ≡ old)))
+    (IsHandleFilled (IsNew (setting_asked asked)) status old new ⊎ ((status ≡ status_of_open_fault NoMemory) × (new ≡ old)))
     (λ why. (status ≡ status_of_open_fault why) × (new ≡ old))
 
 -- a segment continues from the image; or the right fault is returned, and the handle is unchanged
 abbrev pub IsTakenUp : List ℕ → ℕ → ℕ → Option Contents → Option Contents → Type 0
 IsTakenUp words cursors status old new =
-    IsFilled (IsAdopted words cursors) status old new
+    IsHandleFilled (IsAdopted words cursors) status old new
     ⊎ ((why : AdoptFault) × IsFaultOf words cursors why × (status ≡ status_of_adopt_fault why) × (new ≡ old))
 
 -- ---- `close`

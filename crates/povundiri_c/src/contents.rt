@@ -8,7 +8,7 @@ ghost use Rattle.povundiri_c.specs.Recorders.{Adds, AtPlace};
 ghost use Rattle.povundiri_c.specs.Segments.{AnswersClose};
 
 use crate::joinable_recorder::JoinableRecorder;
-use crate::owned_segment::{OwnedSegment, Request};
+use crate::owned_segment::{JoinOrLend, OwnedSegment};
 use crate::status::{IN_USE, OTHER_KIND, Refused, SHORT};
 use core::mem::replace_with;
 use live_segment::Image;
@@ -96,7 +96,7 @@ impl Contents {
     pub(crate) fn serve(
         &mut self,
         mut passed: Box<Contents>,
-        request: Request,
+        request: JoinOrLend,
     ) -> (u32, Option<Box<Contents>>)
         ensures { ServesContents request passed.value self.old (result.0, option_map (λ back. back.value) result.1) self.new }
     {

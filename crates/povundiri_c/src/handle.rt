@@ -9,7 +9,7 @@ ghost use Rattle.povundiri_c.specs.OpaqueBoxes.{is_some};
 use crate::contents::Contents;
 use crate::joinable_recorder::JoinableRecorder;
 use crate::opaque_box::OpaqueBox;
-use crate::owned_segment::Request;
+use crate::owned_segment::JoinOrLend;
 use crate::status::{EMPTY, NOT_EMPTY};
 use core::mem::replace;
 
@@ -66,7 +66,7 @@ impl Handle {
     pub(crate) fn serve(
         &mut self,
         passed: Box<Contents>,
-        request: Request,
+        request: JoinOrLend,
     ) -> (u32, Option<Box<Contents>>)
         ensures { AnswersPassed request passed.value self.old.boxed.held (result.0, option_map (λ back. back.value) result.1) self.new.boxed.held }
     {

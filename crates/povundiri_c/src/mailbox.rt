@@ -3,7 +3,7 @@
 //! others have laid there: so a recorder of its own that it lays there itself is what it finds.
 
 ghost use Rattle.std.specs.Prelude.{◌≡◌, ◌+◌, ◌%◌, ◌^◌, ◌<◌, [], true, IfOk};
-ghost use Rattle.povundiri_c.specs.Mailbox.{BelongsTo, Fits, IsKeeper, IsMailbox, IsOfOpener, IsPut, IsRight, MayReach, MayReachBy, MayTake, HasReached, Passes, Replaces, ReplacesBy, Takes, begins, stranger};
+ghost use Rattle.povundiri_c.specs.Mailbox.{BelongsTo, FitsNumber, IsKeeper, IsMailbox, IsOfOpener, IsPut, IsRight, MayReachInto, MayReachBy, MayTake, HasReached, Passes, Replaces, ReplacesBy, KeeperTakes, begins, stranger};
 
 use crate::seat_state::SeatState;
 use crate::seats::arrange;
@@ -46,7 +46,7 @@ impl Play<Option<OwnedRecorder>, Note> for Look {
 struct See;
 
 impl Play<Option<OwnedRecorder>, Note> for See {
-    ghost then = { λ _ before found after. (after ≡ before) × Fits found before.0 };
+    ghost then = { λ _ before found after. (after ≡ before) × FitsNumber found before.0 };
 }
 
 // What is in the mailbox is taken, where its number is the one that was looked for.
@@ -57,9 +57,9 @@ impl Play<Option<OwnedRecorder>, Note> for Reach {
 }
 
 // Something is put there.
-struct Place;
+struct Put;
 
-impl Play<Option<OwnedRecorder>, Note> for Place {
+impl Play<Option<OwnedRecorder>, Note> for Put {
     ghost then = { λ _ before number after. IsPut number before after };
 }
 
@@ -100,7 +100,7 @@ impl Mailbox {
     ) -> Result<Option<OwnedRecorder>, Option<OwnedRecorder>>
         requires number { (number % 2 ≡ 0) × (number < 2 ^ 61) }
         requires seat { (seat.old.table_id ≡ self.now.table.shared.table_id) × (seat.old.me.1 ≡ []) }
-        requires may { MayReach number seat.old.me.0 }
+        requires may { MayReachInto number seat.old.me.0 }
         requires passed { IsOfOpener self.now.table.shared.key recorder }
         requires right { IsRight (number + 2) recorder }
         ensures { Replaces number recorder seat.old result seat.new }
@@ -111,7 +111,7 @@ impl Mailbox {
             return Err(recorder);
         }
         let found = shared.exchange(seat, 0, recorder);
-        shared.store::<Place>(seat, 0, number + 2);
+        shared.store::<Put>(seat, 0, number + 2);
         Ok(found)
     }
 
@@ -140,7 +140,7 @@ impl Mailbox {
     fn take(&self, keeper: &mut MailboxSeat) -> Option<OwnedRecorder>
         requires keeper { (keeper.old.table_id ≡ self.now.table.shared.table_id) × (keeper.old.me.1 ≡ []) × (keeper.old.me.0.1 ≡ true) }
         requires may { MayTake keeper.old.me.0.2 keeper.old.me.0.3 }
-        ensures { Takes keeper.old result keeper.new }
+        ensures { KeeperTakes keeper.old result keeper.new }
     {
         let number = self.table.shared.load::<See>(keeper, 0);
         if number % 4 != 2 || number >= LAST + 4 {

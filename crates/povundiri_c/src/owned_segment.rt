@@ -18,7 +18,7 @@ use std::sync::Arc;
 
 /// What a recorder is passed to its segment for: to be taken back, or to be lent this many more units.
 #[derive(Clone, Copy)]
-pub(crate) enum Request {
+pub(crate) enum JoinOrLend {
     Join,
     Lend(u32),
 }

@@ -3,7 +3,7 @@
 ghost use Rattle.std.specs.Prelude.{◌≡◌, ◌≢◌, ◌↔◌, ℕ, List, true, false, OnOk, IfErr, IfSome, IsErrOf};
 ghost use Rattle.std.specs.Io.KnownBytes.{Appends};
 ghost use Rattle.segment_image.specs.Watched.{has_failed, is_flushed, watched_inner};
-ghost use Rattle.persist_report_core.specs.Report.{IsCausedBy};
+ghost use Rattle.persist_report_core.specs.Report.{IsCausedByImage};
 ghost use Rattle.reading_shows.specs.Writing.{IsWrittenFrom};
 
 use crate::form::Form;
@@ -31,7 +31,7 @@ pub fn write_text<R: Read, W: Write>(
     requires reader_sound { has_failed reader.old ≡ false }
     requires writer_sound { has_failed writer.old ≡ false }
     ensures text { OnOk result (IfSome (R.remaining (watched_inner reader.old)) (λ bytes. (text : List ℕ) × IsWrittenFrom form.entry bytes text × Appends (W.contents (watched_inner writer.old)) (W.contents (watched_inner writer.new)) text)) }
-    ensures cause { IfErr result (λ fault. IfSome (R.remaining (watched_inner reader.old)) (λ bytes. IsCausedBy bytes fault)) }
+    ensures cause { IfErr result (λ fault. IfSome (R.remaining (watched_inner reader.old)) (λ bytes. IsCausedByImage bytes fault)) }
     ensures read { IsErrOf result CliFault.Read ↔ (has_failed reader.new ≡ true) }
     ensures write { IsErrOf result CliFault.Write ↔ (has_failed writer.new ≡ true) }
     ensures flushed { OnOk result (is_flushed writer.new ≡ true) }

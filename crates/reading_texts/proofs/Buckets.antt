@@ -6,7 +6,7 @@ use Rattle.reading_texts.specs.Rows.{highs_of, row_at, rows_of}
 use Rattle.reading_texts.specs.Exporting.{is_sparse}
 use Rattle.bucket_ranges.specs.Reading.{Histogram}
 use Rattle.std.proofs.lemmas.List.FromFn.{get_or-map-range_with_len, length-map-range_with_len}
-use Rattle.image_reader.specs.Readable.{IsCounted, IsReadable}
+use Rattle.image_reader.specs.Readable.{IsOnePerBucket, IsReadable}
 use Rattle.std.specs.Prelude.{◌+ℤ◌}
 use Rattle.std.proofs.lemmas.List.{length-drop, length-map, get_or-map}
 use Rattle.bucket_ranges.specs.declared.spec.Spec.{Spec}
@@ -24,7 +24,7 @@ length-behind : (boundaries : List ℕ) (n : ℕ) → length boundaries ≡ n + 
 length-behind boundaries n e = omega (arith, length-map (drop 1 boundaries) pos, length-drop 1 boundaries, e)
 
 -- as many as the counts
-pub length-highs : (spec : Spec) (counts : List (ℤ × ℕ)) → spec_fault spec ≡ None → IsCounted spec (length counts)
+pub length-highs : (spec : Spec) (counts : List (ℤ × ℕ)) → spec_fault spec ≡ None → IsOnePerBucket spec (length counts)
     → length (highs_of spec counts) ≡ length counts
 length-highs (Linear min max n) counts lawful counted =
     length-behind (boundaries_of (Linear min max n)) n (length-boundaries_of (Linear min max n) lawful (λ same. absurd (cc))) ∙ sym counted
@@ -50,7 +50,7 @@ bucket_behind spec counts i ne within =
     ∙ ap pos (get_or_after_one boundaries i 0 ∙ ap (λ k. get_or boundaries k 0) (omega arith)))
 
 -- so a bucket of counts that are all counted has a boundary behind it
-pub has_behind : (spec : Spec) (counts : List (ℤ × ℕ)) (i : ℕ) → spec_fault spec ≡ None → (spec ≡ Sparse → ⊥) → IsCounted spec (length counts)
+pub has_behind : (spec : Spec) (counts : List (ℤ × ℕ)) (i : ℕ) → spec_fault spec ≡ None → (spec ≡ Sparse → ⊥) → IsOnePerBucket spec (length counts)
     → i < length counts → i + 1 < length (boundaries_of spec)
 has_behind spec counts i lawful ne counted within =
     omega (

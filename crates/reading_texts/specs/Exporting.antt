@@ -8,7 +8,7 @@ use Rattle.bucket_ranges.specs.declared.spec.Spec.{Spec}
 use Rattle.bucket_ranges.specs.declared.spec.Spec.TheVariants.{Linear, Boolean, Custom, Sparse}
 use Rattle.bucket_ranges.specs.Reading.{Histogram, Reading}
 use Rattle.reading_texts.specs.declared.rows.HistRow.{HistRow}
-use Rattle.reading_texts.specs.Rows.{units_of, rows_of, AreInOrder}
+use Rattle.reading_texts.specs.Rows.{units_of, rows_of, AreSortedByName}
 
 -- parts, one behind the other
 abbrev pub joined : List (List ℕ) → List ℕ
@@ -140,4 +140,4 @@ export_in_order prefix hists reading =
 
 -- the text of a reading, with such names of metrics
 abbrev pub IsExportOf : List ℕ → Reading → List ℕ → Type 0
-IsExportOf prefix reading text = (hists : List Histogram) × AreInOrder hists reading × (text ≡ export_in_order prefix hists reading)
+IsExportOf prefix reading text = (hists : List Histogram) × AreSortedByName hists reading × (text ≡ export_in_order prefix hists reading)

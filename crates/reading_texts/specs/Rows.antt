@@ -33,6 +33,6 @@ abbrev pub rows_of : Histogram → List HistRow
 rows_of hist = map (row_at hist) (range_with_len 0 (length hist.counts))
 
 -- the histograms of a reading, ascending by the bytes of their names
-pub record AreInOrder (hists : List Histogram) (reading : Reading) : Type 0 where
+pub record AreSortedByName (hists : List Histogram) (reading : Reading) : Type 0 where
   pub same : IsPermutation hists reading.hists
   pub ascending : IsSortedByKey (λ hist. hist.name) (slice_cmp nat_cmp) hists

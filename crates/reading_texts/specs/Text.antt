@@ -10,7 +10,7 @@ use Rattle.bucket_ranges.specs.declared.spec.Spec.{Spec}
 use Rattle.bucket_ranges.specs.declared.spec.Spec.TheVariants.{Linear, Boolean, Custom, Sparse}
 use Rattle.bucket_ranges.specs.Reading.{Histogram, Reading}
 use Rattle.reading_texts.specs.declared.rows.HistRow.{HistRow}
-pub use Rattle.reading_texts.specs.Rows.{units_of, rows_of, AreInOrder}
+pub use Rattle.reading_texts.specs.Rows.{units_of, rows_of, AreSortedByName}
 
 -- a line: its fields with commas between them, and a line feed
 abbrev pub line : List (List ℕ) → List ℕ
@@ -93,4 +93,4 @@ text_in_order hists reading =
 
 -- the text of a reading
 abbrev pub IsTextOf : Reading → List ℕ → Type 0
-IsTextOf reading text = (hists : List Histogram) × AreInOrder hists reading × (text ≡ text_in_order hists reading)
+IsTextOf reading text = (hists : List Histogram) × AreSortedByName hists reading × (text ≡ text_in_order hists reading)

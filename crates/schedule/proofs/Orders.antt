@@ -2,7 +2,7 @@
 use Rattle.std.proofs.Common.{◌⊎◌, ◌≡◌, ◌∙◌, ℕ, zero, suc, ◌+◌, ◌<◌, ◌≤◌, List, [], ◌∷◌, ◌++◌, length, map, take, get_or, Some, None, inl, inr, ap, sym, refl, subst, arith}
 use Rattle.std.proofs.lemmas.List.{get_or-map, get_or-take, length-map, length-take-le, map-append, take_more}
 use Rattle.schedule.specs.declared.order.Order.{Order}
-use Rattle.schedule.specs.Order.{Opening, opening_in, order_in, order_view}
+use Rattle.schedule.specs.Order.{WorldOpening, opening_in, order_in, order_view}
 use Rattle.schedule.specs.declared.fault.ScheduleFault.{ScheduleFault}
 use Rattle.schedule.specs.declared.fault.ScheduleFault.TheVariants.{BadLine, NoMemory}
 use Rattle.schedule.specs.Schedule.{AreOrders, IsBadAt, IsFirstBad, IsRowFault}
@@ -31,7 +31,7 @@ lawful-before rows orders i j within before so_far none =
     some-there (one ∷ rest) (suc k) there missing = some-there rest k (omega arith) missing
 
 -- the first that asks for nothing
-pub first_bad : (first : List (List ℕ)) (later : List (List (List ℕ))) (opening : Opening) (orders : List Order) (i : ℕ) → i < length later
+pub first_bad : (first : List (List ℕ)) (later : List (List (List ℕ))) (opening : WorldOpening) (orders : List Order) (i : ℕ) → i < length later
     → opening_in first ≡ Some opening → AreOrders (take i later) orders → order_in (get_or later i []) ≡ None → IsFirstBad (first ∷ later) (i + 2)
 first_bad first later opening orders i within opened so_far none = record {
   place = suc i;
@@ -45,7 +45,7 @@ first_bad first later opening orders i within opened so_far none = record {
     before (suc j) less missing = lawful-before later orders i j (omega arith) (omega arith) so_far missing
 
 -- what is told of it
-pub fault_told : (first : List (List ℕ)) (later : List (List (List ℕ))) (opening : Opening) (orders : List Order) (i : ℕ) (fault : ScheduleFault)
+pub fault_told : (first : List (List ℕ)) (later : List (List (List ℕ))) (opening : WorldOpening) (orders : List Order) (i : ℕ) (fault : ScheduleFault)
     → i < length later → opening_in first ≡ Some opening → AreOrders (take i later) orders
     → (fault ≡ NoMemory) ⊎ ((fault ≡ BadLine (i + 2)) × (order_in (get_or later i []) ≡ None)) → IsRowFault (first ∷ later) fault
 fault_told first later opening orders i fault within opened so_far (inl same) = subst (IsRowFault (first ∷ later)) (sym same) tt

@@ -34,12 +34,12 @@ image_in (word ∷ file ∷ actors ∷ []) = if bytes_eq word (codes "adopt") th
 image_in _ = None
 
 -- what a world starts with: a new segment, or the image in a file
-pub data Opening : Type 0 where
-  New : NewWorld → Opening
-  Adopt : (file : List ℕ) (actors : ℕ) → Opening
+pub data WorldOpening : Type 0 where
+  New : NewWorld → WorldOpening
+  Adopt : (file : List ℕ) (actors : ℕ) → WorldOpening
 
 -- what the first record asks for, by either form
-abbrev pub opening_in : List (List ℕ) → Option Opening
+abbrev pub opening_in : List (List ℕ) → Option WorldOpening
 opening_in fields = option_or (option_map New (new_world_in fields)) (option_map (λ image. Adopt image.0 image.1) (image_in fields))
 
 -- how many events: one or more
@@ -68,7 +68,7 @@ order_in _ = None
 -- ---- the program's values
 
 -- what a world of the code starts with, as it is defined here
-abbrev pub opening_view : code_opening.Opening → Opening
+abbrev pub opening_view : code_opening.Opening → WorldOpening
 opening_view (opening.New segment) = New segment
 opening_view (opening.Adopt file actors) = Adopt file.items actors
 

@@ -5,7 +5,7 @@ use Rattle.schedule.specs.declared.fault.ScheduleFault.{ScheduleFault}
 use Rattle.schedule.specs.declared.fault.ScheduleFault.TheVariants.{Read, TooLong, NoMemory, BadLine}
 use Rattle.schedule.specs.declared.reading.Schedule.{Schedule}
 use Rattle.schedule.specs.declared.order.Order.{Order}
-use Rattle.schedule.specs.Order.{Opening, opening_in, opening_view, order_in, order_view}
+use Rattle.schedule.specs.Order.{WorldOpening, opening_in, opening_view, order_in, order_view}
 
 -- records ask for these, in order
 abbrev pub AreOrders : List (List (List ℕ)) → List Order → Type 0
@@ -39,7 +39,7 @@ IsRowFault rows _ = ⊥
 
 -- why later records are no orders, behind a first one that opens a world
 abbrev pub IsLaterFault : List (List (List ℕ)) → ScheduleFault → Type 0
-IsLaterFault later fault = (first : List (List ℕ)) (opening : Opening) → opening_in first ≡ Some opening → IsRowFault (first ∷ later) fault
+IsLaterFault later fault = (first : List (List ℕ)) (opening : WorldOpening) → opening_in first ≡ Some opening → IsRowFault (first ∷ later) fault
 
 -- the records of bytes
 abbrev pub rows_of : List ℕ → List (List (List ℕ))

@@ -117,8 +117,8 @@ HoldsMade words chain at (Sample histogram value) =
 -- A word of a record of such a type never changes: of a histogram's record its kind, its minimum, its maximum and its number of buckets, and
 -- all from the length of its name on; of a sample its histogram, its value, and all behind its mark; of a record of another type all
 -- behind its header.
-abbrev pub IsGiven : ℕ → ℕ → Type 0
-IsGiven tag i =
+abbrev pub NeverChanges : ℕ → ℕ → Type 0
+NeverChanges tag i =
     ((tag ≡ TYPE_HISTOGRAM) × (((HISTOGRAM_KIND ≤ i) × (i < HISTOGRAM_COUNTS)) ⊎ (HISTOGRAM_NAME_LENGTH ≤ i)))
     ⊎ ((tag ≡ TYPE_SAMPLE) × ((i ≡ SAMPLE_HISTOGRAM) ⊎ (i ≡ SAMPLE_VALUE) ⊎ (SAMPLE_LEAST ≤ i)))
     ⊎ ((tag ≢ TYPE_HISTOGRAM) × (tag ≢ TYPE_SAMPLE) × (BLOCK_HEADER ≤ i))
@@ -127,7 +127,7 @@ IsGiven tag i =
 abbrev pub HoldsStill : List ℕ → List ℕ → ℕ → Type 0
 HoldsStill opened words at =
     (field_at words at BLOCK_SIZE ≡ field_at opened at BLOCK_SIZE) × (field_at words at BLOCK_TYPE ≡ field_at opened at BLOCK_TYPE)
-    × ((i : ℕ) → i < field_at opened at BLOCK_SIZE → IsGiven (field_at opened at BLOCK_TYPE) i → field_at words at i ≡ field_at opened at i)
+    × ((i : ℕ) → i < field_at opened at BLOCK_SIZE → NeverChanges (field_at opened at BLOCK_TYPE) i → field_at words at i ≡ field_at opened at i)
 
 -- the counts, the single word and the marks of a record have a lawful form. The counts reference is 0 or a counts block, and
 -- is not 0 once the single word is off. Until then all counts and their marks are 0; the mark of the packed bucket is the

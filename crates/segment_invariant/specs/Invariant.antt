@@ -43,7 +43,7 @@ use Rattle.segment_machine.specs.Seats.{purse}
 use Rattle.segment_machine.specs.State.{State}
 use Rattle.segment_invariant.specs.Body.{Record, Counts, Sample, Body, held, histogram, counts, sample, other, words_of, is_claimed, Piece, extent_of, Listed, listed, Anatomy, layout_of, order_of, claims_of}
 use Rattle.segment_invariant.specs.Ledger.{form_at, key_of_bucket, noted_held, all_held, IsBalanced}
-use Rattle.segment_invariant.specs.Seen.{Stands, HasStill, HoldsAs, HasPlain, HasOwn, HasRecord, HasCounts, HasSample, IsFirst, IsFirstOf, IsReachedAt, WasFixed, Sees, Knows}
+use Rattle.segment_invariant.specs.Seen.{Stands, HasStill, HoldsAs, HasPlain, HasOwn, HasRecord, HasCounts, HasSample, IsFirst, IsFirstOf, IsReachedAt, WasFixed, Sees, IsRightlyKnown}
 
 -- ---- the list
 
@@ -59,11 +59,11 @@ StandsAs pieces l None =
     × (tag ≢ TYPE_SAMPLE) × (1 ≤ length payload)
 
 -- a published block is on the list; a counts block need not be
-abbrev pub IsListed : List Listed → ℕ → Body → Type 0
-IsListed records at (histogram r) = Contains records (record { reference = at; made = Some (made.Histogram r.name r.spec) })
-IsListed records at (sample s) = Contains records (record { reference = at; made = Some (made.Sample s.of s.value) })
-IsListed records at (other size tag next payload) = tag ≢ TYPE_COUNTS → Contains records (record { reference = at; made = None })
-IsListed records at _ = ⊤
+abbrev pub IsOnList : List Listed → ℕ → Body → Type 0
+IsOnList records at (histogram r) = Contains records (record { reference = at; made = Some (made.Histogram r.name r.spec) })
+IsOnList records at (sample s) = Contains records (record { reference = at; made = Some (made.Sample s.of s.value) })
+IsOnList records at (other size tag next payload) = tag ≢ TYPE_COUNTS → Contains records (record { reference = at; made = None })
+IsOnList records at _ = ⊤
 
 -- The nexts lead along the records in their order; these are the records of the opening, then those that actors linked; each
 -- stands as what it was given, and there are no others; the tail is on the list.
@@ -72,7 +72,7 @@ pub record ListIsKept (words : List ℕ) (opened anatomy : Anatomy) (actors : Li
   pub once : (front : List Listed) × (anatomy.records ≡ opened.records ++ front)
       × IsPermutation front (map listed (all_published actors))
   pub standing : All (λ l. StandsAs anatomy.pieces l l.made) anatomy.records
-  pub alone : (at : ℕ) (body : Body) → Stands anatomy.pieces at none body → IsListed anatomy.records at body
+  pub alone : (at : ℕ) (body : Body) → Stands anatomy.pieces at none body → IsOnList anatomy.records at body
   pub tail : IsStop (order_of anatomy) anatomy.tail
 
 -- ---- what records and counts blocks are
@@ -197,8 +197,8 @@ abbrev pub LoadedOff : Actor → Look → Type 0
 LoadedOff a look = LooksRight a look × (look.counts ≢ 0) × ((word : ℕ) × (look.single ≡ Some word) × (is_off word ≡ true))
 
 -- it has met a sample of a histogram that it knows
-abbrev pub MetSample : Actor → ℕ → Type 0
-MetSample a reference =
+abbrev pub MetKnownSample : Actor → ℕ → Type 0
+MetKnownSample a reference =
     (histogram : ℕ) × (known : Known) × (value : ℤ) × Sparse a histogram known × Contains a.seen.chain reference
     × SawSample a.seen histogram value reference
 
@@ -228,7 +228,7 @@ StandsRight shape anatomy id a (CountLoaded look bucket count) =
     (off : LoadedOff a look) × (bucket < buckets_of off.0.known.spec)
     × Contains a.seen.counts (record { at = look.counts + BLOCK_HEADER + bucket; word = count })
 StandsRight shape anatomy id a (SampleLoaded reference count) =
-    MetSample a reference × Contains a.seen.counts (record { at = reference + SAMPLE_COUNT; word = count })
+    MetKnownSample a reference × Contains a.seen.counts (record { at = reference + SAMPLE_COUNT; word = count })
 StandsRight shape anatomy id a (SumLoaded reference sum) = (known : Known) × Contains a.answers.names known × (known.reference ≡ reference)
 StandsRight shape anatomy id a (CursorLoaded cursor at) =
     IsReachedAt (order_of anatomy) (slice_index a.done.lost cursor) at × Contains a.seen.cursors (record { at = cursor; word = at })
@@ -356,8 +356,8 @@ AreAnswered records actors = (name : List ℕ) (kind : Spec) (at : ℕ) → IsFi
 
 -- nothing of a bucket can be in transit when an actor loads its count: in version 2 never, in version 1 where it is not the packed
 -- bucket, or no other actor is there
-abbrev pub IsSettled : Anatomy → List Actor → Actor → Known → ℕ → Type 0
-IsSettled anatomy actors a known bucket =
+abbrev pub NoneInTransit : Anatomy → List Actor → Actor → Known → ℕ → Type 0
+NoneInTransit anatomy actors a known bucket =
     (anatomy.version ≡ 2) ⊎ IsAlone actors a
     ⊎ ((r : Record) → HasRecord anatomy.pieces known.reference r → packed_bucket (form_at anatomy.version r) ≢ Some bucket)
 
@@ -375,7 +375,7 @@ LooksBack anatomy actors opener a = record {
       → tally_units (accepted_by a) known.name (bucket_key (Some known) bucket) ≤ units_packed (single_of anatomy.version (buckets_of known.spec) word) bucket;
   counted : (known : Known) (bucket count : ℕ) (r : Record) → Contains a.answers.names known → bucket < buckets_of known.spec
       → HasRecord anatomy.pieces known.reference r → r.counts ≢ 0 → SawCount a (r.counts + BLOCK_HEADER + bucket) count
-      → IsSettled anatomy actors a known bucket
+      → NoneInTransit anatomy actors a known bucket
       → tally_units (accepted_by a) known.name (bucket_key (Some known) bucket) ≤ count + units_packed (form_at anatomy.version r) bucket;
   samples : (known : Known) (value : ℤ) (at count : ℕ) → Contains a.answers.names known → IsFirstOf anatomy.records known.reference value at
       → SawCount a (at + SAMPLE_COUNT) count → tally_units (accepted_by a) known.name value ≤ count;
@@ -453,12 +453,12 @@ FinalsAreExact actors opener id a = record {
 }
 
 -- who owes the answer of a `hist` has published its record
-abbrev pub HasPublished : List Published → Known → Type 0
-HasPublished published mine = Contains published (record { reference = mine.reference; made = made.Histogram mine.name mine.spec })
+abbrev pub HasPublishedRecord : List Published → Known → Type 0
+HasPublishedRecord published mine = Contains published (record { reference = mine.reference; made = made.Histogram mine.name mine.spec })
 
 -- each histogram that a `hist` still has to return has been published
 abbrev pub OwesPublished : List Published → List Known → Type 0
-OwesPublished published owed = All (HasPublished published) owed
+OwesPublished published owed = All (HasPublishedRecord published) owed
 
 -- ---- what came too late
 
@@ -483,7 +483,7 @@ pub record Fits (shape : Dimensions) (anatomy : Anatomy) (cursors : List ℕ) (a
   pub numbered : a.segment.cursors ≡ length cursors
   pub sees : Sees anatomy cursors a.seen
   pub ahead : IsAhead (order_of anatomy) anatomy.tail cursors a.hand.place a.done.beaten a.done.lost
-  pub names : All (Knows anatomy) a.answers.names
+  pub names : All (IsRightlyKnown anatomy) a.answers.names
   pub own : All (HoldsOwn shape anatomy.pieces id) a.hand.own
   pub apart : (i j : ℕ) (x y : Own) → get_elem? a.hand.own i ≡ some x → get_elem? a.hand.own j ≡ some y → x.at ≡ y.at → i ≡ j
   pub owes : OwesPublished a.done.published a.answers.owed

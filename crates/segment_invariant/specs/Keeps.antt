@@ -32,14 +32,14 @@ OpeningIsKept = (shape : Dimensions) (version id cursors : ℕ) → IsShape shap
     → Invariant shape (blank version id shape.size) (new_state shape version id cursors)
 
 -- from one state the first actor has made so many recorders, one after the other, each with the units that were offered before
-abbrev pub HasMade : ℕ → State → State → Type 0
-HasMade zero old new = old ≡ new
-HasMade (suc n) old new = (mid said : State) × (units : ℕ) × HasMade n old mid × IsOffered mid 0 units said × IsSplit said 0 new
+abbrev pub HasMadeRecorders : ℕ → State → State → Type 0
+HasMadeRecorders zero old new = old ≡ new
+HasMadeRecorders (suc n) old new = (mid said : State) × (units : ℕ) × HasMadeRecorders n old mid × IsOffered mid 0 units said × IsSplit said 0 new
 
 -- a new segment is kept with any number of recorders
 abbrev pub OpeningsAreKept : Type 0
 OpeningsAreKept = (shape : Dimensions) (version id cursors recorders : ℕ) (state : State) → IsShape shape → (version ≡ 1) ⊎ (version ≡ 2)
-    → HasMade recorders (new_state shape version id cursors) state → Invariant shape (blank version id shape.size) state
+    → HasMadeRecorders recorders (new_state shape version id cursors) state → Invariant shape (blank version id shape.size) state
 
 -- ---- at events
 

@@ -61,8 +61,8 @@ HoldsAs pieces at body =
 -- ---- the first record of a name, and of a value
 
 -- a listed record is one of a histogram of a name
-abbrev pub IsNamed : List ℕ → Listed → Type 0
-IsNamed name l = (spec : Spec) × (l.made ≡ Some (made.Histogram name spec))
+abbrev pub IsRecordNamed : List ℕ → Listed → Type 0
+IsRecordNamed name l = (spec : Spec) × (l.made ≡ Some (made.Histogram name spec))
 
 -- and one of a sample of a value
 abbrev pub IsValued : ℕ → ℤ → Listed → Type 0
@@ -70,7 +70,7 @@ IsValued of value l = l.made ≡ Some (made.Sample of value)
 
 -- the histogram of a name is the first record of it on the list
 abbrev pub IsFirst : List Listed → List ℕ → Spec → ℕ → Type 0
-IsFirst records name spec at = IsFirstThat (IsNamed name) records (record { reference = at; made = Some (made.Histogram name spec) })
+IsFirst records name spec at = IsFirstThat (IsRecordNamed name) records (record { reference = at; made = Some (made.Histogram name spec) })
 
 -- the sample of a value is the first record of it on the list
 abbrev pub IsFirstOf : List Listed → ℕ → ℤ → ℕ → Type 0
@@ -139,8 +139,8 @@ WasMet pieces seen s =
     → Contains seen.chain at × SawSample seen x.of x.value at
 
 -- what an actor knows of a histogram
-abbrev pub Knows : Anatomy → Known → Type 0
-Knows anatomy known = record {
+abbrev pub IsRightlyKnown : Anatomy → Known → Type 0
+IsRightlyKnown anatomy known = record {
   first_spec : Spec;
   first : IsFirst anatomy.records known.name first_spec known.reference;
   same : SameSpec first_spec known.spec;

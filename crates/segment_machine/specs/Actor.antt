@@ -239,5 +239,5 @@ accepted_since opener a = drop (length opener.entries.first) a.entries.inherited
 -- ---- what it owns
 
 -- no two blocks of its own begin at one word
-abbrev pub AreApart : Actor → Type 0
-AreApart a = a.hand.place ≢ Spent → (i j : ℕ) (x y : Own) → get_elem? a.hand.own i ≡ some x → get_elem? a.hand.own j ≡ some y → x.at ≡ y.at → i ≡ j
+abbrev pub AreOwnBlocksApart : Actor → Type 0
+AreOwnBlocksApart a = a.hand.place ≢ Spent → (i j : ℕ) (x y : Own) → get_elem? a.hand.own i ≡ some x → get_elem? a.hand.own j ≡ some y → x.at ≡ y.at → i ≡ j

@@ -285,8 +285,8 @@ sparse_segment =
 -- ---- batches
 
 -- items of amount 0, then the sum; a batch of no items and no sum has no entries; a sum costs its size in units of 2^31
-abbrev pub Batches : Type 0
-Batches =
+abbrev pub BatchExamples : Type 0
+BatchExamples =
     (batch_entries letter_a boolean ((pos 0, 2) ∷ (pos 1, 3) ∷ []) (pos 3)
     ≡ record { name = letter_a; key = pos 0; units = 2; amount = pos 0 }
     ∷ record { name = letter_a; key = pos 1; units = 3; amount = pos 0 }

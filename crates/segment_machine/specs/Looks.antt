@@ -14,7 +14,7 @@ use Rattle.segment_machine.specs.Note.{looks, answers}
 use Rattle.segment_machine.specs.State.{State}
 use Rattle.segment_machine.specs.Reached.{new_state, IsState}
 use Rattle.segment_machine.specs.Examples.{shape, letter_a, known_a, mounted, frozen}
-use Rattle.segment_machine.specs.Worked.{Deed, acts, played, actor_of, by, claims, moves, hist, hist_found, two_recorders, two_packed}
+use Rattle.segment_machine.specs.Worked.{RunAction, acts, played, actor_of, by, claims, moves, hist, hist_found, two_recorders, two_packed}
 use Rattle.segment_machine.specs.Races.{finds_packed, disables, counts_zero}
 
 -- ---- a snapshot
@@ -30,7 +30,7 @@ snapshot = record {
 }
 
 -- two samples of 1 are packed, and one of 0 mounts the counts; then a snapshot looks at all buckets, the sum and the redundant count
-abbrev pub snapping : ℕ → List Deed
+abbrev pub snapping : ℕ → List RunAction
 snapping version =
     two_packed ++ hist_found 2 12 known_a ++ finds_packed 2 0 ++ by 2 (claims 32 10 2 ++ disables ++ moves version) ++ counts_zero 2
     ++ acts 1 (looks ∷ []) (packing_event (load_single 16)) []
@@ -54,7 +54,7 @@ abbrev pub known_b : Known
 known_b = record { name = 66 ∷ []; spec = spec.Boolean; reference = 32 }
 
 -- the records `A` and `B` are made; then two recorders ask one cursor in turn, and the first once more
-abbrev pub sharing : List Deed
+abbrev pub sharing : List RunAction
 sharing =
     two_recorders ++ hist 1 12 known_a ((0, 2) ∷ (1, 1) ∷ (2, 2) ∷ (3, 3) ∷ (10, 1) ∷ (11, 65) ∷ [])
     ++ hist 1 16 known_b ((0, 2) ∷ (1, 1) ∷ (2, 2) ∷ (3, 3) ∷ (10, 1) ∷ (11, 66) ∷ [])

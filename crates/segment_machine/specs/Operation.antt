@@ -5,7 +5,7 @@ use Rattle.alloc_core.specs.Event as atomic
 -- What can happen to a word: what an allocation or a publish does, or a sum modulo 2^64, the greater of it and another number,
 -- or another number in its place.
 pub data Operation : Type 0 where
-  single : atomic.Event → Operation
+  single : atomic.Access → Operation
   add : (at amount : ℕ) → Operation
   raise : (at least : ℕ) → Operation
   swap : (at value : ℕ) → Operation

@@ -17,16 +17,16 @@ use Rattle.segment_machine.specs.Note.{begins, asks, takes, has_taken, ends}
 use Rattle.segment_machine.specs.State.{State}
 use Rattle.segment_machine.specs.Reached.{new_state, IsState}
 use Rattle.segment_machine.specs.Examples.{shape, letter_a, letter_s, one, known_a, head_words, boolean_words, counts_words, in_transit, stopped_frozen, taken_once, taken_once_frozen}
-use Rattle.segment_machine.specs.Worked.{Deed, acts, played, actor_of, by, claims, fills, meets, moves, hist, hist_found, two_recorders, two_packed, delta}
+use Rattle.segment_machine.specs.Worked.{RunAction, acts, played, actor_of, by, claims, fills, meets, moves, hist, hist_found, two_recorders, two_packed, delta}
 
 -- the state after deeds, from a new segment
-abbrev pub after : ℕ → List Deed → State
+abbrev pub after : ℕ → List RunAction → State
 after version deeds = played version (new_state shape version 7 0) deeds
 
 -- ---- stopped in transit
 
 -- a call of a sample begins and finds the packed word, and no counts
-abbrev pub finds_packed : ℕ → ℕ → List Deed
+abbrev pub finds_packed : ℕ → ℕ → List RunAction
 finds_packed id value =
     acts id (begins letter_a 1 (one value ∷ []) ∷ []) (packing_event (load_single 16)) [] ∷ by id (counting_event (load_counts 16) ∷ [])
 
@@ -35,26 +35,26 @@ abbrev pub disables : List Event
 disables = packing_event (mount_counts 16 32) ∷ packing_event (load_single 16) ∷ packing_event (disable 16 4294967298) ∷ []
 
 -- the call of a sample of 0 ends
-abbrev pub counts_zero : ℕ → List Deed
+abbrev pub counts_zero : ℕ → List RunAction
 counts_zero id = by id (counting_event (add_count 36 1) ∷ []) ++ acts id [] (counting_event (add_redundant 16 1)) (ends ∷ []) ∷ []
 
-abbrev pub stopping : List Deed
+abbrev pub stopping : List RunAction
 stopping = two_packed ++ hist_found 2 12 known_a ++ finds_packed 2 0 ++ by 2 (claims 32 10 2 ++ disables)
 
 -- it stops with these words, and so many units of each bucket in transit
-abbrev pub IsStopped : ℕ → List ℕ → List ℕ → Type 0
-IsStopped version words transit =
+abbrev pub StopsInTransit : ℕ → List ℕ → List ℕ → Type 0
+StopsInTransit version words transit =
     IsState shape version 7 0 (after version stopping) × ((after version stopping).words ≡ words)
     × (map (transit_of (after version stopping).actors 16) (0 ∷ 1 ∷ 2 ∷ []) ≡ transit)
 
 -- in version 1 two units are in transit, in version 2 none
 abbrev pub StoppedRun : Type 0
-StoppedRun = IsStopped 1 in_transit (0 ∷ 2 ∷ 0 ∷ []) × IsStopped 2 stopped_frozen (0 ∷ 0 ∷ 0 ∷ [])
+StoppedRun = StopsInTransit 1 in_transit (0 ∷ 2 ∷ 0 ∷ []) × StopsInTransit 2 stopped_frozen (0 ∷ 0 ∷ 0 ∷ [])
 
 -- ---- two takers of a packed word
 
 -- The second recorder begins a delta and stalls. The first counts 0, which mounts the counts, then 1, and takes all; then the other goes on.
-abbrev pub stalling : ℕ → List Deed
+abbrev pub stalling : ℕ → List RunAction
 stalling version =
     two_packed ++ hist_found 2 12 known_a ++ acts 2 (takes letter_a ∷ []) (packing_event (load_single 16)) []
     ∷ finds_packed 1 0 ++ by 1 (claims 32 10 2 ++ disables ++ moves version) ++ counts_zero 1
@@ -81,7 +81,7 @@ StalledRun = IsStalled 1 taken_once × IsStalled 2 taken_once_frozen
 
 -- Both recorders count a 0, find no counts, and claim a block. The first mounts its own; the second purges its own, and counts in those of the
 -- first.
-abbrev pub losing : List Deed
+abbrev pub losing : List RunAction
 losing =
     two_packed ++ hist_found 2 12 known_a ++ finds_packed 1 0 ++ finds_packed 2 0
     ++ by 1 (claims 32 10 2) ++ by 2 (claims 42 10 2) ++ by 1 disables
@@ -106,21 +106,21 @@ abbrev pub minus_five : ℕ → Entry
 minus_five units = sample_entry letter_s [] (negsuc 4, units)
 
 -- a call that counts units of -5 finds no sample, and claims a block for one
-abbrev pub finds_none : ℕ → ℕ → ℕ → List Deed
+abbrev pub finds_none : ℕ → ℕ → ℕ → List RunAction
 finds_none id units at =
     acts id (begins letter_s units (minus_five units ∷ []) ∷ []) (walking_event (load_next 16)) []
     ∷ by id (claims at 8 3 ++ fills at ((0, 16) ∷ (1, 18446744073709551611) ∷ []))
     ++ acts id (asks at (made.Sample 16 (negsuc 4)) ∷ []) (publishing_event (store_own_next at)) [] ∷ by id (publishing_event load_tail ∷ [])
 
 -- it finds the sample at 40, and counts there
-abbrev pub counts_first : ℕ → ℕ → List Deed
+abbrev pub counts_first : ℕ → ℕ → List RunAction
 counts_first id units =
     let entry = minus_five units in
     by id (walking_event (load_next 16) ∷ meets 40 (2 ∷ 4 ∷ 5 ∷ []) ++ counting_event (add_count 46 units) ∷ counting_event (add_sum 16 entry.amount) ∷ [])
     ++ acts id [] (counting_event (add_redundant 16 units)) (ends ∷ []) ∷ []
 
 -- Both make a sample of -5. The second links its own first, and the first finds it behind the tail, moves the tail on and tries again.
-abbrev pub racing : List Deed
+abbrev pub racing : List RunAction
 racing =
     two_recorders ++ hist 1 12 known_s ((0, 4) ∷ (10, 1) ∷ (11, 83) ∷ []) ++ hist_found 2 12 known_s
     ++ finds_none 1 2 32 ++ finds_none 2 1 40

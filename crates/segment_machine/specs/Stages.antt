@@ -3,14 +3,14 @@
 use Rattle.std.specs.Prelude.{◌≡◌, true, false, ℕ, ◌+◌, ◌≤◌, List, Option, Some, None}
 use Rattle.std.specs.List.{Contains}
 use Rattle.segment_image.specs.declared.layout.TheConstants.{BLOCK_NEXT, QUEUE, TYPE_HISTOGRAM, TYPE_SAMPLE}
-use Rattle.alloc_core.specs.declared.alloc.Stage.{Stage as AllocStage}
-use Rattle.alloc_core.specs.declared.alloc.Stage.TheVariants.{LoadFlags, LoadFree, ExchangeFree, StoreSize, StoreCookie, StoreType, SetFull, Claimed, Full, Corrupt}
+use Rattle.alloc_core.specs.declared.alloc.AllocStage.{AllocStage}
+use Rattle.alloc_core.specs.declared.alloc.AllocStage.TheVariants.{LoadFlags, LoadFree, ExchangeFree, StoreSize, StoreCookie, StoreType, SetFull, Claimed, Full, Corrupt}
 use Rattle.alloc_core.specs.Alloc.{Allocation, cookie_of, stage_of_plan, IsLawful}
 use Rattle.alloc_core.specs.Alloc as alloc
 use Rattle.alloc_core.specs.Event as atomic
 use Rattle.alloc_core.specs.Planned.{planned, is_pointer}
-use Rattle.list_core.specs.declared.publish.Stage.{Stage as PublishStage}
-use Rattle.list_core.specs.declared.publish.Stage.TheVariants.{StoreOwnNext, LoadTail, Link, MoveTail, Published, Strayed}
+use Rattle.list_core.specs.declared.publish.PubStage.{PubStage}
+use Rattle.list_core.specs.declared.publish.PubStage.TheVariants.{StoreOwnNext, LoadTail, Link, MoveTail, Published, Strayed}
 use Rattle.list_core.specs.Publish.{Publishing}
 use Rattle.list_core.specs.Publish as publish
 use Rattle.list_core.specs.Walk.{IsPrefix, said_of, given_after, stands_behind}
@@ -45,40 +45,40 @@ allocates allocation Corrupt = None
 
 -- where the actor stands at a stage: it has loaded and stored what the allocation has; in the end it has a block of its own, or it
 -- has set the full flag, or has seen the corrupt one
-abbrev pub StandsAt : Actor → Allocation → AllocStage → Type 0
-StandsAt a allocation LoadFlags = MayTurn a
-StandsAt a allocation LoadFree = a.hand.place ≡ FlagsLoaded
-StandsAt a allocation (ExchangeFree next purpose) =
+abbrev pub StandsAtAllocStage : Actor → Allocation → AllocStage → Type 0
+StandsAtAllocStage a allocation LoadFlags = MayTurn a
+StandsAtAllocStage a allocation LoadFree = a.hand.place ≡ FlagsLoaded
+StandsAtAllocStage a allocation (ExchangeFree next purpose) =
     (a.hand.place ≡ FreeLoaded allocation.seen) × (is_pointer a.segment.shape allocation.seen ≡ true)
     × (stage_of_plan allocation.seen (planned allocation.seen allocation.size a.segment.shape) ≡ ExchangeFree next purpose)
-StandsAt a allocation (StoreSize at size purpose) = a.hand.place ≡ Raised at size allocation.size
-StandsAt a allocation (StoreCookie at size purpose) = a.hand.place ≡ Sized at size allocation.size
-StandsAt a allocation (StoreType at size) = a.hand.place ≡ Marked at size
-StandsAt a allocation SetFull = a.hand.place ≡ FreeLoaded allocation.seen
-StandsAt a allocation (Claimed at size) = (a.hand.place ≡ Idle) × Contains a.hand.own (new_own at size allocation.tag)
-StandsAt a allocation Full = (a.hand.place ≡ Idle) × (a.done.filled ≡ true)
-StandsAt a allocation Corrupt = (a.hand.place ≡ Idle) × (a.seen.corrupt ≡ true)
+StandsAtAllocStage a allocation (StoreSize at size purpose) = a.hand.place ≡ Raised at size allocation.size
+StandsAtAllocStage a allocation (StoreCookie at size purpose) = a.hand.place ≡ Sized at size allocation.size
+StandsAtAllocStage a allocation (StoreType at size) = a.hand.place ≡ Marked at size
+StandsAtAllocStage a allocation SetFull = a.hand.place ≡ FreeLoaded allocation.seen
+StandsAtAllocStage a allocation (Claimed at size) = (a.hand.place ≡ Idle) × Contains a.hand.own (new_own at size allocation.tag)
+StandsAtAllocStage a allocation Full = (a.hand.place ≡ Idle) × (a.done.filled ≡ true)
+StandsAtAllocStage a allocation Corrupt = (a.hand.place ≡ Idle) × (a.seen.corrupt ≡ true)
 
 -- an actor goes along with an allocation of a block that it may have
-pub record Allocates (a : Actor) (allocation : Allocation) : Type 0 where
+pub record FollowsAllocation (a : Actor) (allocation : Allocation) : Type 0 where
   pub lawful : IsLawful allocation
   pub shape : allocation.shape ≡ a.segment.shape
   pub least : TYPE_HISTOGRAM ≤ allocation.tag
   pub most : allocation.tag ≤ TYPE_SAMPLE
-  pub stands : StandsAt a allocation allocation.stage
+  pub stands : StandsAtAllocStage a allocation allocation.stage
 
 -- while an actor agrees with an allocation, the next event is one that it may do, and they agree again
 abbrev pub AllocationsAgree : Type 0
-AllocationsAgree = (size version : ℕ) (a : Actor) (allocation : Allocation) (event : atomic.Event)
-    → Allocates a allocation → alloc.next_event allocation ≡ Some event
+AllocationsAgree = (size version : ℕ) (a : Actor) (allocation : Allocation) (event : atomic.Access)
+    → FollowsAllocation a allocation → alloc.next_event allocation ≡ Some event
     → (act : AllocatingEvent) × (allocates allocation allocation.stage ≡ Some act) × (allocating.operation size version act ≡ single event)
     × allocating.Ready a act
-    × ((found : ℕ) → allocating.Learned a act found → Allocates (allocating.next a act found) (alloc.moved allocation found))
+    × ((found : ℕ) → allocating.Learned a act found → FollowsAllocation (allocating.next a act found) (alloc.moved allocation found))
 
 -- ---- a publish
 
 -- the event that is next at a stage
-abbrev pub publishes : ℕ → PublishStage → Option PublishingEvent
+abbrev pub publishes : ℕ → PubStage → Option PublishingEvent
 publishes reference StoreOwnNext = Some (store_own_next reference)
 publishes reference LoadTail = Some load_tail
 publishes reference (Link tail) = Some (link tail reference)
@@ -87,26 +87,26 @@ publishes reference Published = None
 publishes reference Strayed = None
 
 -- the actor's own block at a reference holds this, and may be published so; its next is this
-abbrev pub Offers : Actor → ℕ → Made → ℕ → Type 0
-Offers a reference made next =
+abbrev pub OffersBlock : Actor → ℕ → Made → ℕ → Type 0
+OffersBlock a reference made next =
     (own : Own) × (own_at a.hand.own reference ≡ Some own) × (own.next ≡ next) × (own.made ≡ Some made) × IsPayload made own.payload
     × MayPublish a own made
 
 -- Where the actor stands at a stage: its block waits until it is linked, and the tail that it loaded, or the record that beat it, is
 -- that of the publish; in the end it has published. It never strays.
-abbrev pub PublishesAt : Actor → ℕ → Made → PublishStage → Type 0
-PublishesAt a reference made StoreOwnNext = MayTurn a × Offers a reference made 0
-PublishesAt a reference made LoadTail = MayTurn a × Offers a reference made QUEUE
-PublishesAt a reference made (Link tail) = (a.hand.place ≡ TailLoaded tail) × Offers a reference made QUEUE
+abbrev pub PublishesAt : Actor → ℕ → Made → PubStage → Type 0
+PublishesAt a reference made StoreOwnNext = MayTurn a × OffersBlock a reference made 0
+PublishesAt a reference made LoadTail = MayTurn a × OffersBlock a reference made QUEUE
+PublishesAt a reference made (Link tail) = (a.hand.place ≡ TailLoaded tail) × OffersBlock a reference made QUEUE
 PublishesAt a reference made (MoveTail old new true) =
     (a.hand.place ≡ Linked new old) × Contains a.done.published (record { reference = reference; made = made })
-PublishesAt a reference made (MoveTail old new false) = (a.hand.place ≡ Beaten old new) × Offers a reference made QUEUE
+PublishesAt a reference made (MoveTail old new false) = (a.hand.place ≡ Beaten old new) × OffersBlock a reference made QUEUE
 PublishesAt a reference made Published = (a.hand.place ≡ Idle) × Contains a.done.published (record { reference = reference; made = made })
 PublishesAt a reference made Strayed = ⊥
 
 -- the same of a publish
 abbrev pub PublishesAgree : Type 0
-PublishesAgree = (size version : ℕ) (a : Actor) (made : Made) (p : Publishing) (event : atomic.Event)
+PublishesAgree = (size version : ℕ) (a : Actor) (made : Made) (p : Publishing) (event : atomic.Access)
     → PublishesAt a p.reference made p.stage → publish.next_event p ≡ Some event
     → (act : PublishingEvent) × (publishes p.reference p.stage ≡ Some act) × (publishing.operation size version act ≡ single event)
     × publishing.Ready a act

@@ -101,9 +101,9 @@ pub record IsNextOf (a : Actor) (at found : ℕ) : Type 0 where
       → (chain : List ℕ) × IsPrefix a.seen.chain chain × (stands_behind chain ≡ at) × All (Contains chain) (records_met a)
 
 -- a word that it saw stays
-abbrev pub IsSame : Actor → ℕ → ℕ → Type 0
-IsSame a at found = (word : ℕ) → word_seen a.seen.words at ≡ Some word → found ≡ word
+abbrev pub StaysAsSeen : Actor → ℕ → ℕ → Type 0
+StaysAsSeen a at found = (word : ℕ) → word_seen a.seen.words at ≡ Some word → found ≡ word
 
 abbrev pub Learned : Actor → WalkingEvent → ℕ → Type 0
 Learned a (load_next at) found = IsNextOf a at found
-Learned a (load_published at index) found = EndsWithin a at index found × IsSame a (at + index) found
+Learned a (load_published at index) found = EndsWithin a at index found × StaysAsSeen a (at + index) found

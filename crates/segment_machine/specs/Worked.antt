@@ -29,11 +29,11 @@ use Rattle.segment_machine.specs.Examples.{shape, letter_a, letter_s, boolean, o
 
 -- What is done: a recorder does an event, with notes before and behind it; the opener offers units to its next recorder, makes that one,
 -- or joins one.
-pub data Deed : Type 0 where
-  acts : (id : ℕ) (before : List Note) (event : Event) (behind : List Note) → Deed
-  offers : (units : ℕ) → Deed
-  makes : Deed
-  joins : (id : ℕ) → Deed
+pub data RunAction : Type 0 where
+  acts : (id : ℕ) (before : List Note) (event : Event) (behind : List Note) → RunAction
+  offers : (units : ℕ) → RunAction
+  makes : RunAction
+  joins : (id : ℕ) → RunAction
 
 -- an actor after notes
 abbrev pub noted_by : Actor → List Note → Actor
@@ -45,7 +45,7 @@ abbrev pub actor_of : State → ℕ → Actor
 actor_of state id = elim (get_elem? state.actors id) [ some a ↦ a | none ↦ spent ]
 
 -- the state after a deed
-abbrev pub done : ℕ → State → Deed → State
+abbrev pub done : ℕ → State → RunAction → State
 done version state (acts id before event behind) =
     let size = length state.words in
     let words = after size version event (memory state) in
@@ -57,14 +57,14 @@ done version state (joins id) =
     record state { actors = slice_set (slice_set state.actors 0 (joined (actor_of state 0) (actor_of state id))) id spent }
 
 -- and after deeds, one after the other
-abbrev pub played : ℕ → State → List Deed → State
+abbrev pub played : ℕ → State → List RunAction → State
 played version state [] = state
 played version state (deed ∷ rest) = played version (done version state deed) rest
 
 -- ---- parts of calls
 
 -- events of one actor, one behind the other
-abbrev pub by : ℕ → List Event → List Deed
+abbrev pub by : ℕ → List Event → List RunAction
 by id events = map (λ event. acts id [] event []) events
 
 -- a block of so many words is claimed at the free pointer
@@ -90,7 +90,7 @@ abbrev pub known_s : Known
 known_s = record { name = letter_s; spec = spec.Sparse; reference = 42 }
 
 -- a `hist` makes a record of 16 words behind a block, finds it, and is answered
-abbrev pub hist : ℕ → ℕ → Known → List (ℕ × ℕ) → List Deed
+abbrev pub hist : ℕ → ℕ → Known → List (ℕ × ℕ) → List RunAction
 hist id tail known words =
     let at = known.reference in
     by id (walking_event (load_next tail) ∷ claims at 16 1 ++ fills at words)
@@ -99,30 +99,30 @@ hist id tail known words =
     ++ acts id [] (walking_event (load_published at 7)) (knows known ∷ []) ∷ []
 
 -- a `hist` finds the record behind a block
-abbrev pub hist_found : ℕ → ℕ → Known → List Deed
+abbrev pub hist_found : ℕ → ℕ → Known → List RunAction
 hist_found id behind known =
     by id (walking_event (load_next behind) ∷ meets known.reference (2 ∷ 14 ∷ 15 ∷ 4 ∷ 5 ∷ 6 ∷ []))
     ++ acts id [] (walking_event (load_published known.reference 7)) (knows known ∷ []) ∷ []
 
 -- a sample of 1 is packed
-abbrev pub packs_one : ℕ → ℕ → List Deed
+abbrev pub packs_one : ℕ → ℕ → List RunAction
 packs_one old new =
     acts 1 (begins letter_a 1 (one 1 ∷ []) ∷ []) (packing_event (load_single 16)) []
     ∷ by 1 (packing_event (pack 16 old new) ∷ counting_event (add_sum 16 (pos 1)) ∷ [])
     ++ acts 1 [] (counting_event (add_redundant 16 1)) (ends ∷ []) ∷ []
 
 -- two recorders are made, with ten units each
-abbrev pub two_recorders : List Deed
+abbrev pub two_recorders : List RunAction
 two_recorders = offers 10 ∷ makes ∷ offers 10 ∷ makes ∷ []
 
 -- two samples of 1 are packed
-abbrev pub two_packed : List Deed
+abbrev pub two_packed : List RunAction
 two_packed =
     two_recorders ++ hist 1 12 known_a ((0, 2) ∷ (1, 1) ∷ (2, 2) ∷ (3, 3) ∷ (10, 1) ∷ (11, 65) ∷ [])
     ++ packs_one 0 4294967297 ++ packs_one 4294967297 4294967298
 
 -- a delta takes both
-abbrev pub packing : List Deed
+abbrev pub packing : List RunAction
 packing =
     two_packed
     ++ acts 1 (takes letter_a ∷ []) (packing_event (load_single 16)) []
@@ -134,7 +134,7 @@ abbrev pub moves : ℕ → List Event
 moves version = if version == 1 then packing_event (add_moved 32 1 2) ∷ [] else []
 
 -- a delta where counts are mounted: of all three buckets, then of the sum
-abbrev pub delta : ℕ → ℕ → ℕ → ℤ → List Deed
+abbrev pub delta : ℕ → ℕ → ℕ → ℤ → List RunAction
 delta id least ones sum =
     acts id (takes letter_a ∷ []) (packing_event (load_single 16)) []
     ∷ by id (counting_event (load_counts 16)
@@ -142,7 +142,7 @@ delta id least ones sum =
     ++ acts id [] (taking_event (swap_sum_mark 16 sum)) (has_taken ∷ []) ∷ []
 
 -- A sample of 0 mounts a counts block, disables the word, moves its units and counts its own. A delta takes it.
-abbrev pub mounting : ℕ → List Deed
+abbrev pub mounting : ℕ → List RunAction
 mounting version =
     hist_found 2 12 known_a
     ++ acts 2 (begins letter_a 1 (one 0 ∷ []) ∷ []) (packing_event (load_single 16)) []
@@ -156,7 +156,7 @@ mounting version =
 abbrev pub minus_five : Entry
 minus_five = sample_entry letter_s [] (negsuc 4, 2)
 
-abbrev pub sampling : List Deed
+abbrev pub sampling : List RunAction
 sampling =
     hist 1 16 known_s ((0, 4) ∷ (10, 1) ∷ (11, 83) ∷ [])
     ++ acts 1 (begins letter_s 2 (minus_five ∷ []) ∷ []) (walking_event (load_next 42)) []
@@ -172,7 +172,7 @@ sampling =
 abbrev pub item : ℕ → ℕ → Entry
 item value units = item_entry letter_a boolean (pos value, units)
 
-abbrev pub batching : List Deed
+abbrev pub batching : List RunAction
 batching =
     acts 2 (begins letter_a 2 (item 0 2 ∷ []) ∷ []) (packing_event (load_single 16)) []
     ∷ by 2 (map counting_event (load_counts 16 ∷ add_count 36 2 ∷ add_redundant 16 2 ∷ []))
@@ -181,14 +181,14 @@ batching =
     ++ acts 2 (goes_on (sum_entry letter_a (pos 3)) 0 ∷ []) (counting_event (add_sum 16 (pos 3))) (ends ∷ []) ∷ joins 1 ∷ joins 2 ∷ []
 
 -- a delta of `S`, whose sample stands at 64
-abbrev pub sparse_delta : ℕ → List Deed
+abbrev pub sparse_delta : ℕ → List RunAction
 sparse_delta id =
     acts id (takes letter_s ∷ []) (taking_event (load_count 70)) []
     ∷ by id (map taking_event (raise_mark 71 2 ∷ load_sum 42 ∷ []))
     ++ acts id [] (taking_event (swap_sum_mark 42 (negsuc 9))) (has_taken ∷ []) ∷ []
 
 -- a third recorder is made when none is outstanding, takes the rest, and is joined
-abbrev pub last_delta : List Deed
+abbrev pub last_delta : List RunAction
 last_delta = makes ∷ hist_found 3 16 known_s ++ sparse_delta 3 ++ hist_found 3 12 known_a ++ delta 3 3 5 (pos 5) ++ joins 3 ∷ []
 
 -- the worked run, played in a version

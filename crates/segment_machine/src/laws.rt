@@ -4,7 +4,7 @@
 
 ghost use Rattle.segment_machine.specs.Laws.{StepsChangeOne, KeysAreLeast};
 ghost use Rattle.segment_machine.specs.Stages.{AllocationsAgree, PublishesAgree, WalksAgree};
-ghost use Rattle.segment_machine.specs.Examples.{Keys, PackedRun, MountingRun, TakerRuns, TakingRun, Batches};
+ghost use Rattle.segment_machine.specs.Examples.{Keys, PackedRun, MountingRun, TakerRuns, TakingRun, BatchExamples};
 ghost use Rattle.segment_machine.specs.Lives.{RecorderIsJoined};
 ghost use Rattle.segment_machine.specs.Worked.{WorkedRun, FrozenRun};
 ghost use Rattle.segment_machine.specs.Looks.{SnapshotRun, CursorRun};
@@ -66,7 +66,7 @@ pub fn taking_run()
 
 /// The entries of a batch and what it costs.
 pub fn batches()
-    ensures { Batches }
+    ensures { BatchExamples }
 {}
 
 /// A recorder that is made with the units that were offered, lent more, gives one back and is joined: the opener has all units again, and has seen what the recorder saw.

@@ -30,5 +30,5 @@ abbrev pub lent_size : Lender → ℕ
 lent_size lender = (arc_value lender.shelf).size
 
 -- a room of n bytes was lent to the memory
-abbrev pub IsLent : ℕ → Memory → Lender → Type 0
-IsLent n memory lender = (is_none memory.lent ≡ false) × (room_size memory.lent ≡ n) × (lent_size lender ≡ n)
+abbrev pub IsRoomLent : ℕ → Memory → Lender → Type 0
+IsRoomLent n memory lender = (is_none memory.lent ≡ false) × (room_size memory.lent ≡ n) × (lent_size lender ≡ n)

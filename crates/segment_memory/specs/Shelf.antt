@@ -14,5 +14,5 @@ abbrev pub IsShelf : ℕ → State (Option Room) ℕ → Type 0
 IsShelf n s = (length s.words ≡ 1) × (length s.homes ≡ 1) × (slice_index s.words 0 ≡ 0 → (value : Option Room) × (get_elem? s.homes 0 ≡ some (some value)) × HasSize n value)
 
 -- it was taken from there
-abbrev pub IsTaken : ℕ → Me (Option Room) ℕ → Type 0
-IsTaken n me = (value : Option Room) × (me.1 ≡ (0, value) ∷ []) × HasSize n value
+abbrev pub IsRoomTaken : ℕ → Me (Option Room) ℕ → Type 0
+IsRoomTaken n me = (value : Option Room) × (me.1 ≡ (0, value) ∷ []) × HasSize n value

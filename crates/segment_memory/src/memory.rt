@@ -28,12 +28,12 @@ pub struct Lender {
 }
 
 impl Lender {
-    ghost use Rattle.segment_memory.specs.Memory.{IsLent, lent_size};
+    ghost use Rattle.segment_memory.specs.Memory.{IsRoomLent, lent_size};
 
     // A lender without a room as yet, and its memory.
     fn new(heap: Global, size: usize) -> Result<(Memory, Lender), AllocError>
         requires { IsBlockSize size }
-        ensures { IfOk result (λ made. IsLent size made.0 made.1) }
+        ensures { IfOk result (λ made. IsRoomLent size made.0 made.1) }
     {
         let shelf = Arc::new(heap, Shelf::new(heap, size)?)?;
         let lent = Some(Arc::try_clone(&shelf)?);
@@ -43,7 +43,7 @@ impl Lender {
     /// Lends a room: returns a memory that allocates in it, and its lender, which knows its size [ok]. Where the heap
     /// has no memory for what these two share, the same room comes back [err].
     pub fn lend(heap: Global, room: Room) -> Result<(Memory, Lender), Room>
-        ensures ok { IfOk result (λ made. IsLent room.size made.0 made.1) }
+        ensures ok { IfOk result (λ made. IsRoomLent room.size made.0 made.1) }
         ensures err { IfErr result (λ back. back ≡ room) }
     {
         let (size, block) = Block::of_room(room);

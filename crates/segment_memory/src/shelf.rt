@@ -1,7 +1,7 @@
 //! A place for one room, which threads share.
 
 ghost use Rattle.std.specs.Prelude.{◌≡◌, IfOk};
-ghost use Rattle.segment_memory.specs.Shelf.{HasSize, IsShelf, IsTaken};
+ghost use Rattle.segment_memory.specs.Shelf.{HasSize, IsShelf, IsRoomTaken};
 
 use crate::room::Room;
 use atomic_table::{Play, Refused, Table, TableRule};
@@ -25,13 +25,13 @@ impl TableRule<Option<Room>, usize, usize> for ShelfRule {
 struct Reach;
 
 impl Play<Option<Room>, usize> for Reach {
-    ghost then = { λ _ before found after. found ≡ 0 → IsTaken before.0 after };
+    ghost then = { λ _ before found after. found ≡ 0 → IsRoomTaken before.0 after };
 }
 
 // Something is put there.
-struct Place;
+struct Put;
 
-impl Play<Option<Room>, usize> for Place {
+impl Play<Option<Room>, usize> for Put {
     ghost then = { λ _ _ _ _. Unit {0} };
 }
 
@@ -69,7 +69,7 @@ impl Shelf {
             return room;
         }
         let old = shared.exchange(&mut seat, 0, room);
-        shared.store::<Place>(&mut seat, 0, FREE);
+        shared.store::<Put>(&mut seat, 0, FREE);
         old
     }
 }

@@ -14,7 +14,7 @@ use Rattle.image_reader.specs.declared.reading.HistReading.{HistReading}
 use Rattle.segment_machine.specs.declared.actor.Actor.{Actor}
 use Rattle.segment_merge.specs.declared.merging.MergeReport.{MergeReport}
 use Rattle.segment_merge.specs.declared.merging.MergeStop.{MergeStop}
-use Rattle.segment_merge.specs.Merge.{IsMerged, IsStopped, IsWhole, line_of}
+use Rattle.segment_merge.specs.Merge.{IsMerged, IsStopped, IsWholeMerge, line_of}
 use Rattle.segment_merge.specs.Parts.{ArePartsOf, IsPartOf, Merges}
 use Rattle.segment_merge.specs.declared.merging.Part.{Part}
 use Rattle.segment_merge.proofs.Merged.{merged_none, merged_then}
@@ -106,7 +106,7 @@ under_way_more hists h before after old mid new below here way step =
 
 -- it is done
 pub done_whole : (hists : List Histogram) (report : MergeReport) (old new : Actor) → length hists ≤ length report.added.items
-    → IsUnderWay hists report.added.items old new → IsWhole hists report old new
+    → IsUnderWay hists report.added.items old new → IsWholeMerge hists report old new
 done_whole hists report old new all way =
     let whole : take (length report.added.items) hists ≡ hists = take_all (length report.added.items) hists all in
     record {
@@ -144,6 +144,6 @@ goes_on hists h before after (Some stop) old mid new no_stop below here way step
 
 pub reports_stop : (hists : List Histogram) (h : Histogram) (before : List (Vec ℕ Global × ℕ)) (report : MergeReport) (stopped : Option MergeStop)
     (old mid new : Actor) → is_some stopped ≡ true → length before < length hists → get_or hists (length before) h ≡ h → IsUnderWay hists before old mid
-    → Merges h before stopped report.added.items mid new → MatchOption stopped (IsWhole hists report old new) (λ stop. IsStopped hists report stop old new)
+    → Merges h before stopped report.added.items mid new → MatchOption stopped (IsWholeMerge hists report old new) (λ stop. IsStopped hists report stop old new)
 reports_stop hists h before report None old mid new stops below here way step = absurd (cc stops)
 reports_stop hists h before report (Some stop) old mid new stops below here way step = stopped_at hists h before report stop old mid new below here way step

@@ -93,8 +93,8 @@ pub record HasFound (h : Histogram) (known : Known) (old new : Actor) : Type 0 w
 
 -- Why one stops it, behind so many of its items: its `hist` is refused; or its batch is, since it costs more than the share has, or since
 -- the next item needs a block and none can be claimed.
-abbrev pub HasCause : Histogram → ℕ → Refusal → Actor → Actor → Type 0
-HasCause h items why old new =
+abbrev pub HasStopCause : Histogram → ℕ → Refusal → Actor → Actor → Type 0
+HasStopCause h items why old new =
     ((items ≡ 0) × IsRefusedWith h.name h.spec why old new)
     ⊎ ((found : Actor) × (known : Known) × HasFound h known old found
     × (((items ≡ 0) × (why ≡ NoUnits) × (found.units.share < cost_left h) × (new ≡ found))
@@ -105,7 +105,7 @@ pub record StopsAt (h : Histogram) (items : ℕ) (why : Refusal) (old new : Acto
   pub logged : log_of new ≡ log_of old ++ map (item_entry h.name (boundaries_of h.spec)) (take items (items_left h))
   pub share : new.units.share + units_of (take items (items_left h)) ≡ old.units.share
   pub onward : GoesOnWith (h ∷ []) old new
-  pub cause : HasCause h items why old new
+  pub cause : HasStopCause h items why old new
 
 -- ---- what is reported
 
@@ -117,7 +117,7 @@ abbrev pub line_of : Histogram → List ℕ × ℕ
 line_of h = (h.name, units_left h)
 
 -- All histograms are merged, and reported with their units.
-pub record IsWhole (hists : List Histogram) (report : MergeReport) (old new : Actor) : Type 0 where
+pub record IsWholeMerge (hists : List Histogram) (report : MergeReport) (old new : Actor) : Type 0 where
   pub merged : IsMerged hists old new
   pub lines : report_lines report ≡ map line_of hists
 
@@ -136,4 +136,4 @@ pub record IsStopped (hists : List Histogram) (report : MergeReport) (stop : Mer
 
 -- a report says what a merge made of its recorder
 abbrev pub Reports : List Histogram → MergeReport → Actor → Actor → Type 0
-Reports hists report old new = MatchOption report.stopped (IsWhole hists report old new) (λ stop. IsStopped hists report stop old new)
+Reports hists report old new = MatchOption report.stopped (IsWholeMerge hists report old new) (λ stop. IsStopped hists report stop old new)

@@ -2,7 +2,7 @@
 -- value that it met.
 use Rattle.segment_invariant.proofs.Prelude.Std.{◌≡◌, ◌≢◌, ℕ, ◌+◌, ◌<◌, ◌≤◌, ℤ, true, List, ◌++◌, Some, inl, ⊎_elim, sym, ap, subst, refl, arith, false, some, dite, get_elem?, slice_index, filter, Contains, and_parts, All-contains, Contains-append_left, Contains-append_right, Contains-append_cases, none_in, contains_filter, contains_mapped, contains_map}
 use Rattle.segment_invariant.proofs.Prelude.Machine.{Dimensions, Spec, buckets_of, SameSpec, Entry, EntryProgress, Spent, Actor, Known, Sighting, is_counted, has_ended, tally_units, accepted_by, counted_of, bucket_key, SawCount, is_opener, SawSample, SawBucket, purse, State}
-use Rattle.segment_invariant.proofs.Prelude.Invariant.{Anatomy, IsFirst, IsFirstOf, Knows, WasMet, Invariant, Fits, LooksBack, StandsRight}
+use Rattle.segment_invariant.proofs.Prelude.Invariant.{Anatomy, IsFirst, IsFirstOf, IsRightlyKnown, WasMet, Invariant, Fits, LooksBack, StandsRight}
 use native.Mathlib.Decide.{dec_le}
 use Rattle.bucket_ranges.specs.declared.spec.Spec.TheVariants as spec
 use Rattle.list_lemmas.proofs.Maps.{contains_take}
@@ -84,7 +84,7 @@ module _ (shape : Dimensions) (opened : Anatomy) (state : State) (kept : Invaria
       value_accepted value = dite (dec_le 1 (tally_units (accepted_by a) known.name value))
           (λ some.
           let (entry, among, named, keyed, has_units) = tally_at (accepted_by a) known.name value (omega (arith, some)) in
-          let knows = All-contains (Knows kept.anatomy) a.answers.names known fits.names has in
+          let knows = All-contains (IsRightlyKnown kept.anatomy) a.answers.names known fits.names has in
           let kind = sparse_alone knows.first_spec (subst (SameSpec knows.first_spec) sparse knows.same) in
           let first : IsFirst kept.anatomy.records entry.name spec.Sparse known.reference =
           subst (λ (n : List ℕ). IsFirst kept.anatomy.records n spec.Sparse known.reference) (sym named)

@@ -4,7 +4,7 @@ use Rattle.segment_invariant.proofs.Prelude.Machine.{Seen, SawOther, SawSample}
 use Rattle.std.proofs.lemmas.List.Sums.{sum_by_push}
 use Rattle.list_lemmas.specs.Firsts.{ComesFirst}
 use Rattle.segment_promises.specs.Onward.{Grows}
-use Rattle.segment_promises.specs.Values.{NoKeyRepeats, ListsValues, Passes}
+use Rattle.segment_promises.specs.Values.{NoKeyRepeats, ListsValues, PassesRecord}
 use Rattle.segment_promises.proofs.Growing.{all_push, other_still, others_still, still}
 use Rattle.segment_promises.proofs.FirstValues.{other_value}
 
@@ -37,11 +37,11 @@ module _ (a b : Seen) (grows : Grows a.words b.words) (histogram : ℕ) where
       (front, behind, split, others_still a b grows histogram value front others, sample_still value at it)
 
   module _ (Does Then : ℤ → ℕ → Type 0) (does : (value : ℤ) (at : ℕ) → Does value at → Then value at) where
-    pub passes_still : (at : ℕ) → Passes Does a histogram at → Passes Then b histogram at
+    pub passes_still : (at : ℕ) → PassesRecord Does a histogram at → PassesRecord Then b histogram at
     passes_still at (inl (value, saw, done)) = inl (value, sample_still value at saw, does value at done)
     passes_still at (inr none) = inr (λ value fits. other_still a b grows histogram value at (none value fits))
 
-    all_pass_still : (list : List ℕ) → AllByRecursion (Passes Does a histogram) list → AllByRecursion (Passes Then b histogram) list
+    all_pass_still : (list : List ℕ) → AllByRecursion (PassesRecord Does a histogram) list → AllByRecursion (PassesRecord Then b histogram) list
     all_pass_still [] all = all
     all_pass_still (r ∷ rest) (first, all) = (passes_still r first, all_pass_still rest all)
 
@@ -99,9 +99,9 @@ module _ (Does : ℤ → ℕ → Type 0) (Has : ℕ → ℕ → Type 0) (histogr
 
   module _ (passed : List ℕ) (listed : List (ℤ × ℕ)) (lists : ListsValues Does Has histogram passed listed seen) (at : ℕ) where
     -- it lists nothing of it
-    pub lists_on : Passes Does seen histogram at → ListsValues Does Has histogram (passed ++ at ∷ []) listed seen
+    pub lists_on : PassesRecord Does seen histogram at → ListsValues Does Has histogram (passed ++ at ∷ []) listed seen
     lists_on passes = record {
-      passes = all_push (Passes Does seen histogram) passed at lists.passes passes;
+      passes = all_push (PassesRecord Does seen histogram) passed at lists.passes passes;
       firsts = λ k d low.
           let (sample, first, has) = lists.firsts k d low in
           (sample, first_behind (SawOther seen histogram (get_or listed k d).0) (SawSample seen histogram (get_or listed k d).0) passed sample at first, has);
@@ -112,13 +112,13 @@ module _ (Does : ℤ → ℕ → Type 0) (Has : ℕ → ℕ → Type 0) (histogr
     -- it lists the value, of which it is the first sample
     module _ (value : ℤ) (units : ℕ) (saw : SawSample seen histogram value at) (does : Does value at) (has : Has at units)
         (first : (other : ℕ) → Contains passed other → SawSample seen histogram value other → ⊥) where
-      others_of : (list : List ℕ) → AllByRecursion (Passes Does seen histogram) list → ((other : ℕ) → Contains list other → SawSample seen histogram value other → ⊥)
+      others_of : (list : List ℕ) → AllByRecursion (PassesRecord Does seen histogram) list → ((other : ℕ) → Contains list other → SawSample seen histogram value other → ⊥)
           → All (SawOther seen histogram value) list
       others_of [] all never = All-nil _
       others_of (r ∷ rest) (one, all) never =
           All-cons (SawOther seen histogram value) r rest (by one) (others_of rest all (λ other there. never other (Contains-append_right (r ∷ []) rest other there)))
         where
-          by : Passes Does seen histogram r → SawOther seen histogram value r
+          by : PassesRecord Does seen histogram r → SawOther seen histogram value r
           by (inl (v, shown, done)) =
               other_value seen histogram v value r shown saw.3 (λ same. never r (0, omega arith, refl) (subst (λ (x : ℤ). SawSample seen histogram x r) same shown))
           by (inr none) = none value saw.3

@@ -1,7 +1,7 @@
 -- What `hist` answers, of any kept state: the first record of a name, with the same spec; it refuses only where that has another one.
 use Rattle.segment_invariant.proofs.Prelude.Std.{ℕ, List, sym, subst, ◌∙◌, All-contains}
 use Rattle.segment_invariant.proofs.Prelude.Machine.{Spec, spec_of, SameSpec}
-use Rattle.segment_invariant.proofs.Prelude.Invariant.{IsHistogram, Knows}
+use Rattle.segment_invariant.proofs.Prelude.Invariant.{IsHistogram, IsRightlyKnown}
 use Rattle.segment_invariant.proofs.Consistency.Specs.{record_spec, same_spelled}
 use Rattle.segment_invariant.proofs.Consistency.Firsts.{name_of_first, record_of_first}
 use Rattle.segment_invariant.proofs.Notes.Names as names
@@ -10,7 +10,7 @@ use Rattle.segment_promises.proofs.Lists.{chain_is}
 
 pub names_are_first : NamesAreFirst
 names_are_first shape opened state chain kept is id a mine lives known among =
-    let knows = All-contains (Knows kept.anatomy) a.answers.names known (kept.each id a mine lives).names among in
+    let knows = All-contains (IsRightlyKnown kept.anatomy) a.answers.names known (kept.each id a mine lives).names among in
     let (r, (has, named, specified)) = record_of_first shape opened state kept known.name knows.first_spec known.reference knows.first in
     let spelled = record_spec shape state.words kept.anatomy kept.shown kept.anatomy.version known.reference r has (kept.records.lawful known.reference r has) in
     let same = same_spelled r.spec in

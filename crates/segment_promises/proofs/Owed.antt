@@ -1,9 +1,9 @@
 -- What a recorder has seen of a bucket since its delta or snapshot began is at least what it had accepted and seen.
 use Rattle.segment_invariant.proofs.Prelude.Std.{◌≡◌, ◌≢◌, ℕ, ◌+◌, ◌<◌, ◌≤◌, ◌==◌, zero, ne_eqb, Bool, true, false, true≢false, take, Option, Some, None, inl, inr, refl, sym, ap, subst, ◌∙◌, arith, some, none, get_elem?, if◌then◌else◌, Contains, All-contains}
 use Rattle.segment_invariant.proofs.Prelude.Machine.{Dimensions, buckets_of, SingleWord, Empty, Packed, Disabled, FrozenEmpty, Frozen, single_of, packed_bucket, units_packed, Actor, Known, Spent, tally_units, is_off, units_in, Leads, field_at, word_seen, accepted_by, bucket_key, SawCount, is_opener, SawBucket, State}
-use Rattle.segment_invariant.proofs.Prelude.Invariant.{Record, Body, Anatomy, histogram, form_at, HasRecord, Knows, Invariant, Fits, LooksBack}
+use Rattle.segment_invariant.proofs.Prelude.Invariant.{Record, Body, Anatomy, histogram, form_at, HasRecord, IsRightlyKnown, Invariant, Fits, LooksBack}
 use Rattle.segment_machine.specs.Actor.{SawSingle}
-use Rattle.segment_invariant.specs.Invariant.{IsSettled}
+use Rattle.segment_invariant.specs.Invariant.{NoneInTransit}
 use Rattle.segment_invariant.proofs.Counting.Whole.{known_first}
 use Rattle.segment_invariant.proofs.Counting.Seen.{off_is}
 use Rattle.segment_invariant.proofs.Walking.Words.{sighted}
@@ -78,7 +78,7 @@ module _ (shape : Dimensions) (opened : Anatomy) (state : State) (kept : Invaria
 
   its : (r : Record) × HasRecord kept.anatomy.pieces known.reference r × (buckets_of r.spec ≡ buckets_of known.spec)
   its =
-      let (r, first, stands, named, many, keys) = known_first shape opened state kept known (All-contains (Knows kept.anatomy) a.answers.names known fits.names has) in
+      let (r, first, stands, named, many, keys) = known_first shape opened state kept known (All-contains (IsRightlyKnown kept.anatomy) a.answers.names known fits.names has) in
       (r, stands, many)
 
   -- a word that it saw since leads on from those that it saw before
@@ -150,7 +150,7 @@ module _ (shape : Dimensions) (opened : Anatomy) (state : State) (kept : Invaria
           omega (arith, least, same)
         where
           settled : (r : Record) → HasRecord kept.anatomy.pieces known.reference r → form ≡ form_at kept.anatomy.version r → IsWhole a known i
-              → IsSettled kept.anatomy state.actors a known i
+              → NoneInTransit kept.anatomy state.actors a known i
           settled r stands forms (inl two) = inl (sym fits.versioned ∙ two)
           settled r stands forms (inr (inl on)) = absurd (true≢false (sym off ∙ on word saw))
           settled r stands forms (inr (inr other)) = inr (inr (λ q there e. other word saw

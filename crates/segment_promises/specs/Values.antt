@@ -35,14 +35,14 @@ pub record ComesTo (histogram : ℕ) (passed : List ℕ) (at : ℕ) (a : Actor) 
 -- ---- what is listed
 
 -- it saw of a record that it is a sample of a value, and did this with it; or that it is a sample of none
-abbrev pub Passes : (ℤ → ℕ → Type 0) → Seen → ℕ → ℕ → Type 0
-Passes Does seen histogram at =
+abbrev pub PassesRecord : (ℤ → ℕ → Type 0) → Seen → ℕ → ℕ → Type 0
+PassesRecord Does seen histogram at =
     ((value : ℤ) × SawSample seen histogram value at × Does value at) ⊎ ((value : ℤ) → is_i32 value ≡ true → SawOther seen histogram value at)
 
 -- Of each record that it passed it saw which sample it is, and did something with each sample. What it listed are values, each once, with units
 -- that the first sample of the value has.
 pub record ListsValues (Does : ℤ → ℕ → Type 0) (Has : ℕ → ℕ → Type 0) (histogram : ℕ) (passed : List ℕ) (listed : List (ℤ × ℕ)) (seen : Seen) : Type 0 where
-  pub passes : AllByRecursion (Passes Does seen histogram) passed
+  pub passes : AllByRecursion (PassesRecord Does seen histogram) passed
   pub firsts : All (λ count. (sample : ℕ) × ComesFirst (SawOther seen histogram count.0) (SawSample seen histogram count.0) passed sample × Has sample count.1) listed
   pub once : NoKeyRepeats listed
   pub few : length listed ≤ length passed
@@ -50,7 +50,7 @@ pub record ListsValues (Does : ℤ → ℕ → Type 0) (Has : ℕ → ℕ → Ty
 -- What it listed of a record that is a sample, which is not a later one of its value; or it listed nothing of it.
 abbrev pub ListsOf : (ℤ → ℕ → Type 0) → (ℕ → ℕ → Type 0) → ℕ → ℕ → Option (ℤ × ℕ) → Actor → Type 0
 ListsOf Does Has histogram at (Some count) a = SawSample a.seen histogram count.0 at × Does count.0 at × Has at count.1 × ¬ (IsLaterSample a at)
-ListsOf Does Has histogram at None a = Passes Does a.seen histogram at
+ListsOf Does Has histogram at None a = PassesRecord Does a.seen histogram at
 
 -- a list of one, or of none
 abbrev pub listed_of : Option (ℤ × ℕ) → List (ℤ × ℕ)

@@ -14,7 +14,7 @@ use Rattle.segment_machine.specs.Note.{begins, takes, has_taken, ends}
 use Rattle.segment_machine.specs.State.{State}
 use Rattle.segment_machine.specs.Reached.{IsReached, IsState, IsJoined}
 use Rattle.segment_machine.specs.Examples.{shape, letter_a, letter_s, one, known_a, packed_segment, mounted, frozen, in_transit, stopped_frozen, marked, marked_frozen, taken_once, taken_once_frozen, sparse_segment}
-use Rattle.segment_machine.specs.Worked.{Deed, acts, offers, makes, joins, played, actor_of, by, hist, hist_found, delta, worked}
+use Rattle.segment_machine.specs.Worked.{RunAction, acts, offers, makes, joins, played, actor_of, by, hist, hist_found, delta, worked}
 use Rattle.segment_machine.specs.Races.{after, finds_packed, counts_zero, race_words}
 use Rattle.segment_promises.specs.Adoption.{used_of, adopted}
 
@@ -134,12 +134,12 @@ JoinedRunReads = ReadsAs (worked 1).words joined_reading × ReadsAs (worked 2).w
 -- ---- units of sums
 
 -- a batch of no items adds a sum, which costs its size in units of 2^31; it counts and notes nothing
-abbrev pub adds_sum : ℕ → ℤ → List Deed
+abbrev pub adds_sum : ℕ → ℤ → List RunAction
 adds_sum cost sum = acts 1 (begins letter_a cost (sum_entry letter_a sum ∷ []) ∷ []) (counting_event (add_sum 16 sum)) (ends ∷ []) ∷ []
 
 -- A recorder with all units adds 2^62, takes it by a delta, and adds 2^31 - 2^62. The second sum costs a unit less than the first, and then
 -- it has none.
-abbrev pub summing : List Deed
+abbrev pub summing : List RunAction
 summing =
     offers 4294967295 ∷ makes ∷ hist 1 12 known_a ((0, 2) ∷ (1, 1) ∷ (2, 2) ∷ (3, 3) ∷ (10, 1) ∷ (11, 65) ∷ [])
     ++ adds_sum 2147483648 (pos 4611686018427387904)
@@ -154,15 +154,15 @@ summed_words version = slice_set (packed_segment 0 0 2147483648 4611686018427387
 abbrev pub summed_reading : Reading
 summed_reading = reading_of (read_a ((pos 0, 0) ∷ (pos 1, 0) ∷ (pos 2, 0) ∷ []) (0 ∷ 0 ∷ 0 ∷ []) (pos 2147483648) (pos 4611686018427387904) 0 ∷ [])
 
-abbrev pub IsSummed : ℕ → Type 0
-IsSummed version =
+abbrev pub SummedRunReads : ℕ → Type 0
+SummedRunReads version =
     IsState shape version 7 0 (after version summing) × ((after version summing).words ≡ summed_words version)
     × ((actor_of (after version summing) 1).units.share ≡ 0) × ReadsAs (summed_words version) summed_reading
 
 -- in version 2 the image may be adopted: it has used what the sum mark stands for, and has the rest
 abbrev pub UnitsOfSumsRead : Type 0
 UnitsOfSumsRead =
-    IsSummed 1 × IsSummed 2 × (used_of summed_reading ≡ 2147483648)
+    SummedRunReads 1 × SummedRunReads 2 × (used_of summed_reading ≡ 2147483648)
     × ((actor_of (adopted (summed_words 2) (16 ∷ []) summed_reading 0) 0).units.share ≡ 2147483647)
 
 -- ---- an adopted image
@@ -172,7 +172,7 @@ UnitsOfSumsRead =
 abbrev pub adopted_mounted : State
 adopted_mounted = adopted frozen (16 ∷ []) mounted_reading 0
 
-abbrev pub records_one : List Deed
+abbrev pub records_one : List RunAction
 records_one =
     offers 2 ∷ makes ∷ hist_found 1 12 known_a
     ++ acts 1 (begins letter_a 1 (one 1 ∷ []) ∷ []) (packing_event (load_single 16)) []
@@ -187,7 +187,7 @@ recorded_one = played 2 adopted_mounted records_one
 abbrev pub adopted_stopped : State
 adopted_stopped = adopted stopped_frozen (16 ∷ []) stopped_reading 0
 
-abbrev pub records_zero : List Deed
+abbrev pub records_zero : List RunAction
 records_zero = offers 1 ∷ makes ∷ hist_found 1 12 known_a ++ finds_packed 1 0 ++ counts_zero 1 ++ joins 1 ∷ []
 
 abbrev pub recorded_zero : State

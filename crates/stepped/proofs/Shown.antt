@@ -25,12 +25,12 @@ use Rattle.hist_core.specs.World.{BeginSays, ChangesOneWord, TakesMemory, begin_
 use Rattle.hist_core.proofs.Worlds.Scheduling.{no_fault, split_there}
 use Rattle.schedule.specs.declared.order.Order.{Order}
 use Rattle.stepped.specs.declared.lines.Change.{Change}
-use Rattle.stepped.specs.declared.lines.Place.{Place}
+use Rattle.stepped.specs.declared.lines.LinePlace.{LinePlace}
 use Rattle.stepped.specs.declared.form.Form.{Form}
 use Rattle.stepped.specs.Form.{Writes, form_after, form_behind, text_of, texts}
 use Rattle.stepped.specs.Lines.{Deed, behind, units_fields}
 use Rattle.stepped.specs.Lines.Deed.{Ends}
-use Rattle.stepped.specs.Replay.{Does, EndsCall, FailsAt, GoesBy, IsDifference, Replays, Shows, StopsAt, placed}
+use Rattle.stepped.specs.Replay.{DoesOrder, EndsCall, FailsAt, GoesBy, IsDifference, Replays, ShowsMove, StopsAtOrder, placed}
 
 -- ---- bytes
 
@@ -57,25 +57,25 @@ fields_both a b c xs ys first second =
     subst (Appends a c) (sym (flat_map-append (λ (field : List ℕ). 44 ∷ field) xs ys)) (appends_both a b c (behind xs) (behind ys) first second)
 
 -- what comes after all that was done
-pub form_both : (form : Form) (xs ys : List (Place × Deed)) → form_behind form (xs ++ ys) ≡ form_behind (form_behind form xs) ys
+pub form_both : (form : Form) (xs ys : List (LinePlace × Deed)) → form_behind form (xs ++ ys) ≡ form_behind (form_behind form xs) ys
 form_both form [] ys = refl
 form_both form (x ∷ xs) ys = form_both (form_after x.1 form) xs ys
 
-pub texts_both : (form : Form) (xs ys : List (Place × Deed)) → texts form (xs ++ ys) ≡ texts form xs ++ texts (form_behind form xs) ys
+pub texts_both : (form : Form) (xs ys : List (LinePlace × Deed)) → texts form (xs ++ ys) ≡ texts form xs ++ texts (form_behind form xs) ys
 texts_both form [] ys = refl
 texts_both form (x ∷ xs) ys =
     ap (λ (s : List ℕ). text_of form x.0 x.1 ++ s) (texts_both (form_after x.1 form) xs ys)
     ∙ sym (append_assoc (text_of form x.0 x.1) (texts (form_after x.1 form) xs) (texts (form_behind (form_after x.1 form) xs) ys))
 
 -- what is written after what was done is the text of both
-pub texts_behind : (f g : Form) (a b c : Option (List ℕ)) (xs ys : List (Place × Deed)) → Writes f g a b xs → Appends b c (texts g ys)
+pub texts_behind : (f g : Form) (a b c : Option (List ℕ)) (xs ys : List (LinePlace × Deed)) → Writes f g a b xs → Appends b c (texts g ys)
     → Appends a c (texts f (xs ++ ys))
 texts_behind f g a b c xs ys (is, first) second =
     subst (Appends a c) (sym (texts_both f xs ys))
     (appends_both a b c (texts f xs) (texts (form_behind f xs) ys) first (subst (λ (form : Form). Appends b c (texts form ys)) is second))
 
 -- what is done one after the other
-pub writes_both : (f g h : Form) (a b c : Option (List ℕ)) (xs ys : List (Place × Deed)) → Writes f g a b xs → Writes g h b c ys → Writes f h a c (xs ++ ys)
+pub writes_both : (f g h : Form) (a b c : Option (List ℕ)) (xs ys : List (LinePlace × Deed)) → Writes f g a b xs → Writes g h b c ys → Writes f h a c (xs ++ ys)
 writes_both f g h a b c xs ys first second = (
   second.0 ∙ (ap (λ (form : Form). form_behind form ys) first.0 ∙ sym (form_both f xs ys)),
   texts_behind f g a b c xs ys first second.1,
@@ -89,7 +89,7 @@ writes_placed number actor f g h a b c xs ys first second =
     (writes_both f g h a b c (placed number actor xs) (placed number actor ys) first second)
 
 -- one thing is done
-pub writes_one : (place : Place) (f g : Form) (a b : Option (List ℕ)) (deed : Deed) → g ≡ form_after deed f → Appends a b (text_of f place deed)
+pub writes_one : (place : LinePlace) (f g : Form) (a b : Option (List ℕ)) (deed : Deed) → g ≡ form_after deed f → Appends a b (text_of f place deed)
     → Writes f g a b (placed place.number place.actor (deed ∷ []))
 writes_one place f g a b deed is shown = (is, subst (Appends a b) (sym (append-nil (text_of f place deed))) shown)
 
@@ -181,7 +181,7 @@ is_begun actor call old new made said is promises others leads =
 -- ---- events
 
 -- one event more
-pub goes_next : (actor events : ℕ) (old mid new : WorldState) (before last : List Deed) → GoesBy actor events old mid before → Shows (Step actor) mid new last
+pub goes_next : (actor events : ℕ) (old mid new : WorldState) (before last : List Deed) → GoesBy actor events old mid before → ShowsMove (Step actor) mid new last
     → GoesBy actor (events + 1) old new (before ++ last)
 goes_next actor events old mid new before last goes shows =
     subst (λ (n : ℕ). GoesBy actor n old new (before ++ last)) (sym (add-one events)) (mid, before, last, goes, shows, refl)
@@ -194,9 +194,9 @@ ends_behind before last (its, answer, is) =
 -- ---- records
 
 -- one record more
-pub replays_more : (number at : ℕ) (done : List Order) (order : Order) (left : ℕ) (old mid new : WorldState) (left_then then_left : ℕ) (shown : List (Place × Deed))
+pub replays_more : (number at : ℕ) (done : List Order) (order : Order) (left : ℕ) (old mid new : WorldState) (left_then then_left : ℕ) (shown : List (LinePlace × Deed))
     (deeds : List Deed) → at ≡ number + length done → Replays number done left old mid left_then shown → 0 < left_then
-    → Does order.actor order.kind left_then mid new then_left deeds
+    → DoesOrder order.actor order.kind left_then mid new then_left deeds
     → Replays number (done ++ order ∷ []) left old new then_left (shown ++ placed at order.actor deeds)
 replays_more number at [] order left old mid new zero then_left shown deeds here (same, all, none) some does = absurd (omega (arith, some))
 replays_more number at [] order left old mid new (suc n) then_left shown deeds here (same, all, none) some does =
@@ -206,9 +206,9 @@ replays_more number at [] order left old mid new (suc n) then_left shown deeds h
       then_left,
       deeds,
       [],
-      subst (λ (b : WorldState). Does order.actor order.kind (suc n) b new then_left deeds) same does,
+      subst (λ (b : WorldState). DoesOrder order.actor order.kind (suc n) b new then_left deeds) same does,
       (refl, refl, refl),
-      ap (λ (s : List (Place × Deed)). s ++ placed at order.actor deeds) none
+      ap (λ (s : List (LinePlace × Deed)). s ++ placed at order.actor deeds) none
           ∙ (ap (λ (k : ℕ). placed k order.actor deeds) number_is ∙ sym (append-nil (placed number order.actor deeds))),
     )
 replays_more number at (first ∷ done) order zero old mid new left_then then_left shown deeds here (same, none_left, none) some does =
@@ -220,11 +220,11 @@ replays_more number at (first ∷ done) order (suc left) old mid new left_then t
   later ++ placed at order.actor deeds,
   did,
   replays_more (number + 1) at done order n b mid new left_then then_left later deeds (omega (arith, here)) rest some does,
-  ap (λ (s : List (Place × Deed)). s ++ placed at order.actor deeds) is ∙ append_assoc (placed number first.actor its) later (placed at order.actor deeds),
+  ap (λ (s : List (LinePlace × Deed)). s ++ placed at order.actor deeds) is ∙ append_assoc (placed number first.actor its) later (placed at order.actor deeds),
 )
 
 -- if no event is left, later records do nothing
-pub replays_no_more : (number : ℕ) (done rest : List Order) (left : ℕ) (old mid : WorldState) (shown : List (Place × Deed)) → Replays number done left old mid 0 shown
+pub replays_no_more : (number : ℕ) (done rest : List Order) (left : ℕ) (old mid : WorldState) (shown : List (LinePlace × Deed)) → Replays number done left old mid 0 shown
     → Replays number (done ++ rest) left old mid 0 shown
 replays_no_more number [] [] left old mid shown replays = replays
 replays_no_more number [] (next ∷ rest) left old mid shown (same, all, none) =
@@ -234,9 +234,9 @@ replays_no_more number (first ∷ done) rest (suc left) old mid shown (b, n, its
     (b, n, its, later, did, replays_no_more (number + 1) done rest n b mid later replays, is)
 
 -- the next record is done too
-pub replays_next : (orders : List Order) (i : ℕ) (order : Order) (left : ℕ) (old mid new : WorldState) (left_then then_left : ℕ) (shown : List (Place × Deed)) (deeds : List Deed)
+pub replays_next : (orders : List Order) (i : ℕ) (order : Order) (left : ℕ) (old mid new : WorldState) (left_then then_left : ℕ) (shown : List (LinePlace × Deed)) (deeds : List Deed)
     → i < length orders → order ≡ get_or orders i order → Replays 2 (take i orders) left old mid left_then shown → 0 < left_then
-    → Does order.actor order.kind left_then mid new then_left deeds
+    → DoesOrder order.actor order.kind left_then mid new then_left deeds
     → Replays 2 (take (i + 1) orders) left old new then_left (shown ++ placed (i + 2) order.actor deeds)
 replays_next orders i order left old mid new left_then then_left shown deeds near is replays some does =
     subst (λ (l : List Order). Replays 2 l left old new then_left (shown ++ placed (i + 2) order.actor deeds))
@@ -245,7 +245,7 @@ replays_next orders i order left old mid new left_then then_left shown deeds nea
     (omega (arith, length-take-le i orders (omega (arith, near)))) replays some does)
 
 -- no event is left, so all is done
-pub replays_all : (orders : List Order) (i left : ℕ) (old mid : WorldState) (then_left : ℕ) (shown : List (Place × Deed)) → then_left ≡ 0
+pub replays_all : (orders : List Order) (i left : ℕ) (old mid : WorldState) (then_left : ℕ) (shown : List (LinePlace × Deed)) → then_left ≡ 0
     → Replays 2 (take i orders) left old mid then_left shown → Replays 2 orders left old mid then_left shown
 replays_all orders i left old mid then_left shown none replays =
     subst (λ (n : ℕ). Replays 2 orders left old mid n shown) (sym none)
@@ -254,9 +254,9 @@ replays_all orders i left old mid then_left shown none replays =
     (subst (λ (n : ℕ). Replays 2 (take i orders) left old mid n shown) none replays)))
 
 -- the next record has a fault
-pub stops_next : (orders : List Order) (i : ℕ) (order : Order) (left : ℕ) (old mid : WorldState) (left_then : ℕ) (shown : List (Place × Deed)) (why : WorldFault)
+pub stops_next : (orders : List Order) (i : ℕ) (order : Order) (left : ℕ) (old mid : WorldState) (left_then : ℕ) (shown : List (LinePlace × Deed)) (why : WorldFault)
     (deeds : List Deed) → i < length orders → order ≡ get_or orders i order → Replays 2 (take i orders) left old mid left_then shown → 0 < left_then
-    → FailsAt order.actor order.kind mid why deeds → StopsAt orders left old (i + 2) why (shown ++ placed (i + 2) order.actor deeds)
+    → FailsAt order.actor order.kind mid why deeds → StopsAtOrder orders left old (i + 2) why (shown ++ placed (i + 2) order.actor deeds)
 stops_next orders i order left old mid left_then shown why deeds near is replays some fails = record {
   before = take i orders;
   order = order;

@@ -4,7 +4,7 @@ use Rattle.std.specs.Fmt.{decimal}
 use Rattle.std.specs.Io.KnownBytes.{Appends}
 use Rattle.stepped.specs.declared.form.Form.{Form}
 use Rattle.stepped.specs.declared.form.Form.TheVariants.{Lines, Picture}
-use Rattle.stepped.specs.declared.lines.Place.{Place}
+use Rattle.stepped.specs.declared.lines.LinePlace.{LinePlace}
 use Rattle.stepped.specs.Lines.{Deed, deed_line}
 use Rattle.stepped.specs.Lines.Deed.{Begins, AtOnce, Steps, Ends}
 use Rattle.stepped.specs.Picture.{answer_cell, begin_cell, event_cell, row}
@@ -26,7 +26,7 @@ form_after (Steps words effect) form = counted form
 form_after (Ends answer) form = form
 
 -- the text of what was done: in a picture a begin, an event and an answer have a row each
-abbrev pub text_of : Form → Place → Deed → List ℕ
+abbrev pub text_of : Form → LinePlace → Deed → List ℕ
 text_of Lines place deed = deed_line place deed
 text_of (Picture events) place (Begins call) = row [] place.actor (begin_cell place.actor call)
 text_of (Picture events) place (AtOnce call answer) = row [] place.actor (begin_cell place.actor call) ++ row [] place.actor (answer_cell answer)
@@ -34,15 +34,15 @@ text_of (Picture events) place (Steps words effect) = row (decimal (next_number 
 text_of (Picture events) place (Ends answer) = row [] place.actor (answer_cell answer)
 
 -- how the next is shown after all that was done, each at its place
-abbrev pub form_behind : Form → List (Place × Deed) → Form
+abbrev pub form_behind : Form → List (LinePlace × Deed) → Form
 form_behind form [] = form
 form_behind form (done ∷ rest) = form_behind (form_after done.1 form) rest
 
 -- the text of all that was done, one after the other
-abbrev pub texts : Form → List (Place × Deed) → List ℕ
+abbrev pub texts : Form → List (LinePlace × Deed) → List ℕ
 texts form [] = []
 texts form (done ∷ rest) = text_of form done.0 done.1 ++ texts (form_after done.1 form) rest
 
 -- all that was done is written, and the next is shown after it
-abbrev pub Writes : Form → Form → Option (List ℕ) → Option (List ℕ) → List (Place × Deed) → Type 0
+abbrev pub Writes : Form → Form → Option (List ℕ) → Option (List ℕ) → List (LinePlace × Deed) → Type 0
 Writes old new before behind done = (new ≡ form_behind old done) × Appends before behind (texts old done)

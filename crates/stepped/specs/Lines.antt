@@ -13,7 +13,7 @@ use Rattle.stepped.specs.declared.lines.Change.{Change}
 use Rattle.stepped.specs.declared.lines.Effect.{Effect}
 use Rattle.stepped.specs.declared.lines.Effect.TheVariants.{Quiet, Changed, Missed}
 use Rattle.stepped.specs.declared.lines.Miss.{Miss}
-use Rattle.stepped.specs.declared.lines.Place.{Place}
+use Rattle.stepped.specs.declared.lines.LinePlace.{LinePlace}
 
 -- ---- refusals
 
@@ -96,13 +96,13 @@ abbrev pub behind : List (List ℕ) → List ℕ
 behind fields = flat_map (λ field. 44 ∷ field) fields
 
 -- the number of a record, and its actor
-abbrev pub place_text : Place → List ℕ
+abbrev pub place_text : LinePlace → List ℕ
 place_text place = decimal place.number ++ behind (decimal place.actor ∷ [])
 
 -- the line with these fields
-abbrev pub line : Place → List (List ℕ) → List ℕ
+abbrev pub line : LinePlace → List (List ℕ) → List ℕ
 line place fields = place_text place ++ behind fields ++ 10 ∷ []
 
 -- the line of what is shown
-abbrev pub deed_line : Place → Deed → List ℕ
+abbrev pub deed_line : LinePlace → Deed → List ℕ
 deed_line place deed = line place (deed_fields deed)

@@ -22,7 +22,7 @@ use Rattle.stepped.specs.declared.fault.ReplayFault.TheVariants.{Write}
 use Rattle.stepped.specs.declared.lines.Change.{Change}
 use Rattle.stepped.specs.declared.lines.Effect.{Effect}
 use Rattle.stepped.specs.declared.lines.Miss.{Miss}
-use Rattle.stepped.specs.declared.lines.Place.{Place}
+use Rattle.stepped.specs.declared.lines.LinePlace.{LinePlace}
 use Rattle.stepped.specs.Fault.{fault_of_world}
 use Rattle.stepped.specs.Lines.{Deed, effect_of}
 use Rattle.stepped.specs.Lines.Deed.{Begins, AtOnce, Steps, Ends}
@@ -70,9 +70,9 @@ step_deeds words effect More = Steps words effect ∷ []
 step_deeds words effect (Done answer) = Steps words effect ∷ Ends answer ∷ []
 
 -- a move leads from a world to another, and is shown so
-abbrev pub Shows : Move → WorldState → WorldState → List Deed → Type 0
-Shows (Begin actor call) old new deeds = (said : Begun) × IsBegun actor call old new said × (deeds ≡ begin_deeds call said)
-Shows (Step actor) old new deeds =
+abbrev pub ShowsMove : Move → WorldState → WorldState → List Deed → Type 0
+ShowsMove (Begin actor call) old new deeds = (said : Begun) × IsBegun actor call old new said × (deeds ≡ begin_deeds call said)
+ShowsMove (Step actor) old new deeds =
     (said : Stepped) × IsStepped actor old new said
     × ((change : Option Change) × HasChanged old.words.items new.words.items change × (deeds ≡ step_deeds new.words.items (effect_of change (next_miss old actor)) said))
 
@@ -80,7 +80,7 @@ Shows (Step actor) old new deeds =
 abbrev pub GoesBy : ℕ → ℕ → WorldState → WorldState → List Deed → Type 0
 GoesBy actor zero old new deeds = (new ≡ old) × (deeds ≡ [])
 GoesBy actor (suc events) old new deeds =
-    (mid : WorldState) × (before last : List Deed) × GoesBy actor events old mid before × Shows (Step actor) mid new last × (deeds ≡ before ++ last)
+    (mid : WorldState) × (before last : List Deed) × GoesBy actor events old mid before × ShowsMove (Step actor) mid new last × (deeds ≡ before ++ last)
 
 -- ---- records
 
@@ -89,7 +89,7 @@ abbrev pub EndsCall : List Deed → Type 0
 EndsCall deeds = (before : List Deed) × (answer : Answer) × (deeds ≡ before ++ Ends answer ∷ [])
 
 -- A call performs events. They are as many as the record says, fewer only if the call ends or if no event is left.
-pub record GoesOn (actor times left : ℕ) (old new : WorldState) (then_left : ℕ) (deeds : List Deed) : Type 0 where
+pub record RunsEvents (actor times left : ℕ) (old new : WorldState) (then_left : ℕ) (deeds : List Deed) : Type 0 where
   pub events : ℕ
   pub goes : GoesBy actor events old new deeds
   pub spent : left ≡ events + then_left
@@ -97,21 +97,21 @@ pub record GoesOn (actor times left : ℕ) (old new : WorldState) (then_left : �
   pub whole : (events ≡ times) ⊎ (then_left ≡ 0) ⊎ EndsCall deeds
 
 -- what a record leads to, how many events it leaves, and what is shown of it
-abbrev pub Does : ℕ → OrderKind → ℕ → WorldState → WorldState → ℕ → List Deed → Type 0
-Does actor (kind.Begin call) left old new then_left deeds = Shows (Begin actor call) old new deeds × (then_left ≡ left)
-Does actor (kind.Step times) left old new then_left deeds = GoesOn actor times left old new then_left deeds
+abbrev pub DoesOrder : ℕ → OrderKind → ℕ → WorldState → WorldState → ℕ → List Deed → Type 0
+DoesOrder actor (kind.Begin call) left old new then_left deeds = ShowsMove (Begin actor call) old new deeds × (then_left ≡ left)
+DoesOrder actor (kind.Step times) left old new then_left deeds = RunsEvents actor times left old new then_left deeds
 
 -- what a record does, at its place
-abbrev pub placed : ℕ → ℕ → List Deed → List (Place × Deed)
+abbrev pub placed : ℕ → ℕ → List Deed → List (LinePlace × Deed)
 placed number actor deeds = map (λ deed. (record { number = number; actor = actor }, deed)) deeds
 
 -- What records from a number on lead to, one after the other, how many events they leave, and what is shown, each at its place. Where no
 -- event is left nothing more is done.
-abbrev pub Replays : ℕ → List Order → ℕ → WorldState → WorldState → ℕ → List (Place × Deed) → Type 0
+abbrev pub Replays : ℕ → List Order → ℕ → WorldState → WorldState → ℕ → List (LinePlace × Deed) → Type 0
 Replays number [] left old new then_left done = (new ≡ old) × (then_left ≡ left) × (done ≡ [])
 Replays number (order ∷ rest) zero old new then_left done = (new ≡ old) × (then_left ≡ 0) × (done ≡ [])
 Replays number (order ∷ rest) (suc left) old new then_left done =
-    (mid : WorldState) × (left_then : ℕ) × (deeds : List Deed) × (later : List (Place × Deed)) × Does order.actor order.kind (suc left) old mid left_then deeds
+    (mid : WorldState) × (left_then : ℕ) × (deeds : List Deed) × (later : List (LinePlace × Deed)) × DoesOrder order.actor order.kind (suc left) old mid left_then deeds
     × Replays (number + 1) rest left_then mid new then_left later × (done ≡ placed number order.actor deeds ++ later)
 
 -- ---- faults
@@ -123,7 +123,7 @@ FailsAt actor (kind.Step times) old fault deeds =
     (events : ℕ) × (at : WorldState) × (events < times) × GoesBy actor events old at deeds × FaultsAt (Step actor) at fault
 
 -- the first fault of the world, at a record from number 2 on, and what was done before it
-pub record StopsAt (orders : List Order) (left : ℕ) (old : WorldState) (number : ℕ) (fault : WorldFault) (shown : List (Place × Deed)) : Type 0 where
+pub record StopsAtOrder (orders : List Order) (left : ℕ) (old : WorldState) (number : ℕ) (fault : WorldFault) (shown : List (LinePlace × Deed)) : Type 0 where
   pub before : List Order
   pub order : Order
   pub rest : List Order
@@ -132,14 +132,14 @@ pub record StopsAt (orders : List Order) (left : ℕ) (old : WorldState) (number
   pub mid : WorldState
   pub left_then : ℕ
   pub some : 0 < left_then
-  pub done : List (Place × Deed)
+  pub done : List (LinePlace × Deed)
   pub replays : Replays 2 before left old mid left_then done
   pub deeds : List Deed
   pub fails : FailsAt order.actor order.kind mid fault deeds
   pub shown_is : shown ≡ done ++ placed number order.actor deeds
 
 -- why a replay ends with a fault: a write failed, or the world has a fault; then what was done before it is shown
-abbrev pub StopsWith : List Order → ℕ → WorldState → ReplayFault → (List (Place × Deed) → Type 0) → Type 0
+abbrev pub StopsWith : List Order → ℕ → WorldState → ReplayFault → (List (LinePlace × Deed) → Type 0) → Type 0
 StopsWith orders left old fault IsShown =
     (fault ≡ Write)
-    ⊎ ((number : ℕ) × (why : WorldFault) × (shown : List (Place × Deed)) × StopsAt orders left old number why shown × (fault ≡ fault_of_world number why) × IsShown shown)
+    ⊎ ((number : ℕ) × (why : WorldFault) × (shown : List (LinePlace × Deed)) × StopsAtOrder orders left old number why shown × (fault ≡ fault_of_world number why) × IsShown shown)

@@ -5,7 +5,7 @@ ghost use Rattle.std.specs.Io.KnownBytes.{Appends};
 ghost use Rattle.stepped.specs.Form.{form_after, text_of};
 ghost use Rattle.stepped.specs.Lines.Deed.{Begins, AtOnce, Steps, Ends};
 
-use crate::lines::{Effect, Place, show_answer, show_begin, show_step};
+use crate::lines::{Effect, LinePlace, show_answer, show_begin, show_step};
 use crate::picture::{draw_answer, draw_begin, draw_event};
 use hist_core::{Answer, Call};
 use std::io;
@@ -22,7 +22,12 @@ pub enum Form {
 
 impl Form {
     /// Shows a call that begins. The error is the writer's.
-    pub fn show_begin<W: Write>(&self, writer: &mut W, place: Place, call: &Call) -> io::Result<()>
+    pub fn show_begin<W: Write>(
+        &self,
+        writer: &mut W,
+        place: LinePlace,
+        call: &Call,
+    ) -> io::Result<()>
         ensures { OnOk result (Appends (W.contents writer.old) (W.contents writer.new) (text_of self.now place (Begins call.now))) }
     {
         match self {
@@ -35,7 +40,7 @@ impl Form {
     pub fn show_at_once<W: Write>(
         &self,
         writer: &mut W,
-        place: Place,
+        place: LinePlace,
         call: &Call,
         answer: &Answer,
     ) -> io::Result<()>
@@ -55,7 +60,7 @@ impl Form {
     pub fn show_event<W: Write>(
         &mut self,
         writer: &mut W,
-        place: Place,
+        place: LinePlace,
         effect: Effect,
         words: &[u64],
     ) -> io::Result<()>
@@ -75,7 +80,7 @@ impl Form {
     pub fn show_end<W: Write>(
         &self,
         writer: &mut W,
-        place: Place,
+        place: LinePlace,
         answer: &Answer,
     ) -> io::Result<()>
         ensures { OnOk result (Appends (W.contents writer.old) (W.contents writer.new) (text_of self.now place (Ends answer.now))) }

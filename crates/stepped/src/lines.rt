@@ -12,7 +12,7 @@ use std::io::Write;
 
 /// Which record a line belongs to, and whose call.
 #[derive(Clone, Copy)]
-pub struct Place {
+pub struct LinePlace {
     /// The number of the record, from 1.
     pub number: u64,
     /// The actor, from 0.
@@ -68,10 +68,10 @@ impl Effect {
 }
 
 // The number of the record and the actor, with which a line begins.
-fn put_place<W: Write>(writer: &mut W, place: Place) -> io::Result<()>
+fn put_place<W: Write>(writer: &mut W, place: LinePlace) -> io::Result<()>
     ensures { OnOk result (Appends (W.contents writer.old) (W.contents writer.new) (place_text place)) }
 {
-    let Place { number, actor } = place;
+    let LinePlace { number, actor } = place;
     write!(writer, "{number},{actor}")
 }
 
@@ -105,7 +105,7 @@ fn end_line<W: Write>(writer: &mut W) -> io::Result<()>
 }
 
 /// Writes the line of a call that begins. The error is the writer's.
-pub fn show_begin<W: Write>(writer: &mut W, place: Place) -> io::Result<()>
+pub fn show_begin<W: Write>(writer: &mut W, place: LinePlace) -> io::Result<()>
     ensures { OnOk result (Appends (W.contents writer.old) (W.contents writer.new) (line place (codes "begin" ∷ []))) }
 {
     put_place(writer, place)?;
@@ -123,7 +123,7 @@ fn put_change<W: Write>(writer: &mut W, change: Change) -> io::Result<()>
 }
 
 /// Writes the line of an event, with the word that it changed. The error is the writer's.
-pub fn show_step<W: Write>(writer: &mut W, place: Place, effect: Effect) -> io::Result<()>
+pub fn show_step<W: Write>(writer: &mut W, place: LinePlace, effect: Effect) -> io::Result<()>
     ensures { OnOk result (Appends (W.contents writer.old) (W.contents writer.new) (line place (step_fields effect))) }
 {
     put_place(writer, place)?;
@@ -135,7 +135,7 @@ pub fn show_step<W: Write>(writer: &mut W, place: Place, effect: Effect) -> io::
 }
 
 /// Writes the line of a call's answer. The error is the writer's.
-pub fn show_answer<W: Write>(writer: &mut W, place: Place, answer: &Answer) -> io::Result<()>
+pub fn show_answer<W: Write>(writer: &mut W, place: LinePlace, answer: &Answer) -> io::Result<()>
     ensures { OnOk result (Appends (W.contents writer.old) (W.contents writer.new) (line place (codes "answer" ∷ answer_fields answer.now))) }
 {
     put_place(writer, place)?;

@@ -4,7 +4,7 @@ ghost use Rattle.std.specs.Prelude.{◌≡◌};
 
 use crate::fault::ReplayFault;
 use crate::form::Form;
-use crate::lines::{Change, Effect, Miss, Place};
+use crate::lines::{Change, Effect, LinePlace, Miss};
 use crate::meaning::word;
 use hist_core::{Begun, Call, Stepped, World};
 use schedule::{NewWorld, Order, OrderKind};
@@ -37,7 +37,7 @@ ghost use Rattle.segment_image.specs.Head.{head_of, header_of};
 ghost use Rattle.stepped.specs.Fault.{fault_of_world};
 ghost use Rattle.stepped.specs.Form.{Writes, texts};
 ghost use Rattle.stepped.specs.Lines.{Deed};
-ghost use Rattle.stepped.specs.Replay.{Does, EndsCall, FailsAt, GoesOn, HasChanged, IsDifference, Replays, Shows, StopsWith, next_miss, placed};
+ghost use Rattle.stepped.specs.Replay.{DoesOrder, EndsCall, FailsAt, RunsEvents, HasChanged, IsDifference, Replays, ShowsMove, StopsWith, next_miss, placed};
 
 // Where two lists of words differ first.
 fn change_of(old: &[u64], new: &[u64]) -> Option<Change>
@@ -126,11 +126,11 @@ impl Replay {
     fn begin<W: Write>(
         &mut self,
         writer: &mut W,
-        place: Place,
+        place: LinePlace,
         call: &Call,
     ) -> Result<(), ReplayFault>
         ensures left { self.new.left ≡ self.old.left }
-        ensures ok { OnOk result ((deeds : List Deed) × Shows (Begin place.actor call.now) self.old.world.world_state self.new.world.world_state deeds × Writes self.old.form self.new.form (W.contents writer.old) (W.contents writer.new) (placed place.number place.actor deeds)) }
+        ensures ok { OnOk result ((deeds : List Deed) × ShowsMove (Begin place.actor call.now) self.old.world.world_state self.new.world.world_state deeds × Writes self.old.form self.new.form (W.contents writer.old) (W.contents writer.new) (placed place.number place.actor deeds)) }
         ensures err { IfErr result (λ fault. (fault ≡ ReplayFault.Write) ⊎ ((why : WorldFault) × FaultsAt (Begin place.actor call.now) self.old.world.world_state why × (fault ≡ fault_of_world place.number why) × (writer.new ≡ writer.old))) }
     {
         let begun = self
@@ -168,7 +168,7 @@ impl Replay {
     }
 
     // An event of an actor's call, and the word that it changed.
-    fn advance(&mut self, place: Place) -> Result<(Stepped, Option<Change>), ReplayFault>
+    fn advance(&mut self, place: LinePlace) -> Result<(Stepped, Option<Change>), ReplayFault>
         ensures left { self.new.left ≡ self.old.left }
         ensures form { self.new.form ≡ self.old.form }
         ensures ok { IfOk result (λ done. IsStepped place.actor self.old.world.world_state self.new.world.world_state done.0 × HasChanged self.old.world.world_state.words.items self.new.world.world_state.words.items done.1) }
@@ -188,9 +188,9 @@ impl Replay {
     }
 
     // Performs one event. Returns whether the call has more.
-    fn step<W: Write>(&mut self, writer: &mut W, place: Place) -> Result<bool, ReplayFault>
+    fn step<W: Write>(&mut self, writer: &mut W, place: LinePlace) -> Result<bool, ReplayFault>
         ensures left { self.new.left ≡ self.old.left }
-        ensures ok { IfOk result (λ more. (deeds : List Deed) × Shows (Step place.actor) self.old.world.world_state self.new.world.world_state deeds × Writes self.old.form self.new.form (W.contents writer.old) (W.contents writer.new) (placed place.number place.actor deeds) × (more ≡ false → EndsCall deeds)) }
+        ensures ok { IfOk result (λ more. (deeds : List Deed) × ShowsMove (Step place.actor) self.old.world.world_state self.new.world.world_state deeds × Writes self.old.form self.new.form (W.contents writer.old) (W.contents writer.new) (placed place.number place.actor deeds) × (more ≡ false → EndsCall deeds)) }
         ensures err { IfErr result (λ fault. (fault ≡ ReplayFault.Write) ⊎ ((why : WorldFault) × FaultsAt (Step place.actor) self.old.world.world_state why × (fault ≡ fault_of_world place.number why) × (writer.new ≡ writer.old))) }
     {
         let miss = self.next_miss(place.actor);
@@ -214,10 +214,10 @@ impl Replay {
     fn steps<W: Write>(
         &mut self,
         writer: &mut W,
-        place: Place,
+        place: LinePlace,
         times: u64,
     ) -> Result<(), ReplayFault>
-        ensures ok { OnOk result ((deeds : List Deed) × GoesOn place.actor times self.old.left self.old.world.world_state self.new.world.world_state self.new.left deeds × Writes self.old.form self.new.form (W.contents writer.old) (W.contents writer.new) (placed place.number place.actor deeds)) }
+        ensures ok { OnOk result ((deeds : List Deed) × RunsEvents place.actor times self.old.left self.old.world.world_state self.new.world.world_state self.new.left deeds × Writes self.old.form self.new.form (W.contents writer.old) (W.contents writer.new) (placed place.number place.actor deeds)) }
         ensures err { IfErr result (λ fault. (fault ≡ ReplayFault.Write) ⊎ ((why : WorldFault) × (deeds : List Deed) × FailsAt place.actor (OrderKind.Step times) self.old.world.world_state why deeds × (fault ≡ fault_of_world place.number why) × Appends (W.contents writer.old) (W.contents writer.new) (texts self.old.form (placed place.number place.actor deeds)))) }
     {
         for _ in 0..times {
@@ -239,10 +239,10 @@ impl Replay {
         number: u64,
         order: &Order,
     ) -> Result<(), ReplayFault>
-        ensures ok { OnOk result ((deeds : List Deed) × Does order.now.actor order.now.kind self.old.left self.old.world.world_state self.new.world.world_state self.new.left deeds × Writes self.old.form self.new.form (W.contents writer.old) (W.contents writer.new) (placed number order.now.actor deeds)) }
+        ensures ok { OnOk result ((deeds : List Deed) × DoesOrder order.now.actor order.now.kind self.old.left self.old.world.world_state self.new.world.world_state self.new.left deeds × Writes self.old.form self.new.form (W.contents writer.old) (W.contents writer.new) (placed number order.now.actor deeds)) }
         ensures err { IfErr result (λ fault. (fault ≡ ReplayFault.Write) ⊎ ((why : WorldFault) × (deeds : List Deed) × FailsAt order.now.actor order.now.kind self.old.world.world_state why deeds × (fault ≡ fault_of_world number why) × Appends (W.contents writer.old) (W.contents writer.new) (texts self.old.form (placed number order.now.actor deeds)))) }
     {
-        let place = Place {
+        let place = LinePlace {
             number,
             actor: order.actor,
         };
@@ -265,7 +265,7 @@ impl Replay {
     /// `Write` comes if a write failed. Else the fault is the first one that the world has at a move of a record,
     /// `World` with the record's number, or `NoMemory`; and what was done before it is written [stops].
     pub fn run<W: Write>(&mut self, writer: &mut W, orders: &[Order]) -> Result<(), ReplayFault>
-        ensures replays { OnOk result ((done : List (Place × Deed)) × Replays 2 orders.now self.old.left self.old.world.world_state self.new.world.world_state self.new.left done × Writes self.old.form self.new.form (W.contents writer.old) (W.contents writer.new) done) }
+        ensures replays { OnOk result ((done : List (LinePlace × Deed)) × Replays 2 orders.now self.old.left self.old.world.world_state self.new.world.world_state self.new.left done × Writes self.old.form self.new.form (W.contents writer.old) (W.contents writer.new) done) }
         ensures stops { IfErr result (λ fault. StopsWith orders.now self.old.left self.old.world.world_state fault (λ done. Appends (W.contents writer.old) (W.contents writer.new) (texts self.old.form done))) }
     {
         for (i, order) in orders.iter().enumerate() {

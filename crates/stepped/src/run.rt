@@ -6,7 +6,7 @@ ghost use Rattle.segment_image.specs.Head.{head_of, header_of};
 ghost use Rattle.segment_image.specs.Watched.{is_flushed, watched_inner};
 ghost use Rattle.segment_image.specs.Words.{bytes_of_words};
 ghost use Rattle.stepped.specs.Failure.{UsageIsMistake};
-ghost use Rattle.stepped.specs.declared.lines.Place.{Place};
+ghost use Rattle.stepped.specs.declared.lines.LinePlace.{LinePlace};
 ghost use Rattle.stepped.specs.Form.{texts};
 ghost use Rattle.stepped.specs.Lines.{Deed};
 ghost use Rattle.stepped.specs.Output.{IsReportOf};
@@ -108,7 +108,7 @@ fn show_report<W: Write>(
     replay: &mut Replay,
     orders: &[Order],
 ) -> Result<(), ReplayFault>
-    ensures shown { OnOk result ((done : List (Place × Deed)) × (text : List ℕ) × Replays 2 orders.now replay.old.left replay.old.world.world_state replay.new.world.world_state replay.new.left done × IsReportOf replay.new.world.world_state.words.items text × Appends (W.contents (watched_inner writer.old)) (W.contents (watched_inner writer.new)) text) }
+    ensures shown { OnOk result ((done : List (LinePlace × Deed)) × (text : List ℕ) × Replays 2 orders.now replay.old.left replay.old.world.world_state replay.new.world.world_state replay.new.left done × IsReportOf replay.new.world.world_state.words.items text × Appends (W.contents (watched_inner writer.old)) (W.contents (watched_inner writer.new)) text) }
 {
     replay.run(&mut io::sink(), orders)?;
     write_report(alloc, writer, replay.words())
@@ -120,7 +120,7 @@ fn show_image<W: Write>(
     replay: &mut Replay,
     orders: &[Order],
 ) -> Result<(), ReplayFault>
-    ensures shown { OnOk result ((done : List (Place × Deed)) × Replays 2 orders.now replay.old.left replay.old.world.world_state replay.new.world.world_state replay.new.left done × Appends (W.contents (watched_inner writer.old)) (W.contents (watched_inner writer.new)) (bytes_of_words replay.new.world.world_state.words.items)) }
+    ensures shown { OnOk result ((done : List (LinePlace × Deed)) × Replays 2 orders.now replay.old.left replay.old.world.world_state replay.new.world.world_state replay.new.left done × Appends (W.contents (watched_inner writer.old)) (W.contents (watched_inner writer.new)) (bytes_of_words replay.new.world.world_state.words.items)) }
 {
     replay.run(&mut io::sink(), orders)?;
     write_image(writer, replay.words())
@@ -133,7 +133,7 @@ fn write_texts<W: Write + Drop>(
     replay: &mut Replay,
     orders: &[Order],
 ) -> Result<Watched<W>, ReplayFault>
-    ensures shown { IfOk result (λ after. (done : List (Place × Deed)) × Replays 2 orders.now replay.old.left replay.old.world.world_state replay.new.world.world_state replay.new.left done × Appends (W.contents (watched_inner writer)) (W.contents (watched_inner after)) (texts replay.old.form done)) }
+    ensures shown { IfOk result (λ after. (done : List (LinePlace × Deed)) × Replays 2 orders.now replay.old.left replay.old.world.world_state replay.new.world.world_state replay.new.left done × Appends (W.contents (watched_inner writer)) (W.contents (watched_inner after)) (texts replay.old.form done)) }
     ensures flushed { IfOk result (λ after. is_flushed after ≡ true) }
 {
     let mut texts = io::BufWriter::new(alloc, writer).map_err(|_| ReplayFault::NoMemory)?;

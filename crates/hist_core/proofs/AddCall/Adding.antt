@@ -17,11 +17,11 @@ use Rattle.segment_promises.proofs.Spoilers.{notes_leave}
 use Rattle.hist_core.specs.declared.actor_run.Running.{Running}
 use Rattle.hist_core.specs.declared.actor_run.Running.TheVariants.{Add}
 use Rattle.hist_core.specs.declared.actor_run.ActorRun.{ActorRun}
-use Rattle.hist_core.specs.Add.{Amid, alone, block_words, counted_entry, ended_entry, FrameOfAdd, HasEntry, NeedsBlock, HasEnded, StandsAtStage, IsAdd, IsSomeAdd, AddSteps, AddGives, serves_counted}
-use Rattle.hist_core.specs.Batch.{Runs, HaveEnded, IsCutAt}
-use Rattle.hist_core.specs.StepsBy.{Deed, links, raises, DoesOnly, StepsBy}
+use Rattle.hist_core.specs.Add.{Amid, alone, block_words, counted_entry, ended_entry, FrameOfAdd, HasEntry, NeedsBlock, EntryHasEnded, StandsAtStage, IsAdd, IsSomeAdd, AddSteps, AddGives, serves_counted}
+use Rattle.hist_core.specs.Batch.{RunsEntries, EntriesHaveEnded, IsCutAt}
+use Rattle.hist_core.specs.StepsBy.{SharedEffect, links, raises, DoesOnly, StepsBy}
 use Rattle.hist_core.proofs.Worlds.Landing.{Landing, does_as_said}
-use Rattle.hist_core.specs.ActorRun.{known_of, ended_by, begun_by, pending_by, held_by, IsGhostNoting, IsAdding, StandsIn, IsRun, IsAddAnnounced, LandsBack, MayBeRefused, Answers, DoesAsSaid, IsRefusedBy, Serves, is_flagged, lacks_room}
+use Rattle.hist_core.specs.ActorRun.{known_of, ended_by, begun_by, pending_by, held_by, IsGhostNoting, IsAdding, StandsIn, IsActorRunOf, IsAddAnnounced, LandsBack, MayBeRefused, Answers, DoesAsSaid, IsRefusedBy, Serves, is_flagged, lacks_room}
 use Rattle.hist_core.specs.Making.{IsCause}
 use Rattle.hist_core.proofs.AddCall.Refusals.{HasOnlyNoted, cause_noted, needs_still}
 use Rattle.hist_core.proofs.Parts.Allocations.{goes_with}
@@ -50,7 +50,7 @@ has_entry shape known amid add a stage.Summing stands = (true, false, stands.1)
 has_entry shape known amid add a stage.Noting stands = (true, not (int_eq add.amount (pos 0)), stands.1)
 
 module _ (shape : Dimensions) (version : ℕ) (old : ActorRun) (add : AddCall) (is : old.running ≡ Some (Add add)) where
-  adding : (a : Actor) → IsRun shape version old a → IsAdding shape (pending_by old) add a
+  adding : (a : Actor) → IsActorRunOf shape version old a → IsAdding shape (pending_by old) add a
   adding a run = subst (λ running. StandsIn shape old.known.items (pending_by old) running a) is run.stands
 
   module _ (known : MachineKnown) where
@@ -60,7 +60,7 @@ module _ (shape : Dimensions) (version : ℕ) (old : ActorRun) (add : AddCall) (
     abbrev standing : Actor → Type 0
     standing = IsAdd shape known (alone add) add
 
-    runs : (a : Actor) → standing a → Runs entries a
+    runs : (a : Actor) → standing a → RunsEntries entries a
     runs a counting = ap (map (λ (c : EntryProgress). c.entry)) (has_entry shape known (alone add) add a add.stage counting.stands).2
 
     into : (a : Actor) → IsGhostNoting (pending_by old) known.name add.units entries standing a → StandsIn shape old.known.items (pending_by old) old.running a
@@ -77,7 +77,7 @@ module _ (shape : Dimensions) (version : ℕ) (old : ActorRun) (add : AddCall) (
 
       -- it goes on
       goes_on : (b : Actor) → AddGives shape known (alone add) now More a b
-          → IsRun shape version (record old { begun = length old.entries.items; running = Some (Add now) }) b
+          → IsActorRunOf shape version (record old { begun = length old.entries.items; running = Some (Add now) }) b
       goes_on b (aside, stays, does, counting) =
           still_counts shape version old known.name add.units entries standing runs into a counts b aside stays (Add now)
           (ap (map (λ (c : EntryProgress). c.entry)) (has_entry shape known (alone add) now b at counting.stands).2)
@@ -85,7 +85,7 @@ module _ (shape : Dimensions) (version : ℕ) (old : ActorRun) (add : AddCall) (
           tt tt
 
       -- its entry has ended
-      ends_so : (b : Actor) → HasEnded known (alone add) now b → HaveEnded entries b
+      ends_so : (b : Actor) → EntryHasEnded known (alone add) now b → EntriesHaveEnded entries b
       ends_so b is_over = (
         ap (map (λ (c : EntryProgress). c.entry)) is_over,
         subst (All (λ c. has_ended c ≡ true)) (sym is_over)
@@ -108,11 +108,11 @@ module _ (shape : Dimensions) (version : ℕ) (old : ActorRun) (add : AddCall) (
           → DoesOnly (is_flagged said) (lacks_room said) (serves_counted known now a) a b → DoesAsSaid old.running said first d
       does_it said first b d names from behind = does_as_said old.running said (serves_counted known now a) first a b d serves from.2 behind
         where
-          as_first : (deed : Deed) → serves_counted known now a deed → serves_counted known now first deed
+          as_first : (deed : SharedEffect) → serves_counted known now a deed → serves_counted known now first deed
           as_first (links made) it = it
           as_first (raises words) (it, needs) = (it, needs_still known (add.value, add.units) a first (sym from.3) needs)
 
-          serves : (deed : Deed) → serves_counted known now a deed → Serves old.running first deed
+          serves : (deed : SharedEffect) → serves_counted known now a deed → Serves old.running first deed
           serves deed it = subst (λ running. Serves running first deed) (sym is) (
             known,
             subst (λ (l : List MachineKnown). Contains l known) (sym counts.run.names ∙ names) counts.counting.knows,
@@ -138,7 +138,7 @@ module _ (shape : Dimensions) (version : ℕ) (old : ActorRun) (add : AddCall) (
           (sym counts.counting.version ∙ ap (λ s. s.version) counts.run.segment) (steps shape known (alone add) a long counts.counting)
 
   -- what the machine's actor does, and what becomes of that at run time
-  module _ (a : Actor) (run : IsRun shape version old a) (at : AddStage) (words new_words : List ℕ) (long : length words ≡ shape.size) (new : ActorRun) where
+  module _ (a : Actor) (run : IsActorRunOf shape version old a) (at : AddStage) (words new_words : List ℕ) (long : length words ≡ shape.size) (new : ActorRun) where
     abbrev its : MachineKnown
     its = (adding a run).0
 
@@ -151,13 +151,13 @@ module _ (shape : Dimensions) (version : ℕ) (old : ActorRun) (add : AddCall) (
     goes_so More result steps (new_is, result_is) =
         subst (λ said. Landing shape version old words new new_words said a) (sym result_is) (goes (λ b from counts. goes_with (its_steps its at b counts words new_words More long steps)
         (λ c (aside, stays, does, counting). (
-          subst (λ (r : ActorRun). IsRun shape version r c) (sym new_is) (goes_on its at b counts c (aside, stays, does, counting)),
+          subst (λ (r : ActorRun). IsActorRunOf shape version r c) (sym new_is) (goes_on its at b counts c (aside, stays, does, counting)),
           does_it its at b counts stepped.More a c c run.names from refl does,
         ))))
     goes_so Done result steps (new_is, result_is) =
         subst (λ said. Landing shape version old words new new_words said a) (sym result_is) (goes (λ b from counts. goes_noting (its_steps its at b counts words new_words Done long steps)
         (λ c (aside, stays, does, turns, over).
-        let (notes, d, told, run_then) = subst (λ (r : ActorRun). (notes : List Note) × (d : Actor) × Notes c notes d × IsRun shape version r d) (sym new_is)
+        let (notes, d, told, run_then) = subst (λ (r : ActorRun). (notes : List Note) × (d : Actor) × Notes c notes d × IsActorRunOf shape version r d) (sym new_is)
         (has_counted shape version old its.name add.units (entries its) (standing its) (runs its) (into its) b counts c aside stays turns counts.counting.rests (ends_so its at b counts c over)) in
         (notes, d, told, (run_then, does_it its at b counts (stepped.Done answer.Added) a c d run.names from (notes_leave notes c d told).1 does)))))
     goes_so (Refused why) result steps (new_is, items, result_is) =
@@ -170,7 +170,7 @@ module _ (shape : Dimensions) (version : ℕ) (old : ActorRun) (add : AddCall) (
         (λ d. IsRefusedBy old.running why a d) (refused_by its at b counts a c from aside why cause met)) in
         (notes, d, told, (lands, does_it its at b counts (stepped.Done (answer.Refused why)) a c d run.names from (notes_leave notes c d told).1 does)))))
 
-  pub add_goes : (a : Actor) (run : IsRun shape version old a) (now : AddCall) → now ≡ record add { stage = now.stage } → (words new_words : List ℕ) → length words ≡ shape.size
+  pub add_goes : (a : Actor) (run : IsActorRunOf shape version old a) (now : AddCall) → now ≡ record add { stage = now.stage } → (words new_words : List ℕ) → length words ≡ shape.size
       → (said : AddStep) (new : ActorRun) (result : Stepped) → AddSteps add words now new_words said → IsAddAnnounced (record old { running = Some (Add now) }) said new result
       → Landing shape version old words new new_words result a
   add_goes a run now same words new_words long said new result steps is_said =
@@ -178,7 +178,7 @@ module _ (shape : Dimensions) (version : ℕ) (old : ActorRun) (add : AddCall) (
       (subst (λ (n : AddCall). IsAddAnnounced (record old { running = Some (Add n) }) said new result) same is_said)
 
   -- it is one that goes on somewhere
-  pub some_add : (n : ℕ) (a : Actor) (run : IsRun shape version old a) → n ≡ shape.size → IsSomeAdd n add
+  pub some_add : (n : ℕ) (a : Actor) (run : IsActorRunOf shape version old a) → n ≡ shape.size → IsSomeAdd n add
   some_add n a run long =
       let known = (adding a run).0 in
       let there = counts_somewhere shape version old known.name add.units (entries known) (standing known) (runs known) (into known) a run (adding a run).1 in

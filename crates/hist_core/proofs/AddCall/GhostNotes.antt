@@ -11,9 +11,9 @@ use Rattle.segment_machine.specs.Seats.{giver}
 use Rattle.hist_core.specs.declared.actor_run.Running.{Running}
 use Rattle.hist_core.specs.declared.actor_run.ActorRun.{ActorRun}
 use Rattle.hist_core.specs.Add.{FrameOfAdd, StaysOpen}
-use Rattle.hist_core.specs.Batch.{Runs, HaveEnded, IsCutAt}
+use Rattle.hist_core.specs.Batch.{RunsEntries, EntriesHaveEnded, IsCutAt}
 use Rattle.hist_core.specs.StepsBy.{StepsBy, IsFree}
-use Rattle.hist_core.specs.ActorRun.{entry_of, ended_by, pending_by, AreShown, HasDraft, HasRoom, IsBefore, IsGhostNoting, StandsIn, IsRun, LandsBack}
+use Rattle.hist_core.specs.ActorRun.{entry_of, ended_by, pending_by, AreDeltasShown, HasDraft, HasRoomForHist, IsBefore, IsGhostNoting, StandsIn, IsActorRunOf, LandsBack}
 use Rattle.hist_core.proofs.AddCall.Refusals.{HasOnlyNoted}
 use Rattle.hist_core.proofs.Worlds.Free.{free_turns}
 use Rattle.hist_core.proofs.Worlds.Quiet.{met_on, not_spent, started, logged}
@@ -40,7 +40,7 @@ fresh_are (e ∷ entries) = ap (λ (l : List MachineEntry). e ∷ l) (fresh_are 
 
 -- A call that counts these entries, costs this, and stands so from its first event on.
 module _ (shape : Dimensions) (version : ℕ) (old : ActorRun) (name : List ℕ) (cost : ℕ) (entries : List MachineEntry) (standing : Actor → Type 0)
-    (runs : (a : Actor) → standing a → Runs entries a)
+    (runs : (a : Actor) → standing a → RunsEntries entries a)
     (into : (a : Actor) → IsGhostNoting (pending_by old) name cost entries standing a → StandsIn shape old.known.items (pending_by old) old.running a) where
   -- all of its entries have begun
   abbrev pub going : ActorRun
@@ -51,9 +51,9 @@ module _ (shape : Dimensions) (version : ℕ) (old : ActorRun) (name : List ℕ)
     pub pending_are : map entry_of (pending_by old) ≡ entries
     pub share : a.units.share ≡ 0
     pub counting : standing a
-    pub run : IsRun shape version going a
+    pub run : IsActorRunOf shape version going a
 
-  module _ (a : Actor) (run : IsRun shape version old a) (telling : IsGhostNoting (pending_by old) name cost entries standing a) where
+  module _ (a : Actor) (run : IsActorRunOf shape version old a) (telling : IsGhostNoting (pending_by old) name cost entries standing a) where
     -- so many entries more than have ended are there
     more : length old.entries.items ≡ old.ended + length entries
     more =
@@ -102,7 +102,7 @@ module _ (shape : Dimensions) (version : ℕ) (old : ActorRun) (name : List ℕ)
       pending_are = telling.pending_are;
       share = share;
       counting = counting;
-      run = subst (λ (n : ℕ). IsRun shape version (record old { begun = n }) a) all run;
+      run = subst (λ (n : ℕ). IsActorRunOf shape version (record old { begun = n }) a) all run;
     }
       where
         all : old.begun ≡ length old.entries.items
@@ -140,8 +140,8 @@ module _ (shape : Dimensions) (version : ℕ) (old : ActorRun) (name : List ℕ)
       log_is = ap (λ (e : Entries). e.log) open_still.1
 
       -- it goes on
-      pub still_counts : (running : Running) → Runs entries b → StandsIn shape old.known.items (pending_by old) (Some running) b
-          → HasRoom (Some running) (vec_len old.known) (vec_capacity old.known) → HasDraft (Some running) old.taken → IsRun shape version (record going { running = Some running }) b
+      pub still_counts : (running : Running) → RunsEntries entries b → StandsIn shape old.known.items (pending_by old) (Some running) b
+          → HasRoomForHist (Some running) (vec_len old.known) (vec_capacity old.known) → HasDraft (Some running) old.taken → IsActorRunOf shape version (record going { running = Some running }) b
       still_counts running its stands room draft = record {
         records = ap is_opener aside.role ∙ counts.run.records;
         segment = aside.segment ∙ counts.run.segment;
@@ -151,7 +151,7 @@ module _ (shape : Dimensions) (version : ℕ) (old : ActorRun) (name : List ℕ)
         begun = ap (map entry_of) (take_all (length old.entries.items) old.entries.items (omega arith))
             ∙ (all_are ∙ ((λ i. map (λ (c : EntryProgress). c.entry) (sym log_is i) ++ sym its i)
             ∙ sym (map-append (λ (c : EntryProgress). c.entry) b.entries.log b.entries.running)));
-        taken = subst (AreShown old.taken.items) (sym (ap (λ d. d.taken) aside.deltas)) counts.run.taken;
+        taken = subst (AreDeltasShown old.taken.items) (sym (ap (λ d. d.taken) aside.deltas)) counts.run.taken;
         names = counts.run.names ∙ sym aside.names;
         lawful = counts.run.lawful;
         once = counts.run.once;
@@ -163,8 +163,8 @@ module _ (shape : Dimensions) (version : ℕ) (old : ActorRun) (name : List ℕ)
 
       module _ (turns : IsFree b) (rests : a.deltas.taking ≡ false) where
         -- its entries have ended
-        pub has_counted : HaveEnded entries b
-            → (notes : List Note) × (c : Actor) × Notes b notes c × IsRun shape version (record going { ended = length old.entries.items; running = None }) c
+        pub has_counted : EntriesHaveEnded entries b
+            → (notes : List Note) × (c : Actor) × Notes b notes c × IsActorRunOf shape version (record going { ended = length old.entries.items; running = None }) c
         has_counted (its, over) =
             let ended_are : map entry_of (take (length old.entries.items) old.entries.items) ≡ map (λ c. c.entry) (b.entries.log ++ b.entries.running) =
             ap (map entry_of) (take_all (length old.entries.items) old.entries.items (omega arith))
@@ -180,7 +180,7 @@ module _ (shape : Dimensions) (version : ℕ) (old : ActorRun) (name : List ℕ)
                 within = (omega arith, omega arith);
                 ended = ended_are;
                 begun = ended_are ∙ ap (map (λ (c : EntryProgress). c.entry)) (sym (append-nil (b.entries.log ++ b.entries.running)));
-                taken = subst (AreShown old.taken.items) (sym (ap (λ d. d.taken) aside.deltas)) counts.run.taken;
+                taken = subst (AreDeltasShown old.taken.items) (sym (ap (λ d. d.taken) aside.deltas)) counts.run.taken;
                 names = counts.run.names ∙ sym aside.names;
                 lawful = counts.run.lawful;
                 once = counts.run.once;
@@ -253,14 +253,14 @@ module _ (shape : Dimensions) (version : ℕ) (old : ActorRun) (name : List ℕ)
           lands_cut = (
             not_spent b.hand.place (free_turns b.hand.place turns),
             (let share = share_is in omega (arith, share)),
-            subst (λ (r : ActorRun). IsRun shape version r (giver c units)) (sym new_is) (record {
+            subst (λ (r : ActorRun). IsActorRunOf shape version r (giver c units)) (sym new_is) (record {
               records = ap is_opener aside.role ∙ counts.run.records;
               segment = aside.segment ∙ counts.run.segment;
               first = ap (λ (e : Entries). e.first) open_still.1 ∙ counts.run.first;
               within = (omega arith, (let here = ap length items in omega (arith, here, long)));
               ended = ended_are;
               begun = ended_are ∙ ap (map (λ (x : EntryProgress). x.entry)) (sym (append-nil c.entries.log));
-              taken = subst (AreShown old.taken.items) (sym (ap (λ d. d.taken) aside.deltas)) counts.run.taken;
+              taken = subst (AreDeltasShown old.taken.items) (sym (ap (λ d. d.taken) aside.deltas)) counts.run.taken;
               names = counts.run.names ∙ sym aside.names;
               lawful = counts.run.lawful;
               once = counts.run.once;

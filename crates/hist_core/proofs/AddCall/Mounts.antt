@@ -4,16 +4,16 @@ use Rattle.segment_invariant.proofs.Prelude.Machine.{IsShape, buckets_of, Dimens
 use Rattle.std.specs.Prelude.{is_some}
 use Rattle.alloc_core.specs.declared.alloc.AllocStep.{AllocStep}
 use Rattle.alloc_core.specs.declared.alloc.AllocStep.TheVariants as said
-use Rattle.alloc_core.specs.declared.alloc.Stage.TheVariants.{Claimed}
+use Rattle.alloc_core.specs.declared.alloc.AllocStage.TheVariants.{Claimed}
 use Rattle.alloc_core.specs.Alloc.{Allocation, IsAimed}
 use Rattle.alloc_core.specs.Alloc as alloc
 use Rattle.alloc_core.specs.Event as atomic
 use Rattle.segment_machine.specs.declared.actor.Segment.{Segment}
-use Rattle.segment_machine.specs.Actor.{AreApart}
+use Rattle.segment_machine.specs.Actor.{AreOwnBlocksApart}
 use Rattle.segment_machine.specs.Allocating.{new_own}
 use Rattle.segment_machine.specs.Calls.{ended, AreCountsOf, CountsStay}
 use Rattle.segment_machine.specs.Packing.{PackingEvent}
-use Rattle.segment_machine.specs.Stages.{Allocates, StandsAt}
+use Rattle.segment_machine.specs.Stages.{FollowsAllocation, StandsAtAllocStage}
 use Rattle.segment_promises.proofs.Calls.Places.{looks_there}
 use Rattle.hist_core.specs.declared.add.Add.{Add}
 use Rattle.hist_core.specs.declared.add.AddStep.{AddStep}
@@ -22,7 +22,7 @@ use Rattle.hist_core.specs.declared.add.AddStage.{AddStage}
 use Rattle.hist_core.specs.declared.add.AddStage.TheVariants.{SeekingCounts, Allocating, Mounting, Purging, LoadingAgain}
 use Rattle.segment_calls.specs.declared.refusal.Refusal.TheVariants as why
 use Rattle.hist_core.specs.StepsBy.{DoesOnly, FrameOfStep, SeesNoMore, StepsBy, is_tied}
-use Rattle.hist_core.specs.Add.{Amid, HasEntry, HasMetNoCounts, AreCounts, NeedsBlock, NeedsCounts, StandsAtStage, IsAdd, AddGives, BeginsToAllocate, IsAllocated, block_words, serves_counted}
+use Rattle.hist_core.specs.Add.{Amid, HasEntry, HasMetNoCounts, CountsLieWithin, NeedsBlock, NeedsCounts, StandsAtStage, IsAdd, AddGives, BeginsToAllocate, IsAllocated, block_words, serves_counted}
 use Rattle.hist_core.specs.Making.{IsCause}
 use Rattle.hist_core.proofs.AddCall.Counts.{counts_in}
 use Rattle.hist_core.proofs.AddCall.Entries.{counting_of}
@@ -36,7 +36,7 @@ use Rattle.hist_core.proofs.Parts.Deeds.{is_full_end}
 
 module _ (shape : Dimensions) (known : Known) (amid : Amid) (add : Add) (a : Actor) (words : List ℕ) (is : IsAdd shape known amid add a) where
   -- counts that it learns of lie within the segment
-  counts_learned : (counts : ℕ) → Buckets a known.reference known → AreCountsOf a known.reference counts → counts ≢ 0 → AreCounts shape add counts
+  counts_learned : (counts : ℕ) → Buckets a known.reference known → AreCountsOf a known.reference counts → counts ≢ 0 → CountsLieWithin shape add counts
   counts_learned counts has learned some = (
     some,
     subst (λ (n : ℕ). counts + (4 + 2 * n) ≤ shape.size) (sym is.counting.buckets)
@@ -150,10 +150,10 @@ module _ (shape : Dimensions) (known : Known) (amid : Amid) (add : Add) (a : Act
     }
 
     module _ (long : length words ≡ shape.size) (y : Allocation) (new_words : List ℕ) (says : AllocStep) (step : alloc.IsStep x words y new_words says) where
-      claims : StepsBy shape.size add.version a words new_words (λ b. FrameOfStep a b × DoesOnly false (is_full_end says) (serves_counted known add a) a b × AreApart b × Allocates b y × (b.seen.words ≡ a.seen.words) × SeesNoMore a b × IsEnd says x.size a b)
+      claims : StepsBy shape.size add.version a words new_words (λ b. FrameOfStep a b × DoesOnly false (is_full_end says) (serves_counted known add a) a b × AreOwnBlocksApart b × FollowsAllocation b y × (b.seen.words ≡ a.seen.words) × SeesNoMore a b × IsEnd says x.size a b)
       claims =
           let size = ap (λ (d : Dimensions). d.size) is.segment in
-          subst (λ (n : ℕ). StepsBy n add.version a words new_words (λ b. FrameOfStep a b × DoesOnly false (is_full_end says) (serves_counted known add a) a b × AreApart b × Allocates b y × (b.seen.words ≡ a.seen.words) × SeesNoMore a b × IsEnd says x.size a b)) size
+          subst (λ (n : ℕ). StepsBy n add.version a words new_words (λ b. FrameOfStep a b × DoesOnly false (is_full_end says) (serves_counted known add a) a b × AreOwnBlocksApart b × FollowsAllocation b y × (b.seen.words ≡ a.seen.words) × SeesNoMore a b × IsEnd says x.size a b)) size
           (allocates_on (serves_counted known add a) add.version a x y words new_words says stood_allocating.2.0 (its_words, needs_here) (long ∙ sym size) step)
 
       -- its entry is as it was
@@ -203,10 +203,10 @@ module _ (shape : Dimensions) (known : Known) (amid : Amid) (add : Add) (a : Act
       has_claimed : (at : ℕ) → says ≡ said.Done at → StepsBy shape.size add.version a words new_words (AddGives shape known amid (record add { stage = Mounting at }) More a)
       has_claimed at done = goes_noting claims (λ b (beside, does, apart, goes, same, list, ends). claimed b beside (subst (λ (s : AllocStep). DoesOnly false (is_full_end s) (serves_counted known add a) a b) done does) goes (claimed_of y.stage at (sym done ∙ step.answers)))
         where
-          claimed : (b : Actor) → FrameOfStep a b → DoesOnly false false (serves_counted known add a) a b → Allocates b y → (size : ℕ) × (y.stage ≡ Claimed at size)
+          claimed : (b : Actor) → FrameOfStep a b → DoesOnly false false (serves_counted known add a) a b → FollowsAllocation b y → (size : ℕ) × (y.stage ≡ Claimed at size)
               → (notes : List Note) × (c : Actor) × Notes b notes c × AddGives shape known amid (record add { stage = Mounting at }) More a c
           claimed b beside does goes (size, ends) =
-              let has = subst (StandsAt b y) ends goes.stands in
+              let has = subst (StandsAtAllocStage b y) ends goes.stands in
               let place = subst (IsAimed y) ends goes.lawful.aimed in
               let suits : x.size ≤ size = claimed_suits x x.stage (word_at words (atomic.spot step.event)) at size step.event step.next stood_allocating.2.0.lawful.aimed
               (sym (ap (λ (z : Allocation). z.stage) step.new_is) ∙ ends) in

@@ -15,7 +15,7 @@ use Rattle.hist_core.specs.declared.add.AddStep.TheVariants.{More}
 use Rattle.hist_core.specs.declared.add.AddStage.{AddStage}
 use Rattle.hist_core.specs.declared.add.AddStage.TheVariants.{LoadingAgain, Disabling, Moving, Counting}
 use Rattle.hist_core.specs.StepsBy.{StepsBy}
-use Rattle.hist_core.specs.Add.{Amid, HasEntry, AreCounts, StandsAtStage, IsAdd, AddGives, behind_disabling, count_in}
+use Rattle.hist_core.specs.Add.{Amid, HasEntry, CountsLieWithin, StandsAtStage, IsAdd, AddGives, behind_disabling, count_in}
 use Rattle.hist_core.proofs.AddCall.Counts.{counts_in}
 use Rattle.hist_core.proofs.AddCall.Going.{packs_on}
 use Rattle.hist_core.proofs.AddCall.Packs.{has_them, formed}
@@ -27,7 +27,7 @@ module _ (shape : Dimensions) (known : Known) (amid : Amid) (add : Add) (a : Act
   look_at single counts = record { histogram = known.reference; single = single; counts = counts }
 
   -- where it counts: the word is off
-  module _ (has : has_buckets known.spec ≡ true) (entry : HasEntry known amid add a false false) (counts : ℕ) (there : AreCounts shape add counts) where
+  module _ (has : has_buckets known.spec ≡ true) (entry : HasEntry known amid add a false false) (counts : ℕ) (there : CountsLieWithin shape add counts) where
     -- where its count stands
     pub inside_counts : (bucket : ℕ) → bucket < add.buckets → counts + 4 + bucket < shape.size
     inside_counts bucket inside = let ends = there.1 in omega (arith, inside, ends)

@@ -1,7 +1,7 @@
 -- A call of an actor that counts begins: what it counts, and that it may.
 use Rattle.segment_invariant.proofs.Prelude.Std.{◌≡◌, ◌≢◌, ◌≤◌, ◌<◌, ◌+◌, ◌*◌, ℕ, zero, suc, ℤ, pos, ◌+ℤ◌, Bool, true, false, not, ◌==◌, ◌⊎◌, List, [], ◌∷◌, ◌++◌, map, length, take, drop, fold, Contains, inl, refl, sym, ap, subst, ◌∙◌, arith, length-append, Option, Some, None, unsigned_abs, if◌then◌else◌, vec_len, vec_capacity, All-nil, Contains-append_left, bytes_eq, int_eq, +ℤ_idl, ne_eqb, drop-append-le, some, some-injective, some-ne-none, get_elem?}
 use Rattle.segment_invariant.proofs.Prelude.Machine.{IsShape, boundaries_of, Dimensions, Actor, Spent, known_at, has_ended, key_of, noted, begins, State, is_reference}
-use Rattle.segment_invariant.proofs.Prelude.Invariant.{Anatomy, order_of, Invariant, IsFirst, Knows}
+use Rattle.segment_invariant.proofs.Prelude.Invariant.{Anatomy, order_of, Invariant, IsFirst, IsRightlyKnown}
 use Rattle.std.proofs.lemmas.List.{take-append-le, drop_all}
 use Rattle.segment_image.specs.declared.layout.TheConstants.{BLOCK_HEADER, HISTOGRAM_NAME}
 use Rattle.segment_machine.specs.declared.actor.Known.{Known as MachineKnown}
@@ -14,20 +14,20 @@ use Rattle.segment_invariant.proofs.Consistency.Totals.{find_known}
 use Rattle.segment_invariant.proofs.Lists.Elements.{all_at, all_from, at_from, contains_at, each_of_one, from_map, index_at}
 use Rattle.segment_invariant.proofs.Lists.Maps.{contains_map}
 use Rattle.hist_core.specs.declared.add.Add.{Add as AddCall}
-use Rattle.hist_core.specs.declared.hist.Known.{Known}
+use Rattle.hist_core.specs.declared.hist.KnownHist.{KnownHist}
 use Rattle.hist_core.specs.declared.entry.Entry.{Entry}
 use Rattle.hist_core.specs.declared.actor_run.Running.{Running}
 use Rattle.hist_core.specs.declared.actor_run.Running.TheVariants.{Add}
 use Rattle.hist_core.specs.declared.actor_run.ActorRun.{ActorRun}
 use Rattle.hist_core.specs.declared.world_state.WorldState.{WorldState}
 use Rattle.hist_core.specs.Start.{Start}
-use Rattle.hist_core.specs.WorldState.{IsReached, IsReachedAs, BeginsFrom, IsCountBegun}
+use Rattle.hist_core.specs.WorldState.{IsReachable, IsReachedAs, BeginsFrom, IsCountBegun}
 use Rattle.hist_core.proofs.Worlds.Starts.{kept_there, shape_there, versions_there}
 use Rattle.hist_core.proofs.Worlds.Beginnings.{IsPlaced, IsTurned, is_now}
 use Rattle.hist_core.proofs.Worlds.WorldStates.{lends, is_long, quiet_now}
 use Rattle.hist_core.proofs.HistCall.Asking.{place_below}
 use Rattle.hist_core.specs.Add.{alone, counted_entry, IsAdd, IsCounting, IsStarted}
-use Rattle.hist_core.specs.ActorRun.{entry_of, known_of, pending_by, IsKnown, HaveOwnNames, IsQuiet, HasDraft, HasRoom, StandsIn, IsRun, IsGhostNoting, BeginsToCount, BeginsAdd}
+use Rattle.hist_core.specs.ActorRun.{entry_of, known_of, pending_by, IsKnown, HaveOwnNames, CountsNoEntries, HasDraft, HasRoomForHist, StandsIn, IsActorRunOf, IsGhostNoting, BeginsToCount, BeginsAdd}
 use Rattle.hist_core.proofs.Worlds.Free.{free_turns}
 use Rattle.hist_core.proofs.AddCall.Samples.{stands_first}
 use Rattle.hist_core.specs.StepsBy.{IsFree}
@@ -37,33 +37,33 @@ use Rattle.hist_core.proofs.Worlds.Quiet.{not_spent, all_ended, met_split}
 -- ---- what an actor knows
 
 -- a name stands once
-own_one : (list : List Known) → HaveOwnNames list → (i j : ℕ) (x y : Known) → get_elem? list i ≡ some x → get_elem? list j ≡ some y → x.name.items ≡ y.name.items
+own_one : (list : List KnownHist) → HaveOwnNames list → (i j : ℕ) (x y : KnownHist) → get_elem? list i ≡ some x → get_elem? list j ≡ some y → x.name.items ≡ y.name.items
     → x ≡ y
 own_one [] own i j x y here there same = absurd (some-ne-none x (sym here))
 own_one (first ∷ rest) own zero zero x y here there same = some-injective x y (sym here ∙ there)
 own_one (first ∷ rest) own zero (suc j) x y here there same =
-    absurd (own.0 j y there (sym same ∙ ap (λ (k : Known). k.name.items) (sym (some-injective first x here))))
+    absurd (own.0 j y there (sym same ∙ ap (λ (k : KnownHist). k.name.items) (sym (some-injective first x here))))
 own_one (first ∷ rest) own (suc i) zero x y here there same =
-    absurd (own.0 i x here (same ∙ ap (λ (k : Known). k.name.items) (sym (some-injective first y there))))
+    absurd (own.0 i x here (same ∙ ap (λ (k : KnownHist). k.name.items) (sym (some-injective first y there))))
 own_one (first ∷ rest) own (suc i) (suc j) x y here there same = own_one rest own.1 i j x y here there same
 
 -- what it knows is among what its actor knows
-pub known_inside : (list : List Known) (names : List MachineKnown) (known : Known) → map known_of list ≡ names → (i : ℕ) → get_elem? list i ≡ some known
+pub known_inside : (list : List KnownHist) (names : List MachineKnown) (known : KnownHist) → map known_of list ≡ names → (i : ℕ) → get_elem? list i ≡ some known
     → Contains names (known_of known)
 known_inside list names known same i at =
     subst (λ (l : List MachineKnown). Contains l (known_of known)) same (contains_map known_of list known (contains_at list i known at))
 
 -- in a kept state no two histograms that an actor knows have one reference
 module _ (shape : Dimensions) (opened : Anatomy) (state : State) (kept : Invariant shape opened state) (id : ℕ) (a : Actor)
-    (mine : get_elem? state.actors id ≡ some a) (lives : a.hand.place ≢ Spent) (list : List Known) (own : HaveOwnNames list)
+    (mine : get_elem? state.actors id ≡ some a) (lives : a.hand.place ≢ Spent) (list : List KnownHist) (own : HaveOwnNames list)
     (names : map known_of list ≡ a.answers.names) where
-  pub alone_there : (i : ℕ) (known : Known) → get_elem? list i ≡ some known → known_at a.answers.names known.reference ≡ Some (known_of known)
+  pub alone_there : (i : ℕ) (known : KnownHist) → get_elem? list i ≡ some known → known_at a.answers.names known.reference ≡ Some (known_of known)
   alone_there i known at =
       let inside = known_inside list a.answers.names known names i at in
       let there = at_from a.answers.names (known_of known) inside in
       let (found, is, among, refers) = find_known a.answers.names known.reference there.0 (known_of known) there.1 refl in
-      let knows : (k : MachineKnown) → Contains a.answers.names k → Knows kept.anatomy k = λ k inside.
-      (let (j, at_j) = at_from a.answers.names k inside in all_at (Knows kept.anatomy) a.answers.names j k (kept.each id a mine lives).names at_j) in
+      let knows : (k : MachineKnown) → Contains a.answers.names k → IsRightlyKnown kept.anatomy k = λ k inside.
+      (let (j, at_j) = at_from a.answers.names k inside in all_at (IsRightlyKnown kept.anatomy) a.answers.names j k (kept.each id a mine lives).names at_j) in
       let its = knows (known_of known) inside in
       let other = knows found among in
       let same : found.name ≡ known.name.items = one_name shape opened state kept found.name known.name.items other.first_spec its.first_spec found.reference other.first
@@ -85,8 +85,8 @@ reference_there shape opened state kept id a mine lives at met =
 
 -- a call of an actor that rests, which counts entries: they are pending, and it stands for the same actor with the units of it
 module _ (shape : Dimensions) (version : ℕ) (old new : ActorRun) (entries : List MachineEntry) (running : Running) (starts : BeginsToCount entries running old new)
-    (rests : old.running ≡ None) (a : Actor) (run : IsRun shape version old a) where
-  pub stands : IsFree a × IsQuiet (pending_by old) a
+    (rests : old.running ≡ None) (a : Actor) (run : IsActorRunOf shape version old a) where
+  pub stands : IsFree a × CountsNoEntries (pending_by old) a
   stands = subst (λ running. StandsIn shape old.known.items (pending_by old) running a) rests run.stands
 
   none_left : length old.entries.items ≡ old.ended
@@ -117,9 +117,9 @@ module _ (shape : Dimensions) (version : ℕ) (old new : ActorRun) (entries : Li
       });
     }
 
-    pub begins_with : StandsIn shape old.known.items starts.pending (Some running) (getter a cost) → HasRoom (Some running) (vec_len old.known) (vec_capacity old.known)
-        → HasDraft (Some running) old.taken → IsRun shape version new (getter a cost)
-    begins_with stood room draft = subst (λ (r : ActorRun). IsRun shape version r (getter a cost)) (sym starts.is) (record {
+    pub begins_with : StandsIn shape old.known.items starts.pending (Some running) (getter a cost) → HasRoomForHist (Some running) (vec_len old.known) (vec_capacity old.known)
+        → HasDraft (Some running) old.taken → IsActorRunOf shape version new (getter a cost)
+    begins_with stood room draft = subst (λ (r : ActorRun). IsActorRunOf shape version r (getter a cost)) (sym starts.is) (record {
       records = run.records;
       segment = run.segment;
       first = run.first;
@@ -164,7 +164,7 @@ within name its named small = record {
     sized false = omega arith
 
 -- what is started counts units of a value in a histogram that is known
-pub counts_so : (shape : Dimensions) (version : ℕ) (known : Known) (value : ℤ) (units : ℕ) (amount : ℤ) (add : AddCall)
+pub counts_so : (shape : Dimensions) (version : ℕ) (known : KnownHist) (value : ℤ) (units : ℕ) (amount : ℤ) (add : AddCall)
     → IsStarted shape version (known_of known) value units amount add → IsKnown shape known → (version ≡ 1) ⊎ (version ≡ 2) → 0 < units
     → IsCounting shape (known_of known) add
 counts_so shape version known value units amount add started its versions some_units = record {
@@ -179,8 +179,8 @@ counts_so shape version known value units amount add started its versions some_u
   bucket = λ has. subst (λ v. IsKeyOfBucket (known_of known) add.bucket (key_of (boundaries_of known.spec) v)) (sym started.counts) (started.bucket has);
 }
 
-module _ (shape : Dimensions) (version : ℕ) (known : Known) (value : ℤ) (units : ℕ) (old new : ActorRun) (starts : BeginsAdd shape version known value units old new)
-    (i : ℕ) (at : get_elem? old.known.items i ≡ some known) (some_units : 0 < units) (rests : old.running ≡ None) (a : Actor) (run : IsRun shape version old a) (lawful : IsShape shape) (versions : (version ≡ 1) ⊎ (version ≡ 2))
+module _ (shape : Dimensions) (version : ℕ) (known : KnownHist) (value : ℤ) (units : ℕ) (old new : ActorRun) (starts : BeginsAdd shape version known value units old new)
+    (i : ℕ) (at : get_elem? old.known.items i ≡ some known) (some_units : 0 < units) (rests : old.running ≡ None) (a : Actor) (run : IsActorRunOf shape version old a) (lawful : IsShape shape) (versions : (version ≡ 1) ⊎ (version ≡ 2))
     (alone_there : known_at a.answers.names known.reference ≡ Some (known_of known)) (reach : is_reference shape.size known.reference ≡ true) where
   abbrev add : AddCall
   add = starts.add
@@ -208,7 +208,7 @@ module _ (shape : Dimensions) (version : ℕ) (known : Known) (value : ℤ) (uni
         }),
   )
     where
-      free : IsFree a × IsQuiet (pending_by old) a
+      free : IsFree a × CountsNoEntries (pending_by old) a
       free = stands shape version old new (counted_entry machine add ∷ []) (Add add) starts.begins rests a run
 
       its_known : IsKnown shape known
@@ -220,14 +220,14 @@ module _ (shape : Dimensions) (version : ℕ) (known : Known) (value : ℤ) (uni
 -- ---- on a world_state
 
 -- one actor begins a call that counts, in a histogram that it knows
-module _ (old new : WorldState) (reached : ∥ IsReached old ∥₁) (actor : ℕ) (name : List ℕ) (place : ℕ) (r now : ActorRun) (its : IsPlaced old actor name place r)
+module _ (old new : WorldState) (reached : ∥ IsReachable old ∥₁) (actor : ℕ) (name : List ℕ) (place : ℕ) (r now : ActorRun) (its : IsPlaced old actor name place r)
     (turned : IsTurned old new actor now) (entries : List MachineEntry) (running : Running) (cost : ℕ) (starts : BeginsToCount entries running r now)
     (pooled : new.units + cost ≡ old.units) where
-  abbrev known : Known
+  abbrev known : KnownHist
   known = its.known
 
-  pub count_begins : HasRoom (Some running) (vec_len r.known) (vec_capacity r.known) → HasDraft (Some running) r.taken
-      → ((a : Actor) → IsRun old.shape old.version r a → IsShape old.shape → (old.version ≡ 1) ⊎ (old.version ≡ 2)
+  pub count_begins : HasRoomForHist (Some running) (vec_len r.known) (vec_capacity r.known) → HasDraft (Some running) r.taken
+      → ((a : Actor) → IsActorRunOf old.shape old.version r a → IsShape old.shape → (old.version ≡ 1) ⊎ (old.version ≡ 2)
       → known_at a.answers.names known.reference ≡ Some (known_of known) → is_reference old.shape.size known.reference ≡ true → StandsIn old.shape r.known.items starts.pending (Some running) (getter a cost))
       → (start : Start) (state : State) → IsReachedAs start old state → BeginsFrom start state actor new
   count_begins room draft stood start state reach =

@@ -10,7 +10,7 @@ use Rattle.hist_core.specs.declared.sampling.Sampling.{Sampling}
 use Rattle.hist_core.specs.declared.sampling.SamplingStep.{SamplingStep}
 use Rattle.hist_core.specs.declared.sampling.SamplingStep.TheVariants as found
 use Rattle.hist_core.specs.Add.{Amid, HasEntry, IsAdd, IsSampled, OpensWith, StandsAtStage, NeedsBlock, StaysOpen, AddGives, block_words, serves_counted}
-use Rattle.hist_core.specs.StepsBy.{Deed, links, raises, DoesOnly, FrameOfStep, StepsBy, IsFree}
+use Rattle.hist_core.specs.StepsBy.{SharedEffect, links, raises, DoesOnly, FrameOfStep, StepsBy, IsFree}
 use Rattle.hist_core.specs.Sampling.{SamplingGives, SawNoSample, serves_sample}
 use Rattle.hist_core.specs.Making.{IsCause, is_full}
 use Rattle.hist_core.proofs.AddCall.Entries.{counting_of}
@@ -82,7 +82,7 @@ module _ (shape : Dimensions) (known : Known) (amid : Amid) (add : Add) (a : Act
       → DoesOnly false full (serves_counted known add a) a b
   serves_it full x same b = does_less false full (serves_sample x a) (serves_counted known add a) a b so
     where
-      so : (deed : Deed) → serves_sample x a deed → serves_counted known add a deed
+      so : (deed : SharedEffect) → serves_sample x a deed → serves_counted known add a deed
       so (links made) it = it ∙ (λ i. Sample
           ((ap (λ (y : Sampling). y.histogram) same ∙ (stood_sampling.2 ∙ is.counting.reference)) i)
           ((ap (λ (y : Sampling). y.value) same ∙ stood_sampling.3) i))

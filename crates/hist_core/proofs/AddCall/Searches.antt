@@ -20,10 +20,10 @@ use Rattle.hist_core.specs.declared.sampling.SamplingStep.{SamplingStep}
 use Rattle.hist_core.specs.declared.sampling.SamplingStep.TheVariants.{More, Found}
 use Rattle.hist_core.specs.declared.sampling.SamplingStage.{SamplingStage}
 use Rattle.hist_core.specs.declared.sampling.SamplingStage.TheVariants.{Walking, LoadingType, LoadingHistogram, LoadingValue, Making}
-use Rattle.hist_core.specs.StepsBy.{Deed, links, raises, DoesOnly, FrameOfStep, SawEnd, SeesNoMore, StepsBy, IsFree}
+use Rattle.hist_core.specs.StepsBy.{SharedEffect, links, raises, DoesOnly, FrameOfStep, SawEnd, SeesNoMore, StepsBy, IsFree}
 use Rattle.hist_core.specs.Making.{MakingGives, MayMake, is_full, serves_wanted}
 use Rattle.hist_core.specs.Making as making
-use Rattle.hist_core.specs.Sampling.{HaveOthers, IsIts, IsMade, IsMakingSample, IsSampling, IsSomeSampling, IsStarted, MetRecord, SamplingGives, StandsAtStage, behind_type, serves_sample, wanted_of}
+use Rattle.hist_core.specs.Sampling.{HaveOthers, IsIts, IsMade, IsMakingSample, IsSampling, IsSomeSampling, IsStarted, StandsAtRecord, SamplingGives, StandsAtStage, behind_type, serves_sample, wanted_of}
 use Rattle.hist_core.proofs.Worlds.Free.{free_turns}
 use Rattle.hist_core.proofs.Makes.Drafts.{begins}
 use Rattle.hist_core.proofs.Parts.Allocations.{EndsWith, goes_with, walks_saying}
@@ -156,7 +156,7 @@ module _ (shape : Dimensions) (version : ℕ) (s : Sampling) (a : Actor) (words 
 
   -- ---- a record that it met
 
-  module _ (at : ℕ) (met : MetRecord shape s at a is.behind) where
+  module _ (at : ℕ) (met : StandsAtRecord shape s at a is.behind) where
     -- it stands on the chain that its actor has seen
     chain_is : (rest : List ℕ) × (a.seen.chain ≡ is.front ++ s.histogram ∷ (met.passed ++ at ∷ rest))
     chain_is = let (rest, chain) = is.chain in (
@@ -198,7 +198,7 @@ module _ (shape : Dimensions) (version : ℕ) (s : Sampling) (a : Actor) (words 
       seen_still other word saw = still a.seen.words acted.seen.words beside.words other word saw
 
       -- it stands there still
-      met_still : (stage : SamplingStage) → MetRecord shape (record s { stage = stage }) at acted is.behind
+      met_still : (stage : SamplingStage) → StandsAtRecord shape (record s { stage = stage }) at acted is.behind
       met_still stage = record { free = met.free; passed = met.passed; are = met.are; others = others_on acted beside met.passed met.others; within = met.within }
 
       -- it is no sample of the value
@@ -217,7 +217,7 @@ module _ (shape : Dimensions) (version : ℕ) (s : Sampling) (a : Actor) (words 
 
   -- the type
   module _ (at : ℕ) (loads : s.stage ≡ LoadingType at) where
-    met_type : MetRecord shape s at a is.behind
+    met_type : StandsAtRecord shape s at a is.behind
     met_type = subst (StandsAtStage shape s a is.behind) loads is.stands
 
     abbrev tag : ℕ
@@ -355,7 +355,7 @@ module _ (shape : Dimensions) (version : ℕ) (s : Sampling) (a : Actor) (words 
     serves_it : (full : Bool) (b : Actor) → DoesOnly false full (serves_wanted (wanted_of s)) a b → DoesOnly false full (serves_sample s a) a b
     serves_it full b = does_less false full (serves_wanted (wanted_of s)) (serves_sample s a) a b so
       where
-        so : (deed : Deed) → serves_wanted (wanted_of s) deed → serves_sample s a deed
+        so : (deed : SharedEffect) → serves_wanted (wanted_of s) deed → serves_sample s a deed
         so (links made) it = it
         so (raises words) it =
             let (whole, saw) = is.whole (subst IsMakingSample (sym makes) tt) in

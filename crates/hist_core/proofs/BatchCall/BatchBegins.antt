@@ -13,13 +13,13 @@ use Rattle.segment_machine.specs.Entry.{AreWithin, batch_cost, batch_entries, it
 use Rattle.segment_machine.specs.Seats.{getter}
 use Rattle.hist_core.specs.declared.add.Add.{Add}
 use Rattle.hist_core.specs.declared.batch.Batch.{Batch as BatchCall}
-use Rattle.hist_core.specs.declared.hist.Known.{Known}
+use Rattle.hist_core.specs.declared.hist.KnownHist.{KnownHist}
 use Rattle.hist_core.specs.declared.actor_run.Running.TheVariants.{Batch}
 use Rattle.hist_core.specs.declared.actor_run.ActorRun.{ActorRun}
 use Rattle.hist_core.specs.Add.{IsStarted, counted_entry, ended_entry}
-use Rattle.hist_core.specs.Batch.{IsBatch, IsItem, CountsItem, SumsUp, amid_of, counted_entries, sample_of, sum_entries, units_among, Waits}
+use Rattle.hist_core.specs.Batch.{IsBatch, IsItem, CountsItem, SumsUp, amid_of, counted_entries, sample_of, sum_entries, units_among, ItemWaits}
 use Rattle.hist_core.specs.WorldState.{AreSome}
-use Rattle.hist_core.specs.ActorRun.{known_of, pending_by, IsKnown, IsQuiet, IsGhostNoting, StandsIn, IsRun, BeginsBatch}
+use Rattle.hist_core.specs.ActorRun.{known_of, pending_by, IsKnown, CountsNoEntries, IsGhostNoting, StandsIn, IsActorRunOf, BeginsBatch}
 use Rattle.hist_core.proofs.BatchCall.Entries.{one_sum}
 use Rattle.hist_core.proofs.AddCall.Samples.{stands_first as begins_first}
 use Rattle.hist_core.proofs.Worlds.Free.{free_turns}
@@ -108,7 +108,7 @@ module _ (name boundaries : List ℕ) where
 
 -- ---- what is started counts the items
 
-module _ (shape : Dimensions) (version : ℕ) (known : Known) where
+module _ (shape : Dimensions) (version : ℕ) (known : KnownHist) where
   abbrev Starts : ℤ × ℕ → Add → Type 0
   Starts item add = IsStarted shape version (known_of known) item.0 item.1 (pos 0) add
 
@@ -143,10 +143,10 @@ costs_none items sum none least = by (int_eq sum (pos 0)) refl
         let zero_sum : sum ≡ pos 0 = (Decides-int_eq sum (pos 0)).0 e in
         let nothing : batch_cost items sum ≡ 0 = (λ i. batch_cost (none i) (zero_sum i)) in absurd (omega (arith, least, nothing))
 
-module _ (shape : Dimensions) (version : ℕ) (known : Known) (items : List (ℤ × ℕ)) (sum : ℤ) (cost : ℕ) (old new : ActorRun)
+module _ (shape : Dimensions) (version : ℕ) (known : KnownHist) (items : List (ℤ × ℕ)) (sum : ℤ) (cost : ℕ) (old new : ActorRun)
     (starts : BeginsBatch shape version known items sum cost old new) (i : ℕ) (at : get_elem? old.known.items i ≡ some known) (are_some : AreSome items)
     (cost_is : cost ≡ batch_cost items sum) (some_units : 0 < cost) (rests : old.running ≡ None)
-    (a : Actor) (run : IsRun shape version old a) (lawful : IsShape shape) (versions : (version ≡ 1) ⊎ (version ≡ 2))
+    (a : Actor) (run : IsActorRunOf shape version old a) (lawful : IsShape shape) (versions : (version ≡ 1) ⊎ (version ≡ 2))
     (alone_there : known_at a.answers.names known.reference ≡ Some (known_of known)) (reach : is_reference shape.size known.reference ≡ true) where
   abbrev call : BatchCall
   call = starts.call
@@ -160,7 +160,7 @@ module _ (shape : Dimensions) (version : ℕ) (known : Known) (items : List (ℤ
   abbrev b : Actor
   b = noted (getter a cost) (begins machine.name cost told)
 
-  free : IsFree a × IsQuiet (pending_by old) a
+  free : IsFree a × CountsNoEntries (pending_by old) a
   free = stands shape version old new told (Batch call) starts.begins rests a run
 
   its_known : IsKnown shape known
@@ -185,8 +185,8 @@ module _ (shape : Dimensions) (version : ℕ) (known : Known) (items : List (ℤ
     amount = started.amounts;
   }) items call.items.items starts.started are_some
 
-  all_wait : All (Waits shape machine) call.items.items
-  all_wait = zip_all (Starts shape version known) (λ (item : ℤ × ℕ). 1 ≤ item.1) (Waits shape machine) (λ item add started some. started.opens) items call.items.items
+  all_wait : All (ItemWaits shape machine) call.items.items
+  all_wait = zip_all (Starts shape version known) (λ (item : ℤ × ℕ). 1 ≤ item.1) (ItemWaits shape machine) (λ item add started some. started.opens) items call.items.items
       starts.started are_some
 
   stands_first : CountsItem shape machine call b ⊎ SumsUp machine call b
@@ -214,7 +214,7 @@ module _ (shape : Dimensions) (version : ℕ) (known : Known) (items : List (ℤ
         are = are;
         added = ap (λ (y : BatchCall). y.added) starts.fresh;
         left = (let same : call.left ≡ call.cost = ap (λ (y : BatchCall). y.left) starts.fresh ∙ sym (ap (λ (y : BatchCall). y.cost) starts.fresh) in omega (arith, same));
-        waits = All-tail (Waits shape machine) x rest (subst (All (Waits shape machine)) are all_wait);
+        waits = All-tail (ItemWaits shape machine) x rest (subst (All (ItemWaits shape machine)) are all_wait);
         stands = record {
           counting = its.counting;
           segment = ap (λ s. s.shape) run.segment;
@@ -225,7 +225,7 @@ module _ (shape : Dimensions) (version : ℕ) (known : Known) (items : List (ℤ
           rests = free.1.takes;
           held = ap (λ (n : ℕ). record { name = machine.name; units = n } ∷ []) (sym (ap (λ (y : BatchCall). y.cost) starts.fresh));
           over = All-nil (λ c. has_ended c ≡ true);
-          stands = begins_first shape machine (amid_of machine call [] rest) x b x.stage (All-head (Waits shape machine) x rest (subst (All (Waits shape machine)) are all_wait))
+          stands = begins_first shape machine (amid_of machine call [] rest) x b x.stage (All-head (ItemWaits shape machine) x rest (subst (All (ItemWaits shape machine)) are all_wait))
               (ap (λ s. s.shape) run.segment) lawful inside reach (met_split a.seen.chain known.reference (run.met machine inside))
               (ap (map fresh) told_are ∙ ap (λ (l : List Add). map fresh (map (counted_entry machine) l ++ sum_entries known.name.items call.sum)) are) free.0;
         };

@@ -17,10 +17,10 @@ use Rattle.hist_core.specs.declared.actor_run.Running.{Running}
 use Rattle.hist_core.specs.declared.actor_run.Running.TheVariants.{Batch}
 use Rattle.hist_core.specs.declared.actor_run.ActorRun.{ActorRun}
 use Rattle.hist_core.specs.Add.{FrameOfAdd, block_words, counted_entry}
-use Rattle.hist_core.specs.Batch.{IsBatch, IsCutAt, HaveEnded, IsSomeBatch, IsSameBatch, IsRefusedAt, BatchSteps, BatchGives, added_of, counted_entries, serves_counted, NextNeedsBlock, sum_entries, units_among}
-use Rattle.hist_core.specs.StepsBy.{Deed, links, raises, DoesOnly, StepsBy}
+use Rattle.hist_core.specs.Batch.{IsBatch, IsCutAt, EntriesHaveEnded, IsSomeBatch, IsSameBatch, IsRefusedAt, BatchSteps, BatchGives, added_of, counted_entries, serves_counted, NextNeedsBlock, sum_entries, units_among}
+use Rattle.hist_core.specs.StepsBy.{SharedEffect, links, raises, DoesOnly, StepsBy}
 use Rattle.hist_core.proofs.Worlds.Landing.{Landing, does_as_said}
-use Rattle.hist_core.specs.ActorRun.{known_of, ended_by, begun_by, pending_by, entry_of, held_by, IsGhostNoting, IsBatching, StandsIn, IsRun, IsBatchAnnounced, LandsBack, Answers, DoesAsSaid, IsRefusedBy, Serves, is_flagged, lacks_room}
+use Rattle.hist_core.specs.ActorRun.{known_of, ended_by, begun_by, pending_by, entry_of, held_by, IsGhostNoting, IsBatching, StandsIn, IsActorRunOf, IsBatchAnnounced, LandsBack, Answers, DoesAsSaid, IsRefusedBy, Serves, is_flagged, lacks_room}
 use Rattle.hist_core.specs.Making.{IsCause}
 use Rattle.hist_core.proofs.AddCall.Refusals.{HasOnlyNoted, cause_noted, needs_still}
 use Rattle.hist_core.proofs.Parts.Allocations.{goes_with}
@@ -31,7 +31,7 @@ use Rattle.hist_core.proofs.Worlds.Quiet.{takes_none, takes_not}
 use Rattle.hist_core.proofs.AddCall.GhostNotes.{Counts, goes_from, counts_somewhere, still_counts, has_counted, is_cut}
 
 module _ (shape : Dimensions) (version : ℕ) (old : ActorRun) (batch : BatchCall) (is : old.running ≡ Some (Batch batch)) where
-  batching : (a : Actor) → IsRun shape version old a → IsBatching shape (pending_by old) batch a
+  batching : (a : Actor) → IsActorRunOf shape version old a → IsBatching shape (pending_by old) batch a
   batching a run = subst (λ running. StandsIn shape old.known.items (pending_by old) running a) is run.stands
 
   module _ (known : MachineKnown) where
@@ -54,7 +54,7 @@ module _ (shape : Dimensions) (version : ℕ) (old : ActorRun) (batch : BatchCal
 
     module _ (now : BatchCall) (same : IsSameBatch batch now) (same_entries : counted_entries known now ≡ entries) (a : Actor) (counts : Tells a) where
       -- it goes on
-      goes_on : (b : Actor) → BatchGives shape known now More a b → IsRun shape version (record old { begun = length old.entries.items; running = Some (Batch now) }) b
+      goes_on : (b : Actor) → BatchGives shape known now More a b → IsActorRunOf shape version (record old { begun = length old.entries.items; running = Some (Batch now) }) b
       goes_on b (aside, stays, does, counting) =
           still_counts shape version old known.name batch.cost entries standing runs into a counts b aside stays (Batch now)
           (runs_so shape known now b counting ∙ same_entries)
@@ -62,7 +62,7 @@ module _ (shape : Dimensions) (version : ℕ) (old : ActorRun) (batch : BatchCal
           tt tt
 
       -- it counts the same still
-      same_counted : (deed : Deed) → serves_counted known now a deed → serves_counted known batch a deed
+      same_counted : (deed : SharedEffect) → serves_counted known now a deed → serves_counted known batch a deed
       same_counted (links made) (sample, inside, it) =
           (sample, subst (λ (l : List (ℤ × ℕ)). Contains l sample) same.samples inside, it ∙ ap (λ (histogram : ℕ). Sample histogram sample.0) same.histogram)
       same_counted (raises words) (it, (sample, inside, needs)) = (it, (sample, subst (λ (l : List (ℤ × ℕ)). Contains l sample) same.samples inside, needs))
@@ -72,11 +72,11 @@ module _ (shape : Dimensions) (version : ℕ) (old : ActorRun) (batch : BatchCal
           → DoesOnly (is_flagged said) (lacks_room said) (serves_counted known now a) a b → DoesAsSaid old.running said first d
       does_it said first b d names from behind = does_as_said old.running said (serves_counted known now a) first a b d serves from.2 behind
         where
-          as_first : (deed : Deed) → serves_counted known batch a deed → serves_counted known batch first deed
+          as_first : (deed : SharedEffect) → serves_counted known batch a deed → serves_counted known batch first deed
           as_first (links made) it = it
           as_first (raises words) (it, (sample, inside, needs)) = (it, (sample, inside, needs_still known sample a first (sym from.3) needs))
 
-          serves : (deed : Deed) → serves_counted known now a deed → Serves old.running first deed
+          serves : (deed : SharedEffect) → serves_counted known now a deed → Serves old.running first deed
           serves deed it = subst (λ running. Serves running first deed) (sym is) (
             known,
             subst (λ (l : List MachineKnown). Contains l known) (sym counts.run.names ∙ names) counts.counting.knows,
@@ -110,7 +110,7 @@ module _ (shape : Dimensions) (version : ℕ) (old : ActorRun) (batch : BatchCal
   entries_same known now same i = same.entries known i ++ sum_entries known.name (same.sum i)
 
   -- as many entries more than have ended are there
-  pub pending_there : (a : Actor) → IsRun shape version old a → old.ended + vec_len batch.items ≤ length old.entries.items
+  pub pending_there : (a : Actor) → IsActorRunOf shape version old a → old.ended + vec_len batch.items ≤ length old.entries.items
   pending_there a run =
       let (known, telling) = batching a run in
       let rest : length old.entries.items - old.ended ≡ length (entries known) =
@@ -120,7 +120,7 @@ module _ (shape : Dimensions) (version : ℕ) (old : ActorRun) (batch : BatchCal
       omega (arith, rest, both, items, ok, within)
 
   -- what the machine's actor does, and what becomes of that at run time
-  module _ (a : Actor) (run : IsRun shape version old a) (now : BatchCall) (same : IsSameBatch batch now) (words new_words : List ℕ) (long : length words ≡ shape.size)
+  module _ (a : Actor) (run : IsActorRunOf shape version old a) (now : BatchCall) (same : IsSameBatch batch now) (words new_words : List ℕ) (long : length words ≡ shape.size)
       (new : ActorRun) where
     abbrev its : MachineKnown
     its = (batching a run).0
@@ -137,15 +137,15 @@ module _ (shape : Dimensions) (version : ℕ) (old : ActorRun) (batch : BatchCal
     batch_goes More result steps at (new_is, result_is) =
         subst (λ said. Landing shape version old words new new_words said a) (sym result_is) (goes (λ b from counts. goes_with (its_steps its now same still_same b counts words new_words More long steps)
         (λ c (aside, stays, does, counting). (
-          subst (λ (r : ActorRun). IsRun shape version r c) (sym new_is) (goes_on its now same still_same b counts c (aside, stays, does, counting)),
+          subst (λ (r : ActorRun). IsActorRunOf shape version r c) (sym new_is) (goes_on its now same still_same b counts c (aside, stays, does, counting)),
           does_it its now same still_same b counts stepped.More a c c run.names from refl does,
         ))))
     batch_goes Done result steps at (new_is, result_is) =
         subst (λ said. Landing shape version old words new new_words said a) (sym result_is) (goes (λ b from counts. goes_noting (its_steps its now same still_same b counts words new_words Done long steps)
         (λ c (aside, stays, does, turns, over).
-        let (notes, d, told, run_then) = subst (λ (r : ActorRun). (notes : List Note) × (d : Actor) × Notes c notes d × IsRun shape version r d) (sym new_is)
+        let (notes, d, told, run_then) = subst (λ (r : ActorRun). (notes : List Note) × (d : Actor) × Notes c notes d × IsActorRunOf shape version r d) (sym new_is)
         (has_counted shape version old its.name batch.cost (entries its) (standing its) (runs its) (into its) b counts c aside stays turns counts.counting.rests
-        (subst (λ (l : List MachineEntry). HaveEnded l c) still_same over)) in
+        (subst (λ (l : List MachineEntry). EntriesHaveEnded l c) still_same over)) in
         (notes, d, told, (run_then, does_it its now same still_same b counts (stepped.Done answer.Added) a c d run.names from (notes_leave notes c d told).1 does)))))
     batch_goes (Refused refusal) result steps at (new_is, items, result_is) =
         subst (λ said. Landing shape version old words new new_words said a) (sym result_is) (goes (λ b from counts. goes_noting (its_steps its now same still_same b counts words new_words (Refused refusal) long steps)
@@ -171,7 +171,7 @@ module _ (shape : Dimensions) (version : ℕ) (old : ActorRun) (batch : BatchCal
             let cost = same.cost in let left = at.2 in omega (arith, first, there, cost, spent, left)
 
   -- it is one that goes on somewhere
-  pub some_batch : (n : ℕ) (a : Actor) (run : IsRun shape version old a) → n ≡ shape.size → IsSomeBatch n batch
+  pub some_batch : (n : ℕ) (a : Actor) (run : IsActorRunOf shape version old a) → n ≡ shape.size → IsSomeBatch n batch
   some_batch n a run long =
       let known = (batching a run).0 in
       let there = counts_somewhere shape version old known.name batch.cost (entries known) (standing known) (runs known) (into known) a run (batching a run).1 in

@@ -14,7 +14,7 @@ use Rattle.hist_core.specs.declared.batch.Batch.{Batch}
 use Rattle.hist_core.specs.declared.batch.BatchStep.{BatchStep}
 use Rattle.hist_core.specs.declared.batch.BatchStep.TheVariants.{More, Done}
 use Rattle.hist_core.specs.Add.{counted_entry, IsAdd, IsSomeAdd, AddSteps}
-use Rattle.hist_core.specs.Batch.{IsBatch, IsSomeBatch, CountsItem, SumsUp, Runs, BatchGives, IsItemSaid, IsRefusedAt, IsSameBatch, amid_of, sample_of, counted_entries, sum_entries, units_among}
+use Rattle.hist_core.specs.Batch.{IsBatch, IsSomeBatch, CountsItem, SumsUp, RunsEntries, BatchGives, IsItemSaid, IsRefusedAt, IsSameBatch, amid_of, sample_of, counted_entries, sum_entries, units_among}
 use Rattle.hist_core.proofs.AddCall.Adding.{has_entry}
 use Rattle.hist_core.proofs.BatchCall.Entries.{ended_are, one_sum, noted_are}
 use Rattle.hist_core.proofs.BatchCall.Items.{parts_are, item_goes}
@@ -42,7 +42,7 @@ module _ (shape : Dimensions) (known : MachineKnown) (batch : Batch) (a : Actor)
   not_more = ⊎_elim (λ c. let less = below c in let ok = batch.items.ok.0 in omega (arith, less, ok)) (λ sums. let all = sums.added in let ok = batch.items.ok.0 in omega (arith, ok, all)) is.stands
 
   -- its entries run
-  pub runs_so : Runs (counted_entries known batch) a
+  pub runs_so : RunsEntries (counted_entries known batch) a
   runs_so = ⊎_elim
       (λ c. let has = has_entry shape known (amid_of known batch c.done c.rest) c.item a c.item.stage c.stands.stands in
       ap (map (λ (x : EntryProgress). x.entry)) has.2

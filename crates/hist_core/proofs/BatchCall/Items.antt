@@ -13,11 +13,11 @@ use Rattle.hist_core.specs.declared.add.AddStage.{AddStage}
 use Rattle.hist_core.specs.declared.batch.Batch.{Batch}
 use Rattle.hist_core.specs.declared.batch.BatchStep.{BatchStep}
 use Rattle.hist_core.specs.declared.batch.BatchStep.TheVariants.{More, Done, Refused}
-use Rattle.hist_core.specs.Add.{IsAdd, FrameOfAdd, NeedsBlock, StaysOpen, HasEntry, HasEnded, AddSteps, AddGives, block_words, counted_entry, ended_entry}
+use Rattle.hist_core.specs.Add.{IsAdd, FrameOfAdd, NeedsBlock, StaysOpen, HasEntry, EntryHasEnded, AddSteps, AddGives, block_words, counted_entry, ended_entry}
 use Rattle.hist_core.specs.Add.{serves_counted as add_serves}
 use Rattle.hist_core.specs.Making.{IsCause, is_full}
-use Rattle.hist_core.specs.Batch.{IsBatch, IsItem, CountsItem, SumsUp, HaveEnded, BatchGives, IsItemSaid, Waits, amid_of, counted_entries, serves_counted, sample_of, sum_entries, units_among}
-use Rattle.hist_core.specs.StepsBy.{Deed, links, raises, DoesOnly, StepsBy, IsFree}
+use Rattle.hist_core.specs.Batch.{IsBatch, IsItem, CountsItem, SumsUp, EntriesHaveEnded, BatchGives, IsItemSaid, ItemWaits, amid_of, counted_entries, serves_counted, sample_of, sum_entries, units_among}
+use Rattle.hist_core.specs.StepsBy.{SharedEffect, links, raises, DoesOnly, StepsBy, IsFree}
 use Rattle.hist_core.proofs.Parts.Allocations.{goes_with}
 use Rattle.hist_core.proofs.Parts.Deeds.{does_less}
 use Rattle.hist_core.proofs.Worlds.Free.{free_turns}
@@ -103,7 +103,7 @@ module _ (shape : Dimensions) (known : Known) (batch : Batch) (a : Actor) (is : 
       inside = subst (λ (l : List Add). Contains (map sample_of l) (sample_of item)) (sym there)
           (contains_map sample_of (c.done ++ item ∷ c.rest) item (Contains-append_right c.done (item ∷ c.rest) item (contains_at (item ∷ c.rest) 0 item refl)))
 
-      so : (deed : Deed) → add_serves known item a deed → serves_counted known now a deed
+      so : (deed : SharedEffect) → add_serves known item a deed → serves_counted known now a deed
       so (links made) it = (
         sample_of item,
         inside,
@@ -146,7 +146,7 @@ module _ (shape : Dimensions) (known : Known) (batch : Batch) (a : Actor) (is : 
     )
 
     -- it is counted
-    module _ (does : DoesOnly false false (add_serves known item a) a b) (turns : IsFree b) (over : HasEnded known (amid_of known batch c.done c.rest) item b) where
+    module _ (does : DoesOnly false false (add_serves known item a) a b) (turns : IsFree b) (over : EntryHasEnded known (amid_of known batch c.done c.rest) item b) where
       abbrev next : Batch
       next = record now { added = batch.added + 1; left = batch.left - c.item.units }
 
@@ -181,7 +181,7 @@ module _ (shape : Dimensions) (known : Known) (batch : Batch) (a : Actor) (is : 
         are = there ∙ (ap (λ (l : List Add). c.done ++ item ∷ l) are ∙ sym (append_assoc c.done (item ∷ []) (x ∷ rest)));
         added = added_now;
         left = left_now;
-        waits = All-tail (Waits shape known) x rest waiting;
+        waits = All-tail (ItemWaits shape known) x rest waiting;
         stands = record {
           counting = its.counting;
           segment = ap (λ s. s.shape) aside.segment ∙ is.segment;
@@ -192,15 +192,15 @@ module _ (shape : Dimensions) (known : Known) (batch : Batch) (a : Actor) (is : 
           rests = ap (λ d. d.taking) aside.deltas ∙ is.rests;
           held = ap (λ u. u.held) stays.0 ∙ is.held;
           over = all_over known (c.done ++ item ∷ []);
-          stands = stands_first shape known (amid_of known batch (c.done ++ item ∷ []) rest) x b x.stage (All-head (Waits shape known) x rest waiting)
+          stands = stands_first shape known (amid_of known batch (c.done ++ item ∷ []) rest) x b x.stage (All-head (ItemWaits shape known) x rest waiting)
               (ap (λ s. s.shape) aside.segment ∙ is.segment) is.lawful_shape (subst (λ (l : List Known). Contains l known) (sym aside.names) is.knows) is.reach
               (met_split b.seen.chain known.reference met_now)
               (over ∙ (ap (λ (l : List Add). map (ended_entry known) c.done ++ ended_entry known item ∷ behind l) are ∙ ended_now (behind (x ∷ rest)))) turns;
         };
       }))
         where
-          waiting : All (Waits shape known) (x ∷ rest)
-          waiting = subst (All (Waits shape known)) are c.waits
+          waiting : All (ItemWaits shape known) (x ∷ rest)
+          waiting = subst (All (ItemWaits shape known)) are c.waits
 
           its : IsOne x
           its = All-head IsOne x rest (subst (All IsOne) are all_rest)
@@ -220,7 +220,7 @@ module _ (shape : Dimensions) (known : Known) (batch : Batch) (a : Actor) (is : 
         runs = last_over are ∙ ap (λ (l : List Entry). map (ended_entry known) mid.items.items ++ map fresh l) (one_sum known.name batch.sum sums);
       }))
 
-      has_counted : c.rest ≡ [] → int_eq batch.sum (pos 0) ≡ true → HaveEnded (counted_entries known next) b
+      has_counted : c.rest ≡ [] → int_eq batch.sum (pos 0) ≡ true → EntriesHaveEnded (counted_entries known next) b
       has_counted are none =
           let ends : b.entries.running ≡ map (ended_entry known) mid.items.items =
           last_over are ∙ (ap (λ (l : List Entry). map (ended_entry known) mid.items.items ++ map fresh l) (no_sum known.name batch.sum none)

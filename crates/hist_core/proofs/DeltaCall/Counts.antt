@@ -3,7 +3,7 @@ use Rattle.segment_invariant.proofs.Prelude.Std.{◌≡◌, ◌≢◌, ℕ, zero
 use Rattle.segment_invariant.proofs.Prelude.Machine.{boundaries_of, buckets_of, single_of, units_packed, SingleWord, Dimensions, word_at, Actor, Known, Taken, Look, Place, Looking, CountLoaded, Sighting, Buckets, is_bound, word_seen, look_of, sight, sight_counts, load_counts, Event, next, counting_event, taking_event, SawBucket, load_count, Spec}
 use Rattle.std.specs.Prelude.{nat_eq}
 use Rattle.std.specs.Option.{option_eq}
-use Rattle.bucket_ranges.specs.Ranges.{IsSplit}
+use Rattle.bucket_ranges.specs.Ranges.{SplitsValues}
 use Rattle.segment_invariant.proofs.Consistency.Marks.{packed_all}
 use Rattle.segment_machine.specs.Calls.{AreCountsOf, CountsStay}
 use Rattle.segment_machine.specs.Form.{is_off, SaysPacked}
@@ -20,7 +20,7 @@ use Rattle.hist_core.specs.declared.delta_call.DeltaCall.{DeltaCall}
 use Rattle.hist_core.specs.declared.delta_call.DeltaCallStep.TheVariants.{More}
 use Rattle.hist_core.specs.StepsBy.{StepsBy}
 use Rattle.hist_core.specs.Mounted.{AreMounted, HasLoaded, HasWord, look_at, total_at}
-use Rattle.hist_core.specs.DeltaCall.{HasBuckets, IsSomeDeltaCall, IsDeltaCall, IsUnderWay, StandsAtStage, DeltaCallGives, FrameOfDelta, behind_bucket}
+use Rattle.hist_core.specs.DeltaCall.{HasRoomForBuckets, IsSomeDeltaCall, IsDeltaCall, IsUnderWay, StandsAtStage, DeltaCallGives, FrameOfDelta, behind_bucket}
 use Rattle.hist_core.proofs.DeltaCall.Going.{acts_on, buckets_are, goes_still, knows_it, same_way, split, taking_sees, delta_beside}
 use Rattle.hist_core.proofs.DeltaCall.Sights.{mounted_still}
 use Rattle.hist_core.proofs.DeltaCall.Singles.{none_packed}
@@ -152,7 +152,7 @@ module _ (known : Known) (mounted : Mounted) (word : ℕ) (a : Actor) (are : Are
 -- ---- a delta
 
 -- a spec that has boundaries has some bucket
-pub some_buckets : (spec : Spec) → IsSplit (buckets_of spec) (boundaries_of spec) → 0 < buckets_of spec
+pub some_buckets : (spec : Spec) → SplitsValues (buckets_of spec) (boundaries_of spec) → 0 < buckets_of spec
 some_buckets spec split = by (buckets_of spec) refl split.first split.last
   where
     by : (n : ℕ) → buckets_of spec ≡ n → slice_index (boundaries_of spec) 0 ≡ 0 → slice_index (boundaries_of spec) (buckets_of spec) ≡ 2147483647 → 0 < n
@@ -163,7 +163,7 @@ module _ (shape : Dimensions) (known : Known) (earlier : List Taken) (delta_call
   -- behind a bucket
   pub stands_behind : (mounted : Mounted) (word bucket : ℕ) (new : DeltaCall) (b : Actor) → new.ranges ≡ delta_call.ranges → new.stage ≡ behind_bucket delta_call mounted bucket
       → IsUnderWay known earlier new b → bucket < buckets_of known.spec → ((i : ℕ) → i < bucket + 1 → TookBucket b known i)
-      → AreBelow known (bucket + 1) new.counts.items → length new.counts.items ≤ bucket + 1 → AreMounted known mounted word b → HasBuckets known new
+      → AreBelow known (bucket + 1) new.counts.items → length new.counts.items ≤ bucket + 1 → AreMounted known mounted word b → HasRoomForBuckets known new
       → StandsAtStage shape known earlier new b new.stage
   stands_behind mounted word bucket new b ranges stage way inside took below few_units are has =
       subst (StandsAtStage shape known earlier new b) (sym stage) (by (nat_lt (bucket + 1) (length delta_call.ranges - 1)) refl)

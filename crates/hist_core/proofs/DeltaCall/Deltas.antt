@@ -23,7 +23,7 @@ use Rattle.hist_core.specs.declared.call.Answer.TheVariants as answer
 use Rattle.hist_core.specs.declared.call.Stepped.{Stepped}
 use Rattle.hist_core.specs.declared.call.Stepped.TheVariants as stepped
 use Rattle.hist_core.specs.declared.entry.Taken.{Taken}
-use Rattle.hist_core.specs.declared.hist.Known.{Known}
+use Rattle.hist_core.specs.declared.hist.KnownHist.{KnownHist}
 use Rattle.hist_core.specs.declared.actor_run.Running.{Running}
 use Rattle.hist_core.specs.declared.actor_run.Running.TheVariants.{SetCorrupt, Hist, Add, Delta, Snapshot, Batch}
 use Rattle.hist_core.specs.declared.actor_run.ActorRun.{ActorRun}
@@ -34,12 +34,12 @@ use Rattle.hist_core.specs.declared.delta_call.DeltaCallStep.{DeltaCallStep}
 use Rattle.hist_core.specs.declared.delta_call.DeltaCallStep.TheVariants.{More, Took, Done}
 use Rattle.hist_core.specs.Start.{Start}
 use Rattle.hist_core.specs.declared.call.Begun.TheVariants.{Going}
-use Rattle.hist_core.specs.WorldState.{BeginsFrom, DeltaBegins, IsReached, IsReachedAs, TakesOf}
+use Rattle.hist_core.specs.WorldState.{BeginsFrom, DeltaBegins, IsReachable, IsReachedAs, TakesOf}
 use Rattle.hist_core.specs.StepsBy.{StepsBy, IsFree, WalksInOrder}
 use Rattle.hist_core.specs.Walk.{HasSetOut}
 use Rattle.hist_core.proofs.Worlds.Landing.{Landing}
-use Rattle.hist_core.specs.ActorRun.{Answers, AreShown, BeginsDelta, Becomes, Fits, HasDraft, HasPlace, HasRoom, IsDeltaAnnounced, IsDraft, IsDrawing, IsKnown, IsLast, IsQuiet, IsRun, IsShown, IsSomeRun, IsTimely, IsTook, Serves, StandsIn, TakenGoes, apart_from_delta, begun_by, ended_by, ended_deltas, known_of, looked_by, pending_by}
-use Rattle.hist_core.specs.DeltaCall.{HasBegun, HasEnded, IsFirst, IsSomeDeltaCall, IsDeltaCall, IsUnderWay, Lists, OpensWith, StandsAtStage, DeltaCallGives, DeltaCallSteps, FrameOfDelta, insert_by_key, place_of}
+use Rattle.hist_core.specs.ActorRun.{Answers, AreDeltasShown, BeginsDelta, Becomes, HasRoomForStep, HasDraft, HasDraftRoom, HasRoomForHist, IsDeltaAnnounced, IsDeltaDraft, IsDrawing, IsKnown, IsLast, CountsNoEntries, IsActorRunOf, IsDeltaShown, IsSomeRun, IsTimely, IsTook, Serves, StandsIn, TakenGoes, apart_from_delta, begun_by, ended_by, ended_deltas, known_of, looked_by, pending_by}
+use Rattle.hist_core.specs.DeltaCall.{HasBegun, DeltaHasEnded, IsFirstStage, IsSomeDeltaCall, IsDeltaCall, IsUnderWay, Lists, OpensWith, StandsAtStage, DeltaCallGives, DeltaCallSteps, FrameOfDelta, insert_by_key, place_of}
 use Rattle.hist_core.proofs.Parts.Allocations.{goes_with}
 use Rattle.hist_core.proofs.Parts.Deeds.{does_nothing}
 use Rattle.hist_core.proofs.Worlds.Apart.{asks_not, adds_not, looks_not, batches_not, sets_not}
@@ -86,37 +86,37 @@ last_split (z ∷ w ∷ l) some_there = let rest = last_split (w ∷ l) (omega a
 
 -- ---- what is shown
 
-none_shown : (list : List MachineTaken) (last : MachineTaken) → AreShown [] (list ++ last ∷ []) → ⊥
+none_shown : (list : List MachineTaken) (last : MachineTaken) → AreDeltasShown [] (list ++ last ∷ []) → ⊥
 none_shown [] last shown = shown
 none_shown (x ∷ list) last shown = shown
 
-shows_none : (list : List Taken) (last : Taken) → AreShown (list ++ last ∷ []) [] → ⊥
+shows_none : (list : List Taken) (last : Taken) → AreDeltasShown (list ++ last ∷ []) [] → ⊥
 shows_none [] last shown = shown
 shows_none (x ∷ list) last shown = shown
 
-pub shown_more : (list : List Taken) (machine : List MachineTaken) (taken : Taken) (its : MachineTaken) → AreShown list machine → IsShown taken its
-    → AreShown (list ++ taken ∷ []) (machine ++ its ∷ [])
+pub shown_more : (list : List Taken) (machine : List MachineTaken) (taken : Taken) (its : MachineTaken) → AreDeltasShown list machine → IsDeltaShown taken its
+    → AreDeltasShown (list ++ taken ∷ []) (machine ++ its ∷ [])
 shown_more [] [] taken its shown is = (is, tt)
 shown_more [] (m ∷ machine) taken its shown is = absurd shown
 shown_more (t ∷ list) [] taken its shown is = absurd shown
 shown_more (t ∷ list) (m ∷ machine) taken its (first, rest) is = (first, shown_more list machine taken its rest is)
 
-shown_less : (list : List Taken) (machine : List MachineTaken) (taken : Taken) (its : MachineTaken) → AreShown (list ++ taken ∷ []) (machine ++ its ∷ [])
-    → AreShown list machine × IsShown taken its
+shown_less : (list : List Taken) (machine : List MachineTaken) (taken : Taken) (its : MachineTaken) → AreDeltasShown (list ++ taken ∷ []) (machine ++ its ∷ [])
+    → AreDeltasShown list machine × IsDeltaShown taken its
 shown_less [] [] taken its (is, rest) = (tt, is)
 shown_less [] (m ∷ machine) taken its (is, rest) = absurd (none_shown machine its rest)
 shown_less (t ∷ list) [] taken its (is, rest) = absurd (shows_none list taken rest)
 shown_less (t ∷ list) (m ∷ machine) taken its (first, rest) = let less = shown_less list machine taken its rest in ((first, less.0), less.1)
 
 -- what is shown ascends
-shown_units : (list : List Taken) (machine : List MachineTaken) → AreShown list machine → (i : ℕ) (taken : Taken) → get_elem? list i ≡ some taken
+shown_units : (list : List Taken) (machine : List MachineTaken) → AreDeltasShown list machine → (i : ℕ) (taken : Taken) → get_elem? list i ≡ some taken
     → AreUnits taken.counts.items
 shown_units [] machine shown i taken at = absurd (some-ne-none taken (sym at))
 shown_units (t ∷ list) [] shown i taken at = absurd shown
 shown_units (t ∷ list) (m ∷ machine) (first, rest) zero taken at = subst (λ (x : Taken). AreUnits x.counts.items) (some-injective t taken at) first.units
 shown_units (t ∷ list) (m ∷ machine) (first, rest) (suc i) taken at = shown_units list machine rest i taken at
 
-pub taken_ascends : (world_state : WorldState) → ∥ IsReached world_state ∥₁ → (i : ℕ) (r : ActorRun) → get_elem? world_state.actor_runs.items i ≡ some r
+pub taken_ascends : (world_state : WorldState) → ∥ IsReachable world_state ∥₁ → (i : ℕ) (r : ActorRun) → get_elem? world_state.actor_runs.items i ≡ some r
     → ∥ All (λ (taken : Taken). AreUnits taken.counts.items) r.taken.items ∥₁
 taken_ascends world_state reached i r at = ∥∥₁_elim reached (hlevel props) (λ (start, state, reach).
     let run = each_runs start world_state state reach i r at in
@@ -140,7 +140,7 @@ way_of shape known earlier delta_call a LoadingSum begun stands = stands.0
 way_of shape known earlier delta_call a (Swapping sum) begun stands = stands.0
 
 -- before that its actor's deltas took what they took
-taken_first : (shape : Dimensions) (known : MachineKnown) (earlier : List MachineTaken) (delta_call : DeltaCall) (a : Actor) (stage : DeltaStage) → IsFirst stage
+taken_first : (shape : Dimensions) (known : MachineKnown) (earlier : List MachineTaken) (delta_call : DeltaCall) (a : Actor) (stage : DeltaStage) → IsFirstStage stage
     → StandsAtStage shape known earlier delta_call a stage → a.deltas.taken ≡ earlier
 taken_first shape known earlier delta_call a stage (inl is) stands = (subst (StandsAtStage shape known earlier delta_call a) is stands).1
 taken_first shape known earlier delta_call a stage (inr is) stands =
@@ -153,18 +153,18 @@ some_delta_call n actor_run delta_call fresh is (shape, version, a, long, wide, 
 
 -- what stands last behind a first event lists what the call has taken
 pub drafted : (actor_run : ActorRun) (delta_call : DeltaCall) (fresh : Option Taken) → HasDraft (Some (Delta delta_call fresh)) actor_run.taken → (before : List Taken) (last : Taken)
-    → actor_run.taken.items ++ option_to_list fresh ≡ before ++ last ∷ [] → IsDraft delta_call last
-drafted actor_run delta_call (Some fresh) (room, draft) before last same = subst (IsDraft delta_call) (same_from_push actor_run.taken.items before fresh last same).1 draft
+    → actor_run.taken.items ++ option_to_list fresh ≡ before ++ last ∷ [] → IsDeltaDraft delta_call last
+drafted actor_run delta_call (Some fresh) (room, draft) before last same = subst (IsDeltaDraft delta_call) (same_from_push actor_run.taken.items before fresh last same).1 draft
 drafted actor_run delta_call None (some_there, draft) before last same =
     draft last (subst (λ l. IsLast l last) (sym (sym (append-nil actor_run.taken.items) ∙ same)) (last_there before last))
 
 pub some_draft : (n : ℕ) (actor_run : ActorRun) (delta_call : DeltaCall) (fresh : Option Taken) → actor_run.running ≡ Some (Delta delta_call fresh) → (before : List Taken) (last : Taken)
-    → actor_run.taken.items ++ option_to_list fresh ≡ before ++ last ∷ [] → IsSomeRun n actor_run → IsDraft delta_call last
+    → actor_run.taken.items ++ option_to_list fresh ≡ before ++ last ∷ [] → IsSomeRun n actor_run → IsDeltaDraft delta_call last
 some_draft n actor_run delta_call fresh is before last same (shape, version, a, long, wide, run) =
     drafted actor_run delta_call fresh (subst (λ running. HasDraft running actor_run.taken) is run.draft) before last same
 
 -- what it is shown as behind a step of the call
-draft_on : (delta_call now : DeltaCall) (said : DeltaCallStep) (last then_is : Taken) → IsDraft delta_call last → Lists delta_call now said
+draft_on : (delta_call now : DeltaCall) (said : DeltaCallStep) (last then_is : Taken) → IsDeltaDraft delta_call last → Lists delta_call now said
     → vec_capacity now.counts ≡ vec_capacity delta_call.counts → Becomes said last then_is → (then_is.name ≡ last.name) × (then_is.counts.items ≡ now.counts.items)
 draft_on delta_call now More last then_is draft lists room same =
     (ap (λ (t : Taken). t.name) same, ap (λ (t : Taken). t.counts.items) same ∙ (draft.0 ∙ sym lists))
@@ -173,7 +173,7 @@ draft_on delta_call now (Took key units) last then_is draft lists room (same, li
 draft_on delta_call now (Done sum) last then_is draft lists room same =
     (ap (λ (t : Taken). t.name) same, ap (λ (t : Taken). t.counts.items) same ∙ (draft.0 ∙ sym lists))
 
-module _ (shape : Dimensions) (version : ℕ) (old : ActorRun) (a : Actor) (run : IsRun shape version old a) (delta_call now : DeltaCall) (fresh : Option Taken)
+module _ (shape : Dimensions) (version : ℕ) (old : ActorRun) (a : Actor) (run : IsActorRunOf shape version old a) (delta_call now : DeltaCall) (fresh : Option Taken)
     (is : old.running ≡ Some (Delta delta_call fresh)) (words new_words : List ℕ) (long : length words ≡ shape.size) (begun : HasBegun now.stage)
     (room : vec_capacity now.counts ≡ vec_capacity delta_call.counts) (order : WalksInOrder a) where
   stands : IsDrawing shape (pending_by old) delta_call fresh a
@@ -196,21 +196,21 @@ module _ (shape : Dimensions) (version : ℕ) (old : ActorRun) (a : Actor) (run 
 
   -- what ended before it is shown, and it has its name
   named_so : (fresh : Option Taken) → IsTimely known delta_call fresh → (before : List Taken) (last : Taken)
-      → old.taken.items ++ option_to_list fresh ≡ before ++ last ∷ [] → AreShown before earlier × (last.name.items ≡ known.name)
+      → old.taken.items ++ option_to_list fresh ≡ before ++ last ∷ [] → AreDeltasShown before earlier × (last.name.items ≡ known.name)
   named_so (Some t) (first, named) before last same =
       let parts = same_from_push old.taken.items before t last same in
       let begins = taken_first shape known earlier delta_call a delta_call.stage first takes.stands in (
-        subst (λ (p : List Taken × List MachineTaken). AreShown p.0 p.1) (λ i. (parts.0 i, begins i)) run.taken,
+        subst (λ (p : List Taken × List MachineTaken). AreDeltasShown p.0 p.1) (λ i. (parts.0 i, begins i)) run.taken,
         subst (λ (x : Taken). x.name.items ≡ known.name) parts.1 named,
       )
   named_so None begun_before before last same =
       let here : old.taken.items ≡ before ++ last ∷ [] = sym (append-nil old.taken.items) ∙ same in
       let way = way_of shape known earlier delta_call a delta_call.stage begun_before takes.stands in
-      let both = shown_less before earlier last way.last (subst (λ (p : List Taken × List MachineTaken). AreShown p.0 p.1) (λ i. (here i, way.taken i)) run.taken) in
+      let both = shown_less before earlier last way.last (subst (λ (p : List Taken × List MachineTaken). AreDeltasShown p.0 p.1) (λ i. (here i, way.taken i)) run.taken) in
       (both.0, both.1.name ∙ way.name)
 
   module _ (b : Actor) (aside : FrameOfDelta a b) where
-    still_quiet : IsQuiet (pending_by old) (apart_from_delta b)
+    still_quiet : CountsNoEntries (pending_by old) (apart_from_delta b)
     still_quiet = let quiet = stands.0 in record {
       none = quiet.none;
       runs = ap (λ e. e.running) aside.entries ∙ quiet.runs;
@@ -220,9 +220,9 @@ module _ (shape : Dimensions) (version : ℕ) (old : ActorRun) (a : Actor) (run 
     }
 
     -- it goes on, or has ended, and stands there
-    runs_so : (new : ActorRun) (running : Option Running) → new ≡ record old { taken = new.taken; running = running } → AreShown new.taken.items b.deltas.taken
-        → StandsIn shape old.known.items (pending_by old) running b → HasDraft running new.taken → ((n m : ℕ) → HasRoom running n m) → IsRun shape version new b
-    runs_so new running new_is shown stands_there draft has_room = subst (λ (r : ActorRun). IsRun shape version r b) (sym new_is) (record {
+    runs_so : (new : ActorRun) (running : Option Running) → new ≡ record old { taken = new.taken; running = running } → AreDeltasShown new.taken.items b.deltas.taken
+        → StandsIn shape old.known.items (pending_by old) running b → HasDraft running new.taken → ((n m : ℕ) → HasRoomForHist running n m) → IsActorRunOf shape version new b
+    runs_so new running new_is shown stands_there draft has_room = subst (λ (r : ActorRun). IsActorRunOf shape version r b) (sym new_is) (record {
       records = ap is_opener aside.role ∙ run.records;
       segment = aside.segment ∙ run.segment;
       first = ap (λ e. e.first) aside.entries ∙ run.first;
@@ -241,14 +241,14 @@ module _ (shape : Dimensions) (version : ℕ) (old : ActorRun) (a : Actor) (run 
 
     module _ (new : ActorRun) (before : List Taken) (last then_is : Taken) (shown : old.taken.items ++ option_to_list fresh ≡ before ++ last ∷ [])
         (taken : new.taken.items ≡ before ++ then_is ∷ []) (name : then_is.name ≡ last.name) (counts : then_is.counts.items ≡ now.counts.items) where
-      are_named : AreShown before earlier × (last.name.items ≡ known.name)
+      are_named : AreDeltasShown before earlier × (last.name.items ≡ known.name)
       are_named = named_so fresh stands.1.3 before last shown
 
       -- it is shown as the machine has it
       shows_it : (its : MachineTaken) → b.deltas.taken ≡ earlier ++ its ∷ [] → its.name ≡ known.name → ((key : ℤ) → units_listed now.counts.items key ≡ units_listed its.counts key) → AreUnits now.counts.items
-          → then_is.sum ≡ its.sum → AreShown new.taken.items b.deltas.taken
+          → then_is.sum ≡ its.sum → AreDeltasShown new.taken.items b.deltas.taken
       shows_it its deltas its_name its_counts units sum =
-          subst (λ (p : List Taken × List MachineTaken). AreShown p.0 p.1) (λ i. (sym taken i, sym deltas i)) (shown_more before earlier then_is its are_named.0 (record {
+          subst (λ (p : List Taken × List MachineTaken). AreDeltasShown p.0 p.1) (λ i. (sym taken i, sym deltas i)) (shown_more before earlier then_is its are_named.0 (record {
             name = ap (λ n. n.items) name ∙ (are_named.1 ∙ sym its_name);
             sum = sum;
             counts = λ key. ap (λ (l : List (ℤ × ℕ)). units_listed l key) counts ∙ its_counts key;
@@ -256,7 +256,7 @@ module _ (shape : Dimensions) (version : ℕ) (old : ActorRun) (a : Actor) (run 
           }))
 
       goes_on : new ≡ record old { taken = new.taken; running = Some (Delta now None) } → IsDeltaCall shape known earlier now b
-          → vec_capacity then_is.counts ≡ vec_capacity now.counts → then_is.sum ≡ pos 0 → IsRun shape version new b
+          → vec_capacity then_is.counts ≡ vec_capacity now.counts → then_is.sum ≡ pos 0 → IsActorRunOf shape version new b
       goes_on new_is its capacity sum =
           let way = way_of shape known earlier now b now.stage begun its.stands in
           let same_length : length new.taken.items ≡ length before + 1 = ap length taken ∙ length_push before then_is in
@@ -264,19 +264,19 @@ module _ (shape : Dimensions) (version : ℕ) (old : ActorRun) (a : Actor) (run 
           runs_so new (Some (Delta now None)) new_is (shows_it way.last way.taken way.name way.counts its.units (sum ∙ sym way.sum))
           (still_quiet, (known, earlier, its, begun)) (
             omega (arith, same_length, ok),
-            λ other there. subst (IsDraft now) (last_alone before then_is other (subst (λ l. IsLast l other) taken there)) (counts, capacity, sum),
+            λ other there. subst (IsDeltaDraft now) (last_alone before then_is other (subst (λ l. IsLast l other) taken there)) (counts, capacity, sum),
           )
           (λ n m. tt)
 
       -- it has ended
-      ends : (sum : ℤ) → new ≡ record old { taken = new.taken; running = None } → IsFree b → HasEnded known earlier now sum b → then_is.sum ≡ sum
-          → IsRun shape version new b
+      ends : (sum : ℤ) → new ≡ record old { taken = new.taken; running = None } → IsFree b → DeltaHasEnded known earlier now sum b → then_is.sum ≡ sum
+          → IsActorRunOf shape version new b
       ends sum new_is turns ended is_sum =
           let quiet = still_quiet in
           runs_so new None new_is (shows_it ended.last ended.taken ended.name ended.counts ended.units (is_sum ∙ sym ended.sum_is))
           (turns, record { none = quiet.none; runs = quiet.runs; holds = quiet.holds; share = quiet.share; takes = ended.taking }) tt (λ n m. tt)
 
-    is_took : (sum : ℤ) → HasEnded known earlier now sum b → IsTook (looked_by old.running) (record { counts = now.counts; sum = sum }) b
+    is_took : (sum : ℤ) → DeltaHasEnded known earlier now sum b → IsTook (looked_by old.running) (record { counts = now.counts; sum = sum }) b
     is_took sum ended = record {
       known = known;
       knows = subst (λ l. Contains l known) (sym aside.names) takes.knows;
@@ -331,7 +331,7 @@ longer_by_key one counts =
     let moved = length_permutation (one ∷ counts) (insert_by_key one counts) (IsPermutation-insert counts (place_of one.0 counts) one) in omega (arith, moved)
 
 -- what it took it listed, so there was room for it
-fits : (delta_call now : DeltaCall) (said : DeltaCallStep) (last : Taken) → IsDraft delta_call last → Lists delta_call now said → vec_capacity now.counts ≡ vec_capacity delta_call.counts → Fits said last
+fits : (delta_call now : DeltaCall) (said : DeltaCallStep) (last : Taken) → IsDeltaDraft delta_call last → Lists delta_call now said → vec_capacity now.counts ≡ vec_capacity delta_call.counts → HasRoomForStep said last
 fits delta_call now More last draft lists room = tt
 fits delta_call now (Took key units) last (counts, capacity, sum) lists room =
     let longer = ap length lists ∙ longer_by_key (key, units) delta_call.counts.items in
@@ -344,7 +344,7 @@ draft_in : (n : ℕ) (r : ActorRun) (delta_call : DeltaCall) (fresh : Option Tak
 draft_in n r delta_call fresh is (shape, version, a, long, wide, run) = subst (λ running. HasDraft running r.taken) is run.draft
 
 pub has_place : (n : ℕ) (r : ActorRun) (delta_call now : DeltaCall) (said : DeltaCallStep) → Lists delta_call now said → vec_capacity now.counts ≡ vec_capacity delta_call.counts
-    → ∥ IsSomeRun n r ∥₁ → (fresh : Option Taken) → r.running ≡ Some (Delta delta_call fresh) → HasPlace said (Some (Delta now fresh)) r.taken
+    → ∥ IsSomeRun n r ∥₁ → (fresh : Option Taken) → r.running ≡ Some (Delta delta_call fresh) → HasDraftRoom said (Some (Delta now fresh)) r.taken
 has_place n r delta_call now said lists room some_run (Some t) is = (
   ∥∥₁_elim some_run (hlevel props) (λ its. (draft_in n r delta_call (Some t) is its).0),
   fits delta_call now said t (∥∥₁_elim some_run (hlevel props) (λ its. (draft_in n r delta_call (Some t) is its).1)) lists room,
@@ -355,7 +355,7 @@ has_place n r delta_call now said lists room some_run None is = (
 )
 
 -- so its call is a delta
-pub placed : (said : DeltaCallStep) (running : Option Running) (taken : Vec Taken Global) → HasPlace said running taken
+pub placed : (said : DeltaCallStep) (running : Option Running) (taken : Vec Taken Global) → HasDraftRoom said running taken
     → (delta_call : DeltaCall) × (fresh : Option Taken) × (running ≡ Some (Delta delta_call fresh))
 placed said (Some (Delta delta_call fresh)) taken place = (delta_call, fresh, refl)
 placed said (Some SetCorrupt) taken place = absurd place
@@ -367,10 +367,10 @@ placed said None taken place = absurd place
 
 -- and once that is shown there is room in what stands last
 pub last_fits : (said : DeltaCallStep) (delta_call : DeltaCall) (fresh : Option Taken) (taken : Vec Taken Global) (shown : List Taken)
-    → HasPlace said (Some (Delta delta_call fresh)) taken → shown ≡ taken.items ++ option_to_list fresh → (0 < length shown) × ((last : Taken) → IsLast shown last → Fits said last)
+    → HasDraftRoom said (Some (Delta delta_call fresh)) taken → shown ≡ taken.items ++ option_to_list fresh → (0 < length shown) × ((last : Taken) → IsLast shown last → HasRoomForStep said last)
 last_fits said delta_call (Some t) taken shown (near, fit) is = (
   (let long = ap length is ∙ length_push taken.items t in omega (arith, long)),
-  λ last there. subst (Fits said) (last_alone taken.items t last (subst (λ l. IsLast l last) is there)) fit,
+  λ last there. subst (HasRoomForStep said) (last_alone taken.items t last (subst (λ l. IsLast l last) is there)) fit,
 )
 last_fits said delta_call None taken shown (some_there, fit) is =
     let same : shown ≡ taken.items = is ∙ append-nil taken.items in (
@@ -396,7 +396,7 @@ ended_before list delta_call None before last same =
 
 module _ (old : ActorRun) (delta_call now : DeltaCall) (fresh : Option Taken) (is : old.running ≡ Some (Delta delta_call fresh)) (same : now.histogram ≡ delta_call.histogram)
     (words new_words : List ℕ) (all : length old.entries.items ≡ old.ended) (unbegun : old.begun ≡ old.ended)
-    (drafts : (before : List Taken) (last : Taken) → old.taken.items ++ option_to_list fresh ≡ before ++ last ∷ [] → IsDraft delta_call last) where
+    (drafts : (before : List Taken) (last : Taken) → old.taken.items ++ option_to_list fresh ≡ before ++ last ∷ [] → IsDeltaDraft delta_call last) where
   -- it goes on
   goes_answered : (new : ActorRun) (last : Taken) (before : List Taken) → new ≡ record old { taken = new.taken; running = Some (Delta now None) }
       → new.taken.items ≡ before ++ last ∷ [] → before ≡ ended_deltas (Some (Delta delta_call fresh)) old.taken.items → last.sum ≡ pos 0
@@ -450,15 +450,15 @@ no_units : AreUnits []
 no_units = record { ascending = no_keys; some = λ k d below. absurd (omega (arith, below)) }
 
 -- so it is before its first event
-opens_first : (shape : Dimensions) (known : MachineKnown) (delta_call : DeltaCall) (stage : DeltaStage) → OpensWith shape known delta_call stage → IsFirst stage
+opens_first : (shape : Dimensions) (known : MachineKnown) (delta_call : DeltaCall) (stage : DeltaStage) → OpensWith shape known delta_call stage → IsFirstStage stage
 opens_first _ _ _ stage (inl opens) = inl opens.0
 opens_first _ _ _ stage (inr opens) = inr opens.0
 
 -- who rests begins it, which is no event
-module _ (shape : Dimensions) (version : ℕ) (known : Known) (old new : ActorRun) (starts : BeginsDelta shape version known old new) (i : ℕ)
+module _ (shape : Dimensions) (version : ℕ) (known : KnownHist) (old new : ActorRun) (starts : BeginsDelta shape version known old new) (i : ℕ)
     (at : get_elem? old.known.items i ≡ some known) (rests : old.running ≡ None) where
-  module _ (a : Actor) (run : IsRun shape version old a) (lawful : IsShape shape) (alone : known_at a.answers.names known.reference ≡ Some (known_of known)) where
-    stood : IsFree a × IsQuiet (pending_by old) a
+  module _ (a : Actor) (run : IsActorRunOf shape version old a) (lawful : IsShape shape) (alone : known_at a.answers.names known.reference ≡ Some (known_of known)) where
+    stood : IsFree a × CountsNoEntries (pending_by old) a
     stood = subst (λ running. StandsIn shape old.known.items (pending_by old) running a) rests run.stands
 
     its_known : IsKnown shape known
@@ -501,11 +501,11 @@ module _ (shape : Dimensions) (version : ℕ) (known : Known) (old new : ActorRu
       stands = stands_first delta_call.stage starts.started.opens;
     }
 
-    quiet : IsQuiet (pending_by old) (apart_from_delta a)
+    quiet : CountsNoEntries (pending_by old) (apart_from_delta a)
     quiet = let q = stood.1 in record { none = q.none; runs = q.runs; holds = q.holds; share = q.share; takes = refl }
 
-    pub begins_with : IsRun shape version new a
-    begins_with = subst (λ (r : ActorRun). IsRun shape version r a) (sym starts.is)
+    pub begins_with : IsActorRunOf shape version new a
+    begins_with = subst (λ (r : ActorRun). IsActorRunOf shape version r a) (sym starts.is)
         (runs_on shape version roomy a (as_it_stood shape version old roomy a rests (refl, refl, refl, starts.taken) run) a (Some (Delta delta_call (Some starts.fresh))) (alike a)
         (quiet, (known_of known, a.deltas.taken, begins_taking, (opens_first shape (known_of known) delta_call delta_call.stage starts.started.opens, starts.named)))
         tt (starts.room, starts.draft))

@@ -1,7 +1,7 @@
 -- A delta goes on by one event of its actor.
 use Rattle.segment_invariant.proofs.Prelude.Std.{◌≡◌, ℕ, ◌+◌, ◌-◌, ◌≤◌, true, true≢false, List, length, refl, sym, ap, ◌∙◌, subst, arith, None, vec_capacity, props, ∥∥₁_elim, Contains, [], ◌++◌, append-nil}
 use Rattle.segment_invariant.proofs.Prelude.Machine.{boundaries_of, buckets_of, spec_fault, Spec, Dimensions, word_at, Actor, Known, Taken, Buckets, has_buckets, is_opener, known_at, units_listed, MayTurn, sight, Event, spot, next, Ready, Learned, taking_event, load_count, raise_mark, raise_single_mark, load_sum, swap_sum_mark, load_redundant, Sighting}
-use Rattle.bucket_ranges.specs.Ranges.{IsSplit}
+use Rattle.bucket_ranges.specs.Ranges.{SplitsValues}
 use Rattle.bucket_ranges.specs.declared.spec.Spec.TheVariants as spec
 use Rattle.bucket_ranges.proofs.Ascent.{boundaries_of-split}
 use Rattle.segment_invariant.proofs.Packing.OffForms.{few_buckets}
@@ -83,7 +83,7 @@ module _ (shape : Dimensions) (known : Known) (earlier : List Taken) (delta_call
     pub knows_it : Buckets a known.reference known
     knows_it = (is.knows, refl, bucketed)
 
-    pub split : IsSplit (buckets_of known.spec) (boundaries_of known.spec)
+    pub split : SplitsValues (buckets_of known.spec) (boundaries_of known.spec)
     split = boundaries_of-split known.spec is.lawful (λ sparse. true≢false (sym bucketed ∙ ap has_buckets sparse))
 
     pub buckets_are : length delta_call.ranges - 1 ≡ buckets_of known.spec

@@ -6,7 +6,7 @@ use Rattle.std.specs.Prelude.{int_lt}
 use Rattle.std.specs.List.{insert}
 use Rattle.std.specs.Ordering.{int_cmp}
 use Rattle.std.proofs.lemmas.List.Sorted.{IsPermutation-insert, sum_by-IsPermutation}
-use Rattle.bucket_ranges.specs.Ranges.{IsSplit}
+use Rattle.bucket_ranges.specs.Ranges.{SplitsValues}
 use Rattle.segment_invariant.proofs.Notes.Amounts.{last_changed}
 use Rattle.segment_machine.specs.Taking.{take_units}
 use Rattle.segment_promises.proofs.Calls.BucketLists.{keys_below, last_below, still_below, units_push}
@@ -14,7 +14,7 @@ use Rattle.segment_promises.specs.Calls.{AreBelow, AreUnits}
 use Rattle.hist_core.specs.declared.delta_call.DeltaCall.{DeltaCall}
 use Rattle.hist_core.specs.declared.delta_call.DeltaCallStep.{DeltaCallStep}
 use Rattle.hist_core.specs.declared.delta_call.DeltaCallStep.TheVariants.{More, Took, Done}
-use Rattle.hist_core.specs.DeltaCall.{IsTaken, IsUnderWay, TakesUnits, insert_by_key, place_of}
+use Rattle.hist_core.specs.DeltaCall.{TakesBucket, IsUnderWay, TakesUnits, insert_by_key, place_of}
 
 -- ---- keys that ascend
 
@@ -35,7 +35,7 @@ last_by_key one (c ∷ rest) (less, below) = by (int_lt c.0 one.0) refl (last_by
     by true e behind = ap (λ (l : List (ℤ × ℕ)). c ∷ l) behind
     by false e behind = absurd (not_less c.0 one.0 e less)
 
-module _ (known : Known) (split : IsSplit (buckets_of known.spec) (boundaries_of known.spec)) where
+module _ (known : Known) (split : SplitsValues (buckets_of known.spec) (boundaries_of known.spec)) where
   -- what it lists once it has taken units of a bucket
   pub record AreListed (bucket : ℕ) (counts : List (ℤ × ℕ)) : Type 0 where
     pub units : AreUnits counts
@@ -44,7 +44,7 @@ module _ (known : Known) (split : IsSplit (buckets_of known.spec) (boundaries_of
 
   pub lists_on : (bucket total mark : ℕ) (old new : DeltaCall) (said : DeltaCallStep) → bucket < buckets_of known.spec → old.ranges ≡ boundaries_of known.spec
       → AreUnits old.counts.items → AreBelow known bucket old.counts.items → length old.counts.items ≤ bucket
-      → IsTaken bucket total mark old new said → AreListed bucket new.counts.items
+      → TakesBucket bucket total mark old new said → AreListed bucket new.counts.items
   lists_on bucket total mark old new More under ranges units below few (none, same) = record {
     units = subst (λ (t : DeltaCall). AreUnits t.counts.items) (sym same) units;
     below = subst (λ (t : DeltaCall). AreBelow known (bucket + 1) t.counts.items) (sym same) (still_below known bucket old.counts.items below);
@@ -108,7 +108,7 @@ way_taken known earlier of total mark old new said a b is way deltas = record {
 
 -- of a bucket
 pub way_on : (known : Known) (earlier : List Taken) (bucket total mark : ℕ) (old new : DeltaCall) (said : DeltaCallStep) (a b : Actor) (key : ℤ)
-    → pos (slice_index old.ranges bucket) ≡ key → IsTaken bucket total mark old new said → IsUnderWay known earlier old a
+    → pos (slice_index old.ranges bucket) ≡ key → TakesBucket bucket total mark old new said → IsUnderWay known earlier old a
     → b.deltas ≡ record a.deltas { taken = change_last (take_units key total mark) a.deltas.taken } → IsUnderWay known earlier new b
 way_on known earlier bucket total mark old new said a b key is_key is way deltas =
     way_taken known earlier key total mark old new said a b (subst (λ (k : ℤ). TakesUnits k total mark old new said) is_key is) way deltas

@@ -19,7 +19,7 @@ use Rattle.hist_core.specs.declared.delta_call.DeltaCallStep.{DeltaCallStep}
 use Rattle.hist_core.specs.declared.delta_call.DeltaCallStep.TheVariants.{More, Took, Done}
 use Rattle.hist_core.specs.StepsBy.{StepsBy}
 use Rattle.hist_core.specs.Mounted.{AreMounted, HasLoaded, look_at}
-use Rattle.hist_core.specs.DeltaCall.{HasDrawn, IsSomeDeltaCall, IsTaken, IsDeltaCall, StandsAtStage, DeltaCallGives, FrameOfDelta, behind_bucket, mark_of}
+use Rattle.hist_core.specs.DeltaCall.{HasDrawn, IsSomeDeltaCall, TakesBucket, IsDeltaCall, StandsAtStage, DeltaCallGives, FrameOfDelta, behind_bucket, mark_of}
 use Rattle.hist_core.proofs.DeltaCall.Counts.{is_other, is_packed, stands_behind}
 use Rattle.hist_core.proofs.DeltaCall.Going.{IsSame, acts_on, buckets_are, knows_it, long_ranges, same_still, same_taken, same_way, split, takes_it, taking_sees}
 use Rattle.hist_core.proofs.DeltaCall.Lists.{AreListed, lists_on, way_on}
@@ -75,7 +75,7 @@ module _ (shape : Dimensions) (known : Known) (earlier : List Taken) (delta_call
     module _ (deltas : acted.deltas ≡ record a.deltas { taken = change_last (take_units key total found) a.deltas.taken })
         (place : acted.hand.place ≡ back a.hand.place) (counts : acted.seen.counts ≡ a.seen.counts ++ sight at (max found total))
         (since : acted.since ≡ a.since) (names : acted.answers.names ≡ a.answers.names) (is_key : pos (slice_index delta_call.ranges bucket) ≡ key)
-        (taken : IsTaken bucket total found resting new said) (ranges : new.ranges ≡ delta_call.ranges) (stage : new.stage ≡ next_stage)
+        (taken : TakesBucket bucket total found resting new said) (ranges : new.ranges ≡ delta_call.ranges) (stage : new.stage ≡ next_stage)
         (room : vec_capacity new.counts ≡ vec_capacity delta_call.counts) where
       listed : AreListed known (split shape known earlier delta_call a is stands.4.0) bucket new.counts.items
       listed = lists_on known (split shape known earlier delta_call a is stands.4.0) bucket total found resting new said drawn.inside is.ranges is.units drawn.below drawn.few taken
@@ -137,15 +137,15 @@ module _ (shape : Dimensions) (known : Known) (earlier : List Taken) (delta_call
         ∙ (ap (λ (f : Option SingleWord). bucket_key (known_at names known.reference) (unwrap_or (packed_bucket f) 0)) form_there
         ∙ (ap (λ (p : Option ℕ). bucket_key (known_at names known.reference) (unwrap_or p 0)) holds ∙ key_is)))
 
-    pub raises_single : (new : DeltaCall) (said : DeltaCallStep) → IsTaken bucket total (word_at words (delta_call.histogram + 10)) resting new said → IsSame delta_call new
+    pub raises_single : (new : DeltaCall) (said : DeltaCallStep) → TakesBucket bucket total (word_at words (delta_call.histogram + 10)) resting new said → IsSame delta_call new
         → new.stage ≡ next_stage → (new_words : List ℕ)
         → new_words ≡ slice_set words (delta_call.histogram + 10) (max (word_at words (delta_call.histogram + 10)) total)
         → StepsBy shape.size delta_call.version a words new_words (λ b. FrameOfDelta a b × IsDeltaCall shape known earlier new b)
     raises_single new said taken same stage new_words are_words =
         let found : ℕ = word_at words (known.reference + 10) in
         let e : TakingEvent = raise_single_mark known.reference total in
-        let there : IsTaken bucket total found resting new said =
-        subst (λ (h : ℕ). IsTaken bucket total (word_at words (h + 10)) resting new said) (sym is.reference) taken in
+        let there : TakesBucket bucket total found resting new said =
+        subst (λ (h : ℕ). TakesBucket bucket total (word_at words (h + 10)) resting new said) (sym is.reference) taken in
         acts_on shape known earlier delta_call a is words new_words e new same (
           stands.2,
           (known, takes_it shape known earlier delta_call a is stands.0),
@@ -183,15 +183,15 @@ module _ (shape : Dimensions) (known : Known) (earlier : List Taken) (delta_call
     key_other = sym (ap (taken_key a) loaded.0.1 ∙ key_is)
 
     pub raises_other : (at : ℕ) → at ≡ mounted.counts + 4 + (length delta_call.ranges - 1) + bucket → (new : DeltaCall) (said : DeltaCallStep)
-        → IsTaken bucket total (word_at words at) resting new said → IsSame delta_call new → new.stage ≡ next_stage → (new_words : List ℕ)
+        → TakesBucket bucket total (word_at words at) resting new said → IsSame delta_call new → new.stage ≡ next_stage → (new_words : List ℕ)
         → new_words ≡ slice_set words at (max (word_at words at) total)
         → StepsBy shape.size delta_call.version a words new_words (λ b. FrameOfDelta a b × IsDeltaCall shape known earlier new b)
     raises_other at is_at new said taken same stage new_words are_words =
         let here : at ≡ own_mark = let long = buckets_are shape known earlier delta_call a is stands.4.0 in omega (arith, is_at, long) in
         let found : ℕ = word_at words own_mark in
         let e : TakingEvent = raise_mark own_mark total in
-        let there : IsTaken bucket total found resting new said =
-        subst (λ (n : ℕ). IsTaken bucket total (word_at words n) resting new said) here taken in
+        let there : TakesBucket bucket total found resting new said =
+        subst (λ (n : ℕ). TakesBucket bucket total (word_at words n) resting new said) here taken in
         acts_on shape known earlier delta_call a is words new_words e new same (
           stands.2,
           inl (
@@ -218,20 +218,20 @@ module _ (shape : Dimensions) (known : Known) (earlier : List Taken) (delta_call
   abbrev spot_of_mark : ℕ
   spot_of_mark = mark_of delta_call mounted bucket
 
-  raises_there : (new : DeltaCall) (said : DeltaCallStep) → IsTaken bucket total (word_at words spot_of_mark) resting new said → IsSame delta_call new → new.stage ≡ next_stage
+  raises_there : (new : DeltaCall) (said : DeltaCallStep) → TakesBucket bucket total (word_at words spot_of_mark) resting new said → IsSame delta_call new → new.stage ≡ next_stage
       → (new_words : List ℕ) → new_words ≡ slice_set words spot_of_mark (max (word_at words spot_of_mark) total)
       → StepsBy shape.size delta_call.version a words new_words (λ b. FrameOfDelta a b × IsDeltaCall shape known earlier new b)
   raises_there new said taken same stage new_words are_words = by (option_eq nat_eq mounted.packed (Some bucket)) refl taken are_words
     where
       by : (b : Bool) → option_eq nat_eq mounted.packed (Some bucket) ≡ b
           → let at : ℕ = if b then delta_call.histogram + 10 else mounted.counts + 4 + (length delta_call.ranges - 1) + bucket in
-          IsTaken bucket total (word_at words at) resting new said → new_words ≡ slice_set words at (max (word_at words at) total)
+          TakesBucket bucket total (word_at words at) resting new said → new_words ≡ slice_set words at (max (word_at words at) total)
           → StepsBy shape.size delta_call.version a words new_words (λ b. FrameOfDelta a b × IsDeltaCall shape known earlier new b)
       by true e taken are_words = raises_single (is_packed mounted.packed bucket e) new said taken same stage new_words are_words
       by false e taken are_words =
           raises_other (is_other mounted.packed bucket e) (mounted.counts + 4 + (length delta_call.ranges - 1) + bucket) refl new said taken same stage new_words are_words
 
-  pub gives_raised : (new : DeltaCall) (said : DeltaCallStep) (mark : ℕ) → IsTaken bucket total mark resting new said → mark ≡ word_at words spot_of_mark
+  pub gives_raised : (new : DeltaCall) (said : DeltaCallStep) (mark : ℕ) → TakesBucket bucket total mark resting new said → mark ≡ word_at words spot_of_mark
       → (new_words : List ℕ) → new_words ≡ slice_set words spot_of_mark (max (word_at words spot_of_mark) total)
       → StepsBy shape.size delta_call.version a words new_words (DeltaCallGives shape known earlier new said a)
   gives_raised new More mark (none, same) is_mark new_words are_words =

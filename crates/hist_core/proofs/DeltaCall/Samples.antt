@@ -23,8 +23,8 @@ use Rattle.hist_core.specs.declared.walk.Met.TheVariants.{Nothing, Sample, End}
 use Rattle.hist_core.specs.declared.walk.SampleWalk.{SampleWalk}
 use Rattle.hist_core.specs.declared.walk.SampleWalk.TheVariants.{LoadingFirst, LoadingType, LoadingHistogram, LoadingValue, LoadingNext}
 use Rattle.hist_core.specs.StepsBy.{FrameOfStep, StepsBy, IsInOrder, WalksInOrder}
-use Rattle.hist_core.specs.DeltaCall.{HasBegun, HasCounted, HoldsValues, IsBeforeAll, IsSomeDeltaCall, IsDeltaCall, IsUnderWay, ListsTaken, StandsAtStage, DeltaCallGives, FrameOfDelta, TakesUnits, behind_sample, behind_walk, insert_by_key}
-use Rattle.hist_core.specs.Walk.{HasComeTo, HasSetOut, IsWalkProgress, Meets, MetRecord, MetSample, WalksAt, spot_of}
+use Rattle.hist_core.specs.DeltaCall.{HasBegun, HasLoadedSample, HoldsValues, IsBeforeAll, IsSomeDeltaCall, IsDeltaCall, IsUnderWay, ListsTaken, StandsAtStage, DeltaCallGives, FrameOfDelta, TakesUnits, behind_sample, behind_walk, insert_by_key}
+use Rattle.hist_core.specs.Walk.{HasComeTo, HasSetOut, IsSampleWalkProgress, Meets, MetRecord, MetSample, WalksAt, spot_of}
 use Rattle.hist_core.proofs.Parts.Allocations.{goes_with}
 use Rattle.hist_core.proofs.Walks.Passing.{way_still}
 use Rattle.hist_core.proofs.Worlds.Quiet.{not_spent}
@@ -189,7 +189,7 @@ module _ (shape : Dimensions) (known : Known) (earlier : List Taken) (delta_call
     abbrev its_passed : List ℕ
     its_passed = met_count.0.passed
 
-    abbrev its_way : IsWalkProgress known its_passed at a
+    abbrev its_way : IsSampleWalkProgress known its_passed at a
     its_way = met_count.0.way
 
     met_there : Contains a.seen.chain at
@@ -215,7 +215,7 @@ module _ (shape : Dimensions) (known : Known) (earlier : List Taken) (delta_call
     sparse_there : Sparse a known.reference known
     sparse_there = (is.knows, refl, its_way.sparse)
 
-    way_counted : IsWalkProgress known its_passed at counted
+    way_counted : IsSampleWalkProgress known its_passed at counted
     way_counted = way_still known a counted counted_sees its_passed at refl (ap is_looking placed) its_way
 
     lists_counted : ListsTaken known delta_call its_passed counted
@@ -272,7 +272,7 @@ module _ (shape : Dimensions) (known : Known) (earlier : List Taken) (delta_call
     stood : StandsAtStage shape known earlier delta_call a (RaisingSample at value count)
     stood = subst (StandsAtStage shape known earlier delta_call a) raises is.stands
 
-    abbrev has : HasCounted shape known delta_call at value count a
+    abbrev has : HasLoadedSample shape known delta_call at value count a
     has = stood.1
 
     abbrev met_before : MetRecord known (ListsTaken known delta_call) at a

@@ -20,7 +20,7 @@ use Rattle.hist_core.specs.declared.delta_call.DeltaCallStep.{DeltaCallStep}
 use Rattle.hist_core.specs.declared.delta_call.DeltaCallStep.TheVariants.{More, Took, Done}
 use Rattle.hist_core.specs.StepsBy.{StepsBy}
 use Rattle.hist_core.specs.Mounted.{HasWord}
-use Rattle.hist_core.specs.DeltaCall.{IsBehindSingle, IsSomeDeltaCall, IsTaken, IsDeltaCall, IsUnderWay, StandsAtStage, DeltaCallGives, FrameOfDelta, TookBuckets}
+use Rattle.hist_core.specs.DeltaCall.{IsBehindSingle, IsSomeDeltaCall, TakesBucket, IsDeltaCall, IsUnderWay, StandsAtStage, DeltaCallGives, FrameOfDelta, TookBuckets}
 use Rattle.hist_core.proofs.SnapshotCall.Looks.{on_units}
 use Rattle.hist_core.proofs.DeltaCall.Going.{IsSame, same_still, same_taken, same_way, acts_on, buckets_are, goes_still, knows_it, long_ranges, split, takes_it, delta_beside}
 use Rattle.hist_core.proofs.DeltaCall.Lists.{lists_on, way_on}
@@ -208,13 +208,13 @@ module _ (shape : Dimensions) (known : Known) (earlier : List Taken) (delta_call
         (λ here. subst (TookBucket raised known) (sym here) took_here)
         (λ apart. took_else known word i raised loaded.saw on (λ e. apart (let same : Some bucket ≡ Some i = says.0 ∙ e in let one : bucket ≡ i = cc in sym one)))
 
-    pub takes_packed : (new : DeltaCall) (said : DeltaCallStep) → IsTaken bucket units (word_at words (delta_call.histogram + 10)) (record delta_call { stage = LoadingSum }) new said
+    pub takes_packed : (new : DeltaCall) (said : DeltaCallStep) → TakesBucket bucket units (word_at words (delta_call.histogram + 10)) (record delta_call { stage = LoadingSum }) new said
         → IsSame delta_call new → new.stage ≡ LoadingSum → (new_words : List ℕ)
         → new_words ≡ slice_set words (delta_call.histogram + 10) (max (word_at words (delta_call.histogram + 10)) units)
         → StepsBy shape.size delta_call.version a words new_words (λ b. FrameOfDelta a b × IsDeltaCall shape known earlier new b)
     takes_packed new said taken same stage new_words are =
-        let there : IsTaken bucket units least_found (record delta_call { stage = LoadingSum }) new said =
-        subst (λ (h : ℕ). IsTaken bucket units (word_at words (h + 10)) (record delta_call { stage = LoadingSum }) new said) (sym is.reference) taken in
+        let there : TakesBucket bucket units least_found (record delta_call { stage = LoadingSum }) new said =
+        subst (λ (h : ℕ). TakesBucket bucket units (word_at words (h + 10)) (record delta_call { stage = LoadingSum }) new said) (sym is.reference) taken in
         let none : AreUnits (record delta_call { stage = LoadingSum }).counts.items = is.units in
         let listed = lists_on known (split shape known earlier delta_call a is stands.3.0) bucket units least_found (record delta_call { stage = LoadingSum }) new said packed_inside is.ranges none
         (subst (λ (l : List (ℤ × ℕ)). AreBelow known bucket l) (sym stands.1) tt) (let e = ap length stands.1 in omega (arith, e)) there in
@@ -252,7 +252,7 @@ packed_room delta_call words bucket units packs stands = ∥∥₁_elim stands (
 -- whatever it took of them, it goes on
 module _ (shape : Dimensions) (known : Known) (earlier : List Taken) (delta_call : DeltaCall) (a : Actor) (words : List ℕ) (is : IsDeltaCall shape known earlier delta_call a)
     (bucket units : ℕ) (packs : delta_call.stage ≡ TakingPacked bucket units) where
-  pub gives_packed : (new : DeltaCall) (said : DeltaCallStep) (mark : ℕ) → IsTaken bucket units mark (record delta_call { stage = LoadingSum }) new said
+  pub gives_packed : (new : DeltaCall) (said : DeltaCallStep) (mark : ℕ) → TakesBucket bucket units mark (record delta_call { stage = LoadingSum }) new said
       → mark ≡ word_at words (delta_call.histogram + 10) → (new_words : List ℕ)
       → new_words ≡ slice_set words (delta_call.histogram + 10) (max (word_at words (delta_call.histogram + 10)) units)
       → StepsBy shape.size delta_call.version a words new_words (DeltaCallGives shape known earlier new said a)

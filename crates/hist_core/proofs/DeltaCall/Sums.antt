@@ -11,7 +11,7 @@ use Rattle.hist_core.specs.declared.delta_call.DeltaStage.TheVariants.{LoadingSu
 use Rattle.hist_core.specs.declared.delta_call.DeltaCall.{DeltaCall}
 use Rattle.hist_core.specs.declared.delta_call.DeltaCallStep.TheVariants.{More, Done}
 use Rattle.hist_core.specs.StepsBy.{StepsBy, WalksInOrder}
-use Rattle.hist_core.specs.DeltaCall.{HasEnded, IsDeltaCall, IsUnderWay, StandsAtStage, DeltaCallGives, FrameOfDelta, TookEach}
+use Rattle.hist_core.specs.DeltaCall.{DeltaHasEnded, IsDeltaCall, IsUnderWay, StandsAtStage, DeltaCallGives, FrameOfDelta, TookEach}
 use Rattle.hist_core.proofs.Walks.Passing.{way_still}
 use Rattle.hist_core.proofs.Worlds.Quiet.{not_spent}
 use Rattle.hist_core.proofs.DeltaCall.Going.{acts_on, takes_it, taking_aside, taking_sees}
@@ -89,7 +89,7 @@ module _ (shape : Dimensions) (known : Known) (earlier : List Taken) (delta_call
       summed = (earlier, last, taken_is, way.name, refl);
     }
 
-    ended : (amount : ℤ) → amount ≡ sum -ℤ mark → HasEnded known earlier delta_call amount (noted acted has_taken)
+    ended : (amount : ℤ) → amount ≡ sum -ℤ mark → DeltaHasEnded known earlier delta_call amount (noted acted has_taken)
     ended amount is_amount = record {
       taking = refl;
       last = last;

@@ -20,7 +20,7 @@ use Rattle.segment_promises.proofs.Calls.Sights.{took_sample}
 use Rattle.hist_core.specs.declared.delta_call.DeltaCall.{DeltaCall}
 use Rattle.hist_core.specs.StepsBy.{IsInOrder}
 use Rattle.hist_core.specs.DeltaCall.{ListsTaken, insert_by_key, place_of}
-use Rattle.hist_core.specs.Walk.{HasPassedAll}
+use Rattle.hist_core.specs.Walk.{HasReachedEnd}
 use Rattle.hist_core.proofs.Walks.Walking.{GoesAlong}
 
 -- ---- one key more
@@ -141,7 +141,7 @@ taken_along known delta_call = record {
 }
 
 -- at the end of the list it has taken what it saw of each sample that it met
-pub took_samples : (known : Known) (delta_call : DeltaCall) (a : Actor) → IsInOrder a → HasPassedAll known (ListsTaken known delta_call) a → (value : ℤ) (sample : ℕ)
+pub took_samples : (known : Known) (delta_call : DeltaCall) (a : Actor) → IsInOrder a → HasReachedEnd known (ListsTaken known delta_call) a → (value : ℤ) (sample : ℕ)
     → Contains a.seen.chain sample → SawSample a.seen known.reference value sample → TookSample a sample
 took_samples known delta_call a order all value sample met saw =
     let whole = all_passed a known.reference all.passed all.way.comes order.once in

@@ -19,7 +19,7 @@ use Rattle.hist_core.specs.declared.entry.Taken.{Taken}
 use Rattle.hist_core.specs.declared.hist.Hist.{Hist as HistCall}
 use Rattle.hist_core.specs.declared.hist.HistStep.{HistStep}
 use Rattle.hist_core.specs.declared.hist.HistStep.TheVariants.{More, Done, Refused}
-use Rattle.hist_core.specs.declared.hist.Known.{Known}
+use Rattle.hist_core.specs.declared.hist.KnownHist.{KnownHist}
 use Rattle.hist_core.specs.declared.actor_run.Running.{Running}
 use Rattle.hist_core.specs.declared.actor_run.Running.TheVariants.{Hist}
 use Rattle.hist_core.specs.declared.entry.Entry.{Entry}
@@ -28,10 +28,10 @@ use Rattle.hist_core.proofs.Worlds.Apart.{adds_not, looks_not, batches_not, sets
 use Rattle.hist_core.proofs.Worlds.Free.{free_turns}
 use Rattle.hist_core.proofs.Worlds.Quiet.{met_on, quiet_on, gives_none, begun_there, takes_none, takes_not}
 use Rattle.hist_core.specs.declared.actor_run.ActorRun.{ActorRun}
-use Rattle.hist_core.specs.StepsBy.{Deed, links, raises, DoesOnly, FrameOfStep, StepsBy, IsFree}
-use Rattle.hist_core.specs.Hist.{IsCause, IsSomeHist, HistSteps, SawNone, asked_of, serves_asked}
+use Rattle.hist_core.specs.StepsBy.{SharedEffect, links, raises, DoesOnly, FrameOfStep, StepsBy, IsFree}
+use Rattle.hist_core.specs.Hist.{IsHistCause, IsSomeHist, HistSteps, SawNoName, asked_of, serves_asked}
 use Rattle.hist_core.proofs.Worlds.Landing.{Landing, does_as_said}
-use Rattle.hist_core.specs.ActorRun.{known_of, AreShown, HasDraft, IsKnown, NoneHasName, HaveOwnNames, StandsIn, HasRoom, IsRun, IsSomeRun, IsHistAnnounced, IsRefusedBy, MayBeRefused, BeginsHist, IsAsItWas, IsQuiet, Answers, DoesAsSaid, Serves, is_flagged, lacks_room, held_by, entry_of, ended_by, begun_by, pending_by}
+use Rattle.hist_core.specs.ActorRun.{known_of, AreDeltasShown, HasDraft, IsKnown, NoneHasName, HaveOwnNames, StandsIn, HasRoomForHist, IsActorRunOf, IsSomeRun, IsHistAnnounced, IsRefusedBy, MayBeRefused, BeginsHist, IsAsItWas, CountsNoEntries, Answers, DoesAsSaid, Serves, is_flagged, lacks_room, held_by, entry_of, ended_by, begun_by, pending_by}
 use Rattle.hist_core.proofs.Parts.Claims.{goes_noting}
 
 -- ---- a note more
@@ -43,11 +43,11 @@ notes_one go notes = goes_noting go (λ b its. let (note, may, then_is) = notes 
 
 -- ---- names
 
-none_more : (list : List Known) (known : Known) (name : List ℕ) → NoneHasName list name → known.name.items ≢ name → NoneHasName (list ++ known ∷ []) name
+none_more : (list : List KnownHist) (known : KnownHist) (name : List ℕ) → NoneHasName list name → known.name.items ≢ name → NoneHasName (list ++ known ∷ []) name
 none_more list known name none other i x at same =
-    elim (at_snoc list known x i at) [ inl before ↦ none i x before same | inr last ↦ other (ap (λ (k : Known). k.name.items) last ∙ same) ]
+    elim (at_snoc list known x i at) [ inl before ↦ none i x before same | inr last ↦ other (ap (λ (k : KnownHist). k.name.items) last ∙ same) ]
 
-pub own_more : (list : List Known) (known : Known) → HaveOwnNames list → NoneHasName list known.name.items → HaveOwnNames (list ++ known ∷ [])
+pub own_more : (list : List KnownHist) (known : KnownHist) → HaveOwnNames list → NoneHasName list known.name.items → HaveOwnNames (list ++ known ∷ [])
 own_more [] known own none = ((λ i x at. absurd (some-ne-none x (sym at))), tt)
 own_more (first ∷ rest) known own none =
     (none_more rest known first.name.items own.0 (λ same. none 0 first refl (sym same)), own_more rest known own.1 (λ i x at. none (suc i) x at))
@@ -63,10 +63,10 @@ met_first b known ((front, behind, is, others, saw), spelled) =
 
 -- ---- an actor
 
-module _ (shape : Dimensions) (version : ℕ) (old : ActorRun) (a : Actor) (run : IsRun shape version old a) where
+module _ (shape : Dimensions) (version : ℕ) (old : ActorRun) (a : Actor) (run : IsActorRunOf shape version old a) where
   -- its call is another, or none, and of what it has counted and knows nothing has changed
   pub runs_on : (b : Actor) (running : Option Running) → FrameOfStep a b → StandsIn shape old.known.items (pending_by old) running b
-      → HasRoom running (vec_len old.known) (vec_capacity old.known) → HasDraft running old.taken → IsRun shape version (record old { running = running }) b
+      → HasRoomForHist running (vec_len old.known) (vec_capacity old.known) → HasDraft running old.taken → IsActorRunOf shape version (record old { running = running }) b
   runs_on b running beside stands room draft = record {
     records = ap is_opener beside.role ∙ run.records;
     segment = beside.segment ∙ run.segment;
@@ -74,7 +74,7 @@ module _ (shape : Dimensions) (version : ℕ) (old : ActorRun) (a : Actor) (run 
     within = run.within;
     ended = run.ended ∙ ap (λ e. map (λ c. c.entry) e.log) (sym beside.entries);
     begun = run.begun ∙ ap (λ e. map (λ c. c.entry) (e.log ++ e.running)) (sym beside.entries);
-    taken = subst (AreShown old.taken.items) (sym (ap (λ d. d.taken) beside.deltas)) run.taken;
+    taken = subst (AreDeltasShown old.taken.items) (sym (ap (λ d. d.taken) beside.deltas)) run.taken;
     names = run.names ∙ sym beside.names;
     lawful = run.lawful;
     once = run.once;
@@ -85,18 +85,18 @@ module _ (shape : Dimensions) (version : ℕ) (old : ActorRun) (a : Actor) (run 
   }
 
   -- it knows one histogram more
-  pub knows_more : (b : Actor) (new : ActorRun) (known : Known) → FrameOfStep a b → IsFree b → IsQuiet (pending_by old) b → Contains b.seen.chain known.reference
+  pub knows_more : (b : Actor) (new : ActorRun) (known : KnownHist) → FrameOfStep a b → IsFree b → CountsNoEntries (pending_by old) b → Contains b.seen.chain known.reference
       → new ≡ record old { known = new.known; running = None } → new.known.items ≡ old.known.items ++ known ∷ [] → IsKnown shape known
-      → NoneHasName old.known.items known.name.items → IsRun shape version new (noted b (knows (known_of known)))
+      → NoneHasName old.known.items known.name.items → IsActorRunOf shape version new (noted b (knows (known_of known)))
   knows_more b new known beside may quiet met new_is items lawful none =
-      subst (λ (r : ActorRun). IsRun shape version r (noted b (knows (known_of known)))) (sym new_is) (record {
+      subst (λ (r : ActorRun). IsActorRunOf shape version r (noted b (knows (known_of known)))) (sym new_is) (record {
         records = ap is_opener beside.role ∙ run.records;
         segment = beside.segment ∙ run.segment;
         first = ap (λ e. e.first) beside.entries ∙ run.first;
         within = run.within;
         ended = run.ended ∙ ap (λ e. map (λ c. c.entry) e.log) (sym beside.entries);
         begun = run.begun ∙ ap (λ e. map (λ c. c.entry) (e.log ++ e.running)) (sym beside.entries);
-        taken = subst (AreShown old.taken.items) (sym (ap (λ d. d.taken) beside.deltas)) run.taken;
+        taken = subst (AreDeltasShown old.taken.items) (sym (ap (λ d. d.taken) beside.deltas)) run.taken;
         names = ap (map known_of) items
             ∙ (map-append known_of old.known.items (known ∷ []) ∙ ap (λ l. l ++ known_of known ∷ []) (run.names ∙ sym beside.names));
         lawful = subst (All (IsKnown shape)) (sym items) (All-push (IsKnown shape) old.known.items known run.lawful lawful);
@@ -122,32 +122,32 @@ some_hist n actor_run h is (shape, version, a, long, wide, run) =
 pub some_words : (n : ℕ) (actor_run : ActorRun) → IsSomeRun n actor_run → 16 ≤ n
 some_words n actor_run (shape, version, a, long, wide, run) = wide
 
-pub some_room : (n : ℕ) (actor_run : ActorRun) → IsSomeRun n actor_run → HasRoom actor_run.running (vec_len actor_run.known) (vec_capacity actor_run.known)
+pub some_room : (n : ℕ) (actor_run : ActorRun) → IsSomeRun n actor_run → HasRoomForHist actor_run.running (vec_len actor_run.known) (vec_capacity actor_run.known)
 some_room n actor_run (shape, version, a, long, wide, run) = run.room
 
-module _ (shape : Dimensions) (version : ℕ) (old : ActorRun) (a : Actor) (run : IsRun shape version old a) (h now : HistCall)
+module _ (shape : Dimensions) (version : ℕ) (old : ActorRun) (a : Actor) (run : IsActorRunOf shape version old a) (h now : HistCall)
     (is : old.running ≡ Some (Hist h)) (same : now.asked ≡ h.asked) (words new_words : List ℕ) (long : length words ≡ shape.size) where
   stands : StandsIn shape old.known.items (pending_by old) (Some (Hist h)) a
   stands = subst (λ running. StandsIn shape old.known.items (pending_by old) running a) is run.stands
 
-  room : HasRoom (Some (Hist now)) (vec_len old.known) (vec_capacity old.known)
-  room = subst (λ running. HasRoom running (vec_len old.known) (vec_capacity old.known)) is run.room
+  room : HasRoomForHist (Some (Hist now)) (vec_len old.known) (vec_capacity old.known)
+  room = subst (λ running. HasRoomForHist running (vec_len old.known) (vec_capacity old.known)) is run.room
 
   none : NoneHasName old.known.items now.asked.name.items
-  none = subst (λ (k : Known). NoneHasName old.known.items k.name.items) (sym same) stands.2
+  none = subst (λ (k : KnownHist). NoneHasName old.known.items k.name.items) (sym same) stands.2
 
-  still_quiet : (b : Actor) → FrameOfStep a b → IsQuiet (pending_by old) b
+  still_quiet : (b : Actor) → FrameOfStep a b → CountsNoEntries (pending_by old) b
   still_quiet b beside = quiet_on (pending_by old) a b beside.units beside.entries beside.deltas stands.1
 
   -- why it is refused
-  refused_by : (cause : Refusal) (b : Actor) → IsCause now.asked.name.items now.asked.spec cause a b → IsRefusedBy old.running cause a b
-  refused_by cause b its = subst (λ running. IsRefusedBy running cause a b) (sym is) (subst (λ (k : Known). IsCause k.name.items k.spec cause a b) same its)
+  refused_by : (cause : Refusal) (b : Actor) → IsHistCause now.asked.name.items now.asked.spec cause a b → IsRefusedBy old.running cause a b
+  refused_by cause b its = subst (λ running. IsRefusedBy running cause a b) (sym is) (subst (λ (k : KnownHist). IsHistCause k.name.items k.spec cause a b) same its)
 
   -- it asks for the same still
-  same_asked : (deed : Deed) → serves_asked now a deed → serves_asked h a deed
-  same_asked (links made) it = it ∙ ap (λ (k : Known). Histogram k.name.items k.spec) same
+  same_asked : (deed : SharedEffect) → serves_asked now a deed → serves_asked h a deed
+  same_asked (links made) it = it ∙ ap (λ (k : KnownHist). Histogram k.name.items k.spec) same
   same_asked (raises words) it =
-      subst (λ (k : Known). SawNone k.name.items a.seen × ((letters : List ℕ) × AreNameWords k.name.items letters × (words ≡ 4 + length (payload_words k.name.items k.spec letters)))) same it
+      subst (λ (k : KnownHist). SawNoName k.name.items a.seen × ((letters : List ℕ) × AreNameWords k.name.items letters × (words ≡ 4 + length (payload_words k.name.items k.spec letters)))) same it
 
   -- it makes the record that it asks for
   does_it : (said : Stepped) (b c : Actor) → c.done ≡ b.done → DoesOnly (is_flagged said) (lacks_room said) (serves_asked now a) a b → DoesAsSaid old.running said a c
@@ -159,7 +159,7 @@ module _ (shape : Dimensions) (version : ℕ) (old : ActorRun) (a : Actor) (run 
       → IsHistAnnounced (record old { running = Some (Hist now) }) said new result → Landing shape version old words new new_words result a
   hist_goes More new result steps (new_is, result_is) =
       subst (λ said. Landing shape version old words new new_words said a) (sym result_is) (goes_with (steps shape version a long stands.0) (λ b (beside, does, is_hist). (
-        subst (λ (r : ActorRun). IsRun shape version r b) (sym new_is)
+        subst (λ (r : ActorRun). IsActorRunOf shape version r b) (sym new_is)
             (runs_on shape version old a run b (Some (Hist now)) beside (is_hist, still_quiet b beside, none) room tt),
         does_it stepped.More b b refl does,
       )))
@@ -179,7 +179,7 @@ module _ (shape : Dimensions) (version : ℕ) (old : ActorRun) (a : Actor) (run 
   hist_goes (Refused why) new result steps (new_is, result_is) =
       subst (λ said. Landing shape version old words new new_words said a) (sym result_is) (goes_with (steps shape version a long stands.0) (λ b (beside, does, may, cause). (
         (
-          gives_none shape version new b (held_by old.running) (ap held_by is) (free_turns b.hand.place may) (subst (λ (r : ActorRun). IsRun shape version r b) (sym new_is)
+          gives_none shape version new b (held_by old.running) (ap held_by is) (free_turns b.hand.place may) (subst (λ (r : ActorRun). IsActorRunOf shape version r b) (sym new_is)
               (runs_on shape version old a run b None beside (may, still_quiet b beside) tt tt)),
           refused_by why b cause,
         ),
@@ -217,7 +217,7 @@ module _ (old : ActorRun) (h now : HistCall) (is : old.running ≡ Some (Hist h)
       subst (Answers old words new new_words) (sym result_is) (
         (
           (let k = asked.asked in record k { reference = asked.reference }),
-          (h, is, (ap (λ (k : Known). k.name) then_same, ap (λ (k : Known). k.spec) then_same)),
+          (h, is, (ap (λ (k : KnownHist). k.name) then_same, ap (λ (k : KnownHist). k.spec) then_same)),
           refl,
           items,
           ap (λ (r : ActorRun). r.running) new_is,
@@ -241,46 +241,46 @@ place_below (y ∷ l) zero x at = omega arith
 place_below (y ∷ l) (suc i) x at = let below = place_below l i x at in omega (arith, below)
 
 -- where it is as it was but for room, the machine's actor stands as before
-pub as_it_stood : (shape : Dimensions) (version : ℕ) (old new : ActorRun) (a : Actor) → old.running ≡ None → IsAsItWas old new → IsRun shape version old a
-    → IsRun shape version new a
+pub as_it_stood : (shape : Dimensions) (version : ℕ) (old new : ActorRun) (a : Actor) → old.running ≡ None → IsAsItWas old new → IsActorRunOf shape version old a
+    → IsActorRunOf shape version new a
 as_it_stood shape version old new a rests (new_is, entries, items, taken) run =
-    subst (λ (r : ActorRun). IsRun shape version r a) (sym new_is) (record {
+    subst (λ (r : ActorRun). IsActorRunOf shape version r a) (sym new_is) (record {
       records = run.records;
       segment = run.segment;
       first = run.first;
       within = subst (λ (l : List Entry). (old.ended ≤ old.begun) × (old.begun ≤ length l)) (sym entries) run.within;
       ended = ap (λ (l : List Entry). map entry_of (take old.ended l)) entries ∙ run.ended;
       begun = ap (λ (l : List Entry). map entry_of (take old.begun l)) entries ∙ run.begun;
-      taken = subst (λ (l : List Taken). AreShown l a.deltas.taken) (sym taken) run.taken;
+      taken = subst (λ (l : List Taken). AreDeltasShown l a.deltas.taken) (sym taken) run.taken;
       names = ap (map known_of) items ∙ run.names;
       lawful = subst (All (IsKnown shape)) (sym items) run.lawful;
       once = subst HaveOwnNames (sym items) run.once;
       met = run.met;
-      stands = subst (λ (p : List Known × List Entry). StandsIn shape p.0 (drop old.ended p.1) old.running a) (λ i. (sym items i, sym entries i)) run.stands;
-      room = subst (λ running. HasRoom running (vec_len new.known) (vec_capacity new.known)) (sym rests) tt;
+      stands = subst (λ (p : List KnownHist × List Entry). StandsIn shape p.0 (drop old.ended p.1) old.running a) (λ i. (sym items i, sym entries i)) run.stands;
+      room = subst (λ running. HasRoomForHist running (vec_len new.known) (vec_capacity new.known)) (sym rests) tt;
       draft = subst (λ running. HasDraft running new.taken) (sym rests) tt;
     })
 
 -- it begins a `hist`, or there was no memory for it: the machine's actor stands as before
 pub begins_hist : (shape : Dimensions) (version : ℕ) (name : List ℕ) (spec : Spec) (asked : Asked) (old new : ActorRun) (result : Result Begun AllocError) (a : Actor)
-    → IsAskedFor shape name spec asked → IsShape shape → old.running ≡ None → BeginsHist shape asked old new result → IsRun shape version old a → IsRun shape version new a
+    → IsAskedFor shape name spec asked → IsShape shape → old.running ≡ None → BeginsHist shape asked old new result → IsActorRunOf shape version old a → IsActorRunOf shape version new a
 begins_hist shape version name spec asked old new (Ok Going) a asks lawful rests (hist, begun, new_is, items, room, none) run =
     let stands = subst (λ running. StandsIn shape old.known.items (pending_by old) running a) rests run.stands in
     let roomy : ActorRun = record old { known = new.known } in
-    subst (λ (r : ActorRun). IsRun shape version r a) (sym new_is)
+    subst (λ (r : ActorRun). IsActorRunOf shape version r a) (sym new_is)
     (runs_on shape version roomy a (as_it_stood shape version old roomy a rests (refl, refl, items, refl) run) a (Some (Hist hist)) (alike a) (
       begun.stands name spec a asks lawful (ap (λ s. s.shape) run.segment) stands.0,
       stands.1,
-      subst (λ (l : List Known). NoneHasName l hist.asked.name.items) (sym items)
+      subst (λ (l : List KnownHist). NoneHasName l hist.asked.name.items) (sym items)
           (subst (NoneHasName old.known.items) (ap (λ n. n.items) (sym begun.named)) none),
     ) room tt)
-begins_hist shape version name spec asked old new (Ok (Ended answered)) a asks lawful rests (new_is, known) run = subst (λ (r : ActorRun). IsRun shape version r a) (sym new_is) run
+begins_hist shape version name spec asked old new (Ok (Ended answered)) a asks lawful rests (new_is, known) run = subst (λ (r : ActorRun). IsActorRunOf shape version r a) (sym new_is) run
 begins_hist shape version name spec asked old new (Err error) a asks lawful rests same run = as_it_stood shape version old new a rests same run
 
 -- the next has another name, too
-pub none_further : (list : List Known) (name : List ℕ) (i : ℕ) (next : Known)
-    → ((j : ℕ) (known : Known) → j < i → get_elem? list j ≡ some known → known.name.items ≢ name) → get_elem? list i ≡ some next → next.name.items ≢ name
-    → (j : ℕ) (known : Known) → j < i + 1 → get_elem? list j ≡ some known → known.name.items ≢ name
+pub none_further : (list : List KnownHist) (name : List ℕ) (i : ℕ) (next : KnownHist)
+    → ((j : ℕ) (known : KnownHist) → j < i → get_elem? list j ≡ some known → known.name.items ≢ name) → get_elem? list i ≡ some next → next.name.items ≢ name
+    → (j : ℕ) (known : KnownHist) → j < i + 1 → get_elem? list j ≡ some known → known.name.items ≢ name
 none_further list name i next before here other j known below at = dite (ℕ_discrete j i)
-    (λ same. λ named. other (ap (λ (k : Known). k.name.items) (some-injective next known (sym here ∙ (ap (get_elem? list) (sym same) ∙ at))) ∙ named))
+    (λ same. λ named. other (ap (λ (k : KnownHist). k.name.items) (some-injective next known (sym here ∙ (ap (get_elem? list) (sym same) ∙ at))) ∙ named))
     (λ apart. before j known (omega (arith, below, apart)) at)

@@ -4,14 +4,14 @@ use Rattle.segment_invariant.proofs.Prelude.Machine.{Dimensions, word_at, Actor,
 use Rattle.std.specs.Prelude.{is_some}
 use Rattle.alloc_core.specs.declared.alloc.AllocStep.{AllocStep}
 use Rattle.alloc_core.specs.declared.alloc.AllocStep.TheVariants as said
-use Rattle.alloc_core.specs.declared.alloc.Stage.TheVariants.{Claimed}
+use Rattle.alloc_core.specs.declared.alloc.AllocStage.TheVariants.{Claimed}
 use Rattle.alloc_core.specs.Alloc.{Allocation, IsAimed}
 use Rattle.alloc_core.specs.Alloc as alloc
 use Rattle.alloc_core.specs.Event as atomic
-use Rattle.segment_machine.specs.Actor.{AreApart}
+use Rattle.segment_machine.specs.Actor.{AreOwnBlocksApart}
 use Rattle.segment_machine.specs.Allocating.{new_own}
 use Rattle.segment_machine.specs.Note.{asks}
-use Rattle.segment_machine.specs.Stages.{Allocates, StandsAt}
+use Rattle.segment_machine.specs.Stages.{FollowsAllocation, StandsAtAllocStage}
 use Rattle.segment_invariant.proofs.Lists.Elements.{at_from}
 use Rattle.segment_invariant.proofs.Lists.Ends.{own_found}
 use Rattle.segment_calls.specs.declared.refusal.Refusal.TheVariants as why
@@ -33,10 +33,10 @@ module _ (shape : Dimensions) (version : ℕ) (wanted : Wanted) (m : Making) (a 
   stands = subst (StandsAtStage shape wanted a) allocates is.stands
 
   module _ (y : Allocation) (new_words : List ℕ) (says : AllocStep) (step : alloc.IsStep x words y new_words says) where
-    claims : StepsBy shape.size version a words new_words (λ b. FrameOfStep a b × DoesOnly false (is_full_end says) (serves_wanted wanted) a b × AreApart b × Allocates b y × (b.seen.words ≡ a.seen.words) × SeesNoMore a b × IsEnd says x.size a b)
+    claims : StepsBy shape.size version a words new_words (λ b. FrameOfStep a b × DoesOnly false (is_full_end says) (serves_wanted wanted) a b × AreOwnBlocksApart b × FollowsAllocation b y × (b.seen.words ≡ a.seen.words) × SeesNoMore a b × IsEnd says x.size a b)
     claims =
         let size = ap (λ (d : Dimensions). d.size) is.segment in
-        subst (λ (n : ℕ). StepsBy n version a words new_words (λ b. FrameOfStep a b × DoesOnly false (is_full_end says) (serves_wanted wanted) a b × AreApart b × Allocates b y × (b.seen.words ≡ a.seen.words) × SeesNoMore a b × IsEnd says x.size a b)) size
+        subst (λ (n : ℕ). StepsBy n version a words new_words (λ b. FrameOfStep a b × DoesOnly false (is_full_end says) (serves_wanted wanted) a b × AreOwnBlocksApart b × FollowsAllocation b y × (b.seen.words ≡ a.seen.words) × SeesNoMore a b × IsEnd says x.size a b)) size
         (allocates_on (serves_wanted wanted) version a x y words new_words says stands.0 stands.3 (long ∙ sym size) step)
 
     -- it goes on
@@ -59,7 +59,7 @@ module _ (shape : Dimensions) (version : ℕ) (wanted : Wanted) (m : Making) (a 
     ))
 
     -- it is refused
-    is_refused : (why : Refusal) (new : Making) → is_full_end says ≡ is_full why → ((b : Actor) → Allocates b y → b.hand.place ≡ Idle) → ((b : Actor) → IsEnd says x.size a b → IsCause why x.size a b)
+    is_refused : (why : Refusal) (new : Making) → is_full_end says ≡ is_full why → ((b : Actor) → FollowsAllocation b y → b.hand.place ≡ Idle) → ((b : Actor) → IsEnd says x.size a b → IsCause why x.size a b)
         → StepsBy shape.size version a words new_words (MakingGives shape wanted new (Refused why) a)
     is_refused why new fills idle cause = goes_with claims (λ b (beside, does, apart, goes, words_same, list, ends).
         (beside, subst (λ (full : Bool). DoesOnly false full (serves_wanted wanted) a b) fills does, list, ap is_tied (idle b goes), subst (λ (n : ℕ). IsCause why n a b) stands.3 (cause b ends)))
@@ -68,10 +68,10 @@ module _ (shape : Dimensions) (version : ℕ) (wanted : Wanted) (m : Making) (a 
     has_claimed : (at : ℕ) → says ≡ said.Done at → StepsBy shape.size version a words new_words (MakingGives shape wanted (record { stage = Filling at 0 }) More a)
     has_claimed at done = goes_noting claims (λ b (beside, does, apart, goes, words_same, list, ends). claimed b beside does list apart goes (claimed_of y.stage at (sym done ∙ step.answers)))
       where
-        claimed : (b : Actor) → FrameOfStep a b → DoesOnly false (is_full_end says) (serves_wanted wanted) a b → SeesNoMore a b → AreApart b → Allocates b y → (size : ℕ) × (y.stage ≡ Claimed at size)
+        claimed : (b : Actor) → FrameOfStep a b → DoesOnly false (is_full_end says) (serves_wanted wanted) a b → SeesNoMore a b → AreOwnBlocksApart b → FollowsAllocation b y → (size : ℕ) × (y.stage ≡ Claimed at size)
             → (notes : List Note) × (c : Actor) × Notes b notes c × MakingGives shape wanted (record { stage = Filling at 0 }) More a c
         claimed b beside does list apart goes (size, ends) =
-            let has = subst (StandsAt b y) ends goes.stands in
+            let has = subst (StandsAtAllocStage b y) ends goes.stands in
             let place = subst (IsAimed y) ends goes.lawful.aimed in
             let suits : x.size ≤ size = claimed_suits x x.stage (word_at words (atomic.spot step.event)) at size step.event step.next stands.0.lawful.aimed
             (sym (ap (λ (z : Allocation). z.stage) step.new_is) ∙ ends) in

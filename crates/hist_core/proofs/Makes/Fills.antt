@@ -12,7 +12,7 @@ use Rattle.hist_core.specs.declared.making.Making.{Making}
 use Rattle.hist_core.specs.declared.making.MakingStep.TheVariants.{More}
 use Rattle.hist_core.specs.declared.making.MakingStage.TheVariants.{Filling, Publishing}
 use Rattle.hist_core.specs.StepsBy.{FrameOfStep, StepsBy}
-use Rattle.hist_core.specs.Making.{Wanted, IsMaking, IsFilledTo, IsNextFilled, IsFilled, StandsAtStage, MakingGives, serves_wanted}
+use Rattle.hist_core.specs.Making.{Wanted, IsMaking, IsFilledTo, IsNextFilled, IsPayloadFilled, StandsAtStage, MakingGives, serves_wanted}
 use Rattle.hist_core.proofs.Worlds.Free.{free_turns}
 use Rattle.hist_core.proofs.Makes.Drafts.{is_wide, may_still}
 use Rattle.hist_core.proofs.Parts.Alone.{by_event, makes_so, allocating_beside}
@@ -98,7 +98,7 @@ module _ (shape : Dimensions) (version : ℕ) (wanted : Wanted) (m : Making) (a 
   whole_front = stored_is all own.payload index stands.4.2 stands.1
 
   -- the next word, or the publish
-  pub fills_so : (new_words : List ℕ) (new : Making) → new_words ≡ atomic.after (atomic.store_payload at index value) words → IsFilled all at (index + 1) new
+  pub fills_so : (new_words : List ℕ) (new : Making) → new_words ≡ atomic.after (atomic.store_payload at index value) words → IsPayloadFilled all at (index + 1) new
       → StepsBy shape.size version a words new_words (MakingGives shape wanted new More a)
   fills_so new_words new are (then_at, goes, new_is) = by_event event (
     own,

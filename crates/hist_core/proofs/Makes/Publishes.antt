@@ -4,8 +4,8 @@ use Rattle.segment_invariant.proofs.Prelude.Machine.{Dimensions, Actor, Made}
 use Rattle.std.specs.Prelude.{is_some}
 use Rattle.list_core.specs.declared.publish.PubStep.{PubStep}
 use Rattle.list_core.specs.declared.publish.PubStep.TheVariants as put
-use Rattle.list_core.specs.declared.publish.Stage.{Stage as PublishStage}
-use Rattle.list_core.specs.declared.publish.Stage.TheVariants.{StoreOwnNext, LoadTail, Link, MoveTail, Published, Strayed}
+use Rattle.list_core.specs.declared.publish.PubStage.{PubStage}
+use Rattle.list_core.specs.declared.publish.PubStage.TheVariants.{StoreOwnNext, LoadTail, Link, MoveTail, Published, Strayed}
 use Rattle.list_core.specs.Publish.{Publishing as PublishingOf, IsReach, IsWithin, answer}
 use Rattle.list_core.specs.Publish as publish
 use Rattle.segment_machine.specs.Stages.{PublishesAt}
@@ -19,7 +19,7 @@ use Rattle.hist_core.proofs.Makes.Drafts.{may_still}
 use Rattle.hist_core.proofs.Parts.Allocations.{goes_with, publishes_on}
 
 -- what a publish stores into lies within the words in one way at most
-pub one_way : (n : ℕ) (stage : PublishStage) → IsProp (IsWithin n stage)
+pub one_way : (n : ℕ) (stage : PubStage) → IsProp (IsWithin n stage)
 one_way n StoreOwnNext = hlevel props
 one_way n LoadTail = hlevel props
 one_way n (Link tail) = hlevel props
@@ -28,7 +28,7 @@ one_way n Published = hlevel props
 one_way n Strayed = hlevel props
 
 -- a publish that has ended has published, and it never strays
-rests_at : (b : Actor) (reference : ℕ) (made : Made) (stage : PublishStage) → answer stage ≡ put.Done → PublishesAt b reference made stage → IsFree b
+rests_at : (b : Actor) (reference : ℕ) (made : Made) (stage : PubStage) → answer stage ≡ put.Done → PublishesAt b reference made stage → IsFree b
 rests_at b reference made Published ends stands = ap is_tied stands.0
 rests_at b reference made StoreOwnNext ends stands = cc ends
 rests_at b reference made LoadTail ends stands = cc ends
@@ -36,7 +36,7 @@ rests_at b reference made (Link tail) ends stands = cc ends
 rests_at b reference made (MoveTail old new linked) ends stands = cc ends
 rests_at b reference made Strayed ends stands = absurd stands
 
-never_strays : (b : Actor) (reference : ℕ) (made : Made) (stage : PublishStage) → answer stage ≡ put.Stray → PublishesAt b reference made stage → ⊥
+never_strays : (b : Actor) (reference : ℕ) (made : Made) (stage : PubStage) → answer stage ≡ put.Stray → PublishesAt b reference made stage → ⊥
 never_strays b reference made Published ends stands = cc ends
 never_strays b reference made StoreOwnNext ends stands = cc ends
 never_strays b reference made LoadTail ends stands = cc ends

@@ -16,16 +16,16 @@ use Rattle.segment_machine.specs.Calls.{ended}
 use Rattle.segment_machine.specs.Walking.{IsNextOf, extended}
 use Rattle.segment_machine.specs.Allocating.{AllocatingEvent}
 use Rattle.segment_machine.specs.Publishing.{PublishingEvent}
-use Rattle.segment_machine.specs.Stages.{Allocates, PublishesAt, Walks}
+use Rattle.segment_machine.specs.Stages.{FollowsAllocation, PublishesAt, Walks}
 use Rattle.segment_machine.proofs.Stages.Allocations.{allocations_agree}
 use Rattle.segment_machine.proofs.Stages.Publishes.{publishes_agree}
 use Rattle.segment_machine.proofs.Stages.Walks.{walks_agree}
 use Rattle.hist_core.proofs.Parts.Alone.{by_event, acts_there, makes_so, allocating_beside, allocating_list, allocating_words, publishing_beside, publishing_list, frame_of}
-use Rattle.hist_core.specs.StepsBy.{Deed, links, raises, DoesOnly, FrameOfStep, SawEnd, SeesNoMore, StepsBy, IsFree}
+use Rattle.hist_core.specs.StepsBy.{SharedEffect, links, raises, DoesOnly, FrameOfStep, SawEnd, SeesNoMore, StepsBy, IsFree}
 use Rattle.hist_core.proofs.Parts.Claims.{IsEnd, stage_ends, goes_noting}
 use Rattle.hist_core.proofs.Parts.Deeds.{is_full_end, publish_does, stage_does}
 use Rattle.hist_core.proofs.Worlds.Free.{free_behind, free_turns}
-use Rattle.segment_machine.specs.Actor.{AreApart}
+use Rattle.segment_machine.specs.Actor.{AreOwnBlocksApart}
 use Rattle.segment_promises.specs.Values.{NoRepeats}
 use Rattle.segment_promises.proofs.Calls.Places.{behind_free}
 
@@ -56,9 +56,9 @@ allocating_alike (store_payload at index value) size version = refl
 allocating_alike set_corrupt size version = refl
 allocating_alike (set_full wanted) size version = refl
 
-pub allocates_on : (may : Deed → Type 0) (version : ℕ) (a : Actor) (old new : Allocation) (words new_words : List ℕ) (said : AllocStep) → Allocates a old
+pub allocates_on : (may : SharedEffect → Type 0) (version : ℕ) (a : Actor) (old new : Allocation) (words new_words : List ℕ) (said : AllocStep) → FollowsAllocation a old
     → may (raises old.size) → length words ≡ a.segment.shape.size → alloc.IsStep old words new new_words said
-    → StepsBy a.segment.shape.size version a words new_words (λ b. FrameOfStep a b × DoesOnly false (is_full_end said) may a b × AreApart b × Allocates b new × (b.seen.words ≡ a.seen.words) × SeesNoMore a b × IsEnd said old.size a b)
+    → StepsBy a.segment.shape.size version a words new_words (λ b. FrameOfStep a b × DoesOnly false (is_full_end said) may a b × AreOwnBlocksApart b × FollowsAllocation b new × (b.seen.words ≡ a.seen.words) × SeesNoMore a b × IsEnd said old.size a b)
 allocates_on may version a old new words new_words said goes its long step =
     let size : ℕ = a.segment.shape.size in
     let agrees = allocations_agree size 1 a old step.event goes step.next in
@@ -75,7 +75,7 @@ allocates_on may version a old new words new_words said goes its long step =
       allocating_beside a act found,
       subst (λ (s : AllocStep). DoesOnly false (is_full_end s) may a (next a (allocating_event act) found)) ends (stage_does may a old found its old.stage act agrees.1),
       apart,
-      subst (Allocates (next a (allocating_event act) found))
+      subst (FollowsAllocation (next a (allocating_event act) found))
           (ap (λ (n : ℕ). alloc.moved old (word_at words n)) there ∙ sym step.new_is) (agrees.4 found learned),
       allocating_words a act found,
       allocating_list a act found,
@@ -92,7 +92,7 @@ publishing_alike load_tail size version = refl
 publishing_alike (link tail at) size version = refl
 publishing_alike (move_tail old new) size version = refl
 
-pub publishes_on : (may : Deed → Type 0) (version : ℕ) (a : Actor) (made : Made) (old new : Publishing) (words new_words : List ℕ) (said : PubStep) → may (links made)
+pub publishes_on : (may : SharedEffect → Type 0) (version : ℕ) (a : Actor) (made : Made) (old new : Publishing) (words new_words : List ℕ) (said : PubStep) → may (links made)
     → PublishesAt a old.reference made old.stage → length words ≡ a.segment.shape.size → publish.IsStep old words new new_words said
     → StepsBy a.segment.shape.size version a words new_words (λ b. FrameOfStep a b × DoesOnly false false may a b × SeesNoMore a b × PublishesAt b new.reference made new.stage)
 publishes_on may version a made old new words new_words said its stands long step =

@@ -3,7 +3,7 @@ use Rattle.segment_invariant.proofs.Prelude.Std.{◌≡◌, ◌==◌, ℕ, Bool,
 use Rattle.segment_invariant.proofs.Prelude.Machine.{word_at, Actor, Sighting, Event, Learned, Ready, spot, next, allocating_event, publishing_event, load_flags, load_free, exchange_free, store_size, store_cookie, store_type, store_payload, set_corrupt, set_full, store_own_next, load_tail, link, move_tail, after_link, IsPrefix}
 use Rattle.alloc_core.specs.Event as atomic
 use Rattle.segment_machine.specs.Operation.{single, spot_of, change_of}
-use Rattle.segment_machine.specs.Actor.{AreApart}
+use Rattle.segment_machine.specs.Actor.{AreOwnBlocksApart}
 use Rattle.hist_core.specs.StepsBy.{FrameOfStep, SeesNoMore, StepsBy, WalksInOrder}
 use Rattle.segment_machine.specs.Event.{operation, after}
 use Rattle.segment_machine.specs.Allocating.{AllocatingEvent, after_free}
@@ -12,7 +12,7 @@ use Rattle.segment_machine.specs.Publishing.{PublishingEvent}
 -- ---- in the words
 
 -- an event that is one operation of an allocation or a publish
-module _ (size version : ℕ) (event : Event) (does : atomic.Event) (acts : operation size 1 event ≡ single does) (changes : operation 0 version event ≡ single does) where
+module _ (size version : ℕ) (event : Event) (does : atomic.Access) (acts : operation size 1 event ≡ single does) (changes : operation 0 version event ≡ single does) where
   pub acts_there : spot size event ≡ atomic.spot does
   acts_there = ap spot_of acts
 
@@ -21,7 +21,7 @@ module _ (size version : ℕ) (event : Event) (does : atomic.Event) (acts : oper
 
 -- an actor goes on by an event that it may do, and notes nothing
 pub by_event : {size version : ℕ} {a : Actor} {words new_words : List ℕ} {holds : Actor → Type 0} (event : Event) → Ready a event → new_words ≡ after size version event words
-    → (Learned a event (word_at words (spot size event)) → AreApart (next a event (word_at words (spot size event)))
+    → (Learned a event (word_at words (spot size event)) → AreOwnBlocksApart (next a event (word_at words (spot size event)))
     → WalksInOrder (next a event (word_at words (spot size event))) → holds (next a event (word_at words (spot size event))))
     → StepsBy size version a words new_words holds
 by_event {size = size} {a = a} {words = words} event ready are then_is = record {

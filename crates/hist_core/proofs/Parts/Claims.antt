@@ -5,8 +5,8 @@ use Rattle.alloc_core.specs.declared.alloc.AllocStep.{AllocStep}
 use Rattle.alloc_core.specs.declared.alloc.AllocStep.TheVariants as said
 use Rattle.alloc_core.specs.declared.alloc.Purpose.{Purpose}
 use Rattle.alloc_core.specs.declared.alloc.Purpose.TheVariants as purpose
-use Rattle.alloc_core.specs.declared.alloc.Stage.{Stage as AllocStage}
-use Rattle.alloc_core.specs.declared.alloc.Stage.TheVariants.{LoadFlags, LoadFree, ExchangeFree, StoreSize, StoreCookie, StoreType, SetFull, Claimed, Full, Corrupt}
+use Rattle.alloc_core.specs.declared.alloc.AllocStage.{AllocStage}
+use Rattle.alloc_core.specs.declared.alloc.AllocStage.TheVariants.{LoadFlags, LoadFree, ExchangeFree, StoreSize, StoreCookie, StoreType, SetFull, Claimed, Full, Corrupt}
 use Rattle.alloc_core.specs.declared.planned.Planned.{Planned}
 use Rattle.alloc_core.specs.declared.planned.Planned.TheVariants as plan
 use Rattle.alloc_core.specs.Alloc.{Allocation, IsAimed, event_at, answer, stage_after, stage_of_cookie, stage_of_plan}
@@ -16,7 +16,7 @@ use Rattle.segment_machine.specs.declared.place.Place.TheVariants.{FlagsLoaded}
 use Rattle.segment_machine.specs.Allocating.{AllocatingEvent, Learned, Ready, free_at, next}
 use Rattle.segment_machine.specs.Calls.{change_own}
 use Rattle.segment_machine.specs.Publishing.{own_at}
-use Rattle.segment_machine.specs.Stages.{StandsAt, allocates}
+use Rattle.segment_machine.specs.Stages.{StandsAtAllocStage, allocates}
 use Rattle.segment_calls.specs.declared.refusal.Refusal.TheVariants as why
 use Rattle.hist_core.specs.Making.{IsCause}
 use Rattle.hist_core.specs.StepsBy.{StepsBy}
@@ -34,7 +34,7 @@ module _ (x : Allocation) where
   either true one other at size first second is = first is
   either false one other at size first second is = second is
 
-  pub claimed_suits : (stage : AllocStage) (found at size : ℕ) (event : atomic.Event) → event_at x stage ≡ Some event → IsAimed x stage
+  pub claimed_suits : (stage : AllocStage) (found at size : ℕ) (event : atomic.Access) → event_at x stage ≡ Some event → IsAimed x stage
       → stage_after x found stage ≡ Claimed at size → x.size ≤ size
   claimed_suits LoadFlags found at size event goes aimed is = absurd (either (bit_and found 1 == 0) LoadFree Corrupt at size (λ e. cc e) (λ e. cc e) is)
   claimed_suits LoadFree found at size event goes aimed is = absurd (either (is_pointer x.shape found) (stage_of_plan found (planned found x.size x.shape)) Corrupt at size (λ e. from_plan found (planned found x.size x.shape) at size e) (λ e. cc e) is)
@@ -95,7 +95,7 @@ goes_noting go then_notes = record {
 }
 
 -- where an allocation has ended, its actor rests
-pub rests_at : (b : Actor) (y : Allocation) (stage : AllocStage) → answer stage ≢ said.More → StandsAt b y stage → b.hand.place ≡ Idle
+pub rests_at : (b : Actor) (y : Allocation) (stage : AllocStage) → answer stage ≢ said.More → StandsAtAllocStage b y stage → b.hand.place ≡ Idle
 rests_at b y (Claimed at size) ends stands = stands.0
 rests_at b y Full ends stands = stands.0
 rests_at b y Corrupt ends stands = stands.0

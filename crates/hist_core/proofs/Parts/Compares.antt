@@ -3,7 +3,7 @@ use Rattle.segment_invariant.proofs.Prelude.Std.{◌≡◌, ◌≢◌, ◌⊎◌
 use Rattle.segment_invariant.proofs.Prelude.Machine.{Dimensions, word_at, name_words, spec_fields, spec_ranges, Actor, word_seen, sight, Event, next, walking_event, load_published, Refusal}
 use Rattle.segment_machine.specs.Made.{SawOtherName}
 use Rattle.segment_machine.specs.Note.{MayNote, knows}
-use Rattle.segment_machine.specs.Walking.{IsFixed, EndsWithin, IsSame}
+use Rattle.segment_machine.specs.Walking.{IsFixed, EndsWithin, StaysAsSeen}
 use Rattle.segment_promises.proofs.Calls.SeenWords.{seen_now}
 use Rattle.hist_core.specs.Making.{is_full}
 use Rattle.hist_core.proofs.Parts.Alone.{by_event, seen_words}
@@ -14,7 +14,7 @@ use Rattle.hist_core.specs.declared.hist.HistStep.TheVariants.{More, Done, Refus
 use Rattle.hist_core.specs.declared.hist.HistStage.TheVariants.{Walking, Comparing}
 use Rattle.hist_core.specs.StepsBy.{DoesOnly, FrameOfStep, StepsBy}
 use Rattle.hist_core.proofs.Worlds.Free.{free_turns}
-use Rattle.hist_core.specs.Hist.{IsHist, StandsAtStage, HaveOtherNames, AreSame, Reaches, HistGives, IsMatched, IsDifferent, IsCause, HasOtherSpec, asked_of, serves_asked, compared_place, compared_index, compared_word}
+use Rattle.hist_core.specs.Hist.{IsHist, StandsAtStage, HaveOtherNames, AreSame, Reaches, HistGives, IsMatched, IsDifferent, IsHistCause, HasOtherSpec, asked_of, serves_asked, compared_place, compared_index, compared_word}
 use Rattle.segment_invariant.proofs.Walking.Words.{letters_long}
 use Rattle.hist_core.proofs.Parts.Comparisons.{Part, part_of, index_of_rest, then_length, letter_word, field_word, range_word, ranges_if_custom, payload_long, compared_all}
 use Rattle.hist_core.proofs.Parts.Differences.{saw_word, saw_spec, first_named, saw_other_name, saw_other_spec}
@@ -221,7 +221,7 @@ module _ (shape : Dimensions) (h : Hist) (a : Actor) (is : IsHist shape h a) (k 
     none new = does_nothing (serves_asked new a) a acted refl
 
     abbrev Learns : Type 0
-    Learns = EndsWithin a h.reference (compared_index h.letters k) found × IsSame a (h.reference + compared_index h.letters k) found
+    Learns = EndsWithin a h.reference (compared_index h.letters k) found × StaysAsSeen a (h.reference + compared_index h.letters k) found
 
     -- the word is seen then
     saw_found : Learns → word_seen acted.seen.words (h.reference + compared_index h.letters k) ≡ Some found
@@ -297,7 +297,7 @@ module _ (shape : Dimensions) (h : Hist) (a : Actor) (is : IsHist shape h a) (k 
           beside,
           subst (λ (c : Refusal). DoesOnly false (is_full c) (serves_asked new a) a acted) (sym why_is) (none new),
           stands.0,
-          subst (λ (p : Hist × Refusal). IsCause p.0.asked.name.items p.0.asked.spec p.1 a acted) (λ i. (sym new_is i, sym why_is i)) (inr (refl, declined learned)),
+          subst (λ (p : Hist × Refusal). IsHistCause p.0.asked.name.items p.0.asked.spec p.1 a acted) (λ i. (sym new_is i, sym why_is i)) (inr (refl, declined learned)),
         ))
       where
         declined : Learns → HasOtherSpec h.asked.name.items h.asked.spec acted.seen

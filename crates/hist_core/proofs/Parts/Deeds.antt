@@ -5,23 +5,23 @@ use Rattle.alloc_core.specs.declared.alloc.AllocStep.{AllocStep}
 use Rattle.alloc_core.specs.declared.alloc.AllocStep.TheVariants as said
 use Rattle.alloc_core.specs.declared.alloc.Purpose.{Purpose}
 use Rattle.alloc_core.specs.declared.alloc.Purpose.TheVariants as purpose
-use Rattle.alloc_core.specs.declared.alloc.Stage.{Stage as AllocStage}
-use Rattle.alloc_core.specs.declared.alloc.Stage.TheVariants.{LoadFlags, LoadFree, ExchangeFree, StoreSize, StoreCookie, StoreType, SetFull, Claimed, Full, Corrupt}
+use Rattle.alloc_core.specs.declared.alloc.AllocStage.{AllocStage}
+use Rattle.alloc_core.specs.declared.alloc.AllocStage.TheVariants.{LoadFlags, LoadFree, ExchangeFree, StoreSize, StoreCookie, StoreType, SetFull, Claimed, Full, Corrupt}
 use Rattle.alloc_core.specs.declared.planned.Planned.{Planned}
 use Rattle.alloc_core.specs.declared.planned.Planned.TheVariants as plan
 use Rattle.alloc_core.specs.Alloc.{Allocation, answer, cookie_of, stage_after, stage_of_cookie, stage_of_plan}
 use Rattle.alloc_core.specs.Planned.{planned, is_pointer}
-use Rattle.list_core.specs.declared.publish.Stage.{Stage as PublishStage}
-use Rattle.list_core.specs.declared.publish.Stage.TheVariants as publish
+use Rattle.list_core.specs.declared.publish.PubStage.{PubStage}
+use Rattle.list_core.specs.declared.publish.PubStage.TheVariants as publish
 use Rattle.segment_machine.specs.declared.actor.Done.{Done}
 use Rattle.segment_machine.specs.declared.actor.Rise.{Rise}
 use Rattle.segment_machine.specs.Allocating.{AllocatingEvent, after_free}
 use Rattle.segment_machine.specs.Publishing.{PublishingEvent, own_at, published_as}
-use Rattle.segment_machine.specs.Stages.{Offers, PublishesAt, allocates, publishes}
-use Rattle.hist_core.specs.StepsBy.{Deed, links, raises, DoesOnly}
+use Rattle.segment_machine.specs.Stages.{OffersBlock, PublishesAt, allocates, publishes}
+use Rattle.hist_core.specs.StepsBy.{SharedEffect, links, raises, DoesOnly}
 
 -- it does nothing
-pub does_nothing : (may : Deed → Type 0) (a b : Actor) → b.done ≡ a.done → DoesOnly false false may a b
+pub does_nothing : (may : SharedEffect → Type 0) (a b : Actor) → b.done ≡ a.done → DoesOnly false false may a b
 does_nothing may a b same = record {
   spoiled = ap (λ (d : Done). d.spoiled) same;
   filled = ap (λ (d : Done). d.filled) same;
@@ -30,7 +30,7 @@ does_nothing may a b same = record {
 }
 
 -- what it may do is among what else it may do
-pub does_less : (corrupt full : Bool) (may more : Deed → Type 0) (a b : Actor) → ((deed : Deed) → may deed → more deed) → DoesOnly corrupt full may a b
+pub does_less : (corrupt full : Bool) (may more : SharedEffect → Type 0) (a b : Actor) → ((deed : SharedEffect) → may deed → more deed) → DoesOnly corrupt full may a b
     → DoesOnly corrupt full more a b
 does_less corrupt full may more a b weaker does = record {
   spoiled = does.spoiled;
@@ -42,7 +42,7 @@ does_less corrupt full may more a b weaker does = record {
 }
 
 -- so it is where its actors have noted something more
-pub does_still : (corrupt full : Bool) (may : Deed → Type 0) (a b c d : Actor) → b.done ≡ a.done → d.done ≡ c.done → DoesOnly corrupt full may b c
+pub does_still : (corrupt full : Bool) (may : SharedEffect → Type 0) (a b c d : Actor) → b.done ≡ a.done → d.done ≡ c.done → DoesOnly corrupt full may b c
     → DoesOnly corrupt full may a d
 does_still corrupt full may a b c d first last does = record {
   spoiled = subst (λ (x : Done × Done). x.1.spoiled ≡ (corrupt || x.0.spoiled)) (λ i. (first i, sym last i)) does.spoiled;
@@ -58,7 +58,7 @@ abbrev pub is_full_end : AllocStep → Bool
 is_full_end said.Full = true
 is_full_end said = false
 
-module _ (may : Deed → Type 0) (a : Actor) where
+module _ (may : SharedEffect → Type 0) (a : Actor) where
   -- an event that sets no flag
   sets_none : (act : AllocatingEvent) (found : ℕ) → (next a (allocating_event act) found).done.spoiled ≡ a.done.spoiled
       → (next a (allocating_event act) found).done.filled ≡ a.done.filled → (next a (allocating_event act) found).done.published ≡ a.done.published
@@ -142,15 +142,15 @@ module _ (may : Deed → Type 0) (a : Actor) where
 
 -- ---- a publish
 
-module _ (may : Deed → Type 0) (a : Actor) (reference : ℕ) (made : Made) (its : may (links made)) where
+module _ (may : SharedEffect → Type 0) (a : Actor) (reference : ℕ) (made : Made) (its : may (links made)) where
   -- the record that its block becomes
-  linked_as : Offers a reference made 12 → published_as (own_at a.hand.own reference) reference ≡ record { reference = reference; made = made } ∷ []
+  linked_as : OffersBlock a reference made 12 → published_as (own_at a.hand.own reference) reference ≡ record { reference = reference; made = made } ∷ []
   linked_as offers =
       let own = offers.0 in
       ap (λ (block : Option Own). published_as block reference) offers.1
       ∙ ap (λ (what : Option Made). published_as (Some (record own { made = what })) reference) offers.3
 
-  links_it : (hit : Bool) (tail found : ℕ) → Offers a reference made 12 → DoesOnly false false may a (after_link hit a tail reference found)
+  links_it : (hit : Bool) (tail found : ℕ) → OffersBlock a reference made 12 → DoesOnly false false may a (after_link hit a tail reference found)
   links_it true tail found offers = record {
     spoiled = refl;
     filled = refl;
@@ -169,7 +169,7 @@ module _ (may : Deed → Type 0) (a : Actor) (reference : ℕ) (made : Made) (it
   }
 
   -- it links the record that it is of, and no other
-  pub publish_does : (stage : PublishStage) (act : PublishingEvent) (found : ℕ) → publishes reference stage ≡ Some act → PublishesAt a reference made stage
+  pub publish_does : (stage : PubStage) (act : PublishingEvent) (found : ℕ) → publishes reference stage ≡ Some act → PublishesAt a reference made stage
       → DoesOnly false false may a (next a (publishing_event act) found)
   publish_does publish.StoreOwnNext act found is stands =
       subst (λ (e : PublishingEvent). DoesOnly false false may a (next a (publishing_event e) found))

@@ -11,7 +11,7 @@ use Rattle.hist_core.specs.declared.making.MakingStep.{MakingStep}
 use Rattle.hist_core.specs.declared.making.MakingStep.TheVariants as made
 use Rattle.list_core.specs.Walk.{stands_behind}
 use Rattle.segment_machine.specs.Made.{SawOtherName}
-use Rattle.hist_core.specs.StepsBy.{Deed, links, raises, DoesOnly, FrameOfStep, SawEnd, StepsBy}
+use Rattle.hist_core.specs.StepsBy.{SharedEffect, links, raises, DoesOnly, FrameOfStep, SawEnd, StepsBy}
 use Rattle.hist_core.specs.Hist.{wanted_of, IsHist, StandsAtStage, HistGives, IsMade, serves_asked}
 use Rattle.hist_core.specs.Making.{IsCause, MakingGives, is_full, serves_wanted}
 use Rattle.hist_core.proofs.Parts.Allocations.{goes_with}
@@ -43,7 +43,7 @@ module _ (shape : Dimensions) (version : ℕ) (h : Hist) (a : Actor) (words : Li
   serves_it : (full : Bool) (b : Actor) → DoesOnly false full (serves_wanted (wanted_of h)) a b → DoesOnly false full (serves_asked h a) a b
   serves_it full b = does_less false full (serves_wanted (wanted_of h)) (serves_asked h a) a b so
     where
-      so : (deed : Deed) → serves_wanted (wanted_of h) deed → serves_asked h a deed
+      so : (deed : SharedEffect) → serves_wanted (wanted_of h) deed → serves_asked h a deed
       so (links made) it = it
       so (raises words) it = (
         (subst (All (SawOtherName a.seen h.asked.name.items)) stood_making.0 stood_making.2, stood_making.1),

@@ -1,7 +1,7 @@
 -- A snapshot, event by event.
 use Rattle.segment_invariant.proofs.Prelude.Std.{◌≡◌, ◌⊎◌, ℕ, zero, suc, ◌+◌, ◌*◌, ◌<◌, ◌≤◌, ℤ, Bool, true, false, true≢false, if◌then◌else◌, nat_lt, List, [], ◌∷◌, ◌++◌, drop, length, map, slice_index, Option, Some, inl, inr, ⊎_elim, refl, sym, ap, subst, ◌∙◌, arith, All, Contains, range_with_len, cast_signed, w64, props, ∥∥₁_elim, ltb-true, ltb-false, append-nil, drop-append-le, length-append, All-contains, set-get_or, some, get_elem?}
 use Rattle.segment_invariant.proofs.Prelude.Machine.{buckets_of, boundaries_of, single_of, units_packed, Dimensions, word_at, Actor, Answered, Known, Looking, SumLoaded, IsFirstSample, SawSample, Sparse, Buckets, SawCount, bucket_key, has_buckets, is_bound, is_opener, known_at, MayTurn, look_of, sight, sight_counts, load_counts, Event, next, counting_event, packing_event, taking_event, SawBucket, noted, load_single, load_count, load_redundant, load_sum}
-use Rattle.bucket_ranges.specs.Ranges.{IsSplit}
+use Rattle.bucket_ranges.specs.Ranges.{SplitsValues}
 use Rattle.bucket_ranges.proofs.Ascent.{boundaries_of-split}
 use Rattle.segment_invariant.proofs.Lists.Elements.{below_length, contains_at}
 use Rattle.segment_invariant.proofs.Packing.OffForms.{few_buckets}
@@ -14,7 +14,7 @@ use Rattle.hist_core.specs.declared.snapshot_call.SnapshotStage.{SnapshotStage}
 use Rattle.hist_core.specs.declared.snapshot_call.SnapshotStage.TheVariants.{LoadingSingle, LoadingCounts, LoadingCount, Walking, LoadingSample, LoadingSum, LoadingRedundant}
 use Rattle.hist_core.specs.declared.mounted.Mounted.{Mounted}
 use Rattle.hist_core.specs.StepsBy.{FrameOfStep, StepsBy, IsInOrder, WalksInOrder, is_tied, LiesWithin}
-use Rattle.hist_core.specs.SnapshotCall.{HasKeys, IsBehindSingle, IsSnapshotCall, IsPut, IsSomeSnapshotCall, LooksAnew, SnapshotCallGives, SawBefore, SawTotalsOf, StandsAtStage, behind_bucket}
+use Rattle.hist_core.specs.SnapshotCall.{HasKeys, IsBehindSingle, IsSnapshotCall, IsTotalPut, IsSomeSnapshotCall, LooksAnew, SnapshotCallGives, SawTotalsBefore, SawTotalsOf, StandsAtStage, behind_bucket}
 use Rattle.hist_core.specs.Mounted.{AreMounted, HasWord, total_at}
 use Rattle.segment_machine.specs.Form.{SaysPacked}
 use Rattle.segment_promises.specs.Calls.{SeesMore}
@@ -60,7 +60,7 @@ module _ (shape : Dimensions) (known : Known) (snapshot_call : SnapshotCall) (a 
   few : HasKeys known snapshot_call → buckets_of known.spec ≤ 1000
   few has = few_buckets known.spec is.lawful
 
-  split : HasKeys known snapshot_call → IsSplit (buckets_of known.spec) (boundaries_of known.spec)
+  split : HasKeys known snapshot_call → SplitsValues (buckets_of known.spec) (boundaries_of known.spec)
   split has = boundaries_of-split known.spec is.lawful (λ sparse. true≢false (sym has.bucketed ∙ ap has_buckets sparse))
 
   -- it goes on from another stage, and may have seen more
@@ -252,7 +252,7 @@ module _ (shape : Dimensions) (known : Known) (snapshot_call : SnapshotCall) (a 
         let buckets = has_count.buckets in (omega (arith, inside, within, long), omega (arith, inside, buckets))
 
     module _ (total : ℕ) (is_total : total ≡ total_at mounted bucket count) (new : SnapshotCall)
-        (put : IsPut bucket total (record snapshot_call { stage = behind_bucket (length snapshot_call.totals.items) mounted bucket }) new) where
+        (put : IsTotalPut bucket total (record snapshot_call { stage = behind_bucket (length snapshot_call.totals.items) mounted bucket }) new) where
       same : IsSame snapshot_call new
       same = record {
         version = ap (λ (l : SnapshotCall). l.version) put.same;
@@ -261,7 +261,7 @@ module _ (shape : Dimensions) (known : Known) (snapshot_call : SnapshotCall) (a 
         long = put.long;
       }
 
-      saw_these : count ≤ 4294967295 → SawBefore known new.totals.items (bucket + 1) counted
+      saw_these : count ≤ 4294967295 → SawTotalsBefore known new.totals.items (bucket + 1) counted
       saw_these small i x lt there =
           ⊎_elim
           (λ (here, same).

@@ -22,8 +22,8 @@ use Rattle.hist_core.specs.declared.walk.Met.{Met}
 use Rattle.hist_core.specs.declared.walk.Met.TheVariants.{Nothing, Sample, End}
 use Rattle.hist_core.specs.declared.walk.SampleWalk.{SampleWalk}
 use Rattle.hist_core.specs.declared.walk.SampleWalk.TheVariants.{LoadingFirst, LoadingType, LoadingHistogram, LoadingValue, LoadingNext}
-use Rattle.hist_core.specs.SnapshotCall.{HasListed, HasRoom, HasSeenValues, HasTotal, IsBehindWalk, IsListed, IsSnapshotCall, IsSomeSnapshotCall, ListsSeen, LooksAnew, SnapshotCallGives, StandsAtStage}
-use Rattle.hist_core.specs.Walk.{HasComeTo, HasSetOut, IsWalkProgress, Meets, MetSample, WalksAt, spot_of}
+use Rattle.hist_core.specs.SnapshotCall.{HasListed, HasRoomForValues, HasSeenValues, HasTotal, IsBehindWalk, IsValueListed, IsSnapshotCall, IsSomeSnapshotCall, ListsSeen, LooksAnew, SnapshotCallGives, StandsAtStage}
+use Rattle.hist_core.specs.Walk.{HasComeTo, HasSetOut, IsSampleWalkProgress, Meets, MetSample, WalksAt, spot_of}
 use Rattle.hist_core.proofs.Parts.Allocations.{goes_with}
 use Rattle.hist_core.proofs.AddCall.GhostNotes.{goes_after}
 use Rattle.hist_core.proofs.Walks.Walking.{GoesAlong, began_before, few_passed, spot_inside, there, walks_so}
@@ -49,7 +49,7 @@ module _ (shape : Dimensions) (known : Known) (snapshot_call : SnapshotCall) (a 
   -- ---- a walk
 
   -- what its walk met leads it on
-  stands_behind : (met : Met) (new : SnapshotCall) (b : Actor) → HasRoom shape snapshot_call → IsBehindWalk snapshot_call met new → HasComeTo shape known (ListsSeen known snapshot_call) met b
+  stands_behind : (met : Met) (new : SnapshotCall) (b : Actor) → HasRoomForValues shape snapshot_call → IsBehindWalk snapshot_call met new → HasComeTo shape known (ListsSeen known snapshot_call) met b
       → (new.version ≡ snapshot_call.version) × (new.histogram ≡ snapshot_call.histogram) × StandsAtStage shape known new b new.stage
   stands_behind (Nothing walk) new b room is_new (set_out, stands) = (
     ap (λ (l : SnapshotCall). l.version) is_new,
@@ -120,7 +120,7 @@ module _ (shape : Dimensions) (known : Known) (snapshot_call : SnapshotCall) (a 
     abbrev its_passed : List ℕ
     its_passed = met_count.0.passed
 
-    abbrev its_way : IsWalkProgress known its_passed at a
+    abbrev its_way : IsSampleWalkProgress known its_passed at a
     its_way = met_count.0.way
 
     met_there : Contains a.seen.chain at
@@ -184,7 +184,7 @@ module _ (shape : Dimensions) (known : Known) (snapshot_call : SnapshotCall) (a 
           (split_at_it a known.reference its_passed at its_way.comes met_count.0.record_there) order.once (HasListed snapshot_call.totals.items a) met_count.0.lists.passes value
           met_count.2 (λ later. some (learned.1 at refl later)))
 
-    pub loads_sample : (new : SnapshotCall) → IsListed value count (record snapshot_call { stage = Walking (LoadingNext at) }) new → WalksInOrder a
+    pub loads_sample : (new : SnapshotCall) → IsValueListed value count (record snapshot_call { stage = Walking (LoadingNext at) }) new → WalksInOrder a
         → StepsBy shape.size snapshot_call.version a words words (SnapshotCallGives shape known snapshot_call.stage new More a)
     loads_sample new listed order = by_event loading (inr (known, at, value, sparse_there, met_there, met_count.2, refl, is.turns, its_way.apart))
         (sym (set-get_or words (at + 6) 0))

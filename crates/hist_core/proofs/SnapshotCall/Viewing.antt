@@ -14,15 +14,15 @@ use Rattle.hist_core.specs.declared.actor_run.Running.{Running}
 use Rattle.hist_core.specs.declared.actor_run.Running.TheVariants.{Snapshot}
 use Rattle.hist_core.specs.declared.actor_run.ActorRun.{ActorRun}
 use Rattle.hist_core.specs.StepsBy.{StepsBy, IsFree, WalksInOrder}
-use Rattle.hist_core.specs.SnapshotCall.{HasJustBegun, HasLooked, IsSnapshotCall, IsSomeSnapshotCall, LooksAnew, SnapshotCallGives, SnapshotCallSteps}
-use Rattle.hist_core.specs.ActorRun.{Advances, Answers, AreShown, BeginsSnapshot, IsKnown, known_of, IsAnswer, IsQuiet, IsRun, IsSnapshotAnnounced, IsSomeRun, LooksSince, Serves, StandsIn, begun_by, ended_by, looked_by, pending_by}
+use Rattle.hist_core.specs.SnapshotCall.{HasJustBegun, SnapshotHasEnded, IsSnapshotCall, IsSomeSnapshotCall, LooksAnew, SnapshotCallGives, SnapshotCallSteps}
+use Rattle.hist_core.specs.ActorRun.{Advances, Answers, AreDeltasShown, BeginsSnapshot, IsKnown, known_of, IsAnswer, CountsNoEntries, IsActorRunOf, IsSnapshotAnnounced, IsSomeRun, LooksSince, Serves, StandsIn, begun_by, ended_by, looked_by, pending_by}
 use Rattle.segment_invariant.proofs.Lists.Elements.{all_at, contains_at}
 use Rattle.segment_invariant.proofs.Lists.Maps.{contains_map}
 use Rattle.hist_core.specs.declared.world_state.WorldState.{WorldState}
-use Rattle.hist_core.specs.declared.hist.Known.{Known}
+use Rattle.hist_core.specs.declared.hist.KnownHist.{KnownHist}
 use Rattle.hist_core.specs.Start.{Start}
 use Rattle.hist_core.specs.declared.call.Begun.TheVariants.{Going}
-use Rattle.hist_core.specs.WorldState.{BeginsFrom, GoesWith, IsReachedAs, LooksAt, SnapshotBegins}
+use Rattle.hist_core.specs.WorldState.{BeginsFrom, GoesWith, IsReachedAs, BeginsSnapshotOf, SnapshotBegins}
 use Rattle.hist_core.proofs.Worlds.Starts.{kept_there, shape_there}
 use Rattle.hist_core.specs.SnapshotCall.{HasListed, HasSeenValues, HasTotal, IsStarted, OpensWith, StandsAtStage}
 use Rattle.hist_core.specs.declared.snapshot_call.SnapshotStage.{SnapshotStage}
@@ -45,7 +45,7 @@ some_snapshot_call n actor_run snapshot_call is (shape, version, a, long, wide, 
     let stands = subst (λ running. StandsIn shape actor_run.known.items (pending_by actor_run) running a) is run.stands in
     (shape, stands.1.0, a, long, stands.1.1)
 
-module _ (shape : Dimensions) (version : ℕ) (old : ActorRun) (a : Actor) (run : IsRun shape version old a) (snapshot_call now : SnapshotCall)
+module _ (shape : Dimensions) (version : ℕ) (old : ActorRun) (a : Actor) (run : IsActorRunOf shape version old a) (snapshot_call now : SnapshotCall)
     (is : old.running ≡ Some (Snapshot snapshot_call)) (same : now.histogram ≡ snapshot_call.histogram) (words new_words : List ℕ) (long : length words ≡ shape.size)
     (order : WalksInOrder a) where
   stands : StandsIn shape old.known.items (pending_by old) (Some (Snapshot snapshot_call)) a
@@ -61,11 +61,11 @@ module _ (shape : Dimensions) (version : ℕ) (old : ActorRun) (a : Actor) (run 
   one_version = sym looks.version ∙ ap (λ s. s.version) run.segment
 
   -- it has ended: of what its actor has counted and knows nothing has changed
-  rests_then : (b : Actor) (sum : ℤ) (redundant : ℕ) → IsFree b → HasLooked known now sum redundant a b → IsRun shape version (record old { running = None }) b
+  rests_then : (b : Actor) (sum : ℤ) (redundant : ℕ) → IsFree b → SnapshotHasEnded known now sum redundant a b → IsActorRunOf shape version (record old { running = None }) b
   rests_then b sum redundant turns looked =
       let c : Actor = record b { deltas = a.deltas } in
       let quiet = quiet_on (pending_by old) a c looked.beside.units looked.beside.entries refl stands.0 in
-      let then_is : IsRun shape version (record old { running = None }) c = runs_on shape version old a run c None looked.beside (turns, quiet) tt tt in
+      let then_is : IsActorRunOf shape version (record old { running = None }) c = runs_on shape version old a run c None looked.beside (turns, quiet) tt tt in
       let deltas = looked.deltas in record {
         records = then_is.records;
         segment = then_is.segment;
@@ -73,7 +73,7 @@ module _ (shape : Dimensions) (version : ℕ) (old : ActorRun) (a : Actor) (run 
         within = then_is.within;
         ended = then_is.ended;
         begun = then_is.begun;
-        taken = subst (AreShown old.taken.items) (sym (ap (λ d. d.taken) deltas)) run.taken;
+        taken = subst (AreDeltasShown old.taken.items) (sym (ap (λ d. d.taken) deltas)) run.taken;
         names = then_is.names;
         lawful = then_is.lawful;
         once = then_is.once;
@@ -86,7 +86,7 @@ module _ (shape : Dimensions) (version : ℕ) (old : ActorRun) (a : Actor) (run 
         draft = tt;
       }
 
-  is_answer : (b : Actor) (sum : ℤ) (redundant : ℕ) → HasLooked known now sum redundant a b
+  is_answer : (b : Actor) (sum : ℤ) (redundant : ℕ) → SnapshotHasEnded known now sum redundant a b
       → IsAnswer (looked_by old.running) (record { counts = now.totals; sum = sum; redundant = redundant }) b
   is_answer b sum redundant looked = record {
     known = known;
@@ -114,7 +114,7 @@ module _ (shape : Dimensions) (version : ℕ) (old : ActorRun) (a : Actor) (run 
       → IsSnapshotAnnounced (record old { running = Some (Snapshot now) }) said new result → Advances shape version old words new new_words result a
   snapshot_goes More new result steps (new_is, result_is) =
       subst (λ said. Advances shape version old words new new_words said a) (sym result_is) (goes_with (its_steps More steps) (λ b (beside, done, anew, looks_on). (
-        subst (λ (r : ActorRun). IsRun shape version r b) (sym new_is)
+        subst (λ (r : ActorRun). IsActorRunOf shape version r b) (sym new_is)
             (runs_on shape version old a run b (Some (Snapshot now)) beside (quiet_on (pending_by old) a b beside.units beside.entries beside.deltas stands.0, (known, looks_on)) tt tt),
         looks_since b anew,
         does_nothing (Serves old.running a) a b done,
@@ -124,7 +124,7 @@ module _ (shape : Dimensions) (version : ℕ) (old : ActorRun) (a : Actor) (run 
       let said_is : result ≡ stepped.Done (answer.Snapshot (record { counts = now.totals; sum = sum; redundant = redundant })) =
       result_is ∙ ap (λ (x : SnapshotCall). stepped.Done (answer.Snapshot (record { counts = x.totals; sum = sum; redundant = redundant }))) here in
       subst (λ said. Advances shape version old words new new_words said a) (sym said_is) (goes_with (its_steps (Done sum redundant) steps) (λ b (turns, done, anew, looked). (
-        (subst (λ (r : ActorRun). IsRun shape version r b) (sym new_is) (rests_then b sum redundant turns looked), is_answer b sum redundant looked),
+        (subst (λ (r : ActorRun). IsActorRunOf shape version r b) (sym new_is) (rests_then b sum redundant turns looked), is_answer b sum redundant looked),
         looks_since b anew,
         does_nothing (Serves old.running a) a b done,
       )))
@@ -159,10 +159,10 @@ module _ (old : ActorRun) (snapshot_call now : SnapshotCall) (is : old.running �
 -- ---- it begins
 
 -- who rests begins it, which is no event
-module _ (shape : Dimensions) (version : ℕ) (known : Known) (old new : ActorRun) (starts : BeginsSnapshot shape version known old new) (i : ℕ)
+module _ (shape : Dimensions) (version : ℕ) (known : KnownHist) (old new : ActorRun) (starts : BeginsSnapshot shape version known old new) (i : ℕ)
     (at : get_elem? old.known.items i ≡ some known) (rests : old.running ≡ None) where
-  module _ (a : Actor) (run : IsRun shape version old a) (lawful : IsShape shape) (alone : known_at a.answers.names known.reference ≡ Some (known_of known)) where
-    stood : IsFree a × IsQuiet (pending_by old) a
+  module _ (a : Actor) (run : IsActorRunOf shape version old a) (lawful : IsShape shape) (alone : known_at a.answers.names known.reference ≡ Some (known_of known)) where
+    stood : IsFree a × CountsNoEntries (pending_by old) a
     stood = subst (λ running. StandsIn shape old.known.items (pending_by old) running a) rests run.stands
 
     its_known : IsKnown shape known
@@ -213,19 +213,19 @@ module _ (shape : Dimensions) (version : ℕ) (known : Known) (old new : ActorRu
       stands = stands_first snapshot_call.stage started.opens;
     }
 
-    pub begins_with : IsRun shape version new a
-    begins_with = subst (λ (r : ActorRun). IsRun shape version r a) (sym starts.2)
+    pub begins_with : IsActorRunOf shape version new a
+    begins_with = subst (λ (r : ActorRun). IsActorRunOf shape version r a) (sym starts.2)
         (runs_on shape version old a run a (Some (Snapshot snapshot_call)) (alike a) (stood.1, (known_of known, begins_looking)) tt tt)
 
 -- on a world_state
 module _ (old new : WorldState) (actor : ℕ) (name : List ℕ) (place : ℕ) (r now : ActorRun) (its : IsPlaced old actor name place r) (turned : IsTurned old new actor now)
     (pooled : new.units ≡ old.units) where
-  abbrev it : Known
+  abbrev it : KnownHist
   it = its.known
 
   -- a call on a known histogram begins, which is no event
-  pub call_begins : ((a : Actor) → IsRun old.shape old.version r a → IsShape old.shape → known_at a.answers.names it.reference ≡ Some (known_of it)
-      → IsRun old.shape old.version now a) → (start : Start) (state : State) → IsReachedAs start old state → BeginsFrom start state actor new
+  pub call_begins : ((a : Actor) → IsActorRunOf old.shape old.version r a → IsShape old.shape → known_at a.answers.names it.reference ≡ Some (known_of it)
+      → IsActorRunOf old.shape old.version now a) → (start : Start) (state : State) → IsReachedAs start old state → BeginsFrom start state actor new
   call_begins begins = same_state old new actor r now its.resting turned pooled (λ start state reach a there run.
       let kept = kept_there start old state reach in
       let free = free_turns a.hand.place (subst (λ running. StandsIn old.shape r.known.items (pending_by r) running a) its.resting.rests run.stands).0 in
@@ -243,7 +243,7 @@ module _ (old new : WorldState) (actor : ℕ) (name : List ℕ) (place : ℕ) (r
       its.resting.at,
       is_now old new actor r now its.resting turned,
       taken,
-      (it, subst (λ (l : List Known). Contains l it) (sym same) (contains_at r.known.items place it its.there), its.named, is),
+      (it, subst (λ (l : List KnownHist). Contains l it) (sym same) (contains_at r.known.items place it its.there), its.named, is),
     ),
   )
 
@@ -258,6 +258,6 @@ just_begun _ _ _ stage (inr opens) = inr opens.0
 pub snapshot_begun : (old new : WorldState) (actor : ℕ) (name : List ℕ) (place : ℕ) (r now : ActorRun) (its : IsPlaced old actor name place r) → IsTurned old new actor now
     → BeginsSnapshot old.shape old.version its.known r now → new.units ≡ old.units → SnapshotBegins actor name old new Going
 snapshot_begun old new actor name place r now its turned starts pooled =
-    call_begun old new actor name place r now its turned pooled LooksAt (ap (λ (x : ActorRun). x.known.items) starts.2) (ap (λ (x : ActorRun). x.taken.items) starts.2)
-    (subst (LooksAt (its.known).reference) (sym (ap (λ (x : ActorRun). x.running) starts.2))
+    call_begun old new actor name place r now its turned pooled BeginsSnapshotOf (ap (λ (x : ActorRun). x.known.items) starts.2) (ap (λ (x : ActorRun). x.taken.items) starts.2)
+    (subst (BeginsSnapshotOf (its.known).reference) (sym (ap (λ (x : ActorRun). x.running) starts.2))
     (starts.1.reference, just_begun old.shape (known_of its.known) starts.0 starts.0.stage starts.1.opens))

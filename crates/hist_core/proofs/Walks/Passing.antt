@@ -13,7 +13,7 @@ use Rattle.segment_promises.proofs.Calls.SampleLists.{all_passed, did_with}
 use Rattle.segment_promises.proofs.Calls.Sights.{began_still, saw_count}
 use Rattle.hist_core.specs.StepsBy.{IsInOrder}
 use Rattle.hist_core.specs.SnapshotCall.{HasListed, HasSeenAll, HasSeenValues, HasTotal}
-use Rattle.hist_core.specs.Walk.{IsWalkProgress}
+use Rattle.hist_core.specs.Walk.{IsSampleWalkProgress}
 
 -- ---- it has seen more
 
@@ -33,8 +33,8 @@ comes_still histogram passed at a b segment chain comes = record {
     HasFew chain size = 5 * length chain + 16 ≤ size
 
 module _ (known : Known) (a b : Actor) (sees : SeesMore a b) where
-  pub way_still : (passed : List ℕ) (at : ℕ) → b.seen.chain ≡ a.seen.chain → is_looking b.hand.place ≡ false → IsWalkProgress known passed at a
-      → IsWalkProgress known passed at b
+  pub way_still : (passed : List ℕ) (at : ℕ) → b.seen.chain ≡ a.seen.chain → is_looking b.hand.place ≡ false → IsSampleWalkProgress known passed at a
+      → IsSampleWalkProgress known passed at b
   way_still passed at chain apart way = record {
     sparse = way.sparse;
     apart = apart;
@@ -48,7 +48,7 @@ module _ (known : Known) (a b : Actor) (sees : SeesMore a b) where
       (λ value sample (count, saw, either). (count, saw_count a b sees began (sample + 6) count saw, either)) (HasTotal a) (HasTotal b)
       (λ sample units (saw, has). (saw_count a b sees began (sample + 6) units saw, has)) seen listed lists
 
-  module _ (passed : List ℕ) (at : ℕ) (way : IsWalkProgress known passed at a) where
+  module _ (passed : List ℕ) (at : ℕ) (way : IsSampleWalkProgress known passed at a) where
     -- what it listed is among more that it lists
     pub listed_still : (listed more : List (ℤ × ℕ)) (value : ℤ) (sample : ℕ) → HasListed listed a value sample → HasListed (listed ++ more) b value sample
     listed_still listed more value sample (count, saw, either) = (

@@ -17,7 +17,7 @@ use Rattle.hist_core.specs.declared.walk.Met.TheVariants.{Nothing, Sample, End}
 use Rattle.hist_core.specs.declared.walk.SampleWalk.{SampleWalk}
 use Rattle.hist_core.specs.declared.walk.SampleWalk.TheVariants.{LoadingFirst, LoadingType, LoadingHistogram, LoadingValue, LoadingNext}
 use Rattle.hist_core.specs.StepsBy.{FrameOfStep, StepsBy}
-use Rattle.hist_core.specs.Walk.{HasComeTo, HasSetOut, IsBehindValue, IsWalkProgress, MayWalk, Meets, MetRecord, OfPassed, PassedRecord, WalksAt, behind_next, behind_type, spot_of}
+use Rattle.hist_core.specs.Walk.{HasComeTo, HasSetOut, IsBehindValue, IsSampleWalkProgress, MayWalk, Meets, MetRecord, OfPassed, PassedRecord, WalksAt, behind_next, behind_type, spot_of}
 use Rattle.hist_core.proofs.Walks.Passing.{way_still}
 
 -- who has loaded a next stands at no single word and no counts where it stood at none
@@ -66,11 +66,11 @@ module _ (shape : Dimensions) (version : ℕ) (known : Known) (holds : OfPassed)
 
   -- ---- the next of a record is loaded
 
-  comes_to : (found : ℕ) (passed : List ℕ) (b : Actor) → IsWalkProgress known passed found b → holds passed b → HasComeTo shape known holds (behind_next found) b
+  comes_to : (found : ℕ) (passed : List ℕ) (b : Actor) → IsSampleWalkProgress known passed found b → holds passed b → HasComeTo shape known holds (behind_next found) b
   comes_to found passed b way all = by (found == 12) refl
     where
       by : (test : Bool) → (found == 12) ≡ test → HasComeTo shape known holds (if test then End else Nothing (LoadingType found)) b
-      by true e = record { passed = passed; way = subst (λ (n : ℕ). IsWalkProgress known passed n b) (eqb-true found 12 e) way; lists = all }
+      by true e = record { passed = passed; way = subst (λ (n : ℕ). IsSampleWalkProgress known passed n b) (eqb-true found 12 e) way; lists = all }
       by false e = (tt, record { passed = passed; way = way; record_there = λ ends. true≢false (sym (eq-eqb found 12 ends) ∙ e); lists = all })
 
   first_so : MayWalk known a → ((b : Actor) → holds [] b) → BeganBefore a → (m : Met) → m ≡ behind_next (word_at words (known.reference + 3))
@@ -104,7 +104,7 @@ module _ (shape : Dimensions) (version : ℕ) (known : Known) (holds : OfPassed)
       let event : WalkingEvent = load_next at in
       let acted : Actor = next a (walking_event event) found in
       let passed : List ℕ = it.passed in
-      let way : IsWalkProgress known passed at a = it.way in
+      let way : IsSampleWalkProgress known passed at a = it.way in
       let sees : SeesMore a acted = walk_sees a event found in
       let split = split_at_it a known.reference passed at way.comes it.record_there in
       let rest : List ℕ = (behind_it a known.reference passed at way.comes it.record_there).0 in by_event (walking_event event) (turns, inr (inl (met a a known.reference 0 refl way.comes.front passed at rest split)))
@@ -128,7 +128,7 @@ module _ (shape : Dimensions) (version : ℕ) (known : Known) (holds : OfPassed)
     abbrev passed : List ℕ
     passed = it.passed
 
-    abbrev way : IsWalkProgress known passed at a
+    abbrev way : IsSampleWalkProgress known passed at a
     way = it.way
 
     pub there : Contains a.seen.chain at

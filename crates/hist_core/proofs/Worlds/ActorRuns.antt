@@ -10,7 +10,7 @@ use Rattle.hist_core.specs.declared.actor_run.Running.TheVariants.{SetCorrupt}
 use Rattle.hist_core.specs.declared.actor_run.ActorRun.{ActorRun}
 use Rattle.hist_core.proofs.Worlds.Landing.{Landing}
 use Rattle.hist_core.specs.StepsBy.{links, raises}
-use Rattle.hist_core.specs.ActorRun.{IsRun, Serves, StandsIn, pending_by}
+use Rattle.hist_core.specs.ActorRun.{IsActorRunOf, Serves, StandsIn, pending_by}
 use Rattle.hist_core.specs.declared.call.Answer.TheVariants.{Flagged}
 use Rattle.hist_core.specs.declared.call.Stepped.TheVariants.{Done}
 use Rattle.hist_core.proofs.Worlds.Free.{free_turns}
@@ -18,7 +18,7 @@ use Rattle.hist_core.proofs.Worlds.Quiet.{quiet_on}
 
 -- the one event of `set_corrupt`
 pub sets_corrupt : (shape : Dimensions) (version : ℕ) (a : Actor) (old : ActorRun) (words new_words : List ℕ) → HEADER_WORDS ≤ shape.size
-    → IsRun shape version old a → old.running ≡ Some SetCorrupt → new_words ≡ atomic.after (atomic.set_flag 1) words
+    → IsActorRunOf shape version old a → old.running ≡ Some SetCorrupt → new_words ≡ atomic.after (atomic.set_flag 1) words
     → Landing shape version old words (record old { running = None }) new_words (Done Flagged) a
 sets_corrupt shape version a old words new_words long run is stored =
     let stands = subst (λ running. StandsIn shape old.known.items (pending_by old) running a) is run.stands in
@@ -39,7 +39,7 @@ sets_corrupt shape version a old words new_words long run is stored =
     ))
 
 -- who rests begins it, which is no event
-pub begins_set_corrupt : (shape : Dimensions) (version : ℕ) (r : ActorRun) (a : Actor) → r.running ≡ None → IsRun shape version r a
-    → IsRun shape version (record r { running = Some SetCorrupt }) a
+pub begins_set_corrupt : (shape : Dimensions) (version : ℕ) (r : ActorRun) (a : Actor) → r.running ≡ None → IsActorRunOf shape version r a
+    → IsActorRunOf shape version (record r { running = Some SetCorrupt }) a
 begins_set_corrupt shape version r a rests run =
     runs_on shape version r a run a (Some SetCorrupt) (alike a) (subst (λ running. StandsIn shape r.known.items (pending_by r) running a) rests run.stands) tt tt

@@ -8,8 +8,8 @@ use Rattle.segment_calls.specs.Asked.{IsAskedFor}
 use Rattle.segment_invariant.proofs.Walking.Words.{letters_long}
 use Rattle.hist_core.specs.Start.{Start}
 use Rattle.hist_core.specs.World.{BeginsCall, lacks, name_checks, rest_checks, runs}
-use Rattle.hist_core.specs.WorldState.{BeginsFrom, IsAsBefore, IsReached, IsReachedAs, IsReady, IsResting, OthersStay, AsksFor, IsAnsweredAtOnce, HistBegins, MayBeAsked}
-use Rattle.hist_core.specs.ActorRun.{IsAsItWas, IsKnownAnswer, IsRun, KnowsAt, BeginsHist}
+use Rattle.hist_core.specs.WorldState.{BeginsFrom, IsAsBefore, IsReachable, IsReachedAs, KnowsHistAt, IsResting, OthersStay, RunsHistOf, IsAnsweredAtOnce, HistBegins, MayBeAsked}
+use Rattle.hist_core.specs.ActorRun.{IsAsItWas, IsKnownAnswer, IsActorRunOf, KnowsAt, BeginsHist}
 use Rattle.hist_core.specs.declared.fault.WorldFault.{WorldFault}
 use Rattle.hist_core.specs.declared.fault.WorldFault.TheVariants.{NoActor, Busy, Unknown, NoMemory}
 use Rattle.segment_calls.specs.declared.asked.Asked.{Asked}
@@ -18,7 +18,7 @@ use Rattle.hist_core.specs.declared.call.Answer.{Answer}
 use Rattle.hist_core.specs.declared.call.Answer.TheVariants as answer
 use Rattle.hist_core.specs.declared.call.Begun.{Begun}
 use Rattle.hist_core.specs.declared.call.Begun.TheVariants.{Going, Ended}
-use Rattle.hist_core.specs.declared.hist.Known.{Known}
+use Rattle.hist_core.specs.declared.hist.KnownHist.{KnownHist}
 use Rattle.segment_calls.specs.declared.refusal.Refusal.TheVariants as why
 use Rattle.hist_core.specs.declared.actor_run.ActorRun.{ActorRun}
 use Rattle.hist_core.proofs.HistCall.Asking.{as_it_stood, place_below}
@@ -52,7 +52,7 @@ may_be_asked shape name spec asked asks =
     )
 
 -- what a `hist` of a known name is answered, it is answered at once
-at_once : (shape : Dimensions) (known : List Known) (name : List ℕ) (spec : Spec) (answered : Answer) → MayBeAsked shape name spec → IsKnownAnswer known name spec answered
+at_once : (shape : Dimensions) (known : List KnownHist) (name : List ℕ) (spec : Spec) (answered : Answer) → MayBeAsked shape name spec → IsKnownAnswer known name spec answered
     → IsAnsweredAtOnce shape known name spec answered
 at_once shape known name spec (answer.Hist reference) may is = (is, may)
 at_once shape known name spec (answer.Refused why.OtherSpec) may is = (is, may)
@@ -96,7 +96,7 @@ module _ (old new : WorldState) (actor : ℕ) (r now : ActorRun) (resting : IsRe
 
   -- it stands for the same actor of the machine as before
   pub same_state : new.units ≡ old.units → ((start : Start) (state : State) → IsReachedAs start old state → (a : Actor) → get_elem? state.actors (actor + 1) ≡ some a
-      → IsRun old.shape old.version r a → IsRun old.shape old.version now a) → (start : Start) (state : State) → IsReachedAs start old state → BeginsFrom start state actor new
+      → IsActorRunOf old.shape old.version r a → IsActorRunOf old.shape old.version now a) → (start : Start) (state : State) → IsReachedAs start old state → BeginsFrom start state actor new
   same_state pooled same start state reach = (
     state,
     inl refl,
@@ -122,7 +122,7 @@ module _ (old new : WorldState) (actor : ℕ) (r now : ActorRun) (resting : IsRe
   hist_begins pooled name spec asked (Ok Going) asks (hist, begun, now_is, items, room, other) = (
     now,
     is_now,
-    subst (AsksFor name spec) (sym (ap (λ (x : ActorRun). x.running) now_is)) (ap (λ n. n.items) begun.named ∙ asks.named, begun.specified ∙ asks.specified),
+    subst (RunsHistOf name spec) (sym (ap (λ (x : ActorRun). x.running) now_is)) (ap (λ n. n.items) begun.named ∙ asks.named, begun.specified ∙ asks.specified),
   )
   hist_begins pooled name spec asked (Ok (Ended answered)) asks (now_is, known) = (
     as_before pooled (subst (IsAsItWas r) (sym now_is) (refl, refl, refl, refl)),
@@ -142,11 +142,11 @@ rests_there old actor r x resting read =
 -- it is this, and knows a histogram of a name
 pub record IsPlaced (old : WorldState) (actor : ℕ) (name : List ℕ) (place : ℕ) (r : ActorRun) : Type 0 where
   pub resting : IsResting old actor r
-  pub known : Known
+  pub known : KnownHist
   pub there : get_elem? r.known.items place ≡ some known
   pub named : known.name.items ≡ name
 
-pub placed : (old : WorldState) (actor : ℕ) (name : List ℕ) (place : ℕ) → IsReady old actor name place → (x : ActorRun) → x ≡ get_or old.actor_runs.items actor x
+pub placed : (old : WorldState) (actor : ℕ) (name : List ℕ) (place : ℕ) → KnowsHistAt old actor name place → (x : ActorRun) → x ≡ get_or old.actor_runs.items actor x
     → IsPlaced old actor name place x
 placed old actor name place ready x read =
     let there = is_there old.actor_runs.items (vec_len old.actor_runs) actor x old.actor_runs.ok.0 ready.resting.near read in
@@ -158,7 +158,7 @@ placed old actor name place ready x read =
     }
 
 -- so that is lawful
-pub knows_at : (old : WorldState) (actor : ℕ) (name : List ℕ) (place : ℕ) (r : ActorRun) → ∥ IsReached old ∥₁ → IsPlaced old actor name place r → KnowsAt r place
+pub knows_at : (old : WorldState) (actor : ℕ) (name : List ℕ) (place : ℕ) (r : ActorRun) → ∥ IsReachable old ∥₁ → IsPlaced old actor name place r → KnowsAt r place
 knows_at old actor name place r reached its = record {
   near = (let below = place_below r.known.items place its.known its.there in let long = r.known.ok.0 in omega (arith, below, long));
   lawful = λ known there. lawful_now old reached actor r its.resting.at place known there;

@@ -15,7 +15,7 @@ use Rattle.hist_core.specs.declared.actor_run.Running.TheVariants.{SetCorrupt, H
 use Rattle.hist_core.specs.Start.{Start}
 use Rattle.hist_core.specs.WorldState.{IsFlagSet, IsReachedAs}
 use Rattle.hist_core.proofs.Worlds.Starts.{kept_there}
-use Rattle.hist_core.specs.Hist.{HasOtherSpec, SawNone}
+use Rattle.hist_core.specs.Hist.{HasOtherSpec, SawNoName}
 use Rattle.hist_core.specs.Making.{IsCause}
 use Rattle.hist_core.specs.ActorRun.{IsRefusedBy, LacksBlock}
 use Rattle.hist_core.proofs.AddCall.Refusals.{cause_noted, needs_still}
@@ -35,7 +35,7 @@ module _ (cause : Refusal) (a b c : Actor) (names : c.answers.names ≡ b.answer
   refused_still None is = is
   refused_still (Some SetCorrupt) is = is
   refused_still (Some (Hist hist)) (inl (none, letters, spells, is)) =
-      inl (subst (SawNone hist.asked.name.items) (sym seen) none, letters, spells, cause_noted cause _ a a b c (refl, refl, refl, refl) done seen is)
+      inl (subst (SawNoName hist.asked.name.items) (sym seen) none, letters, spells, cause_noted cause _ a a b c (refl, refl, refl, refl) done seen is)
   refused_still (Some (Hist hist)) (inr (other, saw)) = inr (other, subst (λ (s : Seen). HasOtherSpec hist.asked.name.items hist.asked.spec s) (sym seen) saw)
   refused_still (Some (Add add)) is = lacks_still add.histogram (add.value, add.units) is
   refused_still (Some (Delta delta_call fresh)) is = is

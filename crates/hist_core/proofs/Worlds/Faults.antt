@@ -12,7 +12,7 @@ use Rattle.hist_core.specs.WorldState.{IsBusy, IsResting}
 use Rattle.hist_core.specs.World.{runs, rests, lacks, lacks_name, name_checks, of_actor}
 use Rattle.hist_core.proofs.HistCall.Asking.{place_below}
 use Rattle.hist_core.specs.ActorRun.{IsKnownAt, NoneHasName}
-use Rattle.hist_core.specs.declared.hist.Known.{Known}
+use Rattle.hist_core.specs.declared.hist.KnownHist.{KnownHist}
 use Rattle.std.specs.List.{list_any}
 use mathlib.Core.Option as maybe
 
@@ -29,18 +29,18 @@ module _ (a b : Bool) (first second : WorldFault) (fine : Type 0) (faulty : Worl
 
 -- ---- a name that an actor knows, or not
 
-any_at : (list : List Known) (i : ℕ) (known : Known) (name : List ℕ) → get_elem? list i ≡ some known → known.name.items ≡ name → lacks_name list (some name) ≡ false
+any_at : (list : List KnownHist) (i : ℕ) (known : KnownHist) (name : List ℕ) → get_elem? list i ≡ some known → known.name.items ≡ name → lacks_name list (some name) ≡ false
 any_at [] i known name at named = absurd (some-ne-none known (sym at))
 any_at (first ∷ rest) zero known name at named =
     ap (λ b. not (b || list_any (λ k. bytes_eq k.name.items name) rest))
-    ((bytes_eq-Decides first.name.items name).1 (ap (λ (k : Known). k.name.items) (some-injective first known at) ∙ named))
+    ((bytes_eq-Decides first.name.items name).1 (ap (λ (k : KnownHist). k.name.items) (some-injective first known at) ∙ named))
 any_at (first ∷ rest) (suc i) known name at named = either (bytes_eq first.name.items name) (any_at rest i known name at named)
   where
     either : (b : Bool) → not (list_any (λ k. bytes_eq k.name.items name) rest) ≡ false → not (b || list_any (λ k. bytes_eq k.name.items name) rest) ≡ false
     either true later = refl
     either false later = later
 
-no_such : (list : List Known) (name : List ℕ) → NoneHasName list name → lacks_name list (some name) ≡ true
+no_such : (list : List KnownHist) (name : List ℕ) → NoneHasName list name → lacks_name list (some name) ≡ true
 no_such [] name lacking = refl
 no_such (first ∷ rest) name lacking =
     either (bytes_eq first.name.items name) (λ same. lacking 0 first refl ((bytes_eq-Decides first.name.items name).0 same)) (no_such rest name (λ i known at. lacking (suc i) known at))

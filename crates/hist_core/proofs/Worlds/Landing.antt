@@ -9,7 +9,7 @@ use Rattle.hist_core.specs.declared.snapshot_call.SnapshotStage.{SnapshotStage}
 use Rattle.hist_core.specs.declared.snapshot_call.SnapshotStage.TheVariants.{LoadingSingle, LoadingCounts, LoadingCount, Walking, LoadingSample, LoadingSum, LoadingRedundant}
 use Rattle.hist_core.specs.declared.walk.SampleWalk.TheVariants.{LoadingFirst, LoadingType, LoadingHistogram, LoadingValue, LoadingNext}
 use Rattle.hist_core.specs.SnapshotCall.{LooksAnew}
-use Rattle.hist_core.specs.StepsBy.{Deed, DoesOnly, StepsBy}
+use Rattle.hist_core.specs.StepsBy.{SharedEffect, DoesOnly, StepsBy}
 use Rattle.hist_core.specs.ActorRun.{Advances, DoesAsSaid, Lands, LooksSince, Serves, is_flagged, lacks_room}
 use Rattle.hist_core.proofs.Parts.Allocations.{goes_with}
 use Rattle.hist_core.proofs.Parts.Deeds.{does_less, does_still}
@@ -21,7 +21,7 @@ Landing shape version old words new new_words said a =
     StepsBy shape.size version a words new_words (λ b. Lands shape version old new said a b × DoesAsSaid old.running said a b)
 
 -- what it has done is so still, whatever is noted before and behind
-pub does_as_said : (running : Option Running) (said : Stepped) (may : Deed → Type 0) (a b c d : Actor) → ((deed : Deed) → may deed → Serves running a deed)
+pub does_as_said : (running : Option Running) (said : Stepped) (may : SharedEffect → Type 0) (a b c d : Actor) → ((deed : SharedEffect) → may deed → Serves running a deed)
     → b.done ≡ a.done → d.done ≡ c.done → DoesOnly (is_flagged said) (lacks_room said) may b c → DoesAsSaid running said a d
 does_as_said running said may a b c d serves first last does =
     does_still (is_flagged said) (lacks_room said) (Serves running a) a b c d first last

@@ -6,7 +6,7 @@ use Rattle.segment_machine.specs.State.{memory}
 use Rattle.hist_core.specs.declared.world_state.WorldState.{WorldState}
 use Rattle.hist_core.specs.declared.call.Stepped.{Stepped}
 use Rattle.hist_core.specs.Start.{Start}
-use Rattle.hist_core.specs.WorldState.{BeginsFrom, GivesBack, IsReached, IsReachedAs, Lends, Shows, StepsTo}
+use Rattle.hist_core.specs.WorldState.{BeginsFrom, GivesBack, IsReachable, IsReachedAs, LendsOrNothing, Shows, StepsTo}
 use Rattle.hist_core.specs.World.{ChangesOneWord}
 
 -- the memory of a state is the words of a world that it stands for
@@ -32,12 +32,12 @@ one_word start old actor state new said reach (event, then_is, step, (last, give
     )
 
 -- units that are lent change none
-lent_memory : (actor : ℕ) (old new : State) → Lends actor old new → memory new ≡ memory old
+lent_memory : (actor : ℕ) (old new : State) → LendsOrNothing actor old new → memory new ≡ memory old
 lent_memory actor old new (inl is) = ap memory is
 lent_memory actor old new (inr (units, (a, b, apart, there, other, may, is))) = ap memory is
 
 -- the begin of a call changes no word
-pub no_word : (old : WorldState) (actor : ℕ) (new : WorldState) → ∥ IsReached old ∥₁ → ((start : Start) (state : State) → IsReachedAs start old state → BeginsFrom start state actor new)
+pub no_word : (old : WorldState) (actor : ℕ) (new : WorldState) → ∥ IsReachable old ∥₁ → ((start : Start) (state : State) → IsReachedAs start old state → BeginsFrom start state actor new)
     → new.words.items ≡ old.words.items
 no_word old actor new reached begins = ∥∥₁_elim reached (hlevel props) (λ (start, state, reach). let begun = begins start state reach in
     sym (memory_is new begun.0 begun.2.shows) ∙ (lent_memory actor state begun.0 begun.1 ∙ memory_is old state reach.shows))

@@ -13,8 +13,8 @@ use Rattle.segment_promises.specs.Adoption.{adopter}
 use Rattle.segment_promises.proofs.Adopting.Opened.Opens.{adoption_opens}
 use Rattle.hist_core.specs.declared.actor_run.ActorRun.{ActorRun}
 use Rattle.hist_core.specs.declared.world_state.WorldState.{WorldState}
-use Rattle.hist_core.specs.ActorRun.{entry_of, known_of, AreShown, HasDraft, IsFresh, IsKnown, HaveOwnNames, StandsIn, HasRoom, IsRun, pending_by}
-use Rattle.hist_core.specs.Start.{IsImage, MayStart, Start, new_start, start_state}
+use Rattle.hist_core.specs.ActorRun.{entry_of, known_of, AreDeltasShown, HasDraft, IsFreshRun, IsKnown, HaveOwnNames, StandsIn, HasRoomForHist, IsActorRunOf, pending_by}
+use Rattle.hist_core.specs.Start.{IsImageStart, MayStart, Start, new_start, start_state}
 use Rattle.hist_core.specs.WorldState.{AreRun, IsAdoptedWorldState, IsNewWorldState, IsReachedFrom, IsReachedFromImage, IsReachedFromNew}
 use Rattle.hist_core.proofs.Worlds.Starts.{start_role}
 
@@ -50,7 +50,7 @@ module _ (shape : Dimensions) (version : ℕ) (start : Start) (role : start.open
       ))
 
   -- an actor that has done nothing stands for a recorder that has just been made
-  one_runs : (n : ℕ) (actor_run : ActorRun) → IsFresh actor_run → IsRun shape version actor_run (newcomer (opener n))
+  one_runs : (n : ℕ) (actor_run : ActorRun) → IsFreshRun actor_run → IsActorRunOf shape version actor_run (newcomer (opener n))
   one_runs n actor_run fresh =
       let nothing : (k : ℕ) → k ≡ 0 → map entry_of (take k actor_run.entries.items) ≡ [] = λ k none. ap (λ l. map entry_of (take k l)) fresh.entries ∙ ap (map entry_of) (take-nil k) in
       record {
@@ -60,7 +60,7 @@ module _ (shape : Dimensions) (version : ℕ) (start : Start) (role : start.open
         within = (subst (λ (k : ℕ). k ≤ actor_run.begun) (sym fresh.ended) (omega arith), subst (λ (k : ℕ). k ≤ length actor_run.entries.items) (sym fresh.begun) (omega arith));
         ended = nothing actor_run.ended fresh.ended;
         begun = nothing actor_run.begun fresh.begun;
-        taken = subst (λ l. AreShown l []) (sym fresh.taken) tt;
+        taken = subst (λ l. AreDeltasShown l []) (sym fresh.taken) tt;
         names = ap (map known_of) fresh.known;
         lawful = subst (All (IsKnown shape)) (sym fresh.known) (λ k d inside. absurd (omega (arith, inside)));
         once = subst HaveOwnNames (sym fresh.known) tt;
@@ -69,20 +69,20 @@ module _ (shape : Dimensions) (version : ℕ) (start : Start) (role : start.open
           refl,
           record { none = ap (drop actor_run.ended) fresh.entries ∙ drop-nil actor_run.ended; runs = refl; holds = refl; share = refl; takes = refl },
         );
-        room = subst (λ running. HasRoom running (vec_len actor_run.known) (vec_capacity actor_run.known)) (sym fresh.rests) tt;
+        room = subst (λ running. HasRoomForHist running (vec_len actor_run.known) (vec_capacity actor_run.known)) (sym fresh.rests) tt;
         draft = subst (λ running. HasDraft running actor_run.taken) (sym fresh.rests) tt;
       }
 
   -- so do all of them
-  all_run : (actor_runs : List ActorRun) (list : List Actor) → length actor_runs ≡ length list → All IsFresh actor_runs
+  all_run : (actor_runs : List ActorRun) (list : List Actor) → length actor_runs ≡ length list → All IsFreshRun actor_runs
       → ((i : ℕ) (a : Actor) → get_elem? list i ≡ some a → (n : ℕ) × (a ≡ newcomer (opener n))) → AreRun shape version actor_runs list
   all_run [] [] same fresh are = tt
   all_run [] (a ∷ list) same fresh are = absurd (omega (arith, same))
   all_run (r ∷ actor_runs) [] same fresh are = absurd (omega (arith, same))
   all_run (r ∷ actor_runs) (a ∷ list) same fresh are =
       let first = are 0 a refl in (
-        subst (IsRun shape version r) (sym first.1) (one_runs first.0 r (all_at IsFresh (r ∷ actor_runs) 0 r fresh refl)),
-        all_run actor_runs list (omega (arith, same)) (all_from IsFresh actor_runs (λ i x at. all_at IsFresh (r ∷ actor_runs) (suc i) x fresh at)) (λ i x at. are (suc i) x at),
+        subst (IsActorRunOf shape version r) (sym first.1) (one_runs first.0 r (all_at IsFreshRun (r ∷ actor_runs) 0 r fresh refl)),
+        all_run actor_runs list (omega (arith, same)) (all_from IsFreshRun actor_runs (λ i x at. all_at IsFreshRun (r ∷ actor_runs) (suc i) x fresh at)) (λ i x at. are (suc i) x at),
       )
 
   counted : (n : ℕ) → length (recorders n) ≡ n
@@ -96,7 +96,7 @@ module _ (shape : Dimensions) (version : ℕ) (start : Start) (role : start.open
 -- a world of so many actors that have done nothing is one that the machine reaches from its start
 fresh_is_reached : (start : Start) (actors : ℕ) (new : WorldState) → MayStart new.shape new.version start → start.opener.hand.place ≡ Idle
     → start.opener.segment ≡ record { shape = new.shape; version = new.version; cursors = 0 } → new.words.items ≡ start.words → vec_len new.actor_runs ≡ actors
-    → All IsFresh new.actor_runs.items → start.opener.units.share ≡ new.units → actors ≤ 64 → IsReachedFrom start new
+    → All IsFreshRun new.actor_runs.items → start.opener.units.share ≡ new.units → actors ≤ 64 → IsReachedFrom start new
 fresh_is_reached start actors new starts idle segment worded many fresh pooled few =
     let role = start_role new.shape new.version start starts in
     let made_there = made new.shape new.version start role idle segment actors in (
@@ -138,7 +138,7 @@ image_is_reached words actors new goes_on narrow few =
     let reading : Reading = reading_along words (head_of words) references in
     let opens = adoption_opens words references reading 0 narrow goes_on.listed refl goes_on.adoptable in
     let start : Start = record { opened = opens.0; words = words; opener = adopter words references reading 0 } in
-    let image : IsImage words references start = record {
+    let image : IsImageStart words references start = record {
       listed = goes_on.listed;
       adoptable = goes_on.adoptable;
       words_are = refl;

@@ -7,15 +7,15 @@ use Rattle.segment_machine.specs.declared.actor.Known.{Known as MachineKnown}
 use Rattle.segment_machine.specs.Seats.{giver}
 use Rattle.hist_core.specs.declared.entry.Entry.{Entry}
 use Rattle.hist_core.specs.declared.actor_run.ActorRun.{ActorRun}
-use Rattle.hist_core.specs.declared.hist.Known.{Known}
+use Rattle.hist_core.specs.declared.hist.KnownHist.{KnownHist}
 use Rattle.hist_core.specs.declared.actor_run.Running.{Running}
 use Rattle.hist_core.specs.declared.actor_run.Running.TheVariants.{SetCorrupt, Hist, Add, Delta, Snapshot, Batch}
 use Rattle.hist_core.specs.declared.call.Stepped.{Stepped}
-use Rattle.hist_core.specs.StepsBy.{HasMet}
-use Rattle.hist_core.specs.ActorRun.{entry_of, ended_by, begun_by, pending_by, IsQuiet, StandsIn, IsRun, IsSomeRun, TakenGoes}
+use Rattle.hist_core.specs.StepsBy.{HasMetKnown}
+use Rattle.hist_core.specs.ActorRun.{entry_of, ended_by, begun_by, pending_by, CountsNoEntries, StandsIn, IsActorRunOf, IsSomeRun, TakenGoes}
 
 -- it counts nothing still where units, entries and deltas are as before
-pub quiet_on : (pending : List Entry) (a b : Actor) → b.units ≡ a.units → b.entries ≡ a.entries → b.deltas ≡ a.deltas → IsQuiet pending a → IsQuiet pending b
+pub quiet_on : (pending : List Entry) (a b : Actor) → b.units ≡ a.units → b.entries ≡ a.entries → b.deltas ≡ a.deltas → CountsNoEntries pending a → CountsNoEntries pending b
 quiet_on pending a b units entries deltas quiet = record {
   none = quiet.none;
   runs = ap (λ e. e.running) entries ∙ quiet.runs;
@@ -25,7 +25,7 @@ quiet_on pending a b units entries deltas quiet = record {
 }
 
 -- it has met the records of the histograms that it knows, where it knows no more and has seen no less of the chain
-pub met_on : (a b : Actor) → b.answers.names ≡ a.answers.names → IsPrefix a.seen.chain b.seen.chain → HasMet a → HasMet b
+pub met_on : (a b : Actor) → b.answers.names ≡ a.answers.names → IsPrefix a.seen.chain b.seen.chain → HasMetKnown a → HasMetKnown b
 met_on a b names (rest, grown) met known inside =
     subst (λ (l : List ℕ). Contains l known.reference) (sym grown)
     (Contains-append_left a.seen.chain rest known.reference (met known (subst (λ (l : List MachineKnown). Contains l known) names inside)))
@@ -40,16 +40,16 @@ pub not_spent : (place : Place) → is_bound place ≡ false → place ≢ Spent
 not_spent place free spent = true≢false (sym (ap is_bound spent) ∙ free)
 
 -- who gives nothing back is as before
-pub gives_none : (shape : Dimensions) (version : ℕ) (r : ActorRun) (b : Actor) (units : ℕ) → units ≡ 0 → is_bound b.hand.place ≡ false → IsRun shape version r b
-    → (b.hand.place ≢ Spent) × (units ≤ b.units.share) × IsRun shape version r (giver b units)
+pub gives_none : (shape : Dimensions) (version : ℕ) (r : ActorRun) (b : Actor) (units : ℕ) → units ≡ 0 → is_bound b.hand.place ≡ false → IsActorRunOf shape version r b
+    → (b.hand.place ≢ Spent) × (units ≤ b.units.share) × IsActorRunOf shape version r (giver b units)
 gives_none shape version r b units none free run =
     let same : b.units.share ≡ b.units.share - units = omega (arith, none) in (
       not_spent b.hand.place free,
       omega (arith, none),
-      subst (λ n. IsRun shape version r (record b { units = record b.units { share = n } })) same run,
+      subst (λ n. IsActorRunOf shape version r (record b { units = record b.units { share = n } })) same run,
     )
 
-module _ (shape : Dimensions) (version : ℕ) (r : ActorRun) (a : Actor) (run : IsRun shape version r a) where
+module _ (shape : Dimensions) (version : ℕ) (r : ActorRun) (a : Actor) (run : IsActorRunOf shape version r a) where
   -- how many have ended, and how many have begun
   pub logged : length a.entries.log ≡ r.ended
   logged =
@@ -84,7 +84,7 @@ counts_none (Some (Batch batch)) = ⊥
 counts_none running = ⊤
 
 -- so no entry is pending of an actor that runs such a call, and none runs
-quiet_in : (shape : Dimensions) (known : List Known) (pending : List Entry) (running : Option Running) (a : Actor) → counts_none running
+quiet_in : (shape : Dimensions) (known : List KnownHist) (pending : List Entry) (running : Option Running) (a : Actor) → counts_none running
     → StandsIn shape known pending running a → (pending ≡ []) × (a.entries.running ≡ [])
 quiet_in shape known pending None a none stands = (stands.1.none, stands.1.runs)
 quiet_in shape known pending (Some SetCorrupt) a none stands = (stands.1.none, stands.1.runs)

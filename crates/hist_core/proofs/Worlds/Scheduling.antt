@@ -10,7 +10,7 @@ use Rattle.segment_calls.specs.declared.adopt_fault.AdoptFault.{AdoptFault}
 use Rattle.segment_calls.specs.declared.adopt_fault.AdoptFault.TheVariants as adopt
 use Rattle.hist_core.specs.WorldFault.{fault_of_adoption}
 use Rattle.hist_core.specs.World.{IsAdoptFault}
-use Rattle.hist_core.specs.Moves.{FaultsAt, Makes, MakesAll, StopsAt}
+use Rattle.hist_core.specs.Moves.{FaultsAt, Makes, MakesAll, StopsAtMove}
 
 -- one move more
 makes_more : (moves : List Move) (move : Move) (old mid new : WorldState) → MakesAll moves old mid → Makes move mid new → MakesAll (moves ++ move ∷ []) old new
@@ -31,7 +31,7 @@ split_there {X} xs i x near is = sym (take-append-drop i xs)
 
 -- the next one has a fault
 pub stops_next : (moves : List Move) (i : ℕ) (move : Move) (old mid : WorldState) (fault : WorldFault) → i < length moves → move ≡ get_or moves i move
-    → MakesAll (take i moves) old mid → FaultsAt move mid fault → StopsAt moves old fault
+    → MakesAll (take i moves) old mid → FaultsAt move mid fault → StopsAtMove moves old fault
 stops_next moves i move old mid fault near is all faults = record {
   before = take i moves;
   move = move;

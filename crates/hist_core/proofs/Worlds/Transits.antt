@@ -2,19 +2,19 @@
 use Rattle.segment_invariant.proofs.Prelude.Std.{◌≡◌, ℕ, true, false, true≢false, List, [], ◌∷◌, inl, inr, ⊎_elim, sym, ap, subst, ◌∙◌, Option, Some, None, some-injective}
 use Rattle.segment_invariant.proofs.Prelude.Machine.{Dimensions, Actor, Made, Look, Moving, is_bound, MayTurn, noted, begins}
 use Rattle.alloc_core.specs.Alloc.{Allocation}
-use Rattle.alloc_core.specs.declared.alloc.Stage.{Stage as AllocStage}
-use Rattle.alloc_core.specs.declared.alloc.Stage.TheVariants.{LoadFlags, LoadFree, ExchangeFree, StoreSize, StoreCookie, StoreType, SetFull, Claimed, Full, Corrupt}
-use Rattle.list_core.specs.declared.publish.Stage.{Stage as PublishStage}
-use Rattle.list_core.specs.declared.publish.Stage.TheVariants.{StoreOwnNext, LoadTail, Link, MoveTail, Published, Strayed}
+use Rattle.alloc_core.specs.declared.alloc.AllocStage.{AllocStage}
+use Rattle.alloc_core.specs.declared.alloc.AllocStage.TheVariants.{LoadFlags, LoadFree, ExchangeFree, StoreSize, StoreCookie, StoreType, SetFull, Claimed, Full, Corrupt}
+use Rattle.list_core.specs.declared.publish.PubStage.{PubStage}
+use Rattle.list_core.specs.declared.publish.PubStage.TheVariants.{StoreOwnNext, LoadTail, Link, MoveTail, Published, Strayed}
 use Rattle.segment_machine.specs.declared.actor.Known.{Known as MachineKnown}
-use Rattle.segment_machine.specs.Stages.{StandsAt, PublishesAt}
+use Rattle.segment_machine.specs.Stages.{StandsAtAllocStage, PublishesAt}
 use Rattle.hist_core.specs.declared.add.Add.{Add as AddCall}
 use Rattle.hist_core.specs.declared.add.AddStage.{AddStage}
 use Rattle.hist_core.specs.declared.add.AddStage.TheVariants as adds
 use Rattle.hist_core.specs.declared.batch.Batch.{Batch as BatchCall}
 use Rattle.hist_core.specs.declared.entry.Entry.{Entry}
 use Rattle.hist_core.specs.declared.hist.Hist.{Hist as HistCall}
-use Rattle.hist_core.specs.declared.hist.Known.{Known}
+use Rattle.hist_core.specs.declared.hist.KnownHist.{KnownHist}
 use Rattle.hist_core.specs.declared.hist.HistStage.{HistStage}
 use Rattle.hist_core.specs.declared.hist.HistStage.TheVariants as hists
 use Rattle.hist_core.specs.declared.making.MakingStage.{MakingStage}
@@ -36,7 +36,7 @@ use Rattle.hist_core.specs.Sampling as sampling
 use Rattle.hist_core.specs.Sampling.{IsSampling}
 use Rattle.hist_core.specs.StepsBy.{IsFree}
 use Rattle.hist_core.specs.ActorRun.{StandsIn, pending_by}
-use Rattle.hist_core.specs.Transit.{CountsFor, MoveTheirOwn}
+use Rattle.hist_core.specs.Transit.{CountsInRecord, MoveTheirOwn}
 use Rattle.hist_core.proofs.Worlds.Free.{free_turns}
 use Rattle.hist_core.proofs.Worlds.WorldStates.{its_recorder}
 
@@ -50,7 +50,7 @@ module _ (a : Actor) (look : Look) (bucket units : ℕ) (at : a.hand.place ≡ M
   freed : {X : Type 0} → IsFree a → X
   freed free = turned (free_turns a.hand.place free)
 
-  claims_not : {X : Type 0} (allocation : Allocation) (stage : AllocStage) → StandsAt a allocation stage → X
+  claims_not : {X : Type 0} (allocation : Allocation) (stage : AllocStage) → StandsAtAllocStage a allocation stage → X
   claims_not allocation LoadFlags stands = turned stands
   claims_not allocation LoadFree stands = cc (sym stands ∙ at)
   claims_not allocation (ExchangeFree next wants) stands = cc (sym stands.0 ∙ at)
@@ -62,7 +62,7 @@ module _ (a : Actor) (look : Look) (bucket units : ℕ) (at : a.hand.place ≡ M
   claims_not allocation Full stands = cc (sym stands.0 ∙ at)
   claims_not allocation Corrupt stands = cc (sym stands.0 ∙ at)
 
-  publishes_not : {X : Type 0} (reference : ℕ) (made : Made) (stage : PublishStage) → PublishesAt a reference made stage → X
+  publishes_not : {X : Type 0} (reference : ℕ) (made : Made) (stage : PubStage) → PublishesAt a reference made stage → X
   publishes_not reference made StoreOwnNext stands = turned stands.0
   publishes_not reference made LoadTail stands = turned stands.0
   publishes_not reference made (Link tail) stands = cc (sym stands.0 ∙ at)
@@ -119,8 +119,8 @@ module _ (a : Actor) (look : Look) (bucket units : ℕ) (at : a.hand.place ≡ M
       (λ sums. turned sums.turns) is.stands
 
 -- the call of an actor that stands there counts in that histogram
-stands_here : (shape : Dimensions) (known : List Known) (pending : List Entry) (running : Option Running) (a : Actor) → StandsIn shape known pending running a
-    → (look : Look) (bucket units : ℕ) → a.hand.place ≡ Moving look bucket units → CountsFor look.histogram running
+stands_here : (shape : Dimensions) (known : List KnownHist) (pending : List Entry) (running : Option Running) (a : Actor) → StandsIn shape known pending running a
+    → (look : Look) (bucket units : ℕ) → a.hand.place ≡ Moving look bucket units → CountsInRecord look.histogram running
 stands_here shape known pending None a stands look bucket units at = freed a look bucket units at stands.0
 stands_here shape known pending (Some SetCorrupt) a stands look bucket units at = freed a look bucket units at stands.0
 stands_here shape known pending (Some (Hist h)) a stands look bucket units at = asks_none a look bucket units at shape h stands.0.given h.stage stands.0.stands

@@ -12,7 +12,7 @@ use Rattle.segment_machine.specs.Reached as machine
 use Rattle.segment_machine.specs.Seats.{giver, getter}
 use Rattle.segment_machine.specs.declared.actor.Done.{Done as Deeds}
 use Rattle.segment_machine.specs.declared.actor.Hand.{Hand}
-use Rattle.segment_machine.specs.Actor.{AreApart}
+use Rattle.segment_machine.specs.Actor.{AreOwnBlocksApart}
 use Rattle.segment_invariant.proofs.Lists.Elements.{all_at, sum_at_least}
 use Rattle.alloc_core.proofs.Layouts.{length_shown}
 use Rattle.alloc_core.proofs.Owners.{set_at}
@@ -32,7 +32,7 @@ use Rattle.segment_image.specs.Head.{header_of}
 use Rattle.segment_machine.specs.declared.actor.Known.{Known as MachineKnown}
 use Rattle.segment_machine.specs.declared.place.Place.TheVariants.{FreeLoaded}
 use Rattle.segment_invariant.proofs.Lists.Maps.{contains_map}
-use Rattle.hist_core.specs.declared.hist.Known.{Known}
+use Rattle.hist_core.specs.declared.hist.KnownHist.{KnownHist}
 use Rattle.hist_core.specs.declared.actor_run.ActorRun.{ActorRun}
 use Rattle.hist_core.specs.declared.world_state.WorldState.{WorldState}
 use Rattle.segment_calls.specs.declared.answer.Delta.{Delta}
@@ -42,8 +42,8 @@ use Rattle.hist_core.specs.declared.call.Stepped.TheVariants.{More, Done}
 use Rattle.hist_core.specs.declared.call.Answer.TheVariants as answer
 use Rattle.hist_core.specs.Start.{MayStart, Start, start_state}
 use Rattle.hist_core.specs.StepsBy.{StepsBy, WalksInOrder, has_pointer}
-use Rattle.hist_core.specs.ActorRun.{IsAnswer, IsTook, IsKnown, IsRun, IsSomeRun, Lands, Advances, held_by, looked_by, returned_by, DoesAsSaid, LooksSince, Serves, is_flagged, lacks_room, StandsIn, known_of, pending_by, IsRefusedBy}
-use Rattle.hist_core.specs.WorldState.{AreRun, IsReachedAs, IsReached, IsConsistentAs, IsReadAs, MayBeAdopted, AreKnownFirst, HasSeen, HasTaken, ClaimsNothing, DoesOnlySo, HoldsNoPointer, LoadsPointer, IsPromised, StepsTo, IsResting, BeginsFrom, IsDue, LooksFrom}
+use Rattle.hist_core.specs.ActorRun.{IsAnswer, IsTook, IsKnown, IsActorRunOf, IsSomeRun, Lands, Advances, held_by, looked_by, returned_by, DoesAsSaid, LooksSince, Serves, is_flagged, lacks_room, StandsIn, known_of, pending_by, IsRefusedBy}
+use Rattle.hist_core.specs.WorldState.{AreRun, IsReachedAs, IsReachable, IsConsistentAs, ReadsBack, MayBeAdopted, AreKnownFirst, HasSeenEnough, HasTakenEnough, ClaimsNothing, DoesOnlySo, HoldsNoPointer, LoadsPointer, IsPromised, StepsTo, IsResting, BeginsFrom, IsDue, LooksFrom}
 use Rattle.hist_core.specs.World.{of_actor}
 use Rattle.hist_core.proofs.Parts.Deeds.{does_still}
 use Rattle.hist_core.proofs.Walks.Orders.{walks_in_order}
@@ -59,16 +59,16 @@ use Rattle.hist_core.proofs.Worlds.Starts.{consistent_there, kept_there, shape_t
 module _ (shape : Dimensions) (version : ℕ) where
   -- the recorder of an actor
   pub recorder_at : (actor_runs : List ActorRun) (recorders : List Actor) (i : ℕ) (r : ActorRun) → AreRun shape version actor_runs recorders
-      → get_elem? actor_runs i ≡ some r → (a : Actor) × (get_elem? recorders i ≡ some a) × IsRun shape version r a
+      → get_elem? actor_runs i ≡ some r → (a : Actor) × (get_elem? recorders i ≡ some a) × IsActorRunOf shape version r a
   recorder_at [] recorders i r run at = absurd (some-ne-none r (sym at))
   recorder_at (x ∷ actor_runs) [] i r run at = absurd run
   recorder_at (x ∷ actor_runs) (b ∷ recorders) zero r run at =
-      (b, refl, subst (λ (y : ActorRun). IsRun shape version y b) (some-injective x r at) run.0)
+      (b, refl, subst (λ (y : ActorRun). IsActorRunOf shape version y b) (some-injective x r at) run.0)
   recorder_at (x ∷ actor_runs) (b ∷ recorders) (suc i) r run at = recorder_at actor_runs recorders i r run.1 at
 
   -- an actor goes on, and its recorder does
   pub one_goes_on : (actor_runs : List ActorRun) (recorders : List Actor) (i : ℕ) (r : ActorRun) (a : Actor) → AreRun shape version actor_runs recorders
-      → IsRun shape version r a → AreRun shape version (set actor_runs i r) (set recorders i a)
+      → IsActorRunOf shape version r a → AreRun shape version (set actor_runs i r) (set recorders i a)
   one_goes_on [] [] i r a run goes = run
   one_goes_on [] (b ∷ recorders) i r a run goes = absurd run
   one_goes_on (x ∷ actor_runs) [] i r a run goes = absurd run
@@ -91,7 +91,7 @@ set_behind_first x xs i y = ap (λ n. set (x ∷ xs) n y) (add-one i)
 -- what an actor answers of a snapshot is at least what it had accepted and seen
 has_seen : (start : Start) (world_state : WorldState) (state : State) (reach : IsReachedAs start world_state state) (actor : ℕ) (b : Actor)
     → get_elem? state.actors (actor + 1) ≡ some b → is_opener b.role ≡ false → (histogram : ℕ) (snapshot : Snapshot) → IsAnswer histogram snapshot b
-    → HasSeen actor histogram snapshot start world_state state reach
+    → HasSeenEnough actor histogram snapshot start world_state state reach
 has_seen start world_state state reach actor b there records histogram snapshot is =
     let kept = kept_there start world_state state reach in
     let known : MachineKnown = is.known in
@@ -114,7 +114,7 @@ has_seen start world_state state reach actor b there records histogram snapshot 
 -- of a delta, that all of them took together
 has_taken : (start : Start) (world_state : WorldState) (state : State) (reach : IsReachedAs start world_state state) (actor : ℕ) (b : Actor)
     → get_elem? state.actors (actor + 1) ≡ some b → is_opener b.role ≡ false → (histogram : ℕ) (delta : Delta) → IsTook histogram delta b
-    → HasTaken actor histogram delta start world_state state reach
+    → HasTakenEnough actor histogram delta start world_state state reach
 has_taken start world_state state reach actor b there records histogram delta is =
     let kept = kept_there start world_state state reach in record {
       recorder = b;
@@ -148,7 +148,7 @@ module _ (start : Start) (old : WorldState) (state : State) (reach : IsReachedAs
 
   module _ (actor : ℕ) (r r' : ActorRun) (new : WorldState) (at : get_elem? old.actor_runs.items actor ≡ some r) (shaped : new.shape ≡ old.shape)
       (versioned : new.version ≡ old.version) (actor_runs : new.actor_runs.items ≡ set old.actor_runs.items actor r') where
-    its : (a : Actor) × (get_elem? reach.shows.recorders actor ≡ some a) × IsRun old.shape old.version r a
+    its : (a : Actor) × (get_elem? reach.shows.recorders actor ≡ some a) × IsActorRunOf old.shape old.version r a
     its = recorder_at old.shape old.version old.actor_runs.items reach.shows.recorders actor r reach.shows.runs at
 
     there : get_elem? state.actors (actor + 1) ≡ some its.0
@@ -159,7 +159,7 @@ module _ (start : Start) (old : WorldState) (state : State) (reach : IsReachedAs
     changed b = record { words = new.words.items; cursors = []; actors = set state.actors (actor + 1) b }
 
     -- the actors stand for those of that state, of which its actor and its opener may have given each other units
-    runs_there : (b : Actor) → IsRun old.shape old.version r' b → AreRun new.shape new.version new.actor_runs.items (set reach.shows.recorders actor b)
+    runs_there : (b : Actor) → IsActorRunOf old.shape old.version r' b → AreRun new.shape new.version new.actor_runs.items (set reach.shows.recorders actor b)
     runs_there b run = subst (λ (p : Dimensions × ℕ × List ActorRun). AreRun p.0 p.1 p.2 (set reach.shows.recorders actor b))
         (λ i. (sym shaped i, sym versioned i, sym actor_runs i))
         (one_goes_on old.shape old.version old.actor_runs.items reach.shows.recorders actor r' b reach.shows.runs run)
@@ -182,7 +182,7 @@ module _ (start : Start) (old : WorldState) (state : State) (reach : IsReachedAs
         e.ready [] acted (λ learned. refl) in
         let learned = subst (Learned e.at event) (finds event) did.1 in
         let stood = set_at state.actors (actor + 1) its.0 (next e.at event (found_at state event)) there in
-        let apart = subst (λ (n : ℕ). AreApart (next e.at event n)) (finds event) (λ living. (did.0.each (actor + 1) (next e.at event (found_at state event)) stood living).apart) in
+        let apart = subst (λ (n : ℕ). AreOwnBlocksApart (next e.at event n)) (finds event) (λ living. (did.0.each (actor + 1) (next e.at event (found_at state event)) stood living).apart) in
         let ordered = subst (λ (n : ℕ). WalksInOrder (next e.at event n)) (finds event)
         (walks_in_order old.shape start.opened _ did.0 (actor + 1) (next e.at event (found_at state event)) stood) in
         let goes = e.goes learned apart ordered in
@@ -209,7 +209,7 @@ module _ (start : Start) (old : WorldState) (state : State) (reach : IsReachedAs
         )
 
     -- the state where its actor is this is reached
-    reached_so : (event : Event) (b : Actor) → IsStep old.version state (actor + 1) event (changed b) → new.units ≡ old.units → IsRun old.shape old.version r' b
+    reached_so : (event : Event) (b : Actor) → IsStep old.version state (actor + 1) event (changed b) → new.units ≡ old.units → IsActorRunOf old.shape old.version r' b
         → IsReachedAs start new (changed b)
     reached_so event b step pooled run = record {
       starts = starts_there;
@@ -282,7 +282,7 @@ module _ (start : Start) (old : WorldState) (state : State) (reach : IsReachedAs
 
     -- it lands there, where no units come back
     lands : (event : Event) (b : Actor) (step : IsStep old.version state (actor + 1) event (changed b)) (pooled : new.units ≡ old.units)
-        (run : IsRun old.shape old.version r' b) → LooksSince r.running its.0 b → (said : Stepped) → DoesAsSaid r.running said its.0 b
+        (run : IsActorRunOf old.shape old.version r' b) → LooksSince r.running its.0 b → (said : Stepped) → DoesAsSaid r.running said its.0 b
         → IsPromised old actor state said start new (changed b) (reached_so event b step pooled run) → StepsTo old actor start state new said
     lands event b step pooled run looks said does promised = (
       event,
@@ -327,7 +327,7 @@ module _ (start : Start) (old : WorldState) (state : State) (reach : IsReachedAs
 
     -- it lands there once its units have come back
     lands_back : (event : Event) (b : Actor) (units : ℕ) → IsStep old.version state (actor + 1) event (changed b) → new.units ≡ old.units + units
-        → b.hand.place ≢ Spent → is_opener b.role ≡ false → units ≤ b.units.share → IsRun old.shape old.version r' (giver b units) → LooksSince r.running its.0 b → (said : Stepped) → DoesAsSaid r.running said its.0 b
+        → b.hand.place ≢ Spent → is_opener b.role ≡ false → units ≤ b.units.share → IsActorRunOf old.shape old.version r' (giver b units) → LooksSince r.running its.0 b → (said : Stepped) → DoesAsSaid r.running said its.0 b
         → ((there : IsReachedAs start new (traded b (getter reach.shows.opener units) (giver b units))) → IsPromised old actor state said start new _ there) → StepsTo old actor start state new said
     lands_back event b units step pooled living recorder fits run looks said does promised =
         let opener : Actor = reach.shows.opener in
@@ -397,12 +397,12 @@ module _ (start : Start) (old : WorldState) (state : State) (reach : IsReachedAs
     lands_so event b step (Done (answer.Delta delta)) pooled (run, is) looks does =
         let same : new.units ≡ old.units = omega (arith, pooled) in
         lands event b step same run looks (Done (answer.Delta delta)) does (λ before was.
-        subst (λ (x : ActorRun). HasTaken actor (looked_by x.running) delta start new (changed b) (reached_so event b step same run)) (some-injective r before (sym at ∙ was))
+        subst (λ (x : ActorRun). HasTakenEnough actor (looked_by x.running) delta start new (changed b) (reached_so event b step same run)) (some-injective r before (sym at ∙ was))
         (has_taken start new (changed b) (reached_so event b step same run) actor b (set_at state.actors (actor + 1) its.0 b there) run.records (looked_by r.running) delta is))
     lands_so event b step (Done (answer.Snapshot snapshot)) pooled (run, is) looks does =
         let same : new.units ≡ old.units = omega (arith, pooled) in
         lands event b step same run looks (Done (answer.Snapshot snapshot)) does (λ before was.
-        subst (λ (x : ActorRun). HasSeen actor (looked_by x.running) snapshot start new (changed b) (reached_so event b step same run)) (some-injective r before (sym at ∙ was))
+        subst (λ (x : ActorRun). HasSeenEnough actor (looked_by x.running) snapshot start new (changed b) (reached_so event b step same run)) (some-injective r before (sym at ∙ was))
         (has_seen start new (changed b) (reached_so event b step same run) actor b (set_at state.actors (actor + 1) its.0 b there) run.records (looked_by r.running) snapshot is))
     lands_so event b step (Done (answer.BatchRefused refused)) pooled ((living, fits, run), cause) looks does =
         lands_back event b (held_by r.running) step pooled living run.records fits run looks (Done (answer.BatchRefused refused)) does (due_back b (held_by r.running) refused.why living cause)
@@ -410,7 +410,7 @@ module _ (start : Start) (old : WorldState) (state : State) (reach : IsReachedAs
         lands_back event b (held_by r.running) step pooled living run.records fits run looks (Done (answer.Refused why)) does (due_back b (held_by r.running) why living cause)
 
     -- an actor that goes on by an event leads to the next state
-    pub steps : (said : Stepped) → ((a : Actor) → WalksInOrder a → IsRun old.shape old.version r a → Advances old.shape old.version r words r' new.words.items said a)
+    pub steps : (said : Stepped) → ((a : Actor) → WalksInOrder a → IsActorRunOf old.shape old.version r a → Advances old.shape old.version r words r' new.words.items said a)
         → new.units ≡ old.units + returned_by said (held_by r.running) → StepsTo old actor start state new said
     steps said advances pooled =
         let kept = kept_there start old state reach in
@@ -419,8 +419,8 @@ module _ (start : Start) (old : WorldState) (state : State) (reach : IsReachedAs
 
     -- its actor is lent units, and may begin a call with them
     pub lends : (units : ℕ) → new.words.items ≡ old.words.items → new.units + units ≡ old.units
-        → ((a : Actor) → get_elem? state.actors (actor + 1) ≡ some a → IsRun old.shape old.version r a
-        → (a.hand.place ≢ Spent) × IsRun old.shape old.version r' (getter a units)) → BeginsFrom start state actor new
+        → ((a : Actor) → get_elem? state.actors (actor + 1) ≡ some a → IsActorRunOf old.shape old.version r a
+        → (a.hand.place ≢ Spent) × IsActorRunOf old.shape old.version r' (getter a units)) → BeginsFrom start state actor new
     lends units worded pooled begins =
         let opener : Actor = reach.shows.opener in
         let a : Actor = its.0 in
@@ -456,7 +456,7 @@ module _ (start : Start) (old : WorldState) (state : State) (reach : IsReachedAs
 
 -- an actor changes at run time alone, and stands for the same actor of the machine as before: so does its world
 pub same_there : (start : Start) (old : WorldState) (state : State) → IsReachedAs start old state → (actor : ℕ) (r r' : ActorRun) (new : WorldState) → get_elem? old.actor_runs.items actor ≡ some r
-    → ((a : Actor) → get_elem? state.actors (actor + 1) ≡ some a → IsRun old.shape old.version r a → IsRun old.shape old.version r' a)
+    → ((a : Actor) → get_elem? state.actors (actor + 1) ≡ some a → IsActorRunOf old.shape old.version r a → IsActorRunOf old.shape old.version r' a)
     → new.shape ≡ old.shape → new.version ≡ old.version → new.units ≡ old.units → new.words.items ≡ old.words.items → new.actor_runs.items ≡ set old.actor_runs.items actor r'
     → IsReachedAs start new state
 same_there start old state reach actor r r' new at same shaped versioned pooled worded actor_runs =
@@ -490,12 +490,12 @@ same_there start old state reach actor r r' new at same shaped versioned pooled 
 
 -- what holds of each actor that is there
 pub each_runs : (start : Start) (world_state : WorldState) (state : State) → IsReachedAs start world_state state → (i : ℕ) (r : ActorRun) → get_elem? world_state.actor_runs.items i ≡ some r
-    → (a : Actor) × IsRun world_state.shape world_state.version r a
+    → (a : Actor) × IsActorRunOf world_state.shape world_state.version r a
 each_runs start world_state state reach i r at =
     let found = recorder_at world_state.shape world_state.version world_state.actor_runs.items reach.shows.recorders i r reach.shows.runs at in (found.0, found.2)
 
 -- it is an actor of a segment of so many words
-pub some_run : (world_state : WorldState) → ∥ IsReached world_state ∥₁ → (i : ℕ) (r : ActorRun) → get_elem? world_state.actor_runs.items i ≡ some r → (n : ℕ) → n ≡ length world_state.words.items
+pub some_run : (world_state : WorldState) → ∥ IsReachable world_state ∥₁ → (i : ℕ) (r : ActorRun) → get_elem? world_state.actor_runs.items i ≡ some r → (n : ℕ) → n ≡ length world_state.words.items
     → ∥ IsSomeRun n r ∥₁
 some_run world_state reached i r at n count = ∥∥₁_elim reached (hlevel props) (λ (start, state, reach).
     let found = each_runs start world_state state reach i r at in
@@ -505,7 +505,7 @@ some_run world_state reached i r at n count = ∥∥₁_elim reached (hlevel pro
     ∣ (world_state.shape, world_state.version, found.0, long, omega (arith, from, to, long), found.1) ∣₁)
 
 -- no more entries have begun than there are, and none of them has not begun that has ended
-pub within : (world_state : WorldState) → ∥ IsReached world_state ∥₁ → (i : ℕ) (r : ActorRun) → get_elem? world_state.actor_runs.items i ≡ some r
+pub within : (world_state : WorldState) → ∥ IsReachable world_state ∥₁ → (i : ℕ) (r : ActorRun) → get_elem? world_state.actor_runs.items i ≡ some r
     → (r.ended ≤ r.begun) × (r.begun ≤ length r.entries.items)
 within world_state reached i r at = ∥∥₁_elim reached (hlevel props) (λ (start, state, reach). (each_runs start world_state state reach i r at).1.within)
 
@@ -519,13 +519,13 @@ pub shown_is : {X : Type 0} (shown : ActorRun → List X) (world_state : WorldSt
 shown_is shown world_state i r at = sym (ap (of_actor shown) at)
 
 -- the words are the words of a kept state
-pub is_long : (world_state : WorldState) → ∥ IsReached world_state ∥₁ → length world_state.words.items ≡ world_state.shape.size
+pub is_long : (world_state : WorldState) → ∥ IsReachable world_state ∥₁ → length world_state.words.items ≡ world_state.shape.size
 is_long world_state reached = ∥∥₁_elim reached (hlevel props) (λ (start, state, reach).
     let kept = kept_there start world_state state reach in
     sym (ap length reach.shows.words) ∙ length_shown world_state.shape state.words (layout_of kept.anatomy) kept.shown)
 
 -- their header has no fault
-pub has_sound_header : (world_state : WorldState) → ∥ IsReached world_state ∥₁ → header_of world_state.words.items ≡ Ok (head_of world_state.words.items)
+pub has_sound_header : (world_state : WorldState) → ∥ IsReachable world_state ∥₁ → header_of world_state.words.items ≡ Ok (head_of world_state.words.items)
 has_sound_header world_state reached = ∥∥₁_elim reached (hlevel props) (λ (start, state, reach).
     let kept = kept_there start world_state state reach in
     subst (λ (l : List ℕ). header_of l ≡ Ok (head_of l)) reach.shows.words
@@ -534,7 +534,7 @@ has_sound_header world_state reached = ∥∥₁_elim reached (hlevel props) (λ
 pub is_consistent_now : (world_state : WorldState) → IsConsistentAs world_state
 is_consistent_now world_state start state reach = consistent_there start world_state state reach
 
-pub is_read_now : (world_state : WorldState) → IsReadAs world_state
+pub is_read_now : (world_state : WorldState) → ReadsBack world_state
 is_read_now world_state start state reach =
     let kept = kept_there start world_state state reach in (
       kept,
@@ -549,7 +549,7 @@ is_read_now world_state start state reach =
     )
 
 -- words of version 2 may be adopted, unless the corrupt flag is set
-pub may_be_adopted_now : (world_state : WorldState) → ∥ IsReached world_state ∥₁ → MayBeAdopted world_state
+pub may_be_adopted_now : (world_state : WorldState) → ∥ IsReachable world_state ∥₁ → MayBeAdopted world_state
 may_be_adopted_now world_state reached frozen intact references listed = ∥∥₁_elim reached (hlevel props) (λ (start, state, reach).
     let words = reach.shows.words in
     ∣ subst (λ (l : List ℕ). IsAdoptable l references (reading_along l (head_of l) references)) words
@@ -558,7 +558,7 @@ may_be_adopted_now world_state reached frozen intact references listed = ∥∥�
     (subst (λ (l : List ℕ). IsListed l (head_of l) references) (sym words) listed)) ∣₁)
 
 -- what a resting actor knows is the first of its name
-pub are_known_first : (world_state : WorldState) → ∥ IsReached world_state ∥₁ → AreKnownFirst world_state
+pub are_known_first : (world_state : WorldState) → ∥ IsReachable world_state ∥₁ → AreKnownFirst world_state
 are_known_first world_state reached chain is_chain i r known at rests inside = ∥∥₁_elim reached (hlevel props) (λ (start, state, reach).
     let found = recorder_at world_state.shape world_state.version world_state.actor_runs.items reach.shows.recorders i r reach.shows.runs at in
     let a : Actor = found.0 in
@@ -575,7 +575,7 @@ are_known_first world_state reached chain is_chain i r known at rests inside = �
 
 -- the recorder of an actor that is there
 pub its_recorder : (start : Start) (world_state : WorldState) (state : State) → IsReachedAs start world_state state → (actor : ℕ) (r : ActorRun) → get_elem? world_state.actor_runs.items actor ≡ some r
-    → (a : Actor) × (get_elem? state.actors (actor + 1) ≡ some a) × IsRun world_state.shape world_state.version r a
+    → (a : Actor) × (get_elem? state.actors (actor + 1) ≡ some a) × IsActorRunOf world_state.shape world_state.version r a
 its_recorder start world_state state reach actor r at =
     let found = recorder_at world_state.shape world_state.version world_state.actor_runs.items reach.shows.recorders actor r reach.shows.runs at in
     (found.0, ap (λ actors. get_elem? actors (actor + 1)) reach.shows.actors ∙ behind_first reach.shows.opener reach.shows.recorders actor ∙ found.1, found.2)
@@ -588,7 +588,7 @@ rests_without world_state actor r resting start state reach a is =
     ap (λ (x : Actor). has_pointer x.hand.place) (some-injective a b (sym is ∙ mine)) ∙ free_holds_none b.hand.place free
 
 -- the pool has no more than all units
-pub pool_fits : (world_state : WorldState) → ∥ IsReached world_state ∥₁ → world_state.units ≤ 4294967295
+pub pool_fits : (world_state : WorldState) → ∥ IsReachable world_state ∥₁ → world_state.units ≤ 4294967295
 pool_fits world_state reached = ∥∥₁_elim reached (hlevel props) (λ (start, state, reach).
     let kept = kept_there start world_state state reach in
     let opener : Actor = reach.shows.opener in
@@ -598,7 +598,7 @@ pool_fits world_state reached = ∥∥₁_elim reached (hlevel props) (λ (start
     omega (arith, part, all, pool, least))
 
 -- what an actor knows is lawful
-module _ (world_state : WorldState) (reached : ∥ IsReached world_state ∥₁) (i : ℕ) (r : ActorRun) (at : get_elem? world_state.actor_runs.items i ≡ some r) (place : ℕ) (known : Known)
+module _ (world_state : WorldState) (reached : ∥ IsReachable world_state ∥₁) (i : ℕ) (r : ActorRun) (at : get_elem? world_state.actor_runs.items i ≡ some r) (place : ℕ) (known : KnownHist)
     (there : get_elem? r.known.items place ≡ some known) where
   known_in : (start : Start) (state : State) → IsReachedAs start world_state state → IsKnown world_state.shape known
   known_in start state reach = all_at (IsKnown world_state.shape) r.known.items place known (each_runs start world_state state reach i r at).1.lawful there
@@ -610,7 +610,7 @@ module _ (world_state : WorldState) (reached : ∥ IsReached world_state ∥₁)
   ranges_now = ∥∥₁_elim reached (hlevel props) (λ (start, state, reach). (known_in start state reach).ranges)
 
 -- of an actor that rests all entries have ended
-pub quiet_now : (world_state : WorldState) → ∥ IsReached world_state ∥₁ → (i : ℕ) (r : ActorRun) → get_elem? world_state.actor_runs.items i ≡ some r → r.running ≡ None
+pub quiet_now : (world_state : WorldState) → ∥ IsReachable world_state ∥₁ → (i : ℕ) (r : ActorRun) → get_elem? world_state.actor_runs.items i ≡ some r → r.running ≡ None
     → (length r.entries.items ≡ r.ended) × (r.begun ≡ r.ended)
 quiet_now world_state reached i r at rests = ∥∥₁_elim (some_run world_state reached i r at (length world_state.words.items) refl) (hlevel props)
     (λ some. some_quiet (length world_state.words.items) r (subst counts_none (sym rests) tt) some)

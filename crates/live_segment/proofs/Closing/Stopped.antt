@@ -18,7 +18,7 @@ use Rattle.segment_machine.specs.Actor.{log_of, units_of, units_listed, counted_
 use Rattle.segment_machine.specs.State.{State}
 use Rattle.segment_invariant.specs.Body.{Anatomy}
 use Rattle.segment_invariant.specs.Ledger.{all_moving}
-use Rattle.segment_invariant.specs.Seen.{IsFirst, Knows}
+use Rattle.segment_invariant.specs.Seen.{IsFirst, IsRightlyKnown}
 use Rattle.segment_invariant.specs.Invariant.{Invariant}
 use Rattle.segment_invariant.proofs.Consistency.Books.{one_first}
 use Rattle.segment_invariant.proofs.Counting.Bounds.{each_covered}
@@ -82,7 +82,7 @@ module _ (setting : Setting) (opened : Anatomy) (state : State) (kept : Invarian
   answers_read : (reading : Reading) → ReadsNames kept.anatomy.records reading → (known : Known) → Contains opener.answers.names known
       → (h : Histogram) × Contains reading.hists h × (h.name ≡ known.name) × (h.reference ≡ known.reference) × SameSpec h.spec known.spec
   answers_read reading names known among =
-      let its = All-contains (Knows kept.anatomy) opener.answers.names known (fits setting.shape opened state opener kept stands).names among in
+      let its = All-contains (IsRightlyKnown kept.anatomy) opener.answers.names known (fits setting.shape opened state opener kept stands).names among in
       let (h, there, named) = names.read known.name its.first_spec known.reference its.first in
       let (kind, first, same) = names.given h there in
       let (place, equal) = one_first setting.shape opened state kept known.name its.first_spec kind known.reference h.reference its.first

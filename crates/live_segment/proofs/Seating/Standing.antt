@@ -11,7 +11,7 @@ use Rattle.segment_machine.specs.declared.actor.Actor.{Actor}
 use Rattle.live_segment.specs.declared.rule.Announcement.{Announcement}
 use Rattle.live_segment.specs.declared.rule.Opening.{Opening}
 use Rattle.live_segment.specs.Rule.{Runs}
-use Rattle.live_segment.specs.Standing.{SeesNext, Standing, Stands}
+use Rattle.live_segment.specs.Standing.{SeesNext, Standing, StandsStill}
 use Rattle.live_segment.specs.Steps.{Pass, Sat}
 
 -- a seat that is the same, with the same view
@@ -51,7 +51,7 @@ found_there words shared all anchor word at are is below =
     ∙ (ap (λ (l : List ℕ). slice_index l (suc at)) (sym are ∙ set-get_or all word 0) ∙ ap (slice_index all) next)
 
 pub stands_still : (given : Opening) (slots id : ℕ) (me : Sat) (place : Option Opening) (number : ℕ) → place ≡ Some given → number ≡ id
-    → Allows (Runs given) slots id me 0 (λ n. n) (Stands place number me)
+    → Allows (Runs given) slots id me 0 (λ n. n) (StandsStill place number me)
 stands_still given slots id me place number is same s run wide mine small =
     let first = set-get_or s.words 0 0 in
     let view = set_again s.views id me.0 mine in

@@ -52,8 +52,8 @@ pub record IsCutShort (known : Known) (items : List (ℤ × ℕ)) (refusal : Bat
   pub onward : GoesOn old new
 
 -- a batch has stopped at an item, and its recorder is in no call
-abbrev pub StopsAt : Known → List (ℤ × ℕ) → BatchRefusal → Actor → Actor → Type 0
-StopsAt known items refusal old new = IsCutShort known items refusal old new × IsAtRest new
+abbrev pub StopsAtItem : Known → List (ℤ × ℕ) → BatchRefusal → Actor → Actor → Type 0
+StopsAtItem known items refusal old new = IsCutShort known items refusal old new × IsAtRest new
 
 -- ---- while it continues
 

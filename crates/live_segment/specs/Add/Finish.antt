@@ -35,7 +35,7 @@ pub record IsCounted (known : Known) (value : ℤ) (units : ℕ) (before : List 
   pub runs : a.entries.running ≡ before ++ counted_entry (item_of known value units) false ∷ []
 
 -- a sample is counted: its entry alone runs, and its call holds the units
-pub record HasSample (known : Known) (value : ℤ) (units : ℕ) (a : Actor) : Type 0 where
+pub record HasCountedSample (known : Known) (value : ℤ) (units : ℕ) (a : Actor) : Type 0 where
   pub counted : IsCounted known value units [] a
   pub holds : a.units.held ≡ record { name = known.name; units = units } ∷ []
 

@@ -43,7 +43,7 @@ pub record HaveEnded (entries : List EntryProgress) : Type 0 where
   pub unsummed : All (λ c. c.summed ≡ false) entries
 
 -- All that runs has ended, and its call may continue with this entry: it holds units for those of the same name, and the share has more.
-pub record MayGoOn (a : Actor) (entry : Entry) : Type 0 where
+pub record MayGoOnWith (a : Actor) (entry : Entry) : Type 0 where
   pub runs : a.entries.running ≢ []
   pub ended : HaveEnded a.entries.running
   pub enough : entry.units ≤ a.units.share
@@ -52,14 +52,14 @@ pub record MayGoOn (a : Actor) (entry : Entry) : Type 0 where
   pub within : AreWithin entry.name (spent + entry.units) (map (λ c. c.entry) a.entries.running ++ entry ∷ [])
 
 -- this entry runs, alone or behind some that have ended, and nothing has happened of it
-pub record Waits (a : Actor) (entry : Entry) : Type 0 where
+pub record EntryWaits (a : Actor) (entry : Entry) : Type 0 where
   pub before : List EntryProgress
   pub ended : HaveEnded before
   pub runs : a.entries.running ≡ before ++ fresh entry ∷ []
 
 -- a call may begin with an entry, may continue with it, or has begun with it and it waits
 abbrev pub IsOpenTo : Actor → Entry → Type 0
-IsOpenTo a entry = HasNotBegun a entry.units ⊎ MayGoOn a entry ⊎ Waits a entry
+IsOpenTo a entry = HasNotBegun a entry.units ⊎ MayGoOnWith a entry ⊎ EntryWaits a entry
 
 -- A recorder whose call may count an entry of a histogram that it knows, and no other. The amount of the entry is not known yet.
 pub record CountsAlone (a : Actor) (known : Known) (entry : Entry) : Type 0 where
@@ -73,18 +73,18 @@ pub record CountsAlone (a : Actor) (known : Known) (entry : Entry) : Type 0 wher
   pub amount : entry.amount ≡ pos 0
 
 -- it may count units of a bucket
-pub record MayCount (a : Actor) (known : Known) (bucket units : ℕ) : Type 0 where
+pub record MayCountInBucket (a : Actor) (known : Known) (bucket units : ℕ) : Type 0 where
   pub counts : CountsAlone a known (bucket_entry known bucket units)
   pub bucketed : has_buckets known.spec ≡ true
 
 -- a call that may count an entry has begun with it, and it waits
-abbrev pub HasBegun : Entry → Actor → Actor → Type 0
-HasBegun entry old new = let begun = noted_by old (entry_notes old entry) in (new.units ≡ begun.units) × (new.entries ≡ begun.entries)
+abbrev pub HasBegunEntry : Entry → Actor → Actor → Type 0
+HasBegunEntry entry old new = let begun = noted_by old (entry_notes old entry) in (new.units ≡ begun.units) × (new.entries ≡ begun.entries)
 
 -- It has looked, and may have begun meanwhile: an exchange that comes too late has begun the call none the less.
 pub record LooksFor (entry : Entry) (old new : Actor) : Type 0 where
   pub proceeds : FrameOfCall old new
-  pub begun : ((new.units ≡ old.units) × (new.entries ≡ old.entries)) ⊎ HasBegun entry old new
+  pub begun : ((new.units ≡ old.units) × (new.entries ≡ old.entries)) ⊎ HasBegunEntry entry old new
 
 -- it looks at a histogram: the single word that it loaded, where that stands, and the counts
 abbrev pub LooksAt : Actor → ℕ → Option ℕ → ℕ → Type 0

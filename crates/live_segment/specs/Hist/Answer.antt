@@ -14,7 +14,7 @@ use Rattle.segment_calls.specs.declared.refusal.Refusal.TheVariants.{NoMemory, O
 use Rattle.segment_calls.specs.Asked.{IsAskedFor, IsRefusedFor, IsTooLarge}
 use Rattle.live_segment.specs.declared.recorder.Hist.{Hist}
 use Rattle.live_segment.specs.declared.recorder.KnownHistogram.{KnownHistogram}
-use Rattle.live_segment.specs.Hist.Outcome.{ComesToKnow, IsRefusedBy, LooksAround}
+use Rattle.live_segment.specs.Hist.Outcome.{ComesToKnow, IsHistRefusal, LooksAround}
 
 -- ---- which it knows
 
@@ -59,5 +59,5 @@ abbrev pub IsRefusedWith : List ℕ → Spec → Refusal → Actor → Actor →
 IsRefusedWith name spec why old new =
     (IsRefusedFor old.segment.shape name spec why × (new ≡ old) × (why ≡ NoMemory → KnowsNoSame name spec old))
     ⊎ ((why ≡ OtherSpec) × ((index : ℕ) × (known : Known) × KnowsNamed name old index known × (¬ (SameSpec known.spec spec))) × MayBeAsked old.segment.shape name spec × (new ≡ old))
-    ⊎ (KnowsNone name old × ((asked : Asked) × IsAskedFor old.segment.shape name spec asked × IsRefusedBy asked why old new) × LooksAround old new
+    ⊎ (KnowsNone name old × ((asked : Asked) × IsAskedFor old.segment.shape name spec asked × IsHistRefusal asked why old new) × LooksAround old new
     × (new.answers.owed ≡ old.answers.owed))

@@ -24,8 +24,8 @@ IsAsked shape asked = IsAskedFor shape asked.name.items asked.spec asked
 -- ---- a record
 
 -- it has met a record on the list, and may load words of it
-abbrev pub Meets : ℕ → Actor → Type 0
-Meets at a = MayTurn a × Contains a.seen.chain at
+abbrev pub MayLoadRecord : ℕ → Actor → Type 0
+MayLoadRecord at a = MayTurn a × Contains a.seen.chain at
 
 -- it has seen more words of published records, and otherwise is as it was
 pub record SeesWords (old new : Actor) : Type 0 where

@@ -74,6 +74,6 @@ pub record HasMade (asked : Asked) (old new : Actor) : Type 0 where
   pub tails : Grows old.seen.tails new.seen.tails
 
 -- it has made one, or no block could be claimed for it
-abbrev pub Makes : Asked → Actor → Result Unit Refusal → Actor → Type 0
-Makes asked old (Ok _) new = HasMade asked old new
-Makes asked old (Err why) new = Allocates (BLOCK_HEADER + length asked.payload.items) TYPE_HISTOGRAM old (Err why) new
+abbrev pub MakesRecord : Asked → Actor → Result Unit Refusal → Actor → Type 0
+MakesRecord asked old (Ok _) new = HasMade asked old new
+MakesRecord asked old (Err why) new = Allocates (BLOCK_HEADER + length asked.payload.items) TYPE_HISTOGRAM old (Err why) new

@@ -17,7 +17,7 @@ use Rattle.live_segment.specs.List.Ends.{SawAllOfList}
 use Rattle.live_segment.specs.Alloc.Claims.{NamesAtMostOne}
 use Rattle.live_segment.specs.Known.{known_view}
 use Rattle.segment_promises.specs.Onward.{DoesOn, SeesOn, StaysApart}
-use Rattle.live_segment.specs.Hist.Search.{asked_at, SawOther}
+use Rattle.live_segment.specs.Hist.Search.{asked_at, FirstHasOtherSpec}
 
 -- Of the segment it has seen more, and it may have claimed and published records and set the full flag. It has come to no single word, no count
 -- and no mark; but for answers that it owes, all else is as it was.
@@ -40,9 +40,9 @@ IsFound asked reference a =
 
 -- Why there is none for the caller: the first record of the name has another spec; or it has seen all of the list, as that was when the call
 -- found its end, no record of it had the name, and no block could be claimed for one.
-abbrev pub IsRefusedBy : Asked → Refusal → Actor → Actor → Type 0
-IsRefusedBy asked OtherSpec old new = SawOther asked new
-IsRefusedBy asked why old new =
+abbrev pub IsHistRefusal : Asked → Refusal → Actor → Actor → Type 0
+IsHistRefusal asked OtherSpec old new = FirstHasOtherSpec asked new
+IsHistRefusal asked why old new =
     All (SawOtherName new.seen asked.name.items) new.seen.chain × SawAllOfList old.seen new.seen
     × HasNoRoom why (BLOCK_HEADER + length asked.payload.items) old new
 
@@ -55,7 +55,7 @@ OwesAs asked why a = a.answers.owed ≡ []
 abbrev pub LooksUp : Asked → Actor → Result ℕ Refusal → Actor → Type 0
 LooksUp asked old (Ok reference) new =
     LooksAround old new × Owes asked new × IsFound asked reference new × (new.done.filled ≡ old.done.filled)
-LooksUp asked old (Err why) new = LooksAround old new × OwesAs asked why new × IsRefusedBy asked why old new
+LooksUp asked old (Err why) new = LooksAround old new × OwesAs asked why new × IsHistRefusal asked why old new
 
 -- what it has made where there is a record of the name, with the spec or another: nothing, or one record of what is asked for
 abbrev pub MakesFor : Asked → Actor → Actor → Type 0
@@ -74,7 +74,7 @@ pub record ComesToKnow (asked : Asked) (reference : ℕ) (old new : Actor) : Typ
 -- once it has said so
 abbrev pub Settles : Asked → Actor → Result ℕ Refusal → Actor → Type 0
 Settles asked old (Ok reference) new = ComesToKnow asked reference old new
-Settles asked old (Err why) new = LooksAround old new × (new.answers.owed ≡ []) × IsRefusedBy asked why old new
+Settles asked old (Err why) new = LooksAround old new × (new.answers.owed ≡ []) × IsHistRefusal asked why old new
 
 -- what it asked for, as the record that was found
 pub record IsKnownAs (asked : Asked) (known : KnownHistogram) : Type 0 where

@@ -3,10 +3,10 @@ pub use Rattle.list_index.specs.Firsts.{first_of}
 pub use Rattle.list_index.specs.Keys.{byte_key_of, key_of}
 pub use Rattle.live_segment.specs.Hist.Answer.{IsKnownAt, NoneHasName}
 pub use Rattle.live_segment.specs.Hist.KnownNames.{HasNames}
-pub use Rattle.live_segment.specs.Hist.ListSearch.{HasReadWords, IsAsked, Meets, ShowsName, ShowsSpec, ShowsWords}
-pub use Rattle.live_segment.specs.Hist.NewRecord.{HasBlock, HasFilled, Makes, SaysAsked}
+pub use Rattle.live_segment.specs.Hist.ListSearch.{HasReadWords, IsAsked, MayLoadRecord, ShowsName, ShowsSpec, ShowsWords}
+pub use Rattle.live_segment.specs.Hist.NewRecord.{HasBlock, HasFilled, MakesRecord, SaysAsked}
 pub use Rattle.live_segment.specs.Hist.Outcome.{IsAnnouncedOf, LooksUp, MakesFor, Settles}
-pub use Rattle.live_segment.specs.Hist.Search.{FoundEnd, HasSearched, Searches, WalksAt}
+pub use Rattle.live_segment.specs.Hist.Search.{FoundEnd, HasSearched, Searches, SearchesAt}
 pub use Rattle.live_segment.specs.Holders.{opened_with, table_of}
 pub use Rattle.live_segment.specs.List.Index.{IsIndexed}
 pub use Rattle.live_segment.specs.List.Keys.{IsNameKey}

@@ -21,7 +21,7 @@ use Rattle.live_segment.specs.List.Ends.{SawAllOfList}
 
 -- Its walk has given the front of the chain that it has seen, and stands at the last of these records, or at the queue block. None of
 -- them has the name.
-pub record WalksAt (name : List ℕ) (at : ℕ) (a : Actor) : Type 0 where
+pub record SearchesAt (name : List ℕ) (at : ℕ) (a : Actor) : Type 0 where
   pub free : MayTurn a
   pub given : List ℕ
   pub front : IsPrefix given a.seen.chain
@@ -47,8 +47,8 @@ abbrev pub asked_at : Asked → ℕ → Known
 asked_at asked reference = record { name = asked.name.items; spec = asked.spec; reference = reference }
 
 -- it saw that the first record of the name has another spec
-abbrev pub SawOther : Asked → Actor → Type 0
-SawOther asked a = (at : ℕ) × (letters : List ℕ) × IsFirstNamed a.seen asked.name.items at × AreNameWords asked.name.items letters
+abbrev pub FirstHasOtherSpec : Asked → Actor → Type 0
+FirstHasOtherSpec asked a = (at : ℕ) × (letters : List ℕ) × IsFirstNamed a.seen asked.name.items at × AreNameWords asked.name.items letters
     × SawOtherSpec a.seen asked.spec (length letters) at
 
 -- it has published no record of the name
@@ -65,6 +65,6 @@ FoundEnd _ old new = ⊤
 abbrev pub Searches : Asked → Search → Actor → Type 0
 Searches asked (Met reference) a =
     MayTurn a × MayNote a (knows (asked_at asked reference)) × Contains a.seen.chain reference × (reference + HISTOGRAM_NAME ≤ a.segment.shape.size)
-Searches asked OtherSpec a = MayTurn a × SawOther asked a
+Searches asked OtherSpec a = MayTurn a × FirstHasOtherSpec asked a
 Searches asked (End at) a =
-    WalksAt asked.name.items at a × All (SawOtherName a.seen asked.name.items) a.seen.chain × HasMadeNone asked.name.items a
+    SearchesAt asked.name.items at a × All (SawOtherName a.seen asked.name.items) a.seen.chain × HasMadeNone asked.name.items a

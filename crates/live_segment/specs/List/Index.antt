@@ -6,7 +6,7 @@ use Rattle.list_index.specs.Firsts.{Met, Holds, is_grouping}
 use Rattle.live_segment.specs.declared.list.index.KeyKind.{KeyKind}
 use Rattle.live_segment.specs.declared.list.index.KeyKind.TheVariants.{Sample}
 use Rattle.live_segment.specs.declared.list.index.RecordIndex.{RecordIndex}
-use Rattle.live_segment.specs.List.Keys.{HasLooked, seen_key}
+use Rattle.live_segment.specs.List.Keys.{HasLookedForKey, seen_key}
 use Rattle.live_segment.specs.List.Walk.{HasCome}
 
 -- the records that it has passed, each with its key
@@ -18,7 +18,7 @@ passed kind seen given = map (λ at. (at, seen_key kind seen at)) (take given se
 pub record IsIndexed (kind : KeyKind) (size : ℕ) (seen : Seen) (index : RecordIndex) : Type 0 where
   pub of_kind : index.kind ≡ kind
   pub come : HasCome size seen.chain index.place
-  pub looked : All (HasLooked kind seen) (take index.place.given seen.chain)
+  pub looked : All (HasLookedForKey kind seen) (take index.place.given seen.chain)
   pub grouping : kind ≡ Sample → is_grouping index.firsts ≡ true
   pub holds : Holds (passed kind seen index.place.given) index.firsts
 

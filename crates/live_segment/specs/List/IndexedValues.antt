@@ -7,14 +7,14 @@ use Rattle.segment_machine.specs.declared.actor.Known.{Known}
 use Rattle.segment_machine.specs.declared.seen.Seen.{Seen}
 use Rattle.segment_machine.specs.Made.{IsFirstSample, SawSample}
 use Rattle.segment_promises.specs.Calls.{SamplesStandBehind}
-use Rattle.segment_promises.specs.Values.{NoKeyRepeats, NoRepeats, Passes}
+use Rattle.segment_promises.specs.Values.{NoKeyRepeats, NoRepeats, PassesRecord}
 use Rattle.list_index.specs.Firsts.{all_of}
 use Rattle.live_segment.specs.declared.list.index.KeyKind.TheVariants.{Sample}
 use Rattle.live_segment.specs.declared.list.index.RecordIndex.{RecordIndex}
 use Rattle.live_segment.specs.declared.segment.Segment.{Segment}
 use Rattle.live_segment.specs.List.Index.{IsIndexed}
 use Rattle.live_segment.specs.Delta.Outcome.{HasTakenSome}
-use Rattle.live_segment.specs.List.Values.{Goes, HasDone, HasUnitsOf, ListsOn, SampleCall}
+use Rattle.live_segment.specs.List.Values.{Goes, HasDealtWith, HasUnitsOf, ListsOn, SampleCall}
 use Rattle.live_segment.specs.List.Values.SampleCall.{OfDelta, OfSnapshot}
 use Rattle.live_segment.specs.Snapshot.Outcome.{HasLooked}
 use Rattle.live_segment.specs.Steps.{IsSame, Pass}
@@ -40,7 +40,7 @@ AreOwn size seen histogram samples = (index : RecordIndex) × HasPassedAll size 
 -- Of each of these records it saw which sample it is, and did something with each sample. What it listed are values, each once, with units
 -- that the first sample of the value on the list has.
 pub record ListsSamples (Does : ℤ → ℕ → Type 0) (Has : ℕ → ℕ → Type 0) (histogram : ℕ) (passed : List ℕ) (listed : List (ℤ × ℕ)) (seen : Seen) : Type 0 where
-  pub passes : AllByRecursion (Passes Does seen histogram) passed
+  pub passes : AllByRecursion (PassesRecord Does seen histogram) passed
   pub firsts : All (λ count. (sample : ℕ) × Contains passed sample × IsFirstSample seen histogram count.0 sample × Has sample count.1) listed
   pub once : NoKeyRepeats listed
   pub few : length listed ≤ length passed
@@ -51,26 +51,26 @@ pub record ListsIndexed (call : SampleCall) (segment : Segment) (known : Known) 
   pub goes : Goes call segment known new
   pub on : ListsOn call listed old.me.0 new.me.0
   pub chain : new.me.0.seen.chain ≡ old.me.0.seen.chain
-  pub lists : ListsSamples (HasDone call listed new.me.0) (HasUnitsOf call new.me.0) known.reference passed listed new.me.0.seen
+  pub lists : ListsSamples (HasDealtWith call listed new.me.0) (HasUnitsOf call new.me.0) known.reference passed listed new.me.0.seen
 
 -- ---- all of it
 
 -- it has listed these of records, among which are all samples of the histogram that were met
 pub record HasListedAll (call : SampleCall) (known : Known) (listed : List (ℤ × ℕ)) (a : Actor) : Type 0 where
   pub passed : List ℕ
-  pub lists : ListsSamples (HasDone call listed a) (HasUnitsOf call a) known.reference passed listed a.seen
+  pub lists : ListsSamples (HasDealtWith call listed a) (HasUnitsOf call a) known.reference passed listed a.seen
   pub each : (value : ℤ) (sample : ℕ) → Contains a.seen.chain sample → SawSample a.seen known.reference value sample → Contains passed sample
 
 -- what becomes of a recorder whose call began and listed these
-abbrev pub HasGone : SampleCall → Known → List (ℤ × ℕ) → Actor → Actor → Type 0
-HasGone OfDelta known listed old new = HasTakenSome known listed old new
-HasGone OfSnapshot known listed old new = HasLooked old new
+abbrev pub HasListedValues : SampleCall → Known → List (ℤ × ℕ) → Actor → Actor → Type 0
+HasListedValues OfDelta known listed old new = HasTakenSome known listed old new
+HasListedValues OfSnapshot known listed old new = HasLooked old new
 
 -- A call on a sparse histogram has begun and listed these, which fit in the segment. It has listed all, where each sample that was met stands
 -- behind the record of its histogram, and no block twice.
 pub record ListsThrough (call : SampleCall) (segment : Segment) (known : Known) (listed : List (ℤ × ℕ)) (old new : Pass) : Type 0 where
   pub same : IsSame old new
   pub goes : Goes call segment known new
-  pub gone : HasGone call known listed old.me.0 new.me.0
+  pub gone : HasListedValues call known listed old.me.0 new.me.0
   pub all : SamplesStandBehind new.me.0 → NoRepeats new.me.0.seen.chain → HasListedAll call known listed new.me.0
   pub few : length listed ≤ (segment.setting.shape.size - HEADER_WORDS) / BLOCK_LEAST

@@ -75,6 +75,6 @@ seen_key Name seen at = seen_name seen at
 seen_key Sample seen at = seen_sample seen at
 
 -- it has looked at a record for its key
-abbrev pub HasLooked : KeyKind → Seen → ℕ → Type 0
-HasLooked Name seen at = HasLookedForName seen at
-HasLooked Sample seen at = HasLookedForSample seen at
+abbrev pub HasLookedForKey : KeyKind → Seen → ℕ → Type 0
+HasLookedForKey Name seen at = HasLookedForName seen at
+HasLookedForKey Sample seen at = HasLookedForSample seen at

@@ -2,13 +2,13 @@
 pub use Rattle.bucket_ranges.specs.Reading.{name_words}
 pub use Rattle.bucket_ranges.specs.declared.spec.Spec.TheVariants.{Sparse}
 pub use Rattle.list_index.specs.Firsts.{Holds, is_grouping}
-pub use Rattle.live_segment.specs.Hist.ListSearch.{HasReadWords, Meets}
+pub use Rattle.live_segment.specs.Hist.ListSearch.{HasReadWords, MayLoadRecord}
 pub use Rattle.live_segment.specs.Hist.Search.{HasSearched}
 pub use Rattle.live_segment.specs.Holders.{opened_with}
 pub use Rattle.live_segment.specs.Known.{KnowsRight, known_view}
 pub use Rattle.live_segment.specs.List.Index.{Enters, IsIndexed}
 pub use Rattle.live_segment.specs.List.IndexedValues.{HasPassedAll, own_samples}
-pub use Rattle.live_segment.specs.List.Keys.{HasLooked, seen_key}
+pub use Rattle.live_segment.specs.List.Keys.{HasLookedForKey, seen_key}
 pub use Rattle.live_segment.specs.List.Publish.{HasPublishedFor, IsFilledFor}
 pub use Rattle.live_segment.specs.List.SampleRecords.{CountsSample, SamplesAreFew, SamplesStandBehind, SeesSample, ShowsSample}
 pub use Rattle.live_segment.specs.List.SharedCursors.{AnswersNext, gift}

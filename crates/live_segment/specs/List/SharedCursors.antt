@@ -35,14 +35,14 @@ pub record GaveInOrder (chain : List ℕ) (a : Actor) : Type 0 where
       → get_elem? chain k ≡ some x.reference → get_elem? chain l ≡ some y.reference → k < l
 
 -- A shared cursor is moved on, or comes too late: the record that it was to be moved to is the next one on the list.
-abbrev pub StandsBehind : ℕ → ℕ → Actor → Type 0
-StandsBehind old new a = (chain : List ℕ) × AreNeighbours chain old new × GaveInOrder chain a
+abbrev pub CursorMovesOn : ℕ → ℕ → Actor → Type 0
+CursorMovesOn old new a = (chain : List ℕ) × AreNeighbours chain old new × GaveInOrder chain a
 
 -- a step moves a shared cursor on, and what it gave stands in order
 abbrev pub MovesCursor : ℕ → ℕ → ℕ → Sat → ℕ → Sat → Type 0
 MovesCursor word old new me found me' =
     DoesAt (λ cursor. cursor_event (move_cursor cursor old new)) word me found me'
-    × ((cursor : ℕ) → me.0.hand.place ≡ BehindCursor cursor old new → StandsBehind old new me'.0)
+    × ((cursor : ℕ) → me.0.hand.place ≡ BehindCursor cursor old new → CursorMovesOn old new me'.0)
 
 -- ---- what came before
 

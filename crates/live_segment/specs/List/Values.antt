@@ -48,7 +48,7 @@ pub record TakesValue (segment : Segment) (known : Known) (at : ℕ) (taken : Op
 -- ---- a snapshot
 
 -- It has seen more and stands elsewhere; all else is as it was.
-pub record SeesMore (old new : Actor) : Type 0 where
+pub record OnlySeesMore (old new : Actor) : Type 0 where
   pub view : new ≡ record old { hand = record old.hand { place = new.hand.place }; seen = new.seen }
   pub seen : SeesOn old.seen new.seen
 
@@ -63,8 +63,8 @@ HasTotal a sample units = SawCount a (sample + SAMPLE_COUNT) units × (1 ≤ uni
 
 -- Totals with which a snapshot of a histogram begins: its buckets in order, with no units yet; or none, and room for as many values as fit in
 -- a segment.
-abbrev pub OpensWith : Segment → KnownHistogram → Vec (ℤ × ℕ) Global → Type 0
-OpensWith segment known totals =
+abbrev pub BeginsWithTotals : Segment → KnownHistogram → Vec (ℤ × ℕ) Global → Type 0
+BeginsWithTotals segment known totals =
     (has_buckets known.spec ≡ true → totals.items ≡ blank_totals known.ranges)
     × (known.spec ≡ Sparse → (totals.items ≡ []) × ((segment.setting.shape.size - HEADER_WORDS) / BLOCK_LEAST ≤ vec_capacity totals))
 
@@ -83,12 +83,12 @@ Goes OfSnapshot segment known seat = LooksAtValues segment known seat
 -- what becomes of its recorder while it lists these
 abbrev pub ListsOn : SampleCall → List (ℤ × ℕ) → Actor → Actor → Type 0
 ListsOn OfDelta listed old new = TakesOn listed old new
-ListsOn OfSnapshot listed old new = SeesMore old new
+ListsOn OfSnapshot listed old new = OnlySeesMore old new
 
 -- what it did with a sample of a value, once it has listed these
-abbrev pub HasDone : SampleCall → List (ℤ × ℕ) → Actor → ℤ → ℕ → Type 0
-HasDone OfDelta listed a value sample = TookSample a sample
-HasDone OfSnapshot listed a value sample = HasListed listed a value sample
+abbrev pub HasDealtWith : SampleCall → List (ℤ × ℕ) → Actor → ℤ → ℕ → Type 0
+HasDealtWith OfDelta listed a value sample = TookSample a sample
+HasDealtWith OfSnapshot listed a value sample = HasListed listed a value sample
 
 -- what it has of the units that it lists of a sample
 abbrev pub HasUnitsOf : SampleCall → Actor → ℕ → ℕ → Type 0
@@ -101,4 +101,4 @@ pub record ListsAlong (call : SampleCall) (segment : Segment) (known : Known) (p
   pub goes : Goes call segment known new
   pub on : ListsOn call listed old.me.0 new.me.0
   pub comes : ComesTo known.reference passed at new.me.0
-  pub lists : ListsValues (HasDone call listed new.me.0) (HasUnitsOf call new.me.0) known.reference passed listed new.me.0.seen
+  pub lists : ListsValues (HasDealtWith call listed new.me.0) (HasUnitsOf call new.me.0) known.reference passed listed new.me.0.seen

@@ -46,7 +46,7 @@ saw_sum a histogram sum redundant = record a {
 
 -- A recorder has looked anew, and these are all that a snapshot of the histogram may list, whatever the sum and the redundant count are: of
 -- samples, where each that was met stands behind the record of its histogram, and no block twice.
-pub record HasSeenAll (known : Known) (old : Actor) (counts : List (ℤ × ℕ)) (new : Actor) : Type 0 where
+pub record HasLookedAtAll (known : Known) (old : Actor) (counts : List (ℤ × ℕ)) (new : Actor) : Type 0 where
   pub looked : HasLooked old new
   pub saw : SamplesStandBehind new → NoRepeats new.seen.chain → (snapshot : Snapshot) → snapshot.counts.items ≡ counts
       → let summed = saw_sum new known.reference snapshot.sum snapshot.redundant in SawAll summed known (answered_as summed known snapshot)

@@ -6,11 +6,11 @@ pub use Rattle.live_segment.specs.Holders.{MayStep, opened_with, table_of}
 pub use Rattle.live_segment.specs.Known.{KnowsRight, known_view}
 pub use Rattle.live_segment.specs.List.IndexedValues.{AreOwn, ListsIndexed, ListsThrough}
 pub use Rattle.live_segment.specs.List.SampleRecords.{SamplesStandBehind}
-pub use Rattle.live_segment.specs.List.Values.{AreFewKeys, ListsAlong, OpensWith}
+pub use Rattle.live_segment.specs.List.Values.{AreFewKeys, ListsAlong, BeginsWithTotals}
 pub use Rattle.live_segment.specs.List.Values.SampleCall.{OfSnapshot}
 pub use Rattle.live_segment.specs.Ready.{IsReadyFor, LooksAtValues}
 pub use Rattle.live_segment.specs.Seated.{IsSeated}
-pub use Rattle.live_segment.specs.Snapshot.Outcome.{HasSeenAll, HasSeenBuckets, HasSnapshot, HavePacked, saw_sum}
+pub use Rattle.live_segment.specs.Snapshot.Outcome.{HasLookedAtAll, HasSeenBuckets, HasSnapshot, HavePacked, saw_sum}
 pub use Rattle.live_segment.specs.Standing.{Standing}
 pub use Rattle.live_segment.specs.Steps.{IsAtRest, IsSame}
 pub use Rattle.live_segment.specs.Steps.GhostNotes.{KnowsAlone}

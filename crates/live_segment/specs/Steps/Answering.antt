@@ -23,8 +23,8 @@ abbrev pub HaveOneName : Known → Actor → Type 0
 HaveOneName mine a = All (λ (known : Known). known.reference ≡ mine.reference → known.name ≡ mine.name) a.answers.names
 
 -- a `hist` returns what is said of the record at a word
-abbrev pub Knows : Step Announcement → Sat → ℕ → Sat → Type 0
-Knows st me found me' =
+abbrev pub NotesKnown : Step Announcement → Sat → ℕ → Sat → Type 0
+NotesKnown st me found me' =
     (said : Announcement) (known : Known) → st.said ≡ some said → IsSaid st.first said known
     → (me'.0 ≡ noted me.0 (knows known)) × (me'.1 ≡ me.1) × HaveOneName known me.0
 

@@ -81,17 +81,17 @@ IsAddedTo a at units x =
     × (x.counts + BLOCK_HEADER + x.bucket ≡ at) × (x.units ≡ units)
 
 -- an addition to a sample's count adds these units
-abbrev pub IsSampled : Actor → ℕ → ℕ → InSample → Type 0
-IsSampled a sample units x =
+abbrev pub IsAddedToSample : Actor → ℕ → ℕ → InSample → Type 0
+IsAddedToSample a sample units x =
     (x.sample ≡ sample) × KnowsAlone a x.known × SawSample a.seen x.known.reference x.value x.sample × (x.units ≡ units)
 
 -- an addition to a sum adds this amount
-abbrev pub IsSummed : Actor → ℕ → ℕ → InSum → Type 0
-IsSummed a histogram word x = (x.known.reference ≡ histogram) × KnowsAlone a x.known × (cast_unsigned w64 x.amount ≡ word) × FitsSigned w64 x.amount
+abbrev pub IsAddedToSum : Actor → ℕ → ℕ → InSum → Type 0
+IsAddedToSum a histogram word x = (x.known.reference ≡ histogram) × KnowsAlone a x.known × (cast_unsigned w64 x.amount ≡ word) × FitsSigned w64 x.amount
 
 -- an addition to a sum adds an amount that is passed to its step as it is
-abbrev pub IsSumOf : Actor → ℕ → ℤ → InSum → Type 0
-IsSumOf a histogram amount x = (x.known.reference ≡ histogram) × KnowsAlone a x.known × (x.amount ≡ amount)
+abbrev pub IsAmountAdded : Actor → ℕ → ℤ → InSum → Type 0
+IsAmountAdded a histogram amount x = (x.known.reference ≡ histogram) × KnowsAlone a x.known × (x.amount ≡ amount)
 
 -- ---- what steps report
 
@@ -127,19 +127,19 @@ AddsToCount word units me =
 -- they are added to the count of a sample
 abbrev pub AddsToSample : ℕ → ℕ → Sat → ℕ → Sat → Type 0
 AddsToSample word units me =
-    TellsOf InSample (λ x. (word ≡ x.sample + SAMPLE_COUNT + 1) × IsSampled me.0 x.sample units x)
+    TellsOf InSample (λ x. (word ≡ x.sample + SAMPLE_COUNT + 1) × IsAddedToSample me.0 x.sample units x)
     (λ x. value_notes me.0 x.known x.value x.units) (λ x. counting_event (add_count (x.sample + SAMPLE_COUNT) units)) [] me
 
 -- the amount of a sample becomes known, and is added
 abbrev pub AddsAmount : ℕ → ℕ → Sat → ℕ → Sat → Type 0
 AddsAmount word number me =
-    TellsOf InSum (λ x. (word ≡ x.known.reference + HISTOGRAM_SUM + 1) × IsSummed me.0 x.known.reference number x)
+    TellsOf InSum (λ x. (word ≡ x.known.reference + HISTOGRAM_SUM + 1) × IsAddedToSum me.0 x.known.reference number x)
     (λ x. amounts x.amount ∷ []) (λ x. counting_event (add_sum x.known.reference x.amount)) [] me
 
 -- the sum of a batch is added, and the batch ends
 abbrev pub AddsSum : ℕ → ℕ → Sat → ℕ → Sat → Type 0
 AddsSum word number me =
-    TellsOf InSum (λ x. (word ≡ x.known.reference + HISTOGRAM_SUM + 1) × IsSummed me.0 x.known.reference number x)
+    TellsOf InSum (λ x. (word ≡ x.known.reference + HISTOGRAM_SUM + 1) × IsAddedToSum me.0 x.known.reference number x)
     (λ x. sum_notes me.0 x.known x.amount) (λ x. counting_event (add_sum x.known.reference x.amount)) (ends ∷ []) me
 
 -- units are added to the redundant count, and the call ends
@@ -203,33 +203,33 @@ HasAddedTo seat at units found after =
 -- it may add units to the count of a sample
 abbrev pub MaySample : Pass → ℕ → ℕ → Type 0
 MaySample seat sample units =
-    MayDoOf InSample (IsSampled seat.me.0 sample units) (λ x. value_notes seat.me.0 x.known x.value x.units)
+    MayDoOf InSample (IsAddedToSample seat.me.0 sample units) (λ x. value_notes seat.me.0 x.known x.value x.units)
     (λ x. counting_event (add_count (x.sample + SAMPLE_COUNT) units)) [] seat
 
 -- it has added units to the count of a sample
 abbrev pub HasSampled : Pass → ℕ → ℕ → ℕ → Pass → Type 0
 HasSampled seat sample units found after =
-    NotedOf InSample (IsSampled seat.me.0 sample units) (λ x. value_notes seat.me.0 x.known x.value x.units)
+    NotedOf InSample (IsAddedToSample seat.me.0 sample units) (λ x. value_notes seat.me.0 x.known x.value x.units)
     (λ x. counting_event (add_count (x.sample + SAMPLE_COUNT) units)) [] seat found after
 
 -- it may add the amount of a sample to the sum
 abbrev pub MayAmount : Pass → ℕ → ℤ → Type 0
 MayAmount seat histogram amount =
-    MayDoOf InSum (IsSumOf seat.me.0 histogram amount) (λ x. amounts x.amount ∷ []) (λ x. counting_event (add_sum x.known.reference x.amount)) [] seat
+    MayDoOf InSum (IsAmountAdded seat.me.0 histogram amount) (λ x. amounts x.amount ∷ []) (λ x. counting_event (add_sum x.known.reference x.amount)) [] seat
 
 -- it has added the amount of a sample to the sum
 abbrev pub HasAmount : Pass → ℕ → ℤ → ℕ → Pass → Type 0
 HasAmount seat histogram amount found after =
-    NotedOf InSum (IsSumOf seat.me.0 histogram amount) (λ x. amounts x.amount ∷ []) (λ x. counting_event (add_sum x.known.reference x.amount)) [] seat found after
+    NotedOf InSum (IsAmountAdded seat.me.0 histogram amount) (λ x. amounts x.amount ∷ []) (λ x. counting_event (add_sum x.known.reference x.amount)) [] seat found after
 
 -- it may add the sum of a batch to the sum, and ends its entry
 abbrev pub MaySum : Pass → ℕ → ℤ → Type 0
 MaySum seat histogram sum =
-    MayDoOf InSum (IsSumOf seat.me.0 histogram sum) (λ x. sum_notes seat.me.0 x.known x.amount)
+    MayDoOf InSum (IsAmountAdded seat.me.0 histogram sum) (λ x. sum_notes seat.me.0 x.known x.amount)
     (λ x. counting_event (add_sum x.known.reference x.amount)) (ends ∷ []) seat
 
 -- it has added the sum of a batch to the sum, and ended its entry
 abbrev pub HasSum : Pass → ℕ → ℤ → ℕ → Pass → Type 0
 HasSum seat histogram sum found after =
-    NotedOf InSum (IsSumOf seat.me.0 histogram sum) (λ x. sum_notes seat.me.0 x.known x.amount)
+    NotedOf InSum (IsAmountAdded seat.me.0 histogram sum) (λ x. sum_notes seat.me.0 x.known x.amount)
     (λ x. counting_event (add_sum x.known.reference x.amount)) (ends ∷ []) seat found after

@@ -12,7 +12,7 @@ use Rattle.segment_machine.specs.Event.{Ready, allocating_event, publishing_even
 use Rattle.segment_machine.specs.Note.{Note, asks}
 use Rattle.segment_machine.specs.Publishing.{link, own_at}
 use Rattle.segment_machine.specs.Walking.{load_published}
-use Rattle.segment_machine.specs.Actor.{AreApart}
+use Rattle.segment_machine.specs.Actor.{AreOwnBlocksApart}
 use Rattle.live_segment.specs.declared.rule.Announcement.{Announcement}
 use Rattle.live_segment.specs.declared.rule.Announcement.TheVariants.{Answer, Histogram, Sample, Units, Wanted}
 use Rattle.live_segment.specs.Steps.{Does, Pass, Sat}
@@ -30,7 +30,7 @@ LoadsPublished word me found me' =
 abbrev pub StoresPayload : ℕ → ℕ → Sat → ℕ → Sat → Type 0
 StoresPayload word value me found me' =
     (at index : ℕ) → word ≡ at + BLOCK_HEADER + index + 1 → Ready me.0 (allocating_event (store_payload at index value))
-    → Does (allocating_event (store_payload at index value)) me found me' × AreApart me.0
+    → Does (allocating_event (store_payload at index value)) me found me' × AreOwnBlocksApart me.0
 
 -- ---- what a record is to hold
 

@@ -4,15 +4,15 @@ pub use Rattle.live_segment.specs.Add.Refusal.{LoadsFlags, MayGiveUp, SetsFull, 
 pub use Rattle.live_segment.specs.Holders.{MayStep, opened_with, table_of}
 pub use Rattle.live_segment.specs.List.Records.{KnowsOwnNames, KnowsOwnSamples, LoadsNext, LoadsType}
 pub use Rattle.live_segment.specs.List.SampleRecords.{LoadsCountOfSample, LoadsSum, SamplesAreFew}
-pub use Rattle.live_segment.specs.List.SharedCursors.{LoadsCursor, MovesCursor, StandsBehind}
+pub use Rattle.live_segment.specs.List.SharedCursors.{LoadsCursor, MovesCursor, CursorMovesOn}
 pub use Rattle.live_segment.specs.Ready.{MayReach}
 pub use Rattle.live_segment.specs.Standing.{SeesNext}
 pub use Rattle.live_segment.specs.Steps.{Does, DoesAt, IsSame, Raises, Stepped}
-pub use Rattle.live_segment.specs.Steps.Answering.{Declines, HasKnown, Knows, MayKnow}
+pub use Rattle.live_segment.specs.Steps.Answering.{Declines, HasKnown, NotesKnown, MayKnow}
 pub use Rattle.live_segment.specs.Steps.GhostNotes.{AddsAmount, AddsLast, AddsMoved, AddsSum, AddsToCount, AddsToSample, HasAddedTo, HasAmount, HasPacked, HasSampled, HasSum, MayAddTo, MayAmount, MayDo, MayPack, MaySample, MaySum, Noted, Packs}
 pub use Rattle.live_segment.specs.Steps.Listing.{HasLinked, Links, LoadsPublished, MayLink, StoresPayload}
-pub use Rattle.live_segment.specs.Steps.Taking.{Answers, BeginsDelta, BeginsSnapshot, EndsDelta, HasAnswered, HasBegunDelta, MayAnswer, MayBeginDelta}
-pub use Rattle.segment_machine.specs.Actor.{AreApart, is_opener}
+pub use Rattle.live_segment.specs.Steps.Taking.{NotesAnswer, IsFirstOfDelta, IsFirstOfSnapshot, EndsDelta, HasAnswered, HasBegunDelta, MayAnswer, MayBeginDelta}
+pub use Rattle.segment_machine.specs.Actor.{AreOwnBlocksApart, is_opener}
 pub use Rattle.segment_machine.specs.Allocating.{exchange_free, load_flags, load_free, set_corrupt, set_full, store_cookie, store_payload, store_size, store_type}
 pub use Rattle.segment_machine.specs.Counting.{add_redundant, load_counts}
 pub use Rattle.segment_machine.specs.Cursors.{load_cursor, move_cursor}

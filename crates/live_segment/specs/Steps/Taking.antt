@@ -20,29 +20,29 @@ use Rattle.live_segment.specs.Steps.GhostNotes.{KnowsAlone, TellsOf, MayDoOf, No
 -- ---- a delta begins
 
 -- it is of this histogram
-abbrev pub IsTaken : Actor → ℕ → Known → Type 0
-IsTaken a histogram known = (known.reference ≡ histogram) × KnowsAlone a known
+abbrev pub IsDeltaOf : Actor → ℕ → Known → Type 0
+IsDeltaOf a histogram known = (known.reference ≡ histogram) × KnowsAlone a known
 
 -- an event on the word of a histogram's record that stands so far behind its begin is the first of a delta of it
-abbrev pub BeginsDelta : ℕ → (ℕ → Event) → ℕ → Sat → ℕ → Sat → Type 0
-BeginsDelta offset event word me =
+abbrev pub IsFirstOfDelta : ℕ → (ℕ → Event) → ℕ → Sat → ℕ → Sat → Type 0
+IsFirstOfDelta offset event word me =
     TellsOf Known (λ known. (word ≡ known.reference + offset + 1) × KnowsAlone me.0 known) (λ known. takes known.name ∷ []) (λ known. event known.reference) [] me
 
 -- it may begin a delta of a histogram by this event
 abbrev pub MayBeginDelta : Pass → ℕ → (ℕ → Event) → Type 0
 MayBeginDelta seat histogram event =
-    MayDoOf Known (IsTaken seat.me.0 histogram) (λ known. takes known.name ∷ []) (λ known. event known.reference) [] seat
+    MayDoOf Known (IsDeltaOf seat.me.0 histogram) (λ known. takes known.name ∷ []) (λ known. event known.reference) [] seat
 
 -- it has begun a delta of a histogram by this event
 abbrev pub HasBegunDelta : Pass → ℕ → (ℕ → Event) → ℕ → Pass → Type 0
 HasBegunDelta seat histogram event found after =
-    NotedOf Known (IsTaken seat.me.0 histogram) (λ known. takes known.name ∷ []) (λ known. event known.reference) [] seat found after
+    NotedOf Known (IsDeltaOf seat.me.0 histogram) (λ known. takes known.name ∷ []) (λ known. event known.reference) [] seat found after
 
 -- ---- a snapshot begins
 
 -- the same of a snapshot, which does not note of which histogram it is before it returns
-abbrev pub BeginsSnapshot : ℕ → (ℕ → Event) → ℕ → Sat → ℕ → Sat → Type 0
-BeginsSnapshot offset event word me =
+abbrev pub IsFirstOfSnapshot : ℕ → (ℕ → Event) → ℕ → Sat → ℕ → Sat → Type 0
+IsFirstOfSnapshot offset event word me =
     TellsOf ℕ (λ histogram. word ≡ histogram + offset + 1) (λ histogram. looks ∷ []) event [] me
 
 -- ---- a delta ends
@@ -61,8 +61,8 @@ answered_as a known snapshot =
     record { name = known.name; counts = snapshot.counts.items; sum = snapshot.sum; redundant = snapshot.redundant; moment = moment_of a }
 
 -- it is said to be the answer
-abbrev pub Answers : Step Announcement → Sat → ℕ → Sat → Type 0
-Answers st me found me' =
+abbrev pub NotesAnswer : Step Announcement → Sat → ℕ → Sat → Type 0
+NotesAnswer st me found me' =
     (known : Known) (snapshot : Snapshot) → st.said ≡ some (Answer known.reference snapshot) → KnowsAlone me.0 known
     → (me'.0 ≡ noted me.0 (answers (answered_as me.0 known snapshot))) × (me'.1 ≡ me.1)
 

@@ -10,7 +10,7 @@ use crate::segment::Segment;
 use segment_calls::{BatchRefusal, Refusal};
 
 impl Segment {
-    ghost use Rattle.live_segment.specs.Add.Prelude.{ClaimsFor, ClaimsForAll, ClaimsForEach, CountsAlone, CountsFor, HasItems, HasNoted, IsAtRest, IsBatched, IsCutShort, IsIndexed, IsNotCounted, IsReadyFor, IsSame, IsSeated, item_of, known_view, KnowsRight, StopsAt};
+    ghost use Rattle.live_segment.specs.Add.Prelude.{ClaimsFor, ClaimsForAll, ClaimsForEach, CountsAlone, CountsFor, HasItems, HasNoted, IsAtRest, IsBatched, IsCutShort, IsIndexed, IsNotCounted, IsReadyFor, IsSame, IsSeated, item_of, known_view, KnowsRight, StopsAtItem};
     ghost use Rattle.live_segment.specs.declared.list.index.KeyKind.TheVariants.{Sample as OfSample};
 
     // Counts a batch: its items, and then its sum, where that is not 0.
@@ -113,7 +113,7 @@ impl Segment {
         requires units { All (λ item. 1 ≤ item.1) items.now × (units_of items.now ≤ seat.old.me.0.units.share) }
         ensures same { IsSame seat.old seat.new }
         ensures indexed { IsIndexed OfSample self.now.setting.shape.size seat.new.me.0.seen samples.new }
-        ensures outcome { MatchResult result (λ _. HasItems (known_view histogram.now) items.now seat.old.me.0 seat.new.me.0) (λ refusal. StopsAt (known_view histogram.now) items.now refusal seat.old.me.0 seat.new.me.0) }
+        ensures outcome { MatchResult result (λ _. HasItems (known_view histogram.now) items.now seat.old.me.0 seat.new.me.0) (λ refusal. StopsAtItem (known_view histogram.now) items.now refusal seat.old.me.0 seat.new.me.0) }
         ensures claims { IfOk result (λ _. ClaimsForEach (known_view histogram.now) items.now seat.old.me.0 seat.new.me.0) }
     {
         for (added, item) in items.iter().enumerate() {

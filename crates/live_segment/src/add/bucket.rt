@@ -19,7 +19,7 @@ pub(crate) enum PackAttempt {
 
 impl Segment {
     ghost use Rattle.std.specs.Prelude.{◌≡◌, ◌+◌, ◌<◌, ◌≤◌, Some, None, IfOk, MatchResult};
-    ghost use Rattle.live_segment.specs.Add.Prelude.{bucket_entry, buckets_of, HasAddedTo, HasCounted, IsSame, IsSeated, IsSeatedAt, IsTurnedAway, known_view, KnowsRight, MayAddTo, MayCount, MountsAtMostOne, table_of, Tries};
+    ghost use Rattle.live_segment.specs.Add.Prelude.{bucket_entry, buckets_of, HasAddedTo, HasCounted, IsSame, IsSeated, IsSeatedAt, IsTurnedAway, known_view, KnowsRight, MayAddTo, MayCountInBucket, MountsAtMostOne, table_of, Tries};
     ghost use Rattle.segment_image.specs.declared.layout.TheConstants.{BLOCK_HEADER};
 
     // Packs units of a bucket of a histogram, where its single word can take them.
@@ -32,7 +32,7 @@ impl Segment {
     ) -> PackAttempt
         requires at { IsSeatedAt self.now histogram.now seat.old }
         requires bucket { (bucket < buckets_of histogram.now.spec) × (bucket ≤ 65535) }
-        requires may { MayCount seat.old.me.0 (known_view histogram.now) bucket units }
+        requires may { MayCountInBucket seat.old.me.0 (known_view histogram.now) bucket units }
         ensures same { IsSame seat.old seat.new }
         ensures outcome { Tries (known_view histogram.now) bucket units seat.old.me.0 result seat.new.me.0 }
     {
@@ -64,7 +64,7 @@ impl Segment {
         requires seat { IsSeated self.now seat.old }
         requires right { KnowsRight self.now.setting seat.old.me.0 histogram.now }
         requires bucket { bucket < buckets_of histogram.now.spec }
-        requires may { MayCount seat.old.me.0 (known_view histogram.now) bucket units }
+        requires may { MayCountInBucket seat.old.me.0 (known_view histogram.now) bucket units }
         ensures same { IsSame seat.old seat.new }
         ensures outcome { MatchResult result (λ _. HasCounted (bucket_entry (known_view histogram.now) bucket units) seat.old.me.0 seat.new.me.0) (λ why. IsTurnedAway why (known_view histogram.now) bucket units seat.old.me.0 seat.new.me.0) }
         ensures claims { IfOk result (λ _. MountsAtMostOne (known_view histogram.now) seat.old.me.0 seat.new.me.0) }

@@ -1,7 +1,7 @@
 //! How a record is compared with what a `hist` asks for.
 
 ghost use Rattle.std.specs.Prelude.{◌≡◌, ◌+◌, ◌<◌, ◌≤◌, ℕ, length, true, false};
-ghost use Rattle.live_segment.specs.Hist.Prelude.{HasReadWords, is_opener, IsAsked, IsFixed, Meets, ShowsName, ShowsSpec, ShowsWords};
+ghost use Rattle.live_segment.specs.Hist.Prelude.{HasReadWords, is_opener, IsAsked, IsFixed, MayLoadRecord, ShowsName, ShowsSpec, ShowsWords};
 
 use crate::rule::Pass;
 use crate::segment::Segment;
@@ -22,7 +22,7 @@ impl Segment {
     // Whether a record that was met has these words from a place on. They are loaded up to the first that is another one.
     fn shows(&self, seat: &mut Pass, at: u64, first: usize, words: &[u64]) -> bool
         requires seat { (seat.old.table_id ≡ table_of self.now) × (is_opener seat.old.me.0.role ≡ false) }
-        requires met { Meets at seat.old.me.0 }
+        requires met { MayLoadRecord at seat.old.me.0 }
         requires fixed { (i : ℕ) → i < length words.now → IsFixed seat.old.me.0 at (first + i) }
         requires room { at + first + length words.now ≤ self.now.setting.shape.size }
         ensures read { HasReadWords seat.old seat.new }
@@ -57,7 +57,7 @@ impl Segment {
     pub(crate) fn shows_spec(&self, seat: &mut Pass, at: u64, asked: &Asked) -> bool
         requires seat { IsSeated self.now seat.old }
         requires asked { IsAsked self.now.setting.shape asked.now }
-        requires met { Meets at seat.old.me.0 }
+        requires met { MayLoadRecord at seat.old.me.0 }
         requires named { ShowsName asked.now at true seat.old.me.0 }
         ensures read { HasReadWords seat.old seat.new }
         ensures shown { ShowsSpec asked.now at result seat.new.me.0.seen }

@@ -1,7 +1,7 @@
 //! How a recorder makes the record of a histogram.
 
 ghost use Rattle.std.specs.Prelude.{◌≡◌, ◌≢◌, ◌+◌, ◌-◌, ◌≤◌, [], false, length, slice_index};
-ghost use Rattle.live_segment.specs.Hist.Prelude.{HasBlock, HasFilled, is_opener, IsAsked, Makes, MayTurn, SaysAsked};
+ghost use Rattle.live_segment.specs.Hist.Prelude.{HasBlock, HasFilled, is_opener, IsAsked, MakesRecord, MayTurn, SaysAsked};
 
 use crate::rule::{Announcement, Pass};
 use crate::segment::Segment;
@@ -41,7 +41,7 @@ impl Segment {
         requires asked { IsAsked self.now.setting.shape asked.now }
         requires says { SaysAsked asked.now said.now }
         ensures same { IsSame seat.old seat.new }
-        ensures outcome { Makes asked.now seat.old.me.0 result seat.new.me.0 }
+        ensures outcome { MakesRecord asked.now seat.old.me.0 result seat.new.me.0 }
     {
         let size = (BLOCK_HEADER + asked.payload.len()) as u64;
         let at = self.allocate(seat, size, TYPE_HISTOGRAM)?;

@@ -1,7 +1,7 @@
 //! How a recorder looks for the first record of a name: by its index, and from there on along the list.
 
 ghost use Rattle.std.specs.Prelude.{◌≡◌, ◌<◌, ◌^◌, ℕ, Some};
-ghost use Rattle.live_segment.specs.Hist.Prelude.{All, Dimensions, first_of, FoundEnd, HasSearched, IsAsked, IsNameKey, key_of, Searches, WalksAt};
+ghost use Rattle.live_segment.specs.Hist.Prelude.{All, Dimensions, first_of, FoundEnd, HasSearched, IsAsked, IsNameKey, key_of, Searches, SearchesAt};
 
 use crate::list::index::RecordIndex;
 use crate::rule::Pass;
@@ -48,7 +48,7 @@ impl Segment {
     pub(crate) fn find(&self, seat: &mut Pass, from: u64, asked: &Asked) -> Search
         requires seat { IsSeated self.now seat.old }
         requires asked { IsAsked self.now.setting.shape asked.now }
-        requires walks { WalksAt asked.now.name.items from seat.old.me.0 }
+        requires walks { SearchesAt asked.now.name.items from seat.old.me.0 }
         ensures same { IsSame seat.old seat.new }
         ensures view { HasSearched seat.old.me.0 seat.new.me.0 }
         ensures outcome { Searches asked.now result seat.new.me.0 }

@@ -1,7 +1,7 @@
 //! The keys by which a recorder finds the records that it met along the list.
 
 ghost use Rattle.std.specs.Prelude.{◌≡◌, ◌+◌, ◌≤◌, ℕ, Some};
-ghost use Rattle.live_segment.specs.List.Prelude.{cast_unsigned, HasReadWords, Meets, name_words, w64, word_seen};
+ghost use Rattle.live_segment.specs.List.Prelude.{cast_unsigned, HasReadWords, MayLoadRecord, name_words, w64, word_seen};
 ghost use Rattle.segment_image.specs.declared.layout.TheConstants.{BLOCK_TYPE, HISTOGRAM_NAME, HISTOGRAM_NAME_LENGTH, TYPE_HISTOGRAM};
 ghost use Rattle.live_segment.specs.List.Keys.{sample_key as key_of_sample};
 
@@ -33,17 +33,17 @@ pub(crate) fn value_key(histogram: u64, value: i32) -> u64
 }
 
 impl Segment {
-    ghost use Rattle.live_segment.specs.List.Prelude.{HasLooked, HasMetRecord, IsSeated, Name, Sample, seen_key};
+    ghost use Rattle.live_segment.specs.List.Prelude.{HasLookedForKey, HasMetRecord, IsSeated, Name, Sample, seen_key};
 
     // The key of the name of a histogram's record that was met.
     fn name_key_of(&self, seat: &mut Pass, at: u64, words: u64) -> u64
         requires seat { IsSeated self.now seat.old }
-        requires met { Meets at seat.old.me.0 }
+        requires met { MayLoadRecord at seat.old.me.0 }
         requires tag { word_seen seat.old.me.0.seen.words (at + BLOCK_TYPE) ≡ Some TYPE_HISTOGRAM }
         requires length { (len : ℕ) × (word_seen seat.old.me.0.seen.words (at + HISTOGRAM_NAME_LENGTH) ≡ Some len) × (words ≡ name_words len) }
         requires room { at + HISTOGRAM_NAME + words ≤ self.now.setting.shape.size }
         ensures read { HasReadWords seat.old seat.new }
-        ensures looked { HasLooked Name seat.new.me.0.seen at }
+        ensures looked { HasLookedForKey Name seat.new.me.0.seen at }
         ensures key { seen_key Name seat.new.me.0.seen at ≡ Some result }
     {
         let mut key = 0;
@@ -57,7 +57,7 @@ impl Segment {
     fn name_key_at(&self, seat: &mut Pass, at: u64) -> Option<u64>
         requires meets { HasMetRecord self.now at seat.old }
         ensures read { HasReadWords seat.old seat.new }
-        ensures looked { HasLooked Name seat.new.me.0.seen at }
+        ensures looked { HasLookedForKey Name seat.new.me.0.seen at }
         ensures key { seen_key Name seat.new.me.0.seen at ≡ result }
     {
         if self.load_published(seat, at, BLOCK_TYPE) != TYPE_HISTOGRAM {
@@ -71,7 +71,7 @@ impl Segment {
     fn sample_key_at(&self, seat: &mut Pass, at: u64) -> Option<u64>
         requires meets { HasMetRecord self.now at seat.old }
         ensures read { HasReadWords seat.old seat.new }
-        ensures looked { HasLooked Sample seat.new.me.0.seen at }
+        ensures looked { HasLookedForKey Sample seat.new.me.0.seen at }
         ensures key { seen_key Sample seat.new.me.0.seen at ≡ result }
     {
         if self.load_published(seat, at, BLOCK_TYPE) != TYPE_SAMPLE {
@@ -86,7 +86,7 @@ impl Segment {
     pub(crate) fn key_at(&self, seat: &mut Pass, kind: KeyKind, at: u64) -> Option<u64>
         requires meets { HasMetRecord self.now at seat.old }
         ensures read { HasReadWords seat.old seat.new }
-        ensures looked { HasLooked kind seat.new.me.0.seen at }
+        ensures looked { HasLookedForKey kind seat.new.me.0.seen at }
         ensures key { seen_key kind seat.new.me.0.seen at ≡ result }
     {
         match kind {

@@ -1,7 +1,7 @@
 //! The steps that say what a `hist` returned: that a histogram is known, or that the call was refused.
 
 ghost use Rattle.std.specs.Prelude.{◌≡◌, false, map};
-ghost use Rattle.live_segment.specs.Steps.Prelude.{Declines, declines, HasKnown, is_opener, Knows, MayKnow, MayNoteAll, noted_by};
+ghost use Rattle.live_segment.specs.Steps.Prelude.{Declines, declines, HasKnown, is_opener, NotesKnown, MayKnow, MayNoteAll, noted_by};
 
 use crate::rule::{Announcement, Pass};
 use crate::segment::Segment;
@@ -11,7 +11,7 @@ use segment_machine::Actor;
 pub(crate) struct Knowing;
 
 impl Play<Announcement, Actor> for Knowing {
-    ghost then = { Knows };
+    ghost then = { NotesKnown };
 }
 
 pub(crate) struct Declining;

@@ -22,7 +22,7 @@ impl Play<Announcement, Actor> for MoveCursor {
 }
 
 impl Segment {
-    ghost use Rattle.live_segment.specs.Steps.Prelude.{MayStep, StandsBehind, Stepped};
+    ghost use Rattle.live_segment.specs.Steps.Prelude.{MayStep, CursorMovesOn, Stepped};
 
     pub(crate) fn load_cursor(&self, seat: &mut Pass, cursor: usize) -> u64
         requires may { MayStep self.now seat.old (cursor_event (load_cursor cursor)) }
@@ -42,7 +42,7 @@ impl Segment {
         requires shape { seat.old.me.0.segment.shape ≡ self.now.setting.shape }
         requires room { cursor < self.now.setting.cursors }
         ensures step { Stepped seat.old (cursor_event (move_cursor cursor old new)) result seat.new }
-        ensures order { StandsBehind old new seat.new.me.0 }
+        ensures order { CursorMovesOn old new seat.new.me.0 }
     {
         let size = self.setting.shape.size() as usize;
         self.table

@@ -44,14 +44,14 @@ impl Play<Announcement, Actor> for MoveTail {
 
 impl Segment {
     ghost use Rattle.std.specs.Prelude.{◌≡◌};
-    ghost use Rattle.live_segment.specs.Steps.Prelude.{AreApart, HasLinked, MayLink, MayReach, MayStep, Stepped};
+    ghost use Rattle.live_segment.specs.Steps.Prelude.{AreOwnBlocksApart, HasLinked, MayLink, MayReach, MayStep, Stepped};
 
     // It says too that no two blocks of the recorder begin at one word.
     pub(crate) fn store_payload(&self, seat: &mut Pass, at: u64, index: usize, value: u64)
         requires may { MayStep self.now seat.old (allocating_event (store_payload at index value)) }
         requires room { at + 4 + index < self.now.setting.shape.size }
         ensures stepped { Stepped seat.old (allocating_event (store_payload at index value)) value seat.new }
-        ensures apart { AreApart seat.old.me.0 }
+        ensures apart { AreOwnBlocksApart seat.old.me.0 }
     {
         self.table
             .shared

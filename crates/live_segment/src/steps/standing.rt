@@ -3,7 +3,7 @@
 ghost use Rattle.std.specs.Prelude.{◌≡◌, Option, Some, None, ℕ};
 ghost use Rattle.live_segment.specs.declared.rule.Opening.{Opening};
 ghost use Rattle.live_segment.specs.Holders.{opened_with, table_of};
-ghost use Rattle.live_segment.specs.Standing.{Standing, Stands};
+ghost use Rattle.live_segment.specs.Standing.{Standing, StandsStill};
 
 use crate::rule::{Announcement, Pass};
 use crate::segment::Segment;
@@ -29,7 +29,7 @@ pub(crate) struct Stand<S> {
 }
 
 impl<S: Stance> Play<Announcement, Actor> for Stand<S> {
-    ghost then = { λ st. Stands S.opening S.number };
+    ghost then = { λ st. StandsStill S.opening S.number };
 }
 
 impl Segment {

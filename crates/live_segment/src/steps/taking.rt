@@ -1,7 +1,7 @@
 //! The steps that take: how a delta and a snapshot begin and end, counts and marks, the sum and its mark, and the redundant count.
 
 ghost use Rattle.std.specs.Prelude.{◌≡◌, ◌+◌, ◌<◌, ◌≤◌, ℕ};
-ghost use Rattle.live_segment.specs.Steps.Prelude.{Answers, BeginsDelta, BeginsSnapshot, DoesAt, EndsDelta, load_count, load_next, load_published, load_redundant, load_single, packing_event, raise_mark, raise_single_mark, swap_sum_mark, taking_event, walking_event};
+ghost use Rattle.live_segment.specs.Steps.Prelude.{NotesAnswer, IsFirstOfDelta, IsFirstOfSnapshot, DoesAt, EndsDelta, load_count, load_next, load_published, load_redundant, load_single, packing_event, raise_mark, raise_single_mark, swap_sum_mark, taking_event, walking_event};
 ghost use Rattle.segment_image.specs.declared.layout.TheConstants.{BLOCK_NEXT, BLOCK_TYPE, HISTOGRAM_SINGLE};
 
 use crate::rule::{Announcement, Pass};
@@ -17,37 +17,37 @@ use segment_machine::Actor;
 pub(crate) struct TakeSingle;
 
 impl Play<Announcement, Actor> for TakeSingle {
-    ghost then = { λ st. BeginsDelta HISTOGRAM_SINGLE (λ histogram. packing_event (load_single histogram)) st.word };
+    ghost then = { λ st. IsFirstOfDelta HISTOGRAM_SINGLE (λ histogram. packing_event (load_single histogram)) st.word };
 }
 
 pub(crate) struct TakeNext;
 
 impl Play<Announcement, Actor> for TakeNext {
-    ghost then = { λ st. BeginsDelta BLOCK_NEXT (λ histogram. walking_event (load_next histogram)) st.word };
+    ghost then = { λ st. IsFirstOfDelta BLOCK_NEXT (λ histogram. walking_event (load_next histogram)) st.word };
 }
 
 pub(crate) struct TakeType;
 
 impl Play<Announcement, Actor> for TakeType {
-    ghost then = { λ st. BeginsDelta BLOCK_TYPE (λ histogram. walking_event (load_published histogram BLOCK_TYPE)) st.word };
+    ghost then = { λ st. IsFirstOfDelta BLOCK_TYPE (λ histogram. walking_event (load_published histogram BLOCK_TYPE)) st.word };
 }
 
 pub(crate) struct LookSingle;
 
 impl Play<Announcement, Actor> for LookSingle {
-    ghost then = { λ st. BeginsSnapshot HISTOGRAM_SINGLE (λ histogram. packing_event (load_single histogram)) st.word };
+    ghost then = { λ st. IsFirstOfSnapshot HISTOGRAM_SINGLE (λ histogram. packing_event (load_single histogram)) st.word };
 }
 
 pub(crate) struct LookNext;
 
 impl Play<Announcement, Actor> for LookNext {
-    ghost then = { λ st. BeginsSnapshot BLOCK_NEXT (λ histogram. walking_event (load_next histogram)) st.word };
+    ghost then = { λ st. IsFirstOfSnapshot BLOCK_NEXT (λ histogram. walking_event (load_next histogram)) st.word };
 }
 
 pub(crate) struct LookType;
 
 impl Play<Announcement, Actor> for LookType {
-    ghost then = { λ st. BeginsSnapshot BLOCK_TYPE (λ histogram. walking_event (load_published histogram BLOCK_TYPE)) st.word };
+    ghost then = { λ st. IsFirstOfSnapshot BLOCK_TYPE (λ histogram. walking_event (load_published histogram BLOCK_TYPE)) st.word };
 }
 
 pub(crate) struct LoadCount;
@@ -83,7 +83,7 @@ impl Play<Announcement, Actor> for LoadRedundant {
 pub(crate) struct Answering;
 
 impl Play<Announcement, Actor> for Answering {
-    ghost then = { Answers };
+    ghost then = { NotesAnswer };
 }
 
 impl Segment {

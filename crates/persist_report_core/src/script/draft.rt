@@ -6,7 +6,7 @@ ghost use Rattle.persist_report_core.specs.Script.{script_view};
 ghost use Rattle.persist_report_core.specs.Draft.{IsDraft, FindsPlace, Opens, Puts};
 
 use crate::script::names::{Names, insert_first};
-use crate::script::request::Request;
+use crate::script::request::ScriptRequest;
 use crate::script::{CallKind, Script, ScriptCall, ScriptFault, ScriptHist};
 use bucket_ranges::Spec;
 use segment_image::Shape;
@@ -34,12 +34,12 @@ fn bad_line(number: u32) -> ScriptFault
 /// The script that the first record opens, by what it asks for.
 pub(crate) fn open_draft(
     alloc: Global,
-    request: Option<Request<'_>>,
+    request: Option<ScriptRequest<'_>>,
     pool: u64,
 ) -> Result<Draft, ScriptFault>
     ensures { Opens pool (option_map request_view request.entry) result }
 {
-    let Some(Request::Segment { size, page, id }) = request else {
+    let Some(ScriptRequest::Segment { size, page, id }) = request else {
         return Err(bad_line(1));
     };
     let Ok(shape) = Shape::of(u64::from(size), u64::from(page)) else {
@@ -138,17 +138,19 @@ impl Draft {
         &mut self,
         alloc: Global,
         number: u32,
-        request: Option<Request<'_>>,
+        request: Option<ScriptRequest<'_>>,
     ) -> Result<(), ScriptFault>
         requires draft { IsDraft self.old }
         requires few { length self.old.script.hists.items < number }
         ensures { Puts self.old self.new number (option_map request_view request.entry) result }
     {
         match request {
-            Some(Request::Add { name, value, count }) => self.put_add(number, name, value, count),
-            Some(Request::Delta { name }) => self.put_delta(number, name),
-            Some(Request::Hist { name, spec }) => self.put_hist(alloc, number, name, spec),
-            Some(Request::Segment { .. }) | None => Err(bad_line(number)),
+            Some(ScriptRequest::Add { name, value, count }) => self.put_add(
+                number, name, value, count,
+            ),
+            Some(ScriptRequest::Delta { name }) => self.put_delta(number, name),
+            Some(ScriptRequest::Hist { name, spec }) => self.put_hist(alloc, number, name, spec),
+            Some(ScriptRequest::Segment { .. }) | None => Err(bad_line(number)),
         }
     }
 }

@@ -8,7 +8,7 @@ ghost use Rattle.persist_report_core.specs.Script.{IsFaultOfBytes, first_record,
 
 use crate::rows::next_fields;
 use crate::script::reading::{bytes_of, script_in};
-use crate::script::request::{Request, read_request};
+use crate::script::request::{ScriptRequest, read_request};
 use crate::script::{Script, ScriptFault};
 use csv::{ByteRecord, ReaderBuilder};
 use segment_image::{Shape, Watched};
@@ -16,11 +16,11 @@ use std::alloc::{AllocError, Global};
 use std::io::Read;
 
 // Whether a record names the segment of this shape and id.
-fn is_of_segment(request: Option<Request<'_>>, shape: Shape, id: u64) -> bool
+fn is_of_segment(request: Option<ScriptRequest<'_>>, shape: Shape, id: u64) -> bool
     ensures { result ≡ names_segment shape id (option_map request_view request.entry) }
 {
     let Some(
-        Request::Segment {
+        ScriptRequest::Segment {
             size,
             page,
             id: named,

@@ -12,7 +12,7 @@ use std::alloc::{AllocError, Global};
 
 /// What a record asks for.
 #[derive(Drop)]
-pub(crate) enum Request<'a> {
+pub(crate) enum ScriptRequest<'a> {
     /// A segment of a size and a page in words, and of an id.
     Segment {
         size: u32,
@@ -37,39 +37,39 @@ pub(crate) enum Request<'a> {
 }
 
 // The fields behind the word `segment`.
-fn read_segment(fields: &ByteRecord) -> Option<Request<'_>>
+fn read_segment(fields: &ByteRecord) -> Option<ScriptRequest<'_>>
     ensures { option_map request_view result ≡ segment_in (drop 1 (fields_of fields.now)) }
 {
     let (size, page, id) = three_from(fields, 1)?;
     let size = unsigned_number(size)?;
     let page = unsigned_number(page)?;
     let id = long_number(id)?;
-    Some(Request::Segment { size, page, id })
+    Some(ScriptRequest::Segment { size, page, id })
 }
 
 // The fields behind the word `add`.
-fn read_add(fields: &ByteRecord) -> Option<Request<'_>>
+fn read_add(fields: &ByteRecord) -> Option<ScriptRequest<'_>>
     ensures { option_map request_view result ≡ add_in (drop 1 (fields_of fields.now)) }
 {
     let (name, value, count) = three_from(fields, 1)?;
     let value = signed_number(value)?;
     let count = unsigned_number(count)?;
-    Some(Request::Add { name, value, count })
+    Some(ScriptRequest::Add { name, value, count })
 }
 
 // The name behind the word `delta`.
-fn read_delta(fields: &ByteRecord) -> Option<Request<'_>>
+fn read_delta(fields: &ByteRecord) -> Option<ScriptRequest<'_>>
     ensures { option_map request_view result ≡ delta_in (drop 1 (fields_of fields.now)) }
 {
     if fields.len() != 2 {
         return None;
     }
     let name = fields.get(1)?;
-    Some(Request::Delta { name })
+    Some(ScriptRequest::Delta { name })
 }
 
 // The fields behind the word `hist`.
-fn read_hist(alloc: Global, fields: &ByteRecord) -> Result<Option<Request<'_>>, AllocError>
+fn read_hist(alloc: Global, fields: &ByteRecord) -> Result<Option<ScriptRequest<'_>>, AllocError>
     ensures { IfOk result (λ request. option_map request_view request ≡ hist_in (drop 1 (fields_of fields.now))) }
 {
     let Some(name) = fields.get(1) else {
@@ -79,7 +79,7 @@ fn read_hist(alloc: Global, fields: &ByteRecord) -> Result<Option<Request<'_>>, 
         return Ok(None);
     };
     match read_spec(alloc, kind, fields, 3)? {
-        Some(spec) => Ok(Some(Request::Hist { name, spec })),
+        Some(spec) => Ok(Some(ScriptRequest::Hist { name, spec })),
         None => Ok(None),
     }
 }
@@ -89,7 +89,7 @@ fn read_behind<'a>(
     alloc: Global,
     word: &[u8],
     fields: &'a ByteRecord,
-) -> Result<Option<Request<'a>>, AllocError>
+) -> Result<Option<ScriptRequest<'a>>, AllocError>
     ensures { IfOk result (λ request. option_map request_view request ≡ request_behind word.now (drop 1 (fields_of fields.now))) }
 {
     if word == b"add".as_slice() {
@@ -109,7 +109,7 @@ fn read_behind<'a>(
 pub(crate) fn read_request(
     alloc: Global,
     fields: &ByteRecord,
-) -> Result<Option<Request<'_>>, AllocError>
+) -> Result<Option<ScriptRequest<'_>>, AllocError>
     ensures { IfOk result (λ request. option_map request_view request ≡ request_in (fields_of fields.now)) }
 {
     match fields.get(0) {

@@ -3,14 +3,14 @@
 ghost use Rattle.std.specs.Prelude.{◌≡◌, ◌⊎◌, true, false, Some, None};
 ghost use Rattle.live_segment.specs.Holders.{IsMadeWith};
 ghost use Rattle.povundiri_c.specs.declared.contents.Contents.{Contents as SomeContents};
-ghost use Rattle.povundiri_c.specs.Calls.{asked_of, IsGiven, outstanding_in, units_of};
+ghost use Rattle.povundiri_c.specs.Calls.{asked_of, IsWritten, outstanding_in, units_of};
 ghost use Rattle.povundiri_c.specs.Joins.{AnswersPassed, AnswersJoinCall, AnswersLendCall, AnswersRecorderCall};
 ghost use Rattle.povundiri_c.specs.OpaqueBoxes.{is_some};
 ghost use Rattle.povundiri_c.specs.Segments.{AnswersCloseCall, InLentRoom, IntoEmpty, IsCreated, IsFilledWith, IsTakenUp};
 
 use crate::contents::Contents;
 use crate::handle::Handle;
-use crate::owned_segment::{OwnedSegment, Request};
+use crate::owned_segment::{JoinOrLend, OwnedSegment};
 use crate::status::{DONE, EMPTY, NO_MEMORY, NOT_EMPTY, of_adopt_fault, of_open_fault};
 use crate::types::SegmentShape;
 use live_segment::{Lender, Memory, Opener, Room, Segment};
@@ -243,7 +243,7 @@ pub extern "C" fn povundiri_proved_recorder(
 }
 
 // Passes a recorder to a segment. `none` takes its place in its handle; if the recorder comes back, it is put there again.
-fn pass(segment: &mut Handle, recorder: &mut Handle, none: Handle, request: Request) -> u32
+fn pass(segment: &mut Handle, recorder: &mut Handle, none: Handle, request: JoinOrLend) -> u32
     ensures full { is_some none.boxed.held ≡ true → (result ≡ 4) × (segment.new ≡ segment.old) × (recorder.new ≡ recorder.old) }
     ensures empty { is_some none.boxed.held ≡ false → recorder.old.boxed.held ≡ None → (result ≡ 3) × (segment.new ≡ segment.old) × (recorder.new ≡ recorder.old) }
     ensures answer { is_some none.boxed.held ≡ false → (passed : SomeContents) → recorder.old.boxed.held ≡ Some passed → AnswersPassed request passed segment.old.boxed.held (result, recorder.new.boxed.held) segment.new.boxed.held }
@@ -282,7 +282,7 @@ pub extern "C" fn povundiri_proved_lend(
     ensures empty { is_some none.boxed.held ≡ false → recorder.old.boxed.held ≡ None → (result ≡ 3) × (segment.new ≡ segment.old) × (recorder.new ≡ recorder.old) }
     ensures answer { is_some none.boxed.held ≡ false → (passed : SomeContents) → recorder.old.boxed.held ≡ Some passed → AnswersLendCall units passed segment.old.boxed.held (result, recorder.new.boxed.held) segment.new.boxed.held }
 {
-    pass(segment, recorder, none, Request::Lend(units))
+    pass(segment, recorder, none, JoinOrLend::Lend(units))
 }
 
 /// Takes a recorder back: its handle is empty then, and `none` is put in its place. 4 where `none` holds something
@@ -308,7 +308,7 @@ pub extern "C" fn povundiri_proved_join(
     ensures empty { is_some none.boxed.held ≡ false → recorder.old.boxed.held ≡ None → (result ≡ 3) × (segment.new ≡ segment.old) × (recorder.new ≡ recorder.old) }
     ensures answer { is_some none.boxed.held ≡ false → (passed : SomeContents) → recorder.old.boxed.held ≡ Some passed → AnswersJoinCall passed segment.old.boxed.held (result, recorder.new.boxed.held) segment.new.boxed.held }
 {
-    pass(segment, recorder, none, Request::Join)
+    pass(segment, recorder, none, JoinOrLend::Join)
 }
 
 /// Returns 0 and the units that no recorder of a segment has, or those that a recorder may still spend; 3 where the
@@ -316,7 +316,7 @@ pub extern "C" fn povundiri_proved_join(
 /// the same [same].
 #[unsafe(no_mangle)]
 pub extern "C" fn povundiri_proved_units(handle: &mut Handle, units: &mut u32) -> u32
-    ensures answer { IsGiven (asked_of units_of handle.old.boxed.held) result units.old units.new }
+    ensures answer { IsWritten (asked_of units_of handle.old.boxed.held) result units.old units.new }
     ensures same { handle.new.boxed.held ≡ handle.old.boxed.held }
 {
     match handle.call(Err(EMPTY), |held| held.units()) {
@@ -332,7 +332,7 @@ pub extern "C" fn povundiri_proved_units(handle: &mut Handle, units: &mut u32) -
 /// where it holds no segment, and what was there is unchanged [answer]. The handle holds the same [same].
 #[unsafe(no_mangle)]
 pub extern "C" fn povundiri_proved_outstanding(segment: &mut Handle, outstanding: &mut u32) -> u32
-    ensures answer { IsGiven (asked_of outstanding_in segment.old.boxed.held) result outstanding.old outstanding.new }
+    ensures answer { IsWritten (asked_of outstanding_in segment.old.boxed.held) result outstanding.old outstanding.new }
     ensures same { segment.new.boxed.held ≡ segment.old.boxed.held }
 {
     match segment.call(Err(EMPTY), |held| held.outstanding()) {

@@ -2,12 +2,12 @@
 
 ghost use Rattle.std.specs.Arc.{arc_value};
 ghost use Rattle.std.specs.Prelude.{◌≡◌, ◌≤◌, MatchOption, MatchResult};
-ghost use Rattle.povundiri_c.specs.Joins.{HasJoined, IsFound, IsLent, IsNotFound, Joins, Lends, Serves, units_left};
+ghost use Rattle.povundiri_c.specs.Joins.{HasJoined, IsRecorderFound, IsLendDone, IsNotFound, Joins, Lends, JoinsOrLends, units_left};
 ghost use Rattle.povundiri_c.specs.Mailbox.{BelongsTo, IsOfOpener};
 
 use crate::joinable_recorder::JoinableRecorder;
 use crate::mailbox::Mailbox;
-use crate::owned_segment::{OwnedSegment, Request};
+use crate::owned_segment::{JoinOrLend, OwnedSegment};
 use crate::status::{BUSY, DONE, ELSEWHERE, NO_MEMORY, OTHER_SEGMENT, of_refusal};
 use live_segment::Refusal;
 use owned_recorder::{OwnedRecorder, join, lend};
@@ -33,7 +33,7 @@ impl OwnedSegment {
         &mut self,
         joinable: JoinableRecorder,
     ) -> Result<OwnedRecorder, (u32, Option<JoinableRecorder>)>
-        ensures { MatchResult result (λ found. IsFound joinable found self.old self.new) (λ refused. IsNotFound joinable self.old refused.0 refused.1 self.new) }
+        ensures { MatchResult result (λ found. IsRecorderFound joinable found self.old self.new) (λ refused. IsNotFound joinable self.old refused.0 refused.1 self.new) }
     {
         let JoinableRecorder {
             owned,
@@ -94,7 +94,7 @@ impl OwnedSegment {
         requires mailbox { arc_value mailbox ≡ arc_value self.old.mailbox }
         requires enough { units ≤ units_left self.old }
         ensures gone { self.new.gone ≡ self.old.gone }
-        ensures lends { IsLent units owned self.old result.0 result.1 self.new }
+        ensures lends { IsLendDone units owned self.old result.0 result.1 self.new }
     {
         let Ok(()) = lend(&mut self.opener, &mut owned, units) else {
             unreachable!()
@@ -127,13 +127,13 @@ impl OwnedSegment {
     pub(crate) fn serve(
         &mut self,
         joinable: JoinableRecorder,
-        request: Request,
+        request: JoinOrLend,
     ) -> (u32, Option<JoinableRecorder>)
-        ensures { Serves request joinable self.old result.0 result.1 self.new }
+        ensures { JoinsOrLends request joinable self.old result.0 result.1 self.new }
     {
         match request {
-            Request::Join => self.join(joinable),
-            Request::Lend(units) => self.lend(joinable, units),
+            JoinOrLend::Join => self.join(joinable),
+            JoinOrLend::Lend(units) => self.lend(joinable, units),
         }
     }
 }

@@ -3,8 +3,8 @@ use Rattle.segment_invariant.proofs.Prelude.Std.{◌≡◌, ℕ, ◌≤◌, Bool
 use Rattle.segment_invariant.proofs.Prelude.Machine.{Dimensions, IsShape}
 use Rattle.alloc_core.specs.declared.planned.Planned.{Planned}
 use Rattle.alloc_core.specs.declared.planned.Planned.TheVariants.{Claim, Waste}
-use Rattle.alloc_core.specs.declared.alloc.Stage.{Stage}
-use Rattle.alloc_core.specs.declared.alloc.Stage.TheVariants.{LoadFree, Corrupt}
+use Rattle.alloc_core.specs.declared.alloc.AllocStage.{AllocStage}
+use Rattle.alloc_core.specs.declared.alloc.AllocStage.TheVariants.{LoadFree, Corrupt}
 use Rattle.alloc_core.specs.Planned.{planned, is_pointer}
 use Rattle.alloc_core.specs.Alloc.{IsAimed, IsRise, stage_of_plan}
 use Rattle.alloc_core.proofs.Lawful.{moved_lawful}
@@ -19,7 +19,7 @@ plan_aims shape size free plan shaped least most good is =
     (record { shaped = shaped; least = least; most = most; aimed = tt })).aimed in
     let stage : (if is_pointer shape free then stage_of_plan free (planned free size shape) else Corrupt) ≡ stage_of_plan free plan =
     ap (λ (b : Bool). if b then stage_of_plan free (planned free size shape) else Corrupt) good ∙ ap (stage_of_plan free) (sym is) in
-    subst (λ (s : Stage). IsAimed (record { shape = shape; size = size; tag = 0; seen = free; stage = s }) s) stage aimed
+    subst (λ (s : AllocStage). IsAimed (record { shape = shape; size = size; tag = 0; seen = free; stage = s }) s) stage aimed
 
 -- the free pointer may rise to no other place
 pub rise_of : (shape : Dimensions) (old new wanted : ℕ) → IsShape shape → is_pointer shape old ≡ true → MayRise shape old new wanted → IsRise shape old new

@@ -4,7 +4,7 @@ use Rattle.segment_invariant.proofs.Prelude.Machine.{Dimensions, IsShown, Behind
 use Rattle.segment_invariant.proofs.Prelude.Invariant.{IsWithinCounts, Record, Body, plain, held, histogram, Piece, Anatomy, layout_of, order_of, free_of, claims_of, Stands, Sees, StandsAs, RecordsAreKept, StandsRight, HoldsOwn, CallsRight, HasKey, SumsAreNear, LooksBack, FinalsAreExact, Fits, IsSetBy, ClaimedRight, StandStill, is_living, Invariant}
 use Rattle.segment_invariant.proofs.Frames.Ahead.{KeepsUp, ahead_at}
 use Rattle.segment_invariant.specs.Ledger.{IsBalanced}
-use Rattle.segment_invariant.specs.Invariant.{IsListed}
+use Rattle.segment_invariant.specs.Invariant.{IsOnList}
 use Rattle.list_lemmas.proofs.Elements.{row_from}
 use Rattle.segment_invariant.proofs.Lists.Countings.{units_total}
 use Rattle.segment_invariant.proofs.Frames.Answers.{answered_set}
@@ -28,7 +28,7 @@ pub record Changes (shape : Dimensions) (opened : Anatomy) (state : State) (old 
   pub shown : IsShown shape words (layout_of new)
   pub onward : Onward old new added
   pub bare : (at : ℕ) (s : Record) → added at (histogram s) → ⊥
-  pub listed : (at : ℕ) (body : Body) → added at body → IsListed old.records at body
+  pub listed : (at : ℕ) (body : Body) → added at body → IsOnList old.records at body
   pub others : (other at : ℕ) (body : Body) → other ≢ id → Stands old.pieces at (some other) body → Stands new.pieces at (some other) body
   pub still : StandStill old.pieces new.pieces
   pub blocks : (k : ℕ) (piece : Piece) → get_elem? new.pieces k ≡ some piece → ClaimedRight piece

@@ -4,7 +4,7 @@ use Rattle.segment_invariant.proofs.Prelude.Machine.{buckets_of, single_of, unit
 use Rattle.segment_invariant.proofs.Prelude.Invariant.{Record, Anatomy, form_at, HasRecord, IsFirstOf, WasCounter, WasInUse, WasMet, Sees, LooksBack}
 use Rattle.std.proofs.lemmas.List.{take-append-le}
 use Rattle.segment_machine.specs.Actor.{accepted_since, SawSingle}
-use Rattle.segment_invariant.specs.Invariant.{IsSettled}
+use Rattle.segment_invariant.specs.Invariant.{NoneInTransit}
 use Rattle.segment_invariant.proofs.Changes.Others.{Deed, changed, sees_no_more}
 
 -- with that counter
@@ -31,7 +31,7 @@ pub record Counter (anatomy : Anatomy) (actors : List Actor) (opener a : Actor) 
       → SawSingle a (known.reference + 9) single → is_off single ≡ true → word_seen a.seen.words (known.reference + 8) ≡ Some place → s.at ≡ place + 4 + bucket
       → s.word + units_packed (single_of a.segment.version (buckets_of known.spec) single) bucket ≤ tally_units (all_counted actors) known.name (bucket_key (Some known) bucket)
   pub counted : (known : Known) (bucket : ℕ) (r : Record) → Contains a.answers.names known → bucket < buckets_of known.spec
-      → HasRecord anatomy.pieces known.reference r → r.counts ≢ 0 → s.at ≡ r.counts + 4 + bucket → IsSettled anatomy actors a known bucket
+      → HasRecord anatomy.pieces known.reference r → r.counts ≢ 0 → s.at ≡ r.counts + 4 + bucket → NoneInTransit anatomy actors a known bucket
       → tally_units (accepted_by a) known.name (bucket_key (Some known) bucket) ≤ s.word + units_packed (form_at anatomy.version r) bucket
   pub samples : (known : Known) (value : ℤ) (at : ℕ) → Contains a.answers.names known → IsFirstOf anatomy.records known.reference value at → s.at ≡ at + 6
       → tally_units (accepted_by a) known.name value ≤ s.word

@@ -4,7 +4,7 @@ use Rattle.segment_invariant.proofs.Prelude.Std.{◌≡◌, ◌≢◌, ℕ, ◌+
 use Rattle.segment_invariant.proofs.Prelude.Machine.{Dimensions, IsShown, SingleWord, buckets_of, packed_bucket, units_packed, single_of, EntryProgress, Place, Spent, SumLoaded, Actor, Known, Moment, Own, Taken, Seen, Sighting, is_off, Leads, tally_units, accepted_by, all_counted, bucket_key, SawCount, is_opener, made_of, outstanding_of, State}
 use Rattle.segment_invariant.proofs.Prelude.Invariant.{Record, Counts, Body, histogram, counts, Listed, Anatomy, layout_of, form_at, HasRecord, HasCounts, IsFirstOf, WasCounter, WasInUse, is_living, RolesAreKept, RecordsAreKept, IsAlone, LooksBack, FinalsAreExact, Invariant}
 use Rattle.std.proofs.lemmas.List.Elements.{All-contains_itself, All-drop}
-use Rattle.segment_invariant.specs.Invariant.{IsMoment, IsSettled}
+use Rattle.segment_invariant.specs.Invariant.{IsMoment, NoneInTransit}
 use Rattle.list_lemmas.proofs.Maps.{one_at, contains_take}
 use Rattle.segment_invariant.proofs.Blocks.Pieces.{one_stands, piece_from}
 use Rattle.segment_invariant.proofs.Blocks.Places.{counter_within}
@@ -149,7 +149,7 @@ module _ (shape : Dimensions) (words : List ℕ) (old new : Anatomy) (shown : Is
 
     counted_on : (known : Known) (bucket count : ℕ) (s : Record) → Contains x.answers.names known → bucket < buckets_of known.spec
         → HasRecord new.pieces known.reference s → s.counts ≢ 0 → SawCount x (s.counts + 4 + bucket) count
-        → IsSettled new after x known bucket
+        → NoneInTransit new after x known bucket
         → ((r : Record) × HasRecord old.pieces known.reference r × RecordGoes old.version r s)
         → tally_units (accepted_by x) known.name (bucket_key (Some known) bucket) ≤ count + units_packed (form_at new.version s) bucket
     counted_on known bucket count s has below there mounts saw settled (r, was, goes) =
@@ -174,8 +174,8 @@ module _ (shape : Dimensions) (words : List ℕ) (old new : Anatomy) (shown : Is
         subst (λ (f : Option SingleWord). tally_units (accepted_by x) known.name (bucket_key (Some known) bucket) ≤ count + units_packed f bucket) (sym form)
         (looks.counted known bucket count r has below was named (subst (λ (n : ℕ). SawCount x (n + 4 + bucket) count) refers saw) (settled_was settled r one form))
       where
-        settled_was : IsSettled new after x known bucket → (r : Record) → ((z : Record) → HasRecord old.pieces known.reference z → z ≡ r)
-            → form_at new.version s ≡ form_at old.version r → IsSettled old before x known bucket
+        settled_was : NoneInTransit new after x known bucket → (r : Record) → ((z : Record) → HasRecord old.pieces known.reference z → z ≡ r)
+            → form_at new.version s ≡ form_at old.version r → NoneInTransit old before x known bucket
         settled_was (inl two) r one form = inl (sym onward.version ∙ two)
         settled_was (inr (inl only)) r one form = inr (inl (alone only))
         settled_was (inr (inr apart)) r one form = inr (inr (λ z here packs.

@@ -2,7 +2,7 @@
 -- counts block and its first samples.
 use Rattle.segment_invariant.proofs.Prelude.Std.{◌≡◌, ◌≢◌, ◌⊎◌, Bool, true, false, if◌then◌else◌, ℕ, zero, suc, ◌+◌, ◌<◌, ℤ, List, ◌∷◌, length, refl, sym, ap, subst, ◌∙◌, arith, Option, Some, None, slice_index, ◌==◌, range_with_len, int_eq, eqb-true, eqb-false, ne_eqb, Decides-int_eq, some, none, some-injective, some-ne-none, get_elem?, at_from, split_at, first_longer}
 use Rattle.segment_invariant.proofs.Prelude.Machine.{Dimensions, Spec, buckets_of, spec_fault, packed_bucket, State, units_in}
-use Rattle.segment_invariant.proofs.Prelude.Invariant.{Record, Counts, Sample, Body, queue, plain, held, histogram, counts, sample, other, Piece, Listed, Anatomy, form_at, of_name, at_bucket, keyed, key_of_bucket, units_held, marks_held, all_held, HasRecord, HasCounts, HasSample, IsNamed, IsFirst, IsFirstOf, Invariant, CountsNothing}
+use Rattle.segment_invariant.proofs.Prelude.Invariant.{Record, Counts, Sample, Body, queue, plain, held, histogram, counts, sample, other, Piece, Listed, Anatomy, form_at, of_name, at_bucket, keyed, key_of_bucket, units_held, marks_held, all_held, HasRecord, HasCounts, HasSample, IsRecordNamed, IsFirst, IsFirstOf, Invariant, CountsNothing}
 use Rattle.bucket_ranges.specs.declared.spec.Spec.TheVariants as spec
 use Rattle.segment_machine.specs.declared.actor.Made.TheVariants as made
 use Rattle.list_lemmas.proofs.Firsts.{first_unique}
@@ -119,7 +119,7 @@ module _ (shape : Dimensions) (opened : Anatomy) (state : State) (kept : Invaria
   pub one_first : (name : List ℕ) (kind kind' : Spec) (at place : ℕ) → IsFirst records name kind at → IsFirst records name kind' place
       → (at ≡ place) × (kind ≡ kind')
   one_first name kind kind' at place first second =
-      let same = first_unique (IsNamed name) records (made_of at name kind) (made_of place name kind') first second in
+      let same = first_unique (IsRecordNamed name) records (made_of at name kind) (made_of place name kind') first second in
       (ap (λ (l : Listed). l.reference) same, cc (ap (λ (l : Listed). l.made) same))
 
   pub one_name : (name mine : List ℕ) (kind kind' : Spec) (at : ℕ) → IsFirst records name kind at → IsFirst records mine kind' at → name ≡ mine
@@ -138,7 +138,7 @@ module _ (shape : Dimensions) (opened : Anatomy) (state : State) (kept : Invaria
       let (front, behind, split, others) = split_at records among.0 l among.1 in
       let (name, first, named) = kept.records.sampled front behind at s.of s.value split in
       subst (λ (name : List ℕ). IsFirst records name spec.Sparse s.of) (sym (named s has))
-      (subst (λ (records : List Listed). IsFirst records name spec.Sparse s.of) (sym split) (first_longer (IsNamed name) front (l ∷ behind) _ first))
+      (subst (λ (records : List Listed). IsFirst records name spec.Sparse s.of) (sym split) (first_longer (IsRecordNamed name) front (l ∷ behind) _ first))
 
   module _ (name : List ℕ) (kind : Spec) (at : ℕ) (r : Record) (first : IsFirst records name kind at) (has : HasRecord pieces at r) (named : r.name ≡ name)
       (specified : r.spec ≡ kind) where

@@ -1,7 +1,7 @@
 -- The first record of a name, and of a value, on the list of a kept segment: by the words as by what each record was given.
 use Rattle.segment_invariant.proofs.Prelude.Std.{◌≡◌, Bool, true, false, ℕ, ◌<◌, ℤ, List, ◌∷◌, ◌++◌, refl, sym, ap, subst, ◌∙◌, arith, Some, None, ◌⊎◌, inl, inr, w64, cast_signed, bytes_eq, Contains, All-contains, bytes_eq-Decides, split_at, at_from, from_map, split_among}
 use Rattle.segment_invariant.proofs.Prelude.Machine.{Dimensions, field_at, Spec, name_of, Made, State}
-use Rattle.segment_invariant.proofs.Prelude.Invariant.{IsHistogram, Record, Sample, Listed, Anatomy, order_of, HasRecord, HasSample, IsNamed, IsValued, IsFirst, IsFirstOf, StandsAs, Invariant}
+use Rattle.segment_invariant.proofs.Prelude.Invariant.{IsHistogram, Record, Sample, Listed, Anatomy, order_of, HasRecord, HasSample, IsRecordNamed, IsValued, IsFirst, IsFirstOf, StandsAs, Invariant}
 use Rattle.std.specs.Prelude as std
 use Rattle.segment_machine.proofs.Values.{value_word}
 use Rattle.segment_machine.specs.declared.actor.Made.TheVariants as made
@@ -18,10 +18,10 @@ use Rattle.segment_invariant.proofs.Consistency.PassedOver.{passed_named}
 -- ---- on the list
 
 -- the first of a name was given a spec with it
-pub first_named : (records : List Listed) (name : List ℕ) (l : Listed) (at : ℕ) → IsFirstThat (IsNamed name) records l → l.reference ≡ at
+pub first_named : (records : List Listed) (name : List ℕ) (l : Listed) (at : ℕ) → IsFirstThat (IsRecordNamed name) records l → l.reference ≡ at
     → (spec : Spec) × IsFirst records name spec at
 first_named records name l at first here =
-    let (spec, made) = first.4 in (spec, subst (IsFirstThat (IsNamed name) records) (λ i. record { reference = here i; made = made i }) first)
+    let (spec, made) = first.4 in (spec, subst (IsFirstThat (IsRecordNamed name) records) (λ i. record { reference = here i; made = made i }) first)
 
 -- and that of a value is a sample of it
 pub first_valued : (records : List Listed) (of : ℕ) (value : ℤ) (l : Listed) (at : ℕ) → IsFirstThat (IsValued of value) records l → l.reference ≡ at
@@ -30,13 +30,13 @@ first_valued records of value l at first here =
     subst (IsFirstThat (IsValued of value) records) (λ i. record { reference = here i; made = first.4 i }) first
 
 -- a record is of a name or not
-pub named_or_not : (name : List ℕ) (l : Listed) → IsNamed name l ⊎ (¬ (IsNamed name l))
+pub named_or_not : (name : List ℕ) (l : Listed) → IsRecordNamed name l ⊎ (¬ (IsRecordNamed name l))
 named_or_not name l = by_made l.made refl
   where
-    by_made : (m : std.Option Made) → l.made ≡ m → IsNamed name l ⊎ (¬ (IsNamed name l))
+    by_made : (m : std.Option Made) → l.made ≡ m → IsRecordNamed name l ⊎ (¬ (IsRecordNamed name l))
     by_made (Some (made.Histogram other spec)) is = by_test (bytes_eq other name) refl
       where
-        by_test : (b : Bool) → bytes_eq other name ≡ b → IsNamed name l ⊎ (¬ (IsNamed name l))
+        by_test : (b : Bool) → bytes_eq other name ≡ b → IsRecordNamed name l ⊎ (¬ (IsRecordNamed name l))
         by_test true same = inl (spec, is ∙ ap (λ (name : List ℕ). Some (made.Histogram name spec)) ((bytes_eq-Decides other name).0 same))
         by_test false apart = inr (λ (kind, named).
             let equal : other ≡ name = cc (is, named) in
@@ -45,10 +45,10 @@ named_or_not name l = by_made l.made refl
     by_made None is = inr (λ (kind, named). cc (is, named))
 
 -- so a name that is on a list has a first record there
-pub first_there : (records : List Listed) (name : List ℕ) (l : Listed) → Contains records l → IsNamed name l
+pub first_there : (records : List Listed) (name : List ℕ) (l : Listed) → Contains records l → IsRecordNamed name l
     → (kind : Spec) × (place : ℕ) × IsFirst records name kind place
 first_there records name l there named =
-    let (first, its) = lists.first_there (IsNamed name) (named_or_not name) records l there named in
+    let (first, its) = lists.first_there (IsRecordNamed name) (named_or_not name) records l there named in
     let (kind, is) = first_named records name first first.reference its refl in
     (kind, first.reference, is)
 
@@ -89,7 +89,7 @@ module _ (shape : Dimensions) (opened : Anatomy) (state : State) (kept : Invaria
   sample_of_first of value at first = let (s, has, of_it, valued) = standing_of _ (split_among first.0 first.1 first.2) in (s, (has, of_it, valued))
 
   -- the words say what was given
-  pub name_given : (l : Listed) (name : List ℕ) → Contains kept.anatomy.records l → IsNamed name l → consistent.HasName state.words name l.reference
+  pub name_given : (l : Listed) (name : List ℕ) → Contains kept.anatomy.records l → IsRecordNamed name l → consistent.HasName state.words name l.reference
   name_given l name there (spec, is) =
       let (r, has, mine, specified) = subst (StandsAs kept.anatomy.pieces l) is (standing_of l there) in
       subst (λ (name : List ℕ). consistent.HasName state.words name l.reference) mine (is_named l.reference r has)
@@ -130,7 +130,7 @@ module _ (shape : Dimensions) (opened : Anatomy) (state : State) (kept : Invaria
 
   -- so a record that has a name was given it, or one before it was
   pub name_or_before : (name : List ℕ) (front behind : List Listed) (l : Listed) → kept.anatomy.records ≡ front ++ l ∷ behind
-      → consistent.HasName state.words name l.reference → OrBefore (IsNamed name) front l
+      → consistent.HasName state.words name l.reference → OrBefore (IsRecordNamed name) front l
   name_or_before name front behind l split named = elim (given_name front behind l name split named) [
     | inl (spec, r, given, has) ↦ inl (spec, given)
     | inr (r, nothing, same, over) ↦
@@ -187,7 +187,7 @@ module _ (shape : Dimensions) (opened : Anatomy) (state : State) (kept : Invaria
   pub first_of_name : (name : List ℕ) (at : ℕ) → IsHistogram state.words (order_of kept.anatomy) name at
       → (spec : Spec) × (r : Record) × IsFirst kept.anatomy.records name spec at × Named shape opened state kept name spec at r
   first_of_name name at is =
-      let (l, first, here) = first_from (λ (l : Listed). l.reference) kept.anatomy.records (IsNamed name) (consistent.HasName state.words name) (name_or_before name)
+      let (l, first, here) = first_from (λ (l : Listed). l.reference) kept.anatomy.records (IsRecordNamed name) (consistent.HasName state.words name) (name_or_before name)
       (λ other. ¬ (consistent.HasName state.words name other)) (λ l there named absent. absent (name_given shape opened state kept l name there named)) at is in
       let (spec, its) = first_named kept.anatomy.records name l at first here in
       let (r, has) = record_of_first shape opened state kept name spec at its in
@@ -195,7 +195,7 @@ module _ (shape : Dimensions) (opened : Anatomy) (state : State) (kept : Invaria
 
   pub name_of_first : (name : List ℕ) (spec : Spec) (at : ℕ) → IsFirst kept.anatomy.records name spec at → IsHistogram state.words (order_of kept.anatomy) name at
   name_of_first name spec at first =
-      first_image (λ (l : Listed). l.reference) kept.anatomy.records (IsNamed name) (consistent.HasName state.words name) (name_or_before name) _ first
+      first_image (λ (l : Listed). l.reference) kept.anatomy.records (IsRecordNamed name) (consistent.HasName state.words name) (name_or_before name) _ first
       (name_given shape opened state kept _ name (split_among first.0 first.1 first.2) (spec, refl))
 
   value_given_at : (of : ℕ) (value : ℤ) (front behind : List Listed) (l : Listed) → kept.anatomy.records ≡ front ++ l ∷ behind → IsSampleOf state.words of value l.reference

@@ -1,9 +1,9 @@
 -- What became of the blocks with which a kept segment was opened: they hold what they held, and those of which nobody counts are as they were.
 use Rattle.segment_invariant.proofs.Prelude.Std.{◌≡◌, ◌≢◌, Bool, true, false, ℕ, ◌+◌, ◌*◌, ◌<◌, ◌≤◌, List, ◌++◌, length, if◌then◌else◌, inl, inr, refl, sym, ap, subst, ◌∙◌, arith, length-append, Option, Some, None, slice_index, ◌==◌, Contains, flat_map, eqb-false, eq-eqb, All-contains, Contains-append_left, some, none, get_elem?, at_from, split_at, first_longer, split_among, contains_map, contains_mapped}
 use Rattle.segment_invariant.proofs.Prelude.Machine.{Dimensions, word_at, field_at, Spec, name_of, record_buckets, Made, Sighting, State}
-use Rattle.segment_invariant.proofs.Prelude.Invariant.{IsHistogram, Record, Sample, Body, histogram, sample, other, words_of, record_words, is_claimed, Piece, Listed, Anatomy, order_of, claims_of, noted_held, all_held, Stands, HasRecord, IsNamed, IsFirst, StandsAs, IsPassedOver, IsLawfulRecord, Invariant}
+use Rattle.segment_invariant.proofs.Prelude.Invariant.{IsHistogram, Record, Sample, Body, histogram, sample, other, words_of, record_words, is_claimed, Piece, Listed, Anatomy, order_of, claims_of, noted_held, all_held, Stands, HasRecord, IsRecordNamed, IsFirst, StandsAs, IsPassedOver, IsLawfulRecord, Invariant}
 use Rattle.segment_machine.specs.declared.actor.Made.TheVariants as made
-use Rattle.segment_invariant.specs.Consistent.{HoldsStill, IsGiven, CountsStill, all_claims}
+use Rattle.segment_invariant.specs.Consistent.{HoldsStill, NeverChanges, CountsStill, all_claims}
 use Rattle.segment_invariant.specs.Consistent as consistent
 use Rattle.segment_invariant.specs.Seen.{HoldsAs, IsFixedIn}
 use Rattle.segment_invariant.proofs.Blocks.Pieces.{claim_of, piece_word, one_stands}
@@ -24,20 +24,20 @@ use Rattle.segment_invariant.proofs.Consistency.Sums.{no_noted}
 -- ---- words that never change
 
 -- of a record, of a sample and of a block of another type
-given_record : (r : Record) (i : ℕ) → i < length (words_of (histogram r)) → IsGiven 1 i → IsFixedIn (histogram r) i
+given_record : (r : Record) (i : ℕ) → i < length (words_of (histogram r)) → NeverChanges 1 i → IsFixedIn (histogram r) i
 given_record r i below (inl (one, inl field)) = inr (inl field)
 given_record r i below (inl (one, inr from)) = inr (inr (inr (from, below)))
 given_record r i below (inr (inl (three, given))) = absurd (omega (arith, three))
 given_record r i below (inr (inr (first, third, from))) = absurd (first refl)
 
-given_sample : (s : Sample) (i : ℕ) → i < length (words_of (sample s)) → IsGiven 3 i → IsFixedIn (sample s) i
+given_sample : (s : Sample) (i : ℕ) → i < length (words_of (sample s)) → NeverChanges 3 i → IsFixedIn (sample s) i
 given_sample s i below (inl (one, given)) = absurd (omega (arith, one))
 given_sample s i below (inr (inl (three, inl four))) = inr (inl four)
 given_sample s i below (inr (inl (three, inr (inl five)))) = inr (inr (inl five))
 given_sample s i below (inr (inl (three, inr (inr from)))) = inr (inr (inr (from, below)))
 given_sample s i below (inr (inr (first, third, from))) = absurd (third refl)
 
-given_other : (size tag next : ℕ) (payload : List ℕ) (i : ℕ) → tag ≢ 3 → i < 4 + length payload → IsGiven tag i → IsFixedIn (other size tag next payload) i
+given_other : (size tag next : ℕ) (payload : List ℕ) (i : ℕ) → tag ≢ 3 → i < 4 + length payload → NeverChanges tag i → IsFixedIn (other size tag next payload) i
 given_other size tag next payload i third below (inl (one, inl (from, high))) = inr (omega (arith, from), below)
 given_other size tag next payload i third below (inl (one, inr from)) = inr (omega (arith, from), below)
 given_other size tag next payload i third below (inr (inl (three, given))) = absurd (third three)
@@ -71,14 +71,14 @@ module _ (shape : Dimensions) (opened : Anatomy) (state : State) (opens : Opens 
       ∙ sym (size_then k at body there claimed)
 
   held_as : (at : ℕ) (body : Body) → Stands opened.pieces at none body → is_claimed body ≡ true → IsFixedIn body 2
-      → ((i : ℕ) → i < length (words_of body) → IsGiven (slice_index (words_of body) 2) i → IsFixedIn body i) → HoldsStill before state.words at
+      → ((i : ℕ) → i < length (words_of body) → NeverChanges (slice_index (words_of body) 2) i → IsFixedIn body i) → HoldsStill before state.words at
   held_as at body (k, there) claimed tag fixed = (
     size_still at body (k, there) claimed,
     fixed_still at 2 body (k, there) tag,
     λ i below given.
         let size = size_then k at body there claimed in
         let tag_is = piece_word shape before opened opens.shown k _ 2 there (fixed_within body 2 tag) in
-        fixed_still at i body (k, there) (fixed i (omega (arith, below, size)) (subst (λ (t : ℕ). IsGiven t i) tag_is given)),
+        fixed_still at i body (k, there) (fixed i (omega (arith, below, size)) (subst (λ (t : ℕ). NeverChanges t i) tag_is given)),
   )
 
   -- a record of the opening stands there as what it was given
@@ -103,13 +103,13 @@ module _ (shape : Dimensions) (opened : Anatomy) (state : State) (opens : Opens 
   -- ---- names
 
   -- a listed record that stands as one of a name was given the name
-  named_at : (l : Listed) (r : Record) → Contains kept.anatomy.records l → HasRecord kept.anatomy.pieces l.reference r → IsNamed r.name l
+  named_at : (l : Listed) (r : Record) → Contains kept.anatomy.records l → HasRecord kept.anatomy.pieces l.reference r → IsRecordNamed r.name l
   named_at l r there has = by_made l.made refl (standing_of shape opened state kept l there)
     where
       one : (body : Body) → Stands kept.anatomy.pieces l.reference none body → body ≡ histogram r
       one body stands = (one_stands shape state.words kept.anatomy kept.shown l.reference none none body (histogram r) stands has).1
 
-      by_made : (m : Option Made) → l.made ≡ m → StandsAs kept.anatomy.pieces l m → IsNamed r.name l
+      by_made : (m : Option Made) → l.made ≡ m → StandsAs kept.anatomy.pieces l m → IsRecordNamed r.name l
       by_made (Some (made.Histogram name kind)) is (q, stands, named, specified) =
           let same : q ≡ r = cc (one (histogram q) stands) in
           (kind, is ∙ ap (λ (name : List ℕ). Some (made.Histogram name kind)) (sym named ∙ ap (λ (r : Record). r.name) same))
@@ -121,12 +121,12 @@ module _ (shape : Dimensions) (opened : Anatomy) (state : State) (opens : Opens 
   listed_still l among = subst (λ (list : List Listed). Contains list l) (sym kept.list.once.1) (Contains-append_left opened.records kept.list.once.0 l among)
 
   -- where the opening had a record of a name, the first of it was the first there
-  first_then : (name : List ℕ) (kind : Spec) (at : ℕ) → IsFirst kept.anatomy.records name kind at → (l : Listed) → Contains opened.records l → IsNamed name l
+  first_then : (name : List ℕ) (kind : Spec) (at : ℕ) → IsFirst kept.anatomy.records name kind at → (l : Listed) → Contains opened.records l → IsRecordNamed name l
       → (sort : Spec) × IsFirst opened.records name sort at
   first_then name kind at first l among named =
       let (sort, place, its) = first_there opened.records name l among named in
       let now = subst (λ (records : List Listed). IsFirst records name sort place) (sym kept.list.once.1)
-      (first_longer (IsNamed name) opened.records kept.list.once.0 _ its) in
+      (first_longer (IsRecordNamed name) opened.records kept.list.once.0 _ its) in
       (sort, subst (IsFirst opened.records name sort) (one_first shape opened state kept name sort kind place at now first).0 its)
 
   -- ---- redundant counts
@@ -138,7 +138,7 @@ module _ (shape : Dimensions) (opened : Anatomy) (state : State) (opens : Opens 
       let (l, among, is, standing) = listed_then at there in
       let (r, (has, named, specified)) = record_of_first shape opened state kept name kind at first in
       let here = named_at l r (listed_still l among) (subst (λ (at : ℕ). HasRecord kept.anatomy.pieces at r) (sym is) has) in
-      let (sort, its) = first_then name kind at first l among (subst (λ (name : List ℕ). IsNamed name l) named here) in
+      let (sort, its) = first_then name kind at first l among (subst (λ (name : List ℕ). IsRecordNamed name l) named here) in
       let (q, stands, called, sorted) = All-contains (λ l. StandsAs opened.pieces l l.made) opened.records _ opens.standing (split_among its.0 its.1 its.2) in
       opens.noted name sort at q its stands called ∙ sym (record_word shape before opened opens.shown at q 13 stands (omega arith))
 

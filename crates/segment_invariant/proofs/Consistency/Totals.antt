@@ -1,7 +1,7 @@
 -- The totals of a kept state are what was counted.
 use Rattle.segment_invariant.proofs.Prelude.Std.{◌≡◌, ◌≢◌, Bool, true, false, ◌&&◌, if◌then◌else◌, ℕ, zero, suc, ◌+◌, ◌<◌, ℤ, pos, List, [], ◌∷◌, ◌++◌, length, sum_by, length-append, inl, inr, ⊎_elim, refl, sym, ap, subst, ◌∙◌, arith, Option, Some, slice_index, ◌==◌, int_eq, Contains, eqb-true, eqb-false, eq-eqb, ne_eqb, All-contains, sum_by-cons, some, none, some-injective, some-ne-none, get_elem?, at_from}
 use Rattle.segment_invariant.proofs.Prelude.Machine.{Dimensions, field_at, Spec, buckets_of, spec_fields, boundaries_of, is_sparse, total_of, packed_bucket, units_packed, Actor, Known, Place, Look, Moving, State, is_off, units_in, known_at, all_counted, tally_units}
-use Rattle.segment_invariant.proofs.Prelude.Invariant.{Record, Counts, histogram, counts, words_of, Anatomy, order_of, form_at, key_of_bucket, at_bucket, keyed, units_held, all_held, moving_at, HasRecord, HasCounts, IsFirst, Knows, StandsRight, Invariant, HasKey}
+use Rattle.segment_invariant.proofs.Prelude.Invariant.{Record, Counts, histogram, counts, words_of, Anatomy, order_of, form_at, key_of_bucket, at_bucket, keyed, units_held, all_held, moving_at, HasRecord, HasCounts, IsFirst, IsRightlyKnown, StandsRight, Invariant, HasKey}
 use Rattle.bucket_ranges.specs.declared.spec.Spec.TheVariants as spec
 use Rattle.bucket_ranges.specs.Reading.{count_at}
 use Rattle.segment_machine.specs.Actor.{transit_at, transit_of}
@@ -106,13 +106,13 @@ module _ (shape : Dimensions) (opened : Anatomy) (state : State) (kept : Invaria
 
     -- what an actor that moves units knows
     pub moving_known : (who : ℕ) (a : Actor) (look : Look) (bucket units : ℕ) → get_elem? state.actors who ≡ some a → a.hand.place ≡ Moving look bucket units
-        → (found : Known) × (known_at a.answers.names look.histogram ≡ Some found) × (found.reference ≡ look.histogram) × Knows kept.anatomy found
+        → (found : Known) × (known_at a.answers.names look.histogram ≡ Some found) × (found.reference ≡ look.histogram) × IsRightlyKnown kept.anatomy found
     moving_known who a look bucket units there place =
         let stands = subst (StandsRight shape kept.anatomy who a) place (kept.standing who a there) in
         let names = (kept.each who a there (λ spent. cc (sym place ∙ spent))).names in
         let known = at_from a.answers.names stands.0.known stands.0.knows.0 in
         let (found, is, among, names_it) = find_known a.answers.names look.histogram known.0 stands.0.known known.1 stands.0.knows.1 in
-        (found, is, names_it, All-contains (Knows kept.anatomy) a.answers.names found names among)
+        (found, is, names_it, All-contains (IsRightlyKnown kept.anatomy) a.answers.names found names among)
 
     module _ (bucketed : r.spec ≢ spec.Sparse) (i : ℕ) (below : i < buckets_of r.spec) where
       -- units in transit with an actor are those that the ledger has
@@ -128,7 +128,7 @@ module _ (shape : Dimensions) (opened : Anatomy) (state : State) (kept : Invaria
           (moves_or_not a.hand.place)
         where
           by_record : (look : Look) (bucket units : ℕ)
-              → (found : Known) × (known_at a.answers.names look.histogram ≡ Some found) × (found.reference ≡ look.histogram) × Knows kept.anatomy found
+              → (found : Known) × (known_at a.answers.names look.histogram ≡ Some found) × (found.reference ≡ look.histogram) × IsRightlyKnown kept.anatomy found
               → (q : Record) × HasRecord kept.anatomy.pieces look.histogram q × (packed_bucket (form_at 1 q) ≡ Some bucket) × (is_off q.single ≡ true)
               → (b : Bool) → (b ≡ true → look.histogram ≡ at) → (b ≡ false → look.histogram ≢ at)
               → moving_of name (key_of_bucket r.spec i) (known_at a.answers.names look.histogram) bucket units ≡ (if b && (bucket == i) then units else 0)

@@ -1,7 +1,7 @@
 -- An amount is added to the sum of a record, or units to its redundant count, for the entry that is next: the state that is left is kept.
 use Rattle.segment_invariant.proofs.Prelude.Std.{◌≡◌, ◌≢◌, ℕ, ◌+◌, ◌<◌, ◌^◌, ℤ, pos, ◌+ℤ◌, true, false, List, ◌++◌, set, Contains, refl, sym, ap, ◌∙◌, subst, arith, w64, cast_signed, +ℤ_idr, All-contains, some, get_elem?, rows, row_in}
 use Rattle.segment_invariant.proofs.Prelude.Machine.{Dimensions, EntryProgress, Entry, Spent, Idle, Actor, Known, Sighting, counted_among, is_counted, is_summed, is_of, tally_units, tally_sum, tally_noted, is_untouched, is_bound, counted_of, summed_of, noted_of, all_counted, taken_units, taken_of, is_opener, State}
-use Rattle.segment_invariant.proofs.Prelude.Invariant.{Record, histogram, Anatomy, of_name, moving_at, HasRecord, IsFirst, Knows, Sees, IsLawfulRecord, SumsAreNear, LooksBack, Invariant}
+use Rattle.segment_invariant.proofs.Prelude.Invariant.{Record, histogram, Anatomy, of_name, moving_at, HasRecord, IsFirst, IsRightlyKnown, Sees, IsLawfulRecord, SumsAreNear, LooksBack, Invariant}
 use Rattle.segment_invariant.specs.Ledger.{amount_of_name}
 use Rattle.segment_invariant.proofs.Lists.Countings.{sum_total, noted_total}
 use Rattle.list_lemmas.proofs.Elements.{rows_total}
@@ -51,8 +51,8 @@ module _ (shape : Dimensions) (opened : Anatomy) (state : State) (kept : Invaria
   stands = the_record.1
 
   -- is the first of its name
-  pub knows : Knows kept.anatomy known
-  knows = All-contains (Knows kept.anatomy) a.answers.names known (kept.each id a mine turner_lives).names has
+  pub knows : IsRightlyKnown kept.anatomy known
+  knows = All-contains (IsRightlyKnown kept.anatomy) a.answers.names known (kept.each id a mine turner_lives).names has
 
   module _ (sum noted j v : ℕ) (turns : Turns kept.anatomy.version (histogram r) (histogram (with_amount r sum noted)) j v) (narrow : sum < 2 ^ 64) (counts : List Sighting)
       (counted : is_counted d ≡ is_counted c) where

@@ -1,13 +1,13 @@
 -- What an actor looks back at, where it sees one word more: a single word, or a counter, as it is now.
 use Rattle.segment_invariant.proofs.Prelude.Std.{◌≡◌, ◌≢◌, ◌⊎◌, ℕ, ◌+◌, ◌<◌, ◌≤◌, ℤ, true, false, List, [], ◌∷◌, ◌++◌, length, take, drop, Contains, inl, inr, ⊎_elim, refl, sym, ap, ◌∙◌, subst, arith, length-append, None, true≢false, slice_index, Some, drop-append-le, All-contains, Contains-append_cases, dite, some, none, some-injective, ℕ_discrete, get_elem?, one_in}
 use Rattle.segment_invariant.proofs.Prelude.Machine.{Dimensions, word_at, buckets_of, single_of, packed_bucket, units_packed, Actor, Given, Known, Place, Spent, SumLoaded, Moving, Seen, Sighting, tally_units, is_off, Leads, word_seen, all_counted, bucket_key, SawCount, is_opener, made_of, SawBucket, State, Look}
-use Rattle.segment_invariant.proofs.Prelude.Invariant.{Record, Counts, Body, histogram, counts, sample, words_of, Piece, Anatomy, form_at, key_of_bucket, Stands, HasRecord, HasCounts, IsFirst, WasFixed, WasCounter, WasInUse, WasSingle, Knows, StandsRight, IsAlone, LooksBack, Invariant}
+use Rattle.segment_invariant.proofs.Prelude.Invariant.{Record, Counts, Body, histogram, counts, sample, words_of, Piece, Anatomy, form_at, key_of_bucket, Stands, HasRecord, HasCounts, IsFirst, WasFixed, WasCounter, WasInUse, WasSingle, IsRightlyKnown, StandsRight, IsAlone, LooksBack, Invariant}
 use Rattle.std.proofs.lemmas.List.{take-append-le}
 use Rattle.std.proofs.lemmas.List.Elements.{All-take}
 use Rattle.bucket_ranges.specs.declared.spec.Spec.TheVariants as spec
 use Rattle.segment_machine.specs.Actor.{transit_of}
 use Rattle.segment_invariant.specs.Seen.{IsFixedIn}
-use Rattle.segment_invariant.specs.Invariant.{IsSettled}
+use Rattle.segment_invariant.specs.Invariant.{NoneInTransit}
 use Rattle.segment_invariant.proofs.Lists.FewTerms.{zero_index}
 use Rattle.list_lemmas.proofs.Maps.{one_at}
 use Rattle.segment_invariant.proofs.Blocks.Pieces.{one_index, one_stands, piece_word, piece_from}
@@ -115,7 +115,7 @@ module _ (shape : Dimensions) (opened : Anatomy) (state : State) (kept : Invaria
         × (buckets_of r.spec ≡ buckets_of known.spec) × ((i : ℕ) → key_of_bucket r.spec i ≡ bucket_key (Some known) i)
 
     pub knows_of : (known : Known) → Contains a.answers.names known → Known_as known
-    knows_of known has = known_first shape opened state kept known (All-contains (Knows kept.anatomy) a.answers.names known (kept.each id a mine lives).names has)
+    knows_of known has = known_first shape opened state kept known (All-contains (IsRightlyKnown kept.anatomy) a.answers.names known (kept.each id a mine lives).names has)
 
     -- a counts reference that it saw is the record's
     pub counts_seen : (at place : ℕ) (r : Record) → HasRecord blocks at r → word_seen a.seen.words (at + 8) ≡ Some place → (r.counts ≡ place) × (r.counts ≢ 0)
@@ -172,7 +172,7 @@ module _ (shape : Dimensions) (opened : Anatomy) (state : State) (kept : Invaria
             true≢false (sym off ∙ (ap (λ (z : Record). is_off z.single) same ∙ on)))
 
     -- nothing of a bucket is in transit where it is settled, and the actor itself moves nothing
-    pub settled_quiet : (known : Known) (bucket : ℕ) (r : Record) → HasRecord blocks known.reference r → IsSettled kept.anatomy state.actors a known bucket
+    pub settled_quiet : (known : Known) (bucket : ℕ) (r : Record) → HasRecord blocks known.reference r → NoneInTransit kept.anatomy state.actors a known bucket
         → ((look : Look) (bucket units : ℕ) → a.hand.place ≢ Moving look bucket units) → transit_of state.actors known.reference bucket ≡ 0
     settled_quiet known bucket r stands settled still = rests shape opened state kept known.reference bucket nobody
       where
@@ -199,7 +199,7 @@ module _ (shape : Dimensions) (opened : Anatomy) (state : State) (kept : Invaria
                 let same = ap (λ (c : Actor). made_of c.role) (one_at state.actors 0 kept.roles.opener one kept.roles.stands here) in
                 omega (arith, below, young, youngest, same)))
 
-            by_case : IsSettled kept.anatomy state.actors a known bucket → ⊥
+            by_case : NoneInTransit kept.anatomy state.actors a known bucket → ⊥
             by_case (inl two) = let one = moves.1 in omega (arith, one, two)
             by_case (inr (inl only)) = alone only
             by_case (inr (inr apart)) =

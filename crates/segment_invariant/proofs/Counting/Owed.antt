@@ -2,7 +2,7 @@
 -- mark was taken.
 use Rattle.segment_invariant.proofs.Prelude.Std.{◌≡◌, ◌≢◌, ℕ, ◌+◌, ◌<◌, ◌≤◌, ℤ, pos, Some, None, length, ◌==◌, Contains, inl, inr, ⊎_elim, refl, sym, ap, ◌∙◌, subst, arith, false, slice_index, if◌then◌else◌, Decides-int_eq, All-contains, some, some-injective, get_elem?, sum_at_least}
 use Rattle.segment_invariant.proofs.Prelude.Machine.{Dimensions, buckets_of, spec_fields, single_of, packed_bucket, units_packed, Actor, Known, Spent, Leads, tally_units, word_seen, bucket_key, accepted_by, all_counted, SawCount, is_opener, SawBucket, State}
-use Rattle.segment_invariant.proofs.Prelude.Invariant.{Record, Sample, Body, histogram, counts, sample, words_of, Piece, Anatomy, form_at, key_of_bucket, at_bucket, keyed, marks_held, HasRecord, HasSample, IsFirstOf, WasFixed, Knows, IsAlone, Invariant}
+use Rattle.segment_invariant.proofs.Prelude.Invariant.{Record, Sample, Body, histogram, counts, sample, words_of, Piece, Anatomy, form_at, key_of_bucket, at_bucket, keyed, marks_held, HasRecord, HasSample, IsFirstOf, WasFixed, IsRightlyKnown, IsAlone, Invariant}
 use Rattle.bucket_ranges.specs.declared.spec.Spec.TheVariants as spec
 use Rattle.segment_machine.specs.Note.{IsMarkOf}
 use Rattle.segment_invariant.specs.Consistent.{units_taken}
@@ -94,8 +94,8 @@ module _ (shape : Dimensions) (opened : Anatomy) (state : State) (kept : Invaria
   -- the first sample of a value: what it saw of its count is counted, and what it saw of its mark was taken
   module _ (known : Known) (value : ℤ) (at : ℕ) (has : Contains a.answers.names known) (sparse : known.spec ≡ spec.Sparse)
       (first : IsFirstOf kept.anatomy.records known.reference value at) where
-    abbrev knows : Knows kept.anatomy known
-    knows = All-contains (Knows kept.anatomy) a.answers.names known (kept.each id a mine lives).names has
+    abbrev knows : IsRightlyKnown kept.anatomy known
+    knows = All-contains (IsRightlyKnown kept.anatomy) a.answers.names known (kept.each id a mine lives).names has
 
     record_is : (r : Record) × (HasRecord kept.anatomy.pieces known.reference r × (r.name ≡ known.name) × (r.spec ≡ knows.first_spec))
     record_is = record_of_first shape opened state kept known.name knows.first_spec known.reference knows.first

@@ -1,7 +1,7 @@
 -- What an actor has seen of a bucket is at most what was counted there, also where it comes to know the counts only now.
 use Rattle.segment_invariant.proofs.Prelude.Std.{◌≡◌, ◌≢◌, ℕ, ◌+◌, ◌-◌, ◌<◌, ◌≤◌, true, [], ◌∷◌, ◌++◌, length, Contains, refl, sym, ap, ◌∙◌, subst, arith, length-append, slice_index, pos, Some, get_or_append_left, All-contains, some, none, some-injective, get_elem?, split_among}
 use Rattle.segment_invariant.proofs.Prelude.Machine.{Dimensions, buckets_of, boundaries_of, single_of, units_packed, Actor, Known, Spent, is_off, Leads, all_counted, bucket_key, SawCount, tally_units, State}
-use Rattle.segment_invariant.proofs.Prelude.Invariant.{Record, Counts, Body, histogram, counts, words_of, Piece, Anatomy, form_at, Stands, HasRecord, HasCounts, WasCounter, WasSingle, Knows, StandsAs, Invariant}
+use Rattle.segment_invariant.proofs.Prelude.Invariant.{Record, Counts, Body, histogram, counts, words_of, Piece, Anatomy, form_at, Stands, HasRecord, HasCounts, WasCounter, WasSingle, IsRightlyKnown, StandsAs, Invariant}
 use Rattle.std.proofs.lemmas.List.{get_or-append_right}
 use Rattle.std.proofs.lemmas.List.Elements.{All-drop}
 use Rattle.segment_machine.specs.Actor.{SawSingle}
@@ -38,7 +38,7 @@ module _ (shape : Dimensions) (opened : Anatomy) (state : State) (kept : Invaria
       → (r : Record) × HasRecord kept.anatomy.pieces known.reference r × (r.name ≡ known.name) × (boundaries_of r.spec ≡ boundaries_of known.spec)
       × (buckets_of r.spec ≡ buckets_of known.spec)
   known_stands known has =
-      let knows = All-contains (Knows kept.anatomy) a.answers.names known (kept.each id a mine lives).names has in
+      let knows = All-contains (IsRightlyKnown kept.anatomy) a.answers.names known (kept.each id a mine lives).names has in
       let (r, stands, named, same) =
       All-contains (λ l. StandsAs kept.anatomy.pieces l l.made) kept.anatomy.records _ kept.list.standing (split_among knows.first.0 knows.first.1 knows.first.2) in (
         r,

@@ -2,7 +2,7 @@
 -- its value, and a redundant count of all units.
 use Rattle.segment_invariant.proofs.Prelude.Std.{◌≡◌, ◌≢◌, ℕ, ◌+◌, ◌<◌, ℤ, pos, Bool, true, false, List, Some, ⊎_elim, refl, sym, ap, ◌∙◌, subst, arith, slice_index, sum_by, ◌==◌, ◌&&◌, if◌then◌else◌, eqb-true, and_parts, some, none, get_elem?}
 use Rattle.segment_invariant.proofs.Prelude.Machine.{Dimensions, Spec, buckets_of, packed_bucket, units_packed, Actor, Known, Look, Place, Moving, bucket_key, all_counted, all_noted, cost_of, tally_units, tally_noted, State, units_in}
-use Rattle.segment_invariant.proofs.Prelude.Invariant.{Record, Counts, Sample, Anatomy, sample, form_at, key_of_bucket, keyed, at_bucket, units_held, all_held, HasRecord, HasCounts, HasSample, IsFirst, IsFirstOf, Knows, IsCountsOf, Invariant}
+use Rattle.segment_invariant.proofs.Prelude.Invariant.{Record, Counts, Sample, Anatomy, sample, form_at, key_of_bucket, keyed, at_bucket, units_held, all_held, HasRecord, HasCounts, HasSample, IsFirst, IsFirstOf, IsRightlyKnown, IsCountsOf, Invariant}
 use Rattle.std.specs.Prelude as std
 use Rattle.bucket_ranges.specs.declared.spec.Spec.TheVariants as spec
 use Rattle.segment_machine.specs.Actor.{transit_at, transit_of}
@@ -99,7 +99,7 @@ module _ (shape : Dimensions) (opened : Anatomy) (state : State) (kept : Invaria
       omega (arith, is, ledger, begun)
 
   -- what is known of a histogram: its record, the first of its name, and its buckets with their keys
-  pub known_first : (known : Known) → Knows kept.anatomy known
+  pub known_first : (known : Known) → IsRightlyKnown kept.anatomy known
       → (r : Record) × IsFirst kept.anatomy.records known.name r.spec known.reference × HasRecord kept.anatomy.pieces known.reference r × (r.name ≡ known.name)
       × (buckets_of r.spec ≡ buckets_of known.spec) × ((i : ℕ) → key_of_bucket r.spec i ≡ bucket_key (std.Some known) i)
   known_first known knows =

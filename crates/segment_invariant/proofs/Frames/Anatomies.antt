@@ -1,7 +1,7 @@
 -- What holds of an anatomy, where blocks in the making change and what was published stays.
 use Rattle.segment_invariant.proofs.Prelude.Std.{◌≡◌, ℕ, ◌+◌, ℤ, Bool, List, inl, inr, ⊎_elim, refl, sym, subst, ap, ◌∙◌, All, All-weaker, some}
 use Rattle.segment_invariant.proofs.Prelude.Machine.{Dimensions, Behind, IsStop, IsLinked, Actor, Known, Seen}
-use Rattle.segment_invariant.proofs.Prelude.Invariant.{Body, held, Piece, Listed, Anatomy, order_of, free_of, units_held, marks_held, noted_held, all_held, Stands, IsFirst, IsFirstOf, Knows, Sees, StandsAs, RecordsAreKept, SumsAreNear, Fits, CallsRight, LooksBack, IsAhead}
+use Rattle.segment_invariant.proofs.Prelude.Invariant.{Body, held, Piece, Listed, Anatomy, order_of, free_of, units_held, marks_held, noted_held, all_held, Stands, IsFirst, IsFirstOf, IsRightlyKnown, Sees, StandsAs, RecordsAreKept, SumsAreNear, Fits, CallsRight, LooksBack, IsAhead}
 use Rattle.bucket_ranges.specs.declared.spec.Spec.TheVariants as spec
 use Rattle.segment_invariant.specs.Ledger.{sum_held, sum_mark_held, all_amounts, all_moving, IsBalanced}
 use Rattle.segment_invariant.specs.Seen.{HasPlain, AreNoLater}
@@ -94,7 +94,7 @@ module _ (anatomy : Anatomy) (pieces : List Piece) (spare : ℕ) (corrupt full :
   sees_along = sees_grow anatomy later (λ at body. ⊥) grows
 
   -- and knows
-  pub names_along : (names : List Known) → All (Knows anatomy) names → All (Knows later) names
+  pub names_along : (names : List Known) → All (IsRightlyKnown anatomy) names → All (IsRightlyKnown later) names
   names_along = names_grow anatomy later (λ at body. ⊥) grows
 
   -- running calls

@@ -1,14 +1,14 @@
 -- Of each name the first record is answered or owed, whatever actors do.
 use Rattle.segment_invariant.proofs.Prelude.Std.{◌≡◌, ◌≢◌, ◌⊎◌, ℕ, Bool, true, false, not, ◌&&◌, ◌==◌, List, [], ◌∷◌, ◌++◌, Contains, set, inl, inr, ⊎_elim, refl, sym, ap, ◌∙◌, subst, eqb-true, arith, Some, None, bytes_eq, filter, flat_map, bytes_eq-Decides, set-set, All-nil, All-cons, All-weaker, All-append, Contains-append_left, Contains-append_right, some, get_elem?, rows, row_in, contains_filter}
 use Rattle.segment_invariant.proofs.Prelude.Machine.{Spec, Actor, Known, Made, Own, Published}
-use Rattle.segment_invariant.proofs.Prelude.Invariant.{Listed, IsNamed, IsFirst}
+use Rattle.segment_invariant.proofs.Prelude.Invariant.{Listed, IsRecordNamed, IsFirst}
 use Rattle.std.specs.Prelude as std
 use Rattle.atomic_table.proofs.Lists.{set_again}
 use Rattle.alloc_core.proofs.Owners.{set_at}
 use Rattle.segment_machine.specs.declared.actor.Made.TheVariants.{Histogram, Sample}
 use Rattle.segment_machine.specs.Actor.{all_names, all_owed}
 use Rattle.segment_machine.specs.Publishing.{owed_for, published_as}
-use Rattle.segment_invariant.specs.Invariant.{IsAnswered, AreAnswered, HasPublished, OwesPublished}
+use Rattle.segment_invariant.specs.Invariant.{IsAnswered, AreAnswered, HasPublishedRecord, OwesPublished}
 use Rattle.list_lemmas.proofs.Elements.{row_from}
 use Rattle.list_lemmas.proofs.Firsts.{first_unique}
 
@@ -23,7 +23,7 @@ row_left {A} {B} f l i x y b there has =
 -- a name has one first record
 pub first_one : (records : List Listed) (name : List ℕ) (kind other : Spec) (at place : ℕ) → IsFirst records name kind at → IsFirst records name other place
     → at ≡ place
-first_one records name kind other at place first second = ap (λ (l : Listed). l.reference) (first_unique (IsNamed name) records _ _ first second)
+first_one records name kind other at place first second = ap (λ (l : Listed). l.reference) (first_unique (IsRecordNamed name) records _ _ first second)
 
 -- ---- what its maker owes
 
@@ -47,18 +47,18 @@ owes_linked (Some own) at = by_made own.made
     by_made (Some (Sample of value)) = All-nil _
     by_made (Some (Histogram name kind)) =
         let published : List Published = record { reference = at; made = Histogram name kind } ∷ [] in
-        All-cons (HasPublished published) (debt name kind at) [] (0, omega arith, refl) (All-nil (HasPublished published))
+        All-cons (HasPublishedRecord published) (debt name kind at) [] (0, omega arith, refl) (All-nil (HasPublishedRecord published))
 
 -- where more was published
 pub owes_more : (published more : List Published) (owed : List Known) → OwesPublished published owed → OwesPublished (published ++ more) owed
-owes_more published more owed all = All-weaker (HasPublished published) (HasPublished (published ++ more))
+owes_more published more owed all = All-weaker (HasPublishedRecord published) (HasPublishedRecord (published ++ more))
     (λ mine has. Contains-append_left published more _ has) owed all
 
 -- and more is owed
 pub owes_both : (published more : List Published) (owed others : List Known) → OwesPublished published owed → OwesPublished more others
     → OwesPublished (published ++ more) (owed ++ others)
-owes_both published more owed others all rest = All-append (HasPublished (published ++ more)) owed others (owes_more published more owed all)
-    (All-weaker (HasPublished more) (HasPublished (published ++ more)) (λ mine has. Contains-append_right published more _ has) others rest)
+owes_both published more owed others all rest = All-append (HasPublishedRecord (published ++ more)) owed others (owes_more published more owed all)
+    (All-weaker (HasPublishedRecord more) (HasPublishedRecord (published ++ more)) (λ mine has. Contains-append_right published more _ has) others rest)
 
 -- ---- what actors were answered and owe
 

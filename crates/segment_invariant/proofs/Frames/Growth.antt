@@ -2,7 +2,7 @@
 -- end, and what was seen stays true.
 use Rattle.segment_invariant.proofs.Prelude.Std.{◌≡◌, ◌≢◌, ◌⊎◌, ℕ, zero, suc, ◌+◌, ◌<◌, ◌≤◌, ℤ, pos, Bool, true, false, List, [], ◌++◌, map, length, All, inl, inr, ⊎_elim, refl, sym, ap, ◌∙◌, subst, arith, append-nil, length-append, slice_index, get_or_append_left, map-append, All-weaker, none, first_longer}
 use Rattle.segment_invariant.proofs.Prelude.Machine.{Spec, Behind, stops, IsStop, IsPrefix, Seen, Known, Made, Own}
-use Rattle.segment_invariant.proofs.Prelude.Invariant.{Record, Counts, Sample, Body, queue, plain, held, histogram, counts, sample, other, words_of, is_claimed, Piece, Listed, Anatomy, order_of, free_of, all_held, Stands, HasRecord, HasCounts, HasSample, IsNamed, IsValued, IsFirst, IsFirstOf, IsNoLater, Knows, Sees, StandsAs}
+use Rattle.segment_invariant.proofs.Prelude.Invariant.{Record, Counts, Sample, Body, queue, plain, held, histogram, counts, sample, other, words_of, is_claimed, Piece, Listed, Anatomy, order_of, free_of, all_held, Stands, HasRecord, HasCounts, HasSample, IsRecordNamed, IsValued, IsFirst, IsFirstOf, IsNoLater, IsRightlyKnown, Sees, StandsAs}
 use Rattle.std.specs.Prelude as std
 use Rattle.list_core.specs.Chain.{AreNeighbours}
 use Rattle.list_core.proofs.Prefixes.{prefix_of_prefix}
@@ -152,7 +152,7 @@ pub record Grows (old new : Anatomy) (added : ℕ → Body → Type 0) : Type 0 
       → j < length (words_of before) → at + i ≢ other + j
   pub bare : (at : ℕ) (c : Counts) → added at (counts c) → ⊥
   pub first_came : (name : List ℕ) (spec : Spec) (at : ℕ) → IsFirst new.records name spec at
-      → IsFirst old.records name spec at ⊎ ((r : Record) × added at (histogram r) × All (λ l. ¬ (IsNamed name l)) old.records)
+      → IsFirst old.records name spec at ⊎ ((r : Record) × added at (histogram r) × All (λ l. ¬ (IsRecordNamed name l)) old.records)
   pub first_of_came : (of at : ℕ) (value : ℤ) → IsFirstOf new.records of value at
       → IsFirstOf old.records of value at
       ⊎ ((s : Sample) × added at (sample s) × All (λ l. ¬ (IsValued of value l)) old.records)
@@ -221,7 +221,7 @@ module _ (old new : Anatomy) (added : ℕ → Body → Type 0) (grows : Grows ol
 
   pub first_grows : (name : List ℕ) (spec : Spec) (at : ℕ) → IsFirst old.records name spec at → IsFirst new.records name spec at
   first_grows name spec at first =
-      subst (λ (records : List Listed). IsFirst records name spec at) (sym grows.records) (first_longer (IsNamed name) old.records _ _ first)
+      subst (λ (records : List Listed). IsFirst records name spec at) (sym grows.records) (first_longer (IsRecordNamed name) old.records _ _ first)
 
   -- records, counts and samples stay, and come from old ones
   pub record_stays : (at : ℕ) (r : Record) → HasRecord old.pieces at r → (n : ℕ) × HasRecord new.pieces at (record r { next = n })
@@ -265,15 +265,15 @@ module _ (old new : Anatomy) (added : ℕ → Body → Type 0) (grows : Grows ol
     apart = grows.apart;
   }
 
-  pub known_stays : (known : Known) → Knows old known → Knows new known
+  pub known_stays : (known : Known) → IsRightlyKnown old known → IsRightlyKnown new known
   known_stays known knows = record {
     first_spec = knows.first_spec;
     first = first_grows known.name knows.first_spec known.reference knows.first;
     same = knows.same;
   }
 
-  pub names_grow : (names : List Known) → All (Knows old) names → All (Knows new) names
-  names_grow names = All-weaker (Knows old) (Knows new) known_stays names
+  pub names_grow : (names : List Known) → All (IsRightlyKnown old) names → All (IsRightlyKnown new) names
+  names_grow names = All-weaker (IsRightlyKnown old) (IsRightlyKnown new) known_stays names
 
   -- all that an actor has seen
   pub sees_grow : (cursors : List ℕ) (seen : Seen) → Behind seen.free (free_of new) → AreNoLater (order_of new) seen.tails new.tail

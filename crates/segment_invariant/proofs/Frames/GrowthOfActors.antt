@@ -1,10 +1,10 @@
 -- What holds of one actor stays true while a segment grows: of one that does nothing, and of one that publishes a record or walks.
 use Rattle.segment_invariant.proofs.Prelude.Std.{◌≡◌, ◌≢◌, ℕ, ◌+◌, ◌<◌, ◌≤◌, ℤ, List, ◌++◌, length, drop, All, Contains, inl, inr, ⊎_elim, refl, sym, ap, ◌∙◌, subst, arith, Some, w64, cast_signed, All-contains, some, get_elem?, first_longer, split_among}
 use Rattle.segment_invariant.proofs.Prelude.Machine.{Dimensions, buckets_of, single_of, packed_bucket, units_packed, Entry, SumLoaded, Actor, Known, Own, Sighting, tally_units, word_seen, counted_of, bucket_key, SawCount, SawBucket, accepted_by, Leads}
-use Rattle.segment_invariant.proofs.Prelude.Invariant.{Record, Body, histogram, sample, words_of, Listed, Anatomy, order_of, form_at, HasRecord, IsNamed, IsValued, IsFirstOf, WasCounter, Sees, WasSingle, HasCounts, HoldsOwn, CallsRight, HasKey, LooksBack, Fits, IsAhead}
+use Rattle.segment_invariant.proofs.Prelude.Invariant.{Record, Body, histogram, sample, words_of, Listed, Anatomy, order_of, form_at, HasRecord, IsRecordNamed, IsValued, IsFirstOf, WasCounter, Sees, WasSingle, HasCounts, HoldsOwn, CallsRight, HasKey, LooksBack, Fits, IsAhead}
 use Rattle.std.proofs.lemmas.List.Elements.{All-drop}
 use Rattle.bucket_ranges.specs.declared.spec.Spec.TheVariants as spec
-use Rattle.segment_invariant.specs.Invariant.{IsSettled, OwesPublished}
+use Rattle.segment_invariant.specs.Invariant.{NoneInTransit, OwesPublished}
 use Rattle.segment_invariant.proofs.Blocks.Places.{counter_within}
 use Rattle.segment_invariant.proofs.Frames.OneActor.{Doing, doing, doing_of}
 use Rattle.segment_invariant.proofs.Frames.Growth.{Grows, names_grow, record_stays, record_came, counts_came}
@@ -38,9 +38,9 @@ module _ (shape : Dimensions) (old new : Anatomy) (added : ℕ → Body → Type
   no_record : (at : ℕ) (body : Body) (r : Record) → 0 < length (words_of body) → added at body → HasRecord old.pieces at r → ⊥
   no_record at body r long new_one stands = grows.apart at at 0 0 body (histogram r) new_one stands long (omega arith) refl
 
-  no_name : (entry : Entry) → HasKey old.records entry.name entry.key → All (λ l. ¬ (IsNamed entry.name l)) old.records → ⊥
+  no_name : (entry : Entry) → HasKey old.records entry.name entry.key → All (λ l. ¬ (IsRecordNamed entry.name l)) old.records → ⊥
   no_name entry (kind, at, first, key) absent =
-      All-contains (λ l. ¬ (IsNamed entry.name l)) old.records _ absent (split_among first.0 first.1 first.2) (kind, refl)
+      All-contains (λ l. ¬ (IsRecordNamed entry.name l)) old.records _ absent (split_among first.0 first.1 first.2) (kind, refl)
 
   calls_grow : CallsRight old x → CallsRight new (doing x c)
   calls_grow calls = calls_anew old new x (doing x c).seen calls
@@ -61,7 +61,7 @@ module _ (shape : Dimensions) (old new : Anatomy) (added : ℕ → Body → Type
   saw_before known bucket total named (word, single, inr (off, (place, count, seen, saw, is))) =
       (word, single, inr (off, (place, count, more.counts known place named seen, saw, is)))
 
-  settled_before : (known : Known) (bucket : ℕ) → IsSettled new actors (doing x c) known bucket → IsSettled old actors x known bucket
+  settled_before : (known : Known) (bucket : ℕ) → NoneInTransit new actors (doing x c) known bucket → NoneInTransit old actors x known bucket
   settled_before known bucket (inl two) = inl (sym grows.version ∙ two)
   settled_before known bucket (inr (inl alone)) = inr (inl alone)
   settled_before known bucket (inr (inr apart)) = inr (inr (λ r there.

@@ -1,10 +1,10 @@
 -- The records of a segment that grows: the old ones stay what they are, and the new ones are lawful and count nothing.
 use Rattle.segment_invariant.proofs.Prelude.Std.{◌≡◌, ◌≢◌, ◌⊎◌, ℕ, ◌*◌, ◌-ℤ◌, ◌≤◌, ℤ, pos, List, ◌∷◌, ◌++◌, All, Contains, inl, inr, ⊎_elim, refl, sym, ap, ◌∙◌, subst, arith, Some, unsigned_abs, w64, cast_signed, All-contains, Contains-append_right, some, none, get_elem?, first_longer}
 use Rattle.segment_invariant.proofs.Prelude.Machine.{Spec, Actor, SumLoaded, units_in}
-use Rattle.segment_invariant.proofs.Prelude.Invariant.{Record, Counts, Sample, Body, histogram, sample, Listed, Anatomy, form_at, Stands, HasRecord, HasCounts, HasSample, IsNamed, IsValued, IsFirst, IsFirstOf, StandsAs, IsLawfulRecord, IsCountsOf, CountsNothing, RecordsAreKept, HasKey, SumsAreNear, IsSumOf}
+use Rattle.segment_invariant.proofs.Prelude.Invariant.{Record, Counts, Sample, Body, histogram, sample, Listed, Anatomy, form_at, Stands, HasRecord, HasCounts, HasSample, IsRecordNamed, IsValued, IsFirst, IsFirstOf, StandsAs, IsLawfulRecord, IsCountsOf, CountsNothing, RecordsAreKept, HasKey, SumsAreNear, IsSumOf}
 use Rattle.bucket_ranges.specs.declared.spec.Spec.TheVariants as spec
 use Rattle.segment_machine.specs.declared.actor.Made.TheVariants as made
-use Rattle.segment_invariant.specs.Invariant.{IsListed, IsLawfulSample, summed_costs}
+use Rattle.segment_invariant.specs.Invariant.{IsOnList, IsLawfulSample, summed_costs}
 use Rattle.segment_invariant.proofs.Frames.Growth.{Grows, first_grows, record_stays, record_came, counts_stay, counts_came, sample_came}
 
 -- ---- what was added
@@ -32,7 +32,7 @@ nothing_added page old new same = record {
 
 module _ (page : ℕ) (old new : Anatomy) (added : ℕ → Body → Type 0) (grows : Grows old new added) (right : AddedRight page old new added)
     (standing : All (λ l. StandsAs old.pieces l l.made) old.records)
-    (alone : (at : ℕ) (body : Body) → Stands old.pieces at none body → IsListed old.records at body) where
+    (alone : (at : ℕ) (body : Body) → Stands old.pieces at none body → IsOnList old.records at body) where
   -- a listed sample stands as one, and nothing was added there
   no_sample : (at of : ℕ) (value : ℤ) (s : Sample) → Contains old.records (record { reference = at; made = Some (made.Sample of value) })
       → added at (sample s) → ⊥
@@ -49,7 +49,7 @@ module _ (page : ℕ) (old new : Anatomy) (added : ℕ → Body → Type 0) (gro
       subst CountsNothing (sym same)
       (⊎_elim
       (λ old_first. kept.later at who r0 first before old_first ne)
-      (λ new_one. absurd (All-contains (λ l. ¬ (IsNamed r0.name l)) old.records _ new_one.2 (alone at (histogram r0) before) (r0.spec, refl)))
+      (λ new_one. absurd (All-contains (λ l. ¬ (IsRecordNamed r0.name l)) old.records _ new_one.2 (alone at (histogram r0) before) (r0.spec, refl)))
       (grows.first_came r0.name first who (subst (λ (z : Record). IsFirst new.records z.name first who) same is))))
       (λ new_one. right.nothing at r new_one)
       (record_came old new added grows at r there)

@@ -1,7 +1,7 @@
 -- A kept state in which one actor puts a record on the list or walks along it: all that is kept, from what changes.
 use Rattle.segment_invariant.proofs.Prelude.Std.{◌≡◌, ◌≢◌, ℕ, suc, ◌<◌, ℤ, Bool, true, List, [], ◌∷◌, ◌++◌, map, filter, All, Contains, ⊎_elim, refl, sym, ap, ◌∙◌, subst, arith, and_parts, All-contains, Contains-append_left, Contains-append_right, Contains-append_cases, some, some-injective, dite, ℕ_discrete, get_elem?, split_among, row_in}
 use Rattle.segment_invariant.proofs.Prelude.Machine.{Dimensions, Entry, EntryProgress, Actor, Known, Own, Spent, SumLoaded, is_counted, has_ended, counted_among, log_of, counted_of, all_counted, State}
-use Rattle.segment_invariant.proofs.Prelude.Invariant.{Record, Body, Anatomy, order_of, HasRecord, Knows, Sees, StandsAs, HasKey, StandsRight, HoldsOwn, Fits, Invariant, IsAhead}
+use Rattle.segment_invariant.proofs.Prelude.Invariant.{Record, Body, Anatomy, order_of, HasRecord, IsRightlyKnown, Sees, StandsAs, HasKey, StandsRight, HoldsOwn, Fits, Invariant, IsAhead}
 use Rattle.std.specs.Prelude as std
 use Rattle.segment_invariant.specs.Invariant.{OwesPublished}
 use Rattle.segment_invariant.proofs.Frames.OneActor.{Doing, doing, lives_on}
@@ -62,7 +62,7 @@ module _ (shape : Dimensions) (opened : Anatomy) (state : State) (kept : Invaria
   pub known_record : (id : ℕ) (x : Actor) → get_elem? state.actors id ≡ some x → x.hand.place ≢ Spent
       → (known : Known) → Contains x.answers.names known → (r : Record) × HasRecord kept.anatomy.pieces known.reference r
   known_record id x there lives known has =
-      let knows = All-contains (Knows kept.anatomy) x.answers.names known (kept.each id x there lives).names has in
+      let knows = All-contains (IsRightlyKnown kept.anatomy) x.answers.names known (kept.each id x there lives).names has in
       let (r, stands, named, same) =
       All-contains (λ l. StandsAs kept.anatomy.pieces l l.made) kept.anatomy.records _ kept.list.standing (split_among knows.first.0 knows.first.1 knows.first.2) in
       (r, stands)

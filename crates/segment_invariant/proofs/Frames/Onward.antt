@@ -7,7 +7,7 @@ use Rattle.std.proofs.lemmas.List.{get_or-append_right}
 use Rattle.segment_machine.specs.declared.actor.Made.TheVariants as made
 use Rattle.segment_invariant.specs.Body.{spec_field}
 use Rattle.segment_invariant.specs.Seen.{IsFixedIn, IsCounterIn, AreNoLater}
-use Rattle.segment_invariant.specs.Invariant.{IsListed}
+use Rattle.segment_invariant.specs.Invariant.{IsOnList}
 use Rattle.segment_invariant.proofs.Blocks.Places.{counter_within}
 use Rattle.segment_invariant.proofs.Frames.Leads.{off_leads, leads_on}
 use Rattle.segment_image.specs.declared.layout.TheConstants.{CLAIMED_COOKIE}
@@ -358,18 +358,18 @@ module _ (old new : Anatomy) (added : ℕ → Body → Type 0) (onward : Onward 
       (size, tag, n, payload, subst (Stands new.pieces l.reference none) is still, third, long)
 
   -- and what stands is on the list
-  pub listed_on : (records : List Listed) (at : ℕ) (before body : Body) → GoesAs old.version before body → IsListed records at before → IsListed records at body
+  pub listed_on : (records : List Listed) (at : ℕ) (before body : Body) → GoesAs old.version before body → IsOnList records at before → IsOnList records at body
   listed_on records at (histogram r) body (s, is, goes) listed =
-      subst (IsListed records at) (sym is)
+      subst (IsOnList records at) (sym is)
       (subst (λ (z : Record). Contains records (record { reference = at; made = Some (made.Histogram z.name z.spec) })) (sym goes.is) listed)
   listed_on records at (sample s) body (t, is, goes) listed =
-      subst (IsListed records at) (sym is)
+      subst (IsOnList records at) (sym is)
       (subst (λ (z : Sample). Contains records (record { reference = at; made = Some (made.Sample z.of z.value) })) (sym goes.is) listed)
-  listed_on records at (counts c) body (d, is, goes) listed = subst (IsListed records at) (sym is) tt
-  listed_on records at (other size tag next payload) body (n, is) listed = subst (IsListed records at) (sym is) listed
-  listed_on records at (queue next) body is listed = subst (IsListed records at) (sym is) tt
-  listed_on records at (plain words) body is listed = subst (IsListed records at) (sym is) tt
-  listed_on records at (held block) body is listed = subst (IsListed records at) (sym is) tt
+  listed_on records at (counts c) body (d, is, goes) listed = subst (IsOnList records at) (sym is) tt
+  listed_on records at (other size tag next payload) body (n, is) listed = subst (IsOnList records at) (sym is) listed
+  listed_on records at (queue next) body is listed = subst (IsOnList records at) (sym is) tt
+  listed_on records at (plain words) body is listed = subst (IsOnList records at) (sym is) tt
+  listed_on records at (held block) body is listed = subst (IsOnList records at) (sym is) tt
 
   -- all that was seen, where the list is as long or longer
   pub sees_on : (cursors : List ℕ) (seen : Seen) → Behind seen.free (free_of new) → IsPrefix seen.chain (order_of new) → AreNoLater (order_of new) seen.tails new.tail

@@ -1,7 +1,7 @@
 -- What holds of an actor beside the others holds on where it notes something.
 use Rattle.segment_invariant.proofs.Prelude.Std.{◌≡◌, ◌≢◌, ℕ, ◌+◌, ◌≤◌, max, true, List, ◌∷◌, [], ◌++◌, map, length, drop, take, All, Contains, inr, ⊎_elim, refl, sym, ap, subst, arith, Contains-append_left, Contains-append_right, Contains-append_cases, none_in}
 use Rattle.segment_invariant.proofs.Prelude.Machine.{Taken, Entry, has_ended, tally_noted, SawSample, Dimensions, Actor, Moment, Sighting, log_of, counted_of, cost_of}
-use Rattle.segment_invariant.proofs.Prelude.Invariant.{IsWithinCounts, Anatomy, Knows, IsFirst, IsFirstOf, CallsRight, LooksBack, IsQuiet, FinalsAreExact, Fits}
+use Rattle.segment_invariant.proofs.Prelude.Invariant.{IsWithinCounts, Anatomy, IsRightlyKnown, IsFirst, IsFirstOf, CallsRight, LooksBack, IsQuiet, FinalsAreExact, Fits}
 use Rattle.bucket_ranges.specs.declared.spec.Spec.TheVariants as spec
 use Rattle.segment_machine.specs.Entry.{AreWithin}
 use Rattle.segment_invariant.specs.Invariant.{AreInOrder, IsMoment, TookAllOf, OwesPublished}
@@ -12,7 +12,7 @@ use Rattle.segment_invariant.proofs.Notes.Notes.{Noting, noting, SameCounts, cou
 -- ---- it fits
 
 module _ (shape : Dimensions) (anatomy : Anatomy) (cursors : List ℕ) (actors : List Actor) (opener : Actor) (id : ℕ) (a : Actor) (n : Noting) where
-  pub noting_fits : Fits shape anatomy cursors actors opener id a → All (Knows anatomy) n.names → OwesPublished a.done.published n.owed → CallsRight anatomy (noting a n)
+  pub noting_fits : Fits shape anatomy cursors actors opener id a → All (IsRightlyKnown anatomy) n.names → OwesPublished a.done.published n.owed → CallsRight anatomy (noting a n)
       → LooksBack anatomy actors opener (noting a n) → FinalsAreExact actors opener id (noting a n) → All (IsWithinCounts actors) n.snapshots
       → Fits shape anatomy cursors actors opener id (noting a n)
   noting_fits fit names owes calls looks finals snapshots = record {

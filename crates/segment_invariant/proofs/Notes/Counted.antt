@@ -2,7 +2,7 @@
 -- recorder met.
 use Rattle.segment_invariant.proofs.Prelude.Std.{◌≡◌, ◌≢◌, ◌⊎◌, ℕ, ◌<◌, ℤ, pos, true, false, ◌++◌, All, Contains, inl, inr, ⊎_elim, refl, sym, ap, ◌∙◌, subst, subst₂, arith, ◌==◌, Some, slice_index, All-contains, Contains-append_left, Contains-append_cases, some, get_elem?}
 use Rattle.segment_invariant.proofs.Prelude.Machine.{Dimensions, Spec, buckets_of, spec_fields, boundaries_of, Actor, Known, Spent, is_of, tally_units, log_of, counted_of, has_buckets, bucket_key, accepted_by, all_counted, is_opener, SawSample, is_untouched, State}
-use Rattle.segment_invariant.proofs.Prelude.Invariant.{Anatomy, IsFirst, IsFirstOf, Knows, IsAlone, HasKey, Invariant}
+use Rattle.segment_invariant.proofs.Prelude.Invariant.{Anatomy, IsFirst, IsFirstOf, IsRightlyKnown, IsAlone, HasKey, Invariant}
 use Rattle.bucket_ranges.specs.declared.spec.Spec.TheVariants as spec
 use Rattle.segment_invariant.proofs.Lists.Tallies.{tally_at}
 use Rattle.segment_invariant.proofs.Consistency.Keys.{same_boundaries, same_buckets}
@@ -40,7 +40,7 @@ module _ (shape : Dimensions) (opened : Anatomy) (state : State) (kept : Invaria
   pub counted_at : (key : ℤ) → 0 < tally_units (all_counted state.actors) known.name key → IsBucketKey known key ⊎ IsMet key
   counted_at key some_units =
       let fits = kept.each id a mine lives in
-      let knows = All-contains (Knows kept.anatomy) a.answers.names known fits.names has in
+      let knows = All-contains (IsRightlyKnown kept.anatomy) a.answers.names known fits.names has in
       let (entry, among, named, keyed, units) = tally_at (all_counted state.actors) known.name key some_units in
       let (kind, at, first, place) = subst₂ (HasKey kept.anatomy.records) named keyed (kept.keys entry among units) in
       let (at_is, kind_is) = one_first shape opened state kept known.name kind knows.first_spec at known.reference first knows.first in

@@ -1,6 +1,6 @@
 -- A delta may begin: what holds is kept.
 use Rattle.segment_invariant.proofs.Prelude.Std.{◌≡◌, ◌≢◌, ℕ, ◌-◌, ◌<◌, ℤ, pos, Bool, true, false, true≢false, List, [], ◌∷◌, ◌++◌, map, length, take, drop, ◌+◌, ◌≤◌, Contains, inl, inr, ⊎_elim, refl, sym, ap, ◌∙◌, subst, arith, if◌then◌else◌, ◌+ℤ◌, bytes_eq, +ℤ_idr, take-append_seam, length_push, drop-append-le, Contains-append_cases, some, get_elem?, set_else, one_in, below_length}
-use Rattle.segment_invariant.proofs.Prelude.Machine.{Actor, Portion, Taken, tally_sum, units_listed, taken_sum, taken_of, portion_of, taken_units, taken_sum, made_of, outstanding_of}
+use Rattle.segment_invariant.proofs.Prelude.Machine.{Actor, Portion, Taken, tally_sum, units_listed, taken_sum, taken_of, portion_of, taken_units, made_of, outstanding_of}
 use Rattle.segment_invariant.proofs.Prelude.Invariant.{is_living, FinalsAreExact, NoteKeeps}
 use Rattle.std.proofs.lemmas.List.{same_from_push}
 use Rattle.std.proofs.lemmas.List.Sums.{sum_by_push}

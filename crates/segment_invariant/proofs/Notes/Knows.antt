@@ -1,13 +1,13 @@
 -- An actor may note that a `hist` was answered, where that is a histogram of the segment: what holds is kept.
 use Rattle.segment_invariant.proofs.Prelude.Std.{⊎_elim, ◌≡◌, ◌≢◌, ℕ, ◌==◌, ℤ, Bool, not, List, [], ◌∷◌, ◌++◌, map, length, set, Contains, refl, sym, ap, ◌∙◌, subst, eq-eqb, arith, false, if◌then◌else◌, Option, Some, map-append, All-push, Contains-append_left, dite, some, ℕ_discrete, get_elem?, bytes_eq, filter}
 use Rattle.segment_invariant.proofs.Prelude.Machine.{Dimensions, Place, Spent, Actor, Known, known_at, is_opener, State, noted}
-use Rattle.segment_invariant.proofs.Prelude.Invariant.{Anatomy, moving_at, Knows, StandsRight, Invariant}
+use Rattle.segment_invariant.proofs.Prelude.Invariant.{Anatomy, moving_at, IsRightlyKnown, StandsRight, Invariant}
 use Rattle.std.proofs.lemmas.List.Elements.{All-filter}
 use Rattle.std.proofs.lemmas.Map.Made.{Contains-tail}
 use Rattle.segment_invariant.proofs.Frames.Answers.{answered_knows}
 use Rattle.segment_machine.specs.Note.{knows}
 use Rattle.segment_invariant.specs.Ledger.{moving_of}
-use Rattle.segment_invariant.specs.Invariant.{HasPublished}
+use Rattle.segment_invariant.specs.Invariant.{HasPublishedRecord}
 use Rattle.segment_invariant.proofs.Frames.OneActor.{moves_or_not}
 use Rattle.segment_invariant.proofs.Notes.Notes.{Noting, noting, noting_of, SameCounts, notes_on}
 use Rattle.segment_invariant.proofs.Notes.Actors.{noting_fits, looks_anew, finals_on, calls_by}
@@ -49,7 +49,7 @@ module _ (a : Actor) (known : Known) where
   knows_counts = record { counted = λ name key. refl; summed = λ name. refl; noted = λ name. refl; costs = λ name. omega arith; units = refl }
 
   pub knows_one_more : (shape : Dimensions) (opened : Anatomy) (state : State) (id : ℕ) (kept : Invariant shape opened state) → get_elem? state.actors id ≡ some a
-      → is_opener a.role ≡ false → a.hand.place ≢ Spent → Knows kept.anatomy known
+      → is_opener a.role ≡ false → a.hand.place ≢ Spent → IsRightlyKnown kept.anatomy known
       → Invariant shape opened (record state { actors = set state.actors id (noted a (knows known)) })
   knows_one_more shape opened state id kept mine records lived right =
       notes_on shape opened state kept id a mine records knower lived knows_counts (takes_nothing a knower)
@@ -57,8 +57,8 @@ module _ (a : Actor) (known : Known) where
       (λ k has. Contains-append_left a.answers.names (known ∷ []) k has)
       (answered_knows kept.anatomy.records state.actors id a (noting a knower) mine known refl refl)
       (λ fit. noting_fits shape kept.anatomy state.cursors _ kept.roles.opener id a knower fit
-      (All-push (Knows kept.anatomy) a.answers.names known fit.names right)
-      (All-filter (λ (mine : Known). not (bytes_eq mine.name known.name)) (HasPublished a.done.published) a.answers.owed fit.owes)
+      (All-push (IsRightlyKnown kept.anatomy) a.answers.names known fit.names right)
+      (All-filter (λ (mine : Known). not (bytes_eq mine.name known.name)) (HasPublishedRecord a.done.published) a.answers.owed fit.owes)
       (calls_by kept.anatomy a knower fit.calls knows_counts fit.calls.ordered
       (λ some_run.
       let (name, cost, holds, within, named) = fit.calls.within some_run in (

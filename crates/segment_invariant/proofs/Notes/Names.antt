@@ -2,7 +2,7 @@
 -- kept.
 use Rattle.segment_invariant.proofs.Prelude.Std.{◌≡◌, ◌≢◌, ℕ, zero, suc, ◌+◌, ◌-◌, ◌<◌, List, [], ◌∷◌, ◌++◌, length, map, All, Contains, inl, inr, refl, sym, ap, ◌∙◌, subst, append_assoc, arith, get_or-drop, length-append, not, ◌&&◌, ◌==◌, slice_index, Option, Some, None, get_or_append_left, All-contains, Contains-append_left, Contains-append_right, Contains-permutation, dite, some, none, ℕ_discrete, get_elem?, bytes_eq, filter, split_among, all_of, row_in, contains_map}
 use Rattle.segment_invariant.proofs.Prelude.Machine.{Dimensions, spec_fields, spec_ranges, SameSpec, name_words, Spec, Linear, Boolean, Custom, Sparse, Spent, Actor, Known, Made, Published, word_seen, all_published, State, purse, AreNameWords}
-use Rattle.segment_invariant.proofs.Prelude.Invariant.{Record, Listed, record_words, histogram, sample, other, Anatomy, order_of, listed, Body, words_of, HasRecord, IsNamed, Knows, IsFirst, Stands, StandsAs, StandsRight, Invariant, IsLawfulRecord, NoteKeeps}
+use Rattle.segment_invariant.proofs.Prelude.Invariant.{Record, Listed, record_words, histogram, sample, other, Anatomy, order_of, listed, Body, words_of, HasRecord, IsRecordNamed, IsRightlyKnown, IsFirst, Stands, StandsAs, StandsRight, Invariant, IsLawfulRecord, NoteKeeps}
 use Rattle.std.proofs.lemmas.Grind.{same_number_lists}
 use Rattle.std.proofs.lemmas.List.{get_or-append-add}
 use Rattle.std.proofs.lemmas.List.Elements.{All-filter}
@@ -17,7 +17,7 @@ use Rattle.list_lemmas.proofs.Elements.{split_map}
 use Rattle.segment_machine.specs.Made.{SawName, SawOtherName, SawSpec, SawOtherSpec, IsFirstNamed}
 use Rattle.segment_machine.specs.Note.{knows, MayNote, declines}
 use Rattle.segment_invariant.specs.Body.{spec_field}
-use Rattle.segment_invariant.specs.Invariant.{HasPublished}
+use Rattle.segment_invariant.specs.Invariant.{HasPublishedRecord}
 use Rattle.segment_invariant.proofs.Walking.Words.{letters_long, record_long, ranges_long, sighted}
 use Rattle.segment_invariant.proofs.Notes.Letters.{names_same, bytes_same, word_bytes}
 use Rattle.segment_invariant.proofs.Notes.Knows.{knows_one_more}
@@ -173,7 +173,7 @@ module _ (shape : Dimensions) (opened : Anatomy) (state : State) (kept : Invaria
       by_given name at before l after l.made refl
       (stands before l after records_are l (Contains-append_right before (l ∷ after) l (0, omega arith, refl)))
       place saw records_are
-      (all_of (λ x. ¬ (IsNamed name x)) before (λ x has (kind, named).
+      (all_of (λ x. ¬ (IsRecordNamed name x)) before (λ x has (kind, named).
       let there : Contains front x.reference = subst (λ (list : List ℕ). Contains list x.reference) fronts (contains_map (λ (l : Listed). l.reference) before x has) in
       let (r, is, name_is, same) = subst (StandsAs kept.anatomy.pieces x) named (stands before l after records_are x (Contains-append_left before (l ∷ after) x has)) in
       other_seen name x.reference r is name_is (All-contains (SawOtherName a.seen name) front x.reference others there)))
@@ -186,7 +186,7 @@ module _ (shape : Dimensions) (opened : Anatomy) (state : State) (kept : Invaria
 
       by_given : (name : List ℕ) (at : ℕ) (before : List Listed) (l : Listed) (after : List Listed) (given : Option Made) → l.made ≡ given
           → StandsAs kept.anatomy.pieces l given → l.reference ≡ at → SawName a.seen name at → kept.anatomy.records ≡ before ++ l ∷ after
-          → All (λ x. ¬ (IsNamed name x)) before
+          → All (λ x. ¬ (IsRecordNamed name x)) before
           → (kind : Spec) × (r : Record) × HasRecord kept.anatomy.pieces at r × (r.name ≡ name) × (r.spec ≡ kind) × IsFirst kept.anatomy.records name kind at
       by_given name at before l after (Some (made.Histogram called kind)) given_is (r, is, named, same) place saw records_are absent =
           let has : HasRecord kept.anatomy.pieces at r = subst (λ at. HasRecord kept.anatomy.pieces at r) place is in
@@ -210,13 +210,13 @@ module _ (shape : Dimensions) (opened : Anatomy) (state : State) (kept : Invaria
                 name_as kept.anatomy.version name l.reference r (other size tag next payload, is, holds) over.lawful (subst (SawName a.seen name) (sym place) saw) in
                 let (kind, first, its) = over.named in
                 let y : Listed = record { reference = first; made = Some (made.Histogram r.name kind) } in
-                absurd (All-contains (λ x. ¬ (IsNamed name x)) before y absent
+                absurd (All-contains (λ x. ¬ (IsRecordNamed name x)) before y absent
                 (split_among its.0 its.1 its.2)
                 (kind, ap (λ (name : List ℕ). Some (made.Histogram name kind)) named))
           ]
 
   -- so is a histogram that a `hist` is answered with
-  known_right : (known : Known) → MayNote a (knows known) → Knows kept.anatomy known
+  known_right : (known : Known) → MayNote a (knows known) → IsRightlyKnown kept.anatomy known
   known_right known (named, (letters, are, spec_saw)) =
       let (kind, r, has, name_is, same, first) = first_right known.name known.reference named in
       let lawful = kept.records.lawful known.reference r has in
@@ -248,7 +248,7 @@ module _ (shape : Dimensions) (opened : Anatomy) (state : State) (kept : Invaria
   declined_apart owes at letters there named are unlike here =
       let fits = kept.each id a mine lives in
       let entry : Published = record { reference = owes.reference; made = made.Histogram owes.name owes.spec } in
-      let published = All-contains (HasPublished a.done.published) a.answers.owed owes fits.owes there in
+      let published = All-contains (HasPublishedRecord a.done.published) a.answers.owed owes fits.owes there in
       let (front, all, permuted) = kept.list.once in
       let among = Contains-permutation (map listed (all_published state.actors)) front (listed entry) (IsPermutation-sym _ _ permuted)
       (contains_map listed (all_published state.actors) entry (row_in (λ (c : Actor). c.done.published) state.actors id a entry mine published)) in
@@ -289,7 +289,7 @@ declines_kept owes shape opened state id a kept mine records (there, (at, letter
     notes_on shape opened state kept id a mine records n lived counts (takes_nothing a n) (λ name key. refl) (λ known has. has)
     (answered_declines kept.anatomy.records state.actors id a (noting a n) mine owes kind at first apart refl refl)
     (λ fit. noting_fits shape kept.anatomy state.cursors _ kept.roles.opener id a n fit fit.names
-    (All-filter (λ (debt : Known). not (bytes_eq debt.name owes.name && (debt.reference == owes.reference))) (HasPublished a.done.published) a.answers.owed fit.owes)
+    (All-filter (λ (debt : Known). not (bytes_eq debt.name owes.name && (debt.reference == owes.reference))) (HasPublishedRecord a.done.published) a.answers.owed fit.owes)
     (calls_by kept.anatomy a n fit.calls counts fit.calls.ordered fit.calls.within fit.calls.held fit.calls.ended fit.calls.spent fit.calls.taking)
     (fit.looks records)
     (finals_on _ kept.roles.opener id a n (omega arith) (λ k within. refl) (λ name k within quiet. quiet) fit.finals)

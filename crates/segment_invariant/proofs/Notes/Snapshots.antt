@@ -1,7 +1,7 @@
 -- A snapshot may be answered with what its recorder saw: what holds is kept.
 use Rattle.segment_invariant.proofs.Prelude.Std.{◌≡◌, ◌≢◌, ◌⊎◌, ℕ, zero, suc, ◌+◌, ◌<◌, ◌≤◌, ℤ, pos, Bool, true, false, List, [], ◌∷◌, ◌++◌, set, Some, All, Contains, inl, inr, ⊎_elim, refl, sym, ap, ◌∙◌, subst, arith, slice_index, if◌then◌else◌, range_with_len, int_eq, Decides-int_eq, All-push, All-contains, Contains-append_cases, Contains-append_right, some, get_elem?, at_map, set_else, one_in, all_at, at_from, from_map, contains_mapped}
 use Rattle.segment_invariant.proofs.Prelude.Machine.{Dimensions, buckets_of, Actor, Answered, Known, Spent, is_of, tally_units, tally_sum, tally_noted, has_buckets, bucket_key, units_listed, cost_of, accepted_by, all_counted, all_summed, all_noted, SawCount, is_opener, Sighting, IsFirstSample, is_untouched, SawBucket, State}
-use Rattle.segment_invariant.proofs.Prelude.Invariant.{IsWithinCounts, Record, histogram, Anatomy, Knows, HasRecord, IsFirstOf, IsAlone, FinalsAreExact, Invariant, NoteKeeps}
+use Rattle.segment_invariant.proofs.Prelude.Invariant.{IsWithinCounts, Record, histogram, Anatomy, IsRightlyKnown, HasRecord, IsFirstOf, IsAlone, FinalsAreExact, Invariant, NoteKeeps}
 use Rattle.bucket_ranges.specs.declared.spec.Spec.TheVariants as spec
 use Rattle.segment_machine.specs.Note.{answers, moment_of, SawAll}
 use Rattle.segment_invariant.specs.Invariant.{IsMoment}
@@ -130,8 +130,8 @@ module _ (shape : Dimensions) (opened : Anatomy) (state : State) (kept : Invaria
         (k, c, there, c_is, omega (arith, accepted, its), λ j other here other_is. saw.once sparse j k other c here there (other_is ∙ sym c_is)))
         (counted_at shape opened state kept id a mine records lived alone known has quiet key some_units))
 
-    knows : Knows kept.anatomy known
-    knows = All-contains (Knows kept.anatomy) a.answers.names known (kept.each id a mine lived).names has
+    knows : IsRightlyKnown kept.anatomy known
+    knows = All-contains (IsRightlyKnown kept.anatomy) a.answers.names known (kept.each id a mine lived).names has
 
     record_is : (r : Record) × (HasRecord kept.anatomy.pieces known.reference r × (r.name ≡ known.name) × (r.spec ≡ knows.first_spec))
     record_is = record_of_first shape opened state kept known.name knows.first_spec known.reference knows.first

@@ -1,7 +1,7 @@
 -- The first actor of a segment that opens, a new one or an adopted image: it has done nothing yet, and has accepted and seen what was there.
 use Rattle.segment_invariant.proofs.Prelude.Std.{◌≡◌, ◌≢◌, ℕ, zero, suc, ◌<◌, ◌≤◌, true, false, List, [], ◌∷◌, replicate, inl, inr, refl, sym, subst, true≢false, arith, max, All, Contains, append-nil, length-replicate, All-nil, IsPermutation-refl, some, get_elem?, none_in, none_at}
 use Rattle.segment_invariant.proofs.Prelude.Machine.{Dimensions, IsStop, Actor, Cost, Known, Moment, Portion, Entry, Seen, is_opener, made_of, cost_of, tally_noted, SawSample}
-use Rattle.segment_invariant.proofs.Prelude.Invariant.{Anatomy, order_of, IsFirst, IsFirstOf, Sees, Knows, is_living, RolesAreKept, CallsRight, FinalsAreExact, Fits}
+use Rattle.segment_invariant.proofs.Prelude.Invariant.{Anatomy, order_of, IsFirst, IsFirstOf, Sees, IsRightlyKnown, is_living, RolesAreKept, CallsRight, FinalsAreExact, Fits}
 use Rattle.std.proofs.lemmas.List.{get_or-replicate}
 use Rattle.bucket_ranges.specs.declared.spec.Spec.TheVariants as spec
 use Rattle.segment_machine.specs.declared.actor.Role.TheVariants.{Opener}
@@ -79,7 +79,7 @@ module _ (shape : Dimensions) (version cursors share : ℕ) (costs first_noted :
   -- What has to be shown of it: what it has seen lies behind the present, it knows the first records of names, what it has accepted is spent,
   -- and it met the samples of all that was counted before.
   module _ (anatomy : Anatomy) (sees : Sees anatomy (replicate cursors 12) seen) (stop : IsStop (order_of anatomy) anatomy.tail)
-      (knows : All (Knows anatomy) names) (covers : (name : List ℕ) → max (tally_noted first name) (cost_of first_noted name) ≤ cost_of costs name)
+      (knows : All (IsRightlyKnown anatomy) names) (covers : (name : List ℕ) → max (tally_noted first name) (cost_of first_noted name) ≤ cost_of costs name)
       (met : (entry : Entry) (of : ℕ) → Contains first entry → 0 < entry.units → IsFirst anatomy.records entry.name spec.Sparse of
       → (at : ℕ) × IsFirstOf anatomy.records of entry.key at × Contains seen.chain at × SawSample seen of entry.key at) where
     calls : CallsRight anatomy first_actor

@@ -7,7 +7,7 @@ use Rattle.alloc_core.proofs.Runs.{fresh_sound}
 use Rattle.segment_machine.specs.Reached.{new_state}
 use Rattle.segment_machine.specs.Seats.{opener_of}
 use Rattle.segment_invariant.specs.Body.{blank}
-use Rattle.segment_invariant.specs.Invariant.{ListIsKept, IsListed, ArePassedOver}
+use Rattle.segment_invariant.specs.Invariant.{ListIsKept, IsOnList, ArePassedOver}
 use Rattle.segment_invariant.specs.Keeps.{OpeningIsKept, NewIsOpening}
 use Rattle.segment_invariant.proofs.Openings.FirstActors.{first_roles, first_cursors, first_fits}
 use Rattle.list_lemmas.proofs.Elements.{not_empty, each_of_one}
@@ -53,7 +53,7 @@ module _ (shape : Dimensions) (version id cursors : ℕ) (lawful : IsShape shape
     };
     once = ([], refl, IsPermutation-refl []);
     standing = All-nil _;
-    alone = λ at body there. subst (IsListed [] at) (stands_queue at none body there) tt;
+    alone = λ at body there. subst (IsOnList [] at) (stands_queue at none body there) tt;
     tail = (0, omega arith, refl);
   }
 

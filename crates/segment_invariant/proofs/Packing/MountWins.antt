@@ -1,11 +1,11 @@
 -- A counts block is mounted, and no other was first: the invariant is kept, with what is learned.
 use Rattle.segment_invariant.proofs.Prelude.Std.{◌≡◌, ◌≢◌, Bool, true, false, ◌==◌, if◌then◌else◌, ℕ, ◌+◌, ◌*◌, ◌<◌, ◌≤◌, List, [], ◌∷◌, ◌++◌, length, set, All, Contains, None, inr, refl, sym, ap, ◌∙◌, subst, arith, eqb-true, ne_eqb, set-set, get_or-set_same, All-contains, All-weaker, Contains-push, some, get_elem?, row_in}
 use Rattle.segment_invariant.proofs.Prelude.Machine.{Behind, Dimensions, word_at, Spec, Sparse, buckets_of, spec_fields, Actor, Known, Own, Look, Spent, Idle, Looking, Sighting, is_bound, has_buckets, Buckets, counted_of, taken_of, is_opener, sight_counts, packing_event, Ready, mount_counts, after_mount, State}
-use Rattle.segment_invariant.proofs.Prelude.Invariant.{Record, Counts, histogram, counts, held, Piece, Anatomy, HasRecord, IsFirst, Knows, WasFixed, HoldsOwn, Invariant, EventKeeps}
+use Rattle.segment_invariant.proofs.Prelude.Invariant.{Record, Counts, histogram, counts, held, Piece, Anatomy, HasRecord, IsFirst, IsRightlyKnown, WasFixed, HoldsOwn, Invariant, EventKeeps}
 use Rattle.alloc_core.proofs.Owners.{set_at}
 use Rattle.segment_machine.specs.Calls.{without}
 use Rattle.segment_invariant.specs.Seen.{HasOwn}
-use Rattle.segment_invariant.specs.Invariant.{IsListed}
+use Rattle.segment_invariant.specs.Invariant.{IsOnList}
 use Rattle.segment_invariant.proofs.Blocks.Published.{Publishes, Only}
 use Rattle.segment_invariant.proofs.Consistency.Books.{one_first}
 use Rattle.segment_invariant.proofs.Frames.Ahead.{unbound_unbeaten}
@@ -108,7 +108,7 @@ module _ (shape : Dimensions) (opened : Anatomy) (state : State) (kept : Invaria
         shown = published.shown (set state.words (h + 8) own.at) (turned_shown shape opened state kept h (histogram r) (histogram s) 8 own.at stands turns);
         onward = onward;
         bare = λ at z is. cc is.1;
-        listed = λ at body is. subst (IsListed kept.anatomy.records at) (sym is.1) tt;
+        listed = λ at body is. subst (IsOnList kept.anatomy.records at) (sym is.1) tt;
         others = mounted.others_stay shape opened state kept id h r own stands unmounted holds tag bare room;
         still = λ k p here.
             let (q, now, turned_at) = turned_still shape opened state kept h (histogram r) (histogram s) 8 own.at stands turns k p here in
@@ -198,7 +198,7 @@ module _ (shape : Dimensions) (opened : Anatomy) (state : State) (kept : Invaria
       let stands : HasRecord kept.anatomy.pieces h r = subst (λ (n : ℕ). HasRecord kept.anatomy.pieces n r) buckets.1 there in
       let unmounted : r.counts ≡ 0 = sym (counts_found shape opened state kept id a mine lives h r stands) ∙ eqb-true found 0 won in
       let holds = All-contains (HoldsOwn shape kept.anatomy.pieces id) a.hand.own own (kept.each id a mine lives).own has in
-      let knows = All-contains (Knows kept.anatomy) a.answers.names known (kept.each id a mine lives).names buckets.0 in
+      let knows = All-contains (IsRightlyKnown kept.anatomy) a.answers.names known (kept.each id a mine lives).names buckets.0 in
       let one = one_first shape opened state kept known.name in
       let bucketed : r.spec ≢ Sparse = λ sparse.
       let kind : knows.first_spec ≡ Sparse = sym (one r.spec knows.first_spec known.reference known.reference first knows.first).1 ∙ sparse in

@@ -1,12 +1,12 @@
 -- What a link publishes: a record without counts, a record with its counts block, or a sample.
 use Rattle.segment_invariant.proofs.Prelude.Std.{◌≡◌, ◌⊎◌, ℕ, ◌+◌, ◌*◌, ◌≤◌, ℤ, true, List, [], ◌∷◌, ◌++◌, length, replicate, set, Contains, inl, inr, ⊎_elim, refl, sym, ap, ◌∙◌, subst, arith, false, slice_index, Some, None, w64, cast_unsigned, All-contains, Contains-push, some, none, get_elem?}
 use Rattle.segment_invariant.proofs.Prelude.Machine.{Dimensions, word_at, IsShown, Spec, Linear, Boolean, Custom, Sparse, buckets_of, spec_fault, spec_fields, spec_ranges, Actor, Known, Made, Own, AreNameWords, State, after_link, is_opener}
-use Rattle.segment_invariant.proofs.Prelude.Invariant.{Record, Sample, Body, held, histogram, sample, Piece, Listed, Anatomy, layout_of, form_at, HasRecord, HasSample, IsFirst, Knows, StandsAs, IsLawfulRecord, CountsNothing, HoldsOwn, Invariant}
+use Rattle.segment_invariant.proofs.Prelude.Invariant.{Record, Sample, Body, held, histogram, sample, Piece, Listed, Anatomy, layout_of, form_at, HasRecord, HasSample, IsFirst, IsRightlyKnown, StandsAs, IsLawfulRecord, CountsNothing, HoldsOwn, Invariant}
 use Rattle.bucket_ranges.specs.Reading.{is_name, is_i32}
 use Rattle.segment_machine.specs.declared.actor.Made.TheVariants as made
 use Rattle.segment_machine.specs.declared.place.Place.TheVariants.{TailLoaded}
 use Rattle.segment_invariant.specs.Seen.{HasOwn}
-use Rattle.segment_invariant.specs.Invariant.{IsListed, IsLawfulSample}
+use Rattle.segment_invariant.specs.Invariant.{IsOnList, IsLawfulSample}
 use Rattle.segment_invariant.proofs.Blocks.Pieces.{one_stands}
 use Rattle.segment_invariant.proofs.Lists.Ends.{snoc_split}
 use Rattle.segment_invariant.proofs.Blocks.Bodies.{IsBlank, record_of, record_words_are, is_blank, record_nothing, record_lawful, sample_of, sample_words_are, sample_lawful}
@@ -125,7 +125,7 @@ module _ (shape : Dimensions) (opened : Anatomy) (state : State) (kept : Invaria
           new_record = λ name' spec' is. (r, (refl, refl));
           new_sample = λ of value is. absurd (cc (asks, is));
           stands = record_stands (pieces_of (histogram r)) (first_published.here own.at (histogram r) (refl, refl));
-          listed = λ at body is. subst (λ (p : ℕ × Body). IsListed (anatomy.records ++ record { reference = own.at; made = Some given } ∷ []) p.0 p.1)
+          listed = λ at body is. subst (λ (p : ℕ × Body). IsOnList (anatomy.records ++ record { reference = own.at; made = Some given } ∷ []) p.0 p.1)
               (λ j. (sym is.0 j, sym is.1 j)) record_listed;
           spared = λ x ne b is. ne is.0;
         })
@@ -146,7 +146,7 @@ module _ (shape : Dimensions) (opened : Anatomy) (state : State) (kept : Invaria
     sparse_first : IsFirst anatomy.records known.name Sparse of
     sparse_first =
         let fits = mine_fits shape opened state kept id a mine records tail own given placed i there ended asked ends in
-        let knows = All-contains (Knows anatomy) a.answers.names known fits.names has in
+        let knows = All-contains (IsRightlyKnown anatomy) a.answers.names known fits.names has in
         subst (λ (p : Spec × ℕ). IsFirst anatomy.records known.name p.0 p.1)
         (λ j. (sparse_same knows.first_spec (knows.same.0 ∙ ap spec_fields kind) j, refers j)) knows.first
 
@@ -193,7 +193,7 @@ module _ (shape : Dimensions) (opened : Anatomy) (state : State) (kept : Invaria
           new_record = λ name spec is. absurd (cc (asks, is));
           new_sample = λ of' value' is. (s, (refl, refl));
           stands = subst (λ (g : Made). StandsAs (pieces_of (sample s)) (record { reference = own.at; made = Some g }) (Some g)) (sym asks) (s, sample_here, refl, refl);
-          listed = λ at body is. subst (λ (p : ℕ × Body). IsListed (anatomy.records ++ record { reference = own.at; made = Some given } ∷ []) p.0 p.1)
+          listed = λ at body is. subst (λ (p : ℕ × Body). IsOnList (anatomy.records ++ record { reference = own.at; made = Some given } ∷ []) p.0 p.1)
               (λ j. (sym is.0 j, sym is.1 j)) sample_listed;
           spared = λ x ne b is. ne is.0;
         })

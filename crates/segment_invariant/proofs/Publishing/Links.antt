@@ -2,7 +2,7 @@
 -- published, and all that holds is kept.
 use Rattle.segment_invariant.proofs.Prelude.Std.{◌≡◌, ◌≢◌, ℕ, suc, ◌+◌, ◌≤◌, ℤ, Bool, true, false, List, [], ◌∷◌, ◌++◌, map, length, set, All, Contains, IsPermutation, inl, inr, ⊎_elim, refl, sym, ap, ◌∙◌, subst, arith, append_assoc, Some, map-append, All-weaker, All-push, Contains-append_left, Contains-append_right, IsPermutation-refl, some, none, some-injective, some-ne-none, get_elem?, at_set, at_longer, rows, column, at_from, below_length, index_at, all_at, row_in}
 use Rattle.segment_invariant.proofs.Prelude.Machine.{Dimensions, word_at, IsShown, Behind, Spec, IsStop, IsLinked, Place, Known, Portion, Entry, Actor, Claim, Given, Made, Own, Published, Spent, all_published, is_opener, State}
-use Rattle.segment_invariant.proofs.Prelude.Invariant.{Record, Counts, Sample, Body, queue, plain, held, histogram, counts, sample, other, words_of, is_claimed, Piece, extent_of, Listed, listed, Anatomy, layout_of, order_of, free_of, claims_of, Stands, Sees, IsNamed, IsValued, IsNoLater, StandsAs, StandsRight, HoldsOwn, Fits, IsSetBy, ClaimedRight, Invariant, IsAhead, is_beaten}
+use Rattle.segment_invariant.proofs.Prelude.Invariant.{Record, Counts, Sample, Body, queue, plain, held, histogram, counts, sample, other, words_of, is_claimed, Piece, extent_of, Listed, listed, Anatomy, layout_of, order_of, free_of, claims_of, Stands, Sees, IsRecordNamed, IsValued, IsNoLater, StandsAs, StandsRight, HoldsOwn, Fits, IsSetBy, ClaimedRight, Invariant, IsAhead, is_beaten}
 use Rattle.std.proofs.lemmas.List.{take-append-le}
 use Rattle.std.proofs.lemmas.List.Sorted.{IsPermutation-sym, IsPermutation-trans, IsPermutation-append, IsPermutation-map}
 use Rattle.list_core.specs.Chain.{AreNeighbours}
@@ -16,7 +16,7 @@ use Rattle.segment_machine.specs.declared.place.Place.TheVariants.{TailLoaded, L
 use Rattle.segment_machine.specs.Actor.{all_given, all_owed}
 use Rattle.segment_machine.specs.Calls.{without}
 use Rattle.segment_machine.specs.Publishing.{own_at, published_as, owed_for}
-use Rattle.segment_invariant.specs.Invariant.{IsListed, ListIsKept, CursorsAreKept, AreAnswered}
+use Rattle.segment_invariant.specs.Invariant.{IsOnList, ListIsKept, CursorsAreKept, AreAnswered}
 use Rattle.list_lemmas.proofs.Elements.{rows_more}
 use Rattle.segment_invariant.proofs.Blocks.Pieces.{piece_word, first_piece, some_first, one_index, one_piece, with_piece, piece_stored, free_with, queue_piece, queue_stored, claims_same}
 use Rattle.segment_invariant.proofs.Blocks.Stops.{stop_open}
@@ -134,12 +134,12 @@ pub record Adds (page : ℕ) (own : Own) (given : Made) (old new : Anatomy) (add
   pub new_record : (name : List ℕ) (spec : Spec) → given ≡ made.Histogram name spec → (r : Record) × added own.at (histogram r)
   pub new_sample : (of : ℕ) (value : ℤ) → given ≡ made.Sample of value → (s : Sample) × added own.at (sample s)
   pub stands : StandsAs new.pieces (record { reference = own.at; made = Some given }) (Some given)
-  pub listed : (at : ℕ) (body : Body) → added at body → IsListed new.records at body
+  pub listed : (at : ℕ) (body : Body) → added at body → IsOnList new.records at body
   pub spared : (x : Own) → x.at ≢ own.at → (b : Body) → added x.at b → ⊥
 
 -- ---- the list
 
-listed_next : (records : List Listed) (at : ℕ) (before : Body) (n : ℕ) → IsListed records at before → IsListed records at (with_next before n)
+listed_next : (records : List Listed) (at : ℕ) (before : Body) (n : ℕ) → IsOnList records at before → IsOnList records at (with_next before n)
 listed_next records at (queue next) n is = tt
 listed_next records at (plain words) n is = tt
 listed_next records at (held block) n is = tt
@@ -148,7 +148,7 @@ listed_next records at (counts c) n is = tt
 listed_next records at (sample s) n is = is
 listed_next records at (other size tag next payload) n is = is
 
-listed_longer : (records more : List Listed) (at : ℕ) (body : Body) → IsListed records at body → IsListed (records ++ more) at body
+listed_longer : (records more : List Listed) (at : ℕ) (body : Body) → IsOnList records at body → IsOnList (records ++ more) at body
 listed_longer records more at (queue next) is = tt
 listed_longer records more at (plain words) is = tt
 listed_longer records more at (held block) is = tt
@@ -158,7 +158,7 @@ listed_longer records more at (sample s) is = Contains-append_left records more 
 listed_longer records more at (other size tag next payload) is = λ apart. Contains-append_left records more _ (is apart)
 
 -- of what is not claimed nothing is to be listed
-pub listed_claimed : (records : List Listed) (at : ℕ) (body : Body) → (is_claimed body ≡ true → IsListed records at body) → IsListed records at body
+pub listed_claimed : (records : List Listed) (at : ℕ) (body : Body) → (is_claimed body ≡ true → IsOnList records at body) → IsOnList records at body
 listed_claimed records at (queue next) is = tt
 listed_claimed records at (plain words) is = tt
 listed_claimed records at (held block) is = tt
@@ -291,7 +291,7 @@ module _ (shape : Dimensions) (opened : Anatomy) (state : State) (kept : Invaria
           inr (
             r,
             subst (λ (n : ℕ). added n (histogram r)) (ap (λ (z : Listed). z.reference) t.0) new_one,
-            subst (λ (rs : List Listed). All (λ l. ¬ (IsNamed name l)) rs) (sym t.1) others,
+            subst (λ (rs : List Listed). All (λ l. ¬ (IsRecordNamed name l)) rs) (sym t.1) others,
           ))
           (snoc_split anatomy.records front behind l (record { reference = at; made = Some (made.Histogram name spec) }) is);
       first_of_came = λ of at value first.
@@ -348,7 +348,7 @@ module _ (shape : Dimensions) (opened : Anatomy) (state : State) (kept : Invaria
               (λ l stands. stands_as_grows anatomy new added grows l l.made stands) anatomy.records kept.list.standing)
               adds.stands;
           alone = λ at body here. listed_claimed new.records at body (λ is. ⊎_elim
-              (λ t. subst (IsListed new.records at) (sym t.3)
+              (λ t. subst (IsOnList new.records at) (sym t.3)
               (listed_longer anatomy.records (l ∷ []) at (with_next t.0 t.1) (listed_next anatomy.records at t.0 t.1 (kept.list.alone at t.0 t.2))))
               (λ new_one. adds.listed at body new_one)
               (grows.came at body is here));

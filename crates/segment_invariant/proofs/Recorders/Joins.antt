@@ -1,7 +1,7 @@
 -- A recorder that is joined keeps what holds.
 use Rattle.segment_invariant.proofs.Prelude.Std.{◌≡◌, ◌≢◌, ℕ, ◌+◌, Bool, true, true≢false, List, [], ◌++◌, map, set, length, refl, sym, ap, ◌∙◌, subst, subst₂, append_assoc, append-nil, arith, false, if◌then◌else◌, some, get_elem?, Contains, All, map-append, All-nil, All-append, set_else, set_here, none_at, sum_beside, below_length}
 use Rattle.segment_invariant.proofs.Prelude.Machine.{Dimensions, Entry, EntryProgress, Spent, SumLoaded, Actor, Moment, Answered, Given, is_bound, log_of, is_opener, made_of, offered_of, outstanding_of, State}
-use Rattle.segment_invariant.proofs.Prelude.Invariant.{IsWithinCounts, plain, Anatomy, order_of, is_living, RolesAreKept, StandsRight, Fits, Invariant, Knows}
+use Rattle.segment_invariant.proofs.Prelude.Invariant.{IsWithinCounts, plain, Anatomy, order_of, is_living, RolesAreKept, StandsRight, Fits, Invariant, IsRightlyKnown}
 use Rattle.std.proofs.lemmas.List.Elements.{All-map}
 use Rattle.segment_invariant.proofs.Frames.Answers.{owes_more}
 use Rattle.segment_machine.specs.Seats.{MayJoin, joined, spent, shifted, shifted_answers}
@@ -167,7 +167,7 @@ module _ (shape : Dimensions) (opened : Anatomy) (old : State) (kept : Invariant
     numbered = mine.numbered;
     ahead = mine.ahead;
     sees = sees_passed other 0 kept.anatomy old.cursors later.seen (joined_sees shape old.words kept.anatomy kept.shown old.cursors opener b mine.sees theirs.sees);
-    names = names_passed other 0 kept.anatomy later.answers.names (All-append (Knows kept.anatomy) opener.answers.names b.answers.names mine.names theirs.names);
+    names = names_passed other 0 kept.anatomy later.answers.names (All-append (IsRightlyKnown kept.anatomy) opener.answers.names b.answers.names mine.names theirs.names);
     own = joined_own shape old.words kept.anatomy kept.shown other apart opener b mine.own theirs.own;
     apart = joined_apart shape old.words kept.anatomy kept.shown other apart opener b mine.own theirs.own mine.apart theirs.apart;
     owes = owes_more opener.done.published b.done.published opener.answers.owed mine.owes;

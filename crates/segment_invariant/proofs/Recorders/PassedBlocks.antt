@@ -1,7 +1,7 @@
 -- Blocks that pass from one owner to another: their words and places stay, and so does all that is said of others.
 use Rattle.segment_invariant.proofs.Prelude.Std.{◌≡◌, ◌≢◌, ℕ, ◌+◌, ◌≤◌, pos, ◌+ℤ◌, Bool, true, false, cond, List, [], ◌∷◌, ◌++◌, map, replicate, ◌%◌, IsPermutation, inl, inr, ⊎_elim, refl, sym, ap, ◌∙◌, subst, eq-eqb, ne_eqb, All, fold, if◌then◌else◌, ◌==◌, flat_map, some, none, some-ne-none, get_elem?, at_map, from_map}
 use Rattle.segment_invariant.proofs.Prelude.Machine.{Dimensions, Behind, IsShown, Actor, Known, Seen, Claim}
-use Rattle.segment_invariant.proofs.Prelude.Invariant.{Body, words_of, Piece, extent_of, Anatomy, layout_of, free_of, is_claimed, claims_of, Stands, Knows, Sees, StandStill, ClaimedRight, CallsRight, Fits}
+use Rattle.segment_invariant.proofs.Prelude.Invariant.{Body, words_of, Piece, extent_of, Anatomy, layout_of, free_of, is_claimed, claims_of, Stands, IsRightlyKnown, Sees, StandStill, ClaimedRight, CallsRight, Fits}
 use Rattle.std.proofs.lemmas.List.Folds.{fold-map}
 use mathlib.Core.Option.{Option}
 use Rattle.alloc_core.specs.Layout.{Block, queue_block, end_of, spread, IsLaid, head_words, flags_of}
@@ -176,7 +176,7 @@ module _ (from to : ℕ) (anatomy : Anatomy) where
       sees_along anatomy pieces anatomy.spare anatomy.corrupt anatomy.full anatomy.tail (stays_passed from to anatomy.pieces) cursors seen
       (subst (Behind seen.free) (sym (free_passed from to anatomy)) sees.free) sees.tails sees
 
-  pub names_passed : (names : List Known) → All (Knows anatomy) names → All (Knows (handed from to anatomy)) names
+  pub names_passed : (names : List Known) → All (IsRightlyKnown anatomy) names → All (IsRightlyKnown (handed from to anatomy)) names
   names_passed = names_along anatomy pieces anatomy.spare anatomy.corrupt anatomy.full anatomy.tail (stays_passed from to anatomy.pieces)
 
   pub calls_passed : (a : Actor) → CallsRight anatomy a → CallsRight (handed from to anatomy) a

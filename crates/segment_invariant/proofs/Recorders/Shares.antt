@@ -2,7 +2,7 @@
 use Rattle.segment_invariant.proofs.Prelude.Std.{inl, inr, ⊎_elim, ap, ◌+◌, ◌≡◌, ℕ, List, false, true≢false, sym, ◌∙◌}
 use Rattle.segment_invariant.proofs.Prelude.Machine.{Dimensions, Actor, is_opener, made_of, offered_of, outstanding_of, Known}
 use Rattle.segment_invariant.proofs.Prelude.Invariant.{Anatomy, IsAlone, LooksBack, FinalsAreExact, Fits}
-use Rattle.segment_invariant.specs.Invariant.{IsSettled}
+use Rattle.segment_invariant.specs.Invariant.{NoneInTransit}
 use Rattle.segment_machine.specs.declared.actor.Role.TheVariants.{Opener}
 use Rattle.segment_machine.specs.declared.actor.Role.{Role}
 use Rattle.segment_invariant.proofs.Frames.Anew.{fits_anew}
@@ -27,7 +27,7 @@ module _ (shape : Dimensions) (anatomy : Anatomy) (cursors : List ℕ) (actors :
   alone : IsAlone actors (sharing a share role) → IsAlone actors a
   alone (first, stands, nobody, last) = (first, stands, sym anew.outstanding ∙ nobody, ap (λ (n : ℕ). n + 1) (sym anew.made) ∙ last)
 
-  settled : (known : Known) (bucket : ℕ) → IsSettled anatomy actors (sharing a share role) known bucket → IsSettled anatomy actors a known bucket
+  settled : (known : Known) (bucket : ℕ) → NoneInTransit anatomy actors (sharing a share role) known bucket → NoneInTransit anatomy actors a known bucket
   settled known bucket is = ⊎_elim (λ two. inl two) (λ rest. inr (⊎_elim (λ one. inl (alone one)) (λ packed. inr packed) rest)) is
 
   shared_looks : LooksBack anatomy actors opener a → LooksBack anatomy actors opener (sharing a share role)

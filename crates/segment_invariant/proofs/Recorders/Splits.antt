@@ -1,7 +1,7 @@
 -- A recorder that is made keeps what holds.
 use Rattle.segment_invariant.proofs.Prelude.Std.{◌≡◌, ◌≢◌, ◌⊎◌, ℕ, ◌+◌, ◌-◌, ◌<◌, ◌≤◌, Bool, true, ◌&&◌, true≢false, List, [], ◌∷◌, ◌++◌, map, set, length, inl, inr, ⊎_elim, refl, sym, ap, ◌∙◌, subst, subst₂, append-nil, arith, drop, pos, if◌then◌else◌, slice_index, some, get_elem?, flat_map, Contains, All, and_parts, All-nil, All-contains, Contains-append_left, Contains-append_right, Contains-append_cases, sum_by-append, IsPermutation-refl, none_in, none_at, contains_filter, sum_at_least, sum_beside, contains_map, contains_mapped}
 use Rattle.segment_invariant.proofs.Prelude.Machine.{Dimensions, IsStop, Entry, EntryProgress, Spent, Actor, Sighting, is_counted, is_summed, is_noted, has_ended, counted_among, log_of, counted_of, all_counted, all_noted, all_published, all_taken, made_of, offered_of, outstanding_of, State}
-use Rattle.segment_invariant.proofs.Prelude.Invariant.{IsWithinCounts, Anatomy, order_of, Knows, is_living, HoldsOwn, CallsRight, IsAlone, LooksBack, FinalsAreExact, RolesAreKept, Fits, Invariant}
+use Rattle.segment_invariant.proofs.Prelude.Invariant.{IsWithinCounts, Anatomy, order_of, IsRightlyKnown, is_living, HoldsOwn, CallsRight, IsAlone, LooksBack, FinalsAreExact, RolesAreKept, Fits, Invariant}
 use Rattle.std.proofs.Math.Bool.{or-false, or_self}
 use Rattle.std.proofs.lemmas.List.{drop_all}
 use Rattle.segment_invariant.proofs.Frames.Ahead.{ahead_anew, reached_stop}
@@ -114,7 +114,7 @@ module _ (anatomy : Anatomy) (cursors : List ℕ) (actors : List Actor) (later a
     sees = fit.sees;
     ahead = ahead_anew (order_of anatomy) anatomy.tail cursors a.segment.cursors stop fit.numbered
         (λ k below. reached_stop (order_of anatomy) (slice_index a.done.lost k) (slice_index cursors k) (fit.ahead.exchanges k below));
-    names = All-nil (Knows anatomy);
+    names = All-nil (IsRightlyKnown anatomy);
     own = All-nil (HoldsOwn shape anatomy.pieces id);
     apart = λ i j x y first. absurd (none_at i x first);
     owes = All-nil _;

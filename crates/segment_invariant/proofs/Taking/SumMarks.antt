@@ -1,7 +1,7 @@
 -- The sum mark is swapped for the sum that was loaded.
 use Rattle.segment_invariant.proofs.Prelude.Std.{◌≡◌, ◌≢◌, ℕ, ◌+◌, ◌-◌, ◌*◌, ◌^◌, ◌<◌, ◌≤◌, ℤ, pos, ◌+ℤ◌, ◌-ℤ◌, Bool, true, false, if◌then◌else◌, List, [], ◌∷◌, ◌++◌, length, take, drop, set, Contains, inl, inr, ⊎_elim, refl, sym, ap, ◌∙◌, subst, arith, length-append, append-nil, map, unsigned_abs, w64, cast_signed, cast_unsigned, bytes_eq, +ℤ_idl, +ℤ_idr, take-append_seam, to_z-of_z, All-contains, Contains-append_left, Contains-append_right, Contains-append_cases, bytes_eq-Decides, some, none, get_elem?, rows, row_in, one_in, below_length, sum_same}
 use Rattle.segment_invariant.proofs.Prelude.Machine.{Dimensions, word_at, Entry, Actor, Portion, Known, Moment, Taken, Spent, Idle, SumLoaded, change_last, tally_units, tally_sum, tally_noted, counted_of, summed_of, noted_of, taken_units, taken_sum, all_counted, all_summed, all_noted, all_taken, cost_of, taken_of, portion_of, is_opener, State, swap_sum_mark, taking_event}
-use Rattle.segment_invariant.proofs.Prelude.Invariant.{Record, histogram, Anatomy, HasRecord, IsFirst, Knows, IsLawfulRecord, IsAlone, IsSumOf, SumsAreNear, summed_cost, FinalsAreExact, Invariant, HasKey, is_beaten, EventKeeps}
+use Rattle.segment_invariant.proofs.Prelude.Invariant.{Record, histogram, Anatomy, HasRecord, IsFirst, IsRightlyKnown, IsLawfulRecord, IsAlone, IsSumOf, SumsAreNear, summed_cost, FinalsAreExact, Invariant, HasKey, is_beaten, EventKeeps}
 use Rattle.std.proofs.Common.{neg_ℤ}
 use Rattle.std.proofs.Math.Facts.{Fits-of_z}
 use Rattle.std.proofs.Math.IntN.{+ℤ_assoc, +ℤ_comm, +ℤ_invr}
@@ -342,7 +342,7 @@ module _ (shape : Dimensions) (opened : Anatomy) (state : State) (kept : Invaria
   sum_marked =
       let fits = kept.each id a mine lived in
       let calls = calls_same kept.anatomy new a refl fits.calls in
-      let knows = All-contains (Knows kept.anatomy) a.answers.names known fits.names has in
+      let knows = All-contains (IsRightlyKnown kept.anatomy) a.answers.names known fits.names has in
       let records = record_kept shape opened state kept known.reference r (with_mark r v) 12 v stands turns refl
       (lawful_mark kept.anatomy.version shape.page r v narrow (kept.records.lawful known.reference r stands))
       (λ c there is. is)

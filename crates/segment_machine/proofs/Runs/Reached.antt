@@ -16,7 +16,7 @@ use Rattle.segment_machine.specs.Seats.{MayOffer, MaySplit, MayJoin, spent}
 use Rattle.segment_machine.specs.State.{State, memory}
 use Rattle.segment_machine.specs.Reached.{IsReached, IsState, new_state, started, stepped, offered, split, joined_in}
 use Rattle.segment_machine.specs.Examples.{shape, AreReady}
-use Rattle.segment_machine.specs.Worked.{Deed, acts, offers, makes, joins, noted_by, actor_of, done, played}
+use Rattle.segment_machine.specs.Worked.{RunAction, acts, offers, makes, joins, noted_by, actor_of, done, played}
 use Rattle.segment_machine.proofs.Runs.Tests.{then, is_false, apart, at_most, below, empty, found_in, is_true}
 use Rattle.segment_machine.proofs.Runs.Blocks.{may_allocate, may_publish, may_walk, may_share}
 use Rattle.segment_machine.proofs.Runs.Counts.{may_count, may_pack, may_take}
@@ -91,7 +91,7 @@ joins_in version old id other is that may start reached =
     joined_in old (done version old (joins id)) 0 id reached (actor_of old 0, actor_of old id, other, is, that, may, refl)
 
 -- whether a deed may be done
-abbrev may_do : (version : ℕ) (state : State) (deed : Deed) → Option (LeadsOn version state (done version state deed))
+abbrev may_do : (version : ℕ) (state : State) (deed : RunAction) → Option (LeadsOn version state (done version state deed))
 may_do version state (acts id before event behind) =
     let a = actor_of state id in
     then (there state id) (λ is. then (is_false (is_opener a.role)) (λ recorder. then (may_note_all a before) (λ noted_before.
@@ -114,11 +114,11 @@ may_do version state (joins id) =
     then (empty b.entries.running) (λ none. then (is_false b.deltas.taking) (λ no_delta. then (empty b.answers.owed) (λ nothing.
     Some (joins_in version state id other is that (idle, opener, some, turns, recorder, free, none, no_delta, nothing))))))))))))))
 
-abbrev pub may_play : ℕ → State → List Deed → Bool
+abbrev pub may_play : ℕ → State → List RunAction → Bool
 may_play version state [] = true
 may_play version state (deed ∷ rest) = is_some (may_do version state deed) && may_play version (done version state deed) rest
 
-pub played_reached : (version : ℕ) (start state : State) (deeds : List Deed) → may_play version state deeds ≡ true
+pub played_reached : (version : ℕ) (start state : State) (deeds : List RunAction) → may_play version state deeds ≡ true
     → IsReached version start state → IsReached version start (played version state deeds)
 played_reached version start state [] may reached = reached
 played_reached version start state (deed ∷ rest) may reached =
@@ -126,7 +126,7 @@ played_reached version start state (deed ∷ rest) may reached =
     played_reached version start (done version state deed) rest both.1 (found_in (may_do version state deed) both.0 start reached)
 
 -- a run of a new segment of a small shape, in version 1 or 2
-pub is_state : (version id cursors : ℕ) (deeds : List Deed) → (version ≡ 1) ⊎ (version ≡ 2) → cursors ≤ 8
+pub is_state : (version id cursors : ℕ) (deeds : List RunAction) → (version ≡ 1) ⊎ (version ≡ 2) → cursors ≤ 8
     → may_play version (new_state shape version id cursors) deeds ≡ true → IsState shape version id cursors (played version (new_state shape version id cursors) deeds)
 is_state version id cursors deeds versions few may = (
   record { wide = omega arith; narrow = omega arith; even = refl; one = omega arith; many = omega arith; whole = refl },

@@ -7,8 +7,8 @@ use Rattle.std.proofs.lemmas.List.Elements.{Contains-push}
 use Rattle.segment_image.specs.Shape.{Dimensions}
 use Rattle.alloc_core.specs.declared.alloc.Purpose.{Purpose}
 use Rattle.alloc_core.specs.declared.alloc.Purpose.TheVariants as purpose
-use Rattle.alloc_core.specs.declared.alloc.Stage.{Stage}
-use Rattle.alloc_core.specs.declared.alloc.Stage.TheVariants.{LoadFlags, LoadFree, ExchangeFree, StoreSize, StoreCookie, StoreType, SetFull, Claimed, Full, Corrupt}
+use Rattle.alloc_core.specs.declared.alloc.AllocStage.{AllocStage}
+use Rattle.alloc_core.specs.declared.alloc.AllocStage.TheVariants.{LoadFlags, LoadFree, ExchangeFree, StoreSize, StoreCookie, StoreType, SetFull, Claimed, Full, Corrupt}
 use Rattle.alloc_core.specs.declared.planned.Planned.{Planned}
 use Rattle.alloc_core.specs.declared.planned.Planned.TheVariants as plan
 use Rattle.alloc_core.specs.Alloc.{Allocation, cookie_of, event_at, stage_of_plan, stage_of_cookie, stage_after, seen_after, IsAimed, Suits}
@@ -20,7 +20,7 @@ use Rattle.segment_machine.specs.declared.place.Place.{Place}
 use Rattle.segment_machine.specs.declared.place.Place.TheVariants.{Idle, FlagsLoaded, Raised, Sized, Marked}
 use Rattle.segment_machine.specs.Operation.{single}
 use Rattle.segment_machine.specs.Allocating.{AllocatingEvent, load_flags, load_free, exchange_free, store_size, store_cookie, store_type, store_payload, set_corrupt, set_full, operation, Ready, next, Learned, cookie_for, after_free, new_own, size_at, wanted_at}
-use Rattle.segment_machine.specs.Stages.{allocates, StandsAt, AllocationsAgree}
+use Rattle.segment_machine.specs.Stages.{allocates, StandsAtAllocStage, AllocationsAgree}
 
 -- an actor stays in its segment
 shape_exchanged : (hit : Bool) (a : Actor) (old new wanted found : ℕ) → (after_free hit a old new wanted found).segment.shape ≡ a.segment.shape
@@ -55,43 +55,43 @@ suiting_cookie allocation size purpose.Waste suits =
 module _ (a : Actor) (allocation : Allocation) (same : allocation.shape ≡ a.segment.shape) (least : 1 ≤ allocation.tag) (most : allocation.tag ≤ 3)
     (least_words : 5 ≤ allocation.size) (most_words : allocation.size ≤ allocation.shape.page) where
   -- the allocation behind an event at a stage that found a number
-  abbrev behind : ℕ → Stage → Allocation
+  abbrev behind : ℕ → AllocStage → Allocation
   behind found stage = record allocation { seen = seen_after allocation found stage; stage = stage_after allocation found stage }
 
   flags_loaded : (clear : Bool) (now : Allocation)
-      → StandsAt (record a { hand = record a.hand { place = if clear then FlagsLoaded else Idle }; seen = record a.seen { corrupt = if clear then a.seen.corrupt else true; warned = if clear then a.seen.warned else a.seen.warned + 1 } })
+      → StandsAtAllocStage (record a { hand = record a.hand { place = if clear then FlagsLoaded else Idle }; seen = record a.seen { corrupt = if clear then a.seen.corrupt else true; warned = if clear then a.seen.warned else a.seen.warned + 1 } })
       now (if clear then LoadFree else Corrupt)
   flags_loaded true now = refl
   flags_loaded false now = (refl, refl)
 
-  planned_so : (found : ℕ) (stage : Stage) → is_pointer a.segment.shape found ≡ true → (way : Planned) → planned found allocation.size a.segment.shape ≡ way
-      → StandsAt (next a load_free found) (record allocation { seen = found; stage = stage }) (stage_of_plan found way)
+  planned_so : (found : ℕ) (stage : AllocStage) → is_pointer a.segment.shape found ≡ true → (way : Planned) → planned found allocation.size a.segment.shape ≡ way
+      → StandsAtAllocStage (next a load_free found) (record allocation { seen = found; stage = stage }) (stage_of_plan found way)
   planned_so found stage lawful (plan.Claim size end) is = (refl, lawful, ap (stage_of_plan found) is)
   planned_so found stage lawful (plan.Waste room) is = (refl, lawful, ap (stage_of_plan found) is)
   planned_so found stage lawful plan.Full is = refl
 
-  free_loaded : (found : ℕ) (stage : Stage) → is_pointer a.segment.shape found ≡ true → (good : Bool) → good ≡ true → (way : Planned)
+  free_loaded : (found : ℕ) (stage : AllocStage) → is_pointer a.segment.shape found ≡ true → (good : Bool) → good ≡ true → (way : Planned)
       → planned found allocation.size a.segment.shape ≡ way
-      → StandsAt (next a load_free found) (record allocation { seen = found; stage = stage }) (if good then stage_of_plan found way else Corrupt)
+      → StandsAtAllocStage (next a load_free found) (record allocation { seen = found; stage = stage }) (if good then stage_of_plan found way else Corrupt)
   free_loaded found stage lawful true e way is = planned_so found stage lawful way is
   free_loaded found stage lawful false e way is = absurd (true≢false (sym e))
 
-  exchanged : (end found seen : ℕ) (stage : Stage) (way : Purpose) (hit : Bool) → (found == allocation.seen) ≡ hit
-      → StandsAt (after_free hit a allocation.seen end allocation.size found) (record allocation { seen = seen; stage = stage })
+  exchanged : (end found seen : ℕ) (stage : AllocStage) (way : Purpose) (hit : Bool) → (found == allocation.seen) ≡ hit
+      → StandsAtAllocStage (after_free hit a allocation.seen end allocation.size found) (record allocation { seen = seen; stage = stage })
       (if hit then StoreSize found (end - found) way else LoadFlags)
   exchanged end found seen stage way true e = ap (λ (at : ℕ). Raised at (end - at) allocation.size) (sym (eqb-true found allocation.seen e))
   exchanged end found seen stage way false e = refl
 
   cookie_stored : (at size found : ℕ) (way : Purpose) (now : Allocation) → Suits allocation way size → a.hand.place ≡ Sized at size allocation.size
-      → Ready a (store_cookie at (cookie_of way)) × StandsAt (next a (store_cookie at (cookie_of way)) found) now (stage_of_cookie at size way)
+      → Ready a (store_cookie at (cookie_of way)) × StandsAtAllocStage (next a (store_cookie at (cookie_of way)) found) now (stage_of_cookie at size way)
   cookie_stored at size found purpose.Claim now suits stands =
       ((size, allocation.size, stands, suiting_cookie allocation size purpose.Claim suits), ap (λ (place : Place). Marked at (size_at place)) stands)
   cookie_stored at size found purpose.Waste now suits stands = ((size, allocation.size, stands, suiting_cookie allocation size purpose.Waste suits), refl)
 
-  goes : (size version : ℕ) (event : atomic.Event) (stage : Stage) → IsAimed allocation stage → StandsAt a allocation stage
+  goes : (size version : ℕ) (event : atomic.Access) (stage : AllocStage) → IsAimed allocation stage → StandsAtAllocStage a allocation stage
       → event_at allocation stage ≡ Some event
       → (act : AllocatingEvent) × (allocates allocation stage ≡ Some act) × (operation size version act ≡ single event) × Ready a act
-      × ((found : ℕ) → Learned a act found → StandsAt (next a act found) (behind found stage) (stage_after allocation found stage))
+      × ((found : ℕ) → Learned a act found → StandsAtAllocStage (next a act found) (behind found stage) (stage_after allocation found stage))
   goes size version event LoadFlags aimed stands is =
       (load_flags, refl, cc is, stands, λ found learned. flags_loaded (bit_and found 1 == 0) (behind found LoadFlags))
   goes size version event LoadFree aimed stands is = (

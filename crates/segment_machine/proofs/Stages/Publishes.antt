@@ -2,8 +2,8 @@
 use Rattle.std.proofs.Common.{◌≡◌, ℕ, ◌==◌, Bool, true, false, List, [], ◌∷◌, ◌++◌, inl, inr, refl, sym, ap, ◌∙◌, subst, true≢false, eqb-true, arith, Contains, Option, Some}
 use Rattle.std.specs.Prelude.{if◌then◌else◌}
 use Rattle.std.proofs.lemmas.List.Elements.{Contains-push, Contains-append_right}
-use Rattle.list_core.specs.declared.publish.Stage.{Stage}
-use Rattle.list_core.specs.declared.publish.Stage.TheVariants.{StoreOwnNext, LoadTail, Link, MoveTail, Published, Strayed}
+use Rattle.list_core.specs.declared.publish.PubStage.{PubStage}
+use Rattle.list_core.specs.declared.publish.PubStage.TheVariants.{StoreOwnNext, LoadTail, Link, MoveTail, Published, Strayed}
 use Rattle.list_core.specs.Chain.{is_reference}
 use Rattle.list_core.specs.Publish.{event_at, stage_after}
 use Rattle.alloc_core.specs.Event as atomic
@@ -14,7 +14,7 @@ use Rattle.segment_machine.specs.declared.actor.Own.{Own}
 use Rattle.segment_machine.specs.Operation.{single}
 use Rattle.segment_machine.specs.Calls.{change_own}
 use Rattle.segment_machine.specs.Publishing.{PublishingEvent, store_own_next, load_tail, link, move_tail, own_at, published_as, after_link, MayPublish, operation, Ready, next, Learned}
-use Rattle.segment_machine.specs.Stages.{publishes, Offers, PublishesAt, PublishesAgree}
+use Rattle.segment_machine.specs.Stages.{publishes, OffersBlock, PublishesAt, PublishesAgree}
 
 -- ---- the first block at a word
 
@@ -58,7 +58,7 @@ may_still a b own (Histogram name spec) next shape names (tag, named, lawful, fi
 may_still a b own (Sample histogram value) next shape names (tag, least, small, known) = (tag, least, small, rw names known)
 
 offers_still : (a b : Actor) (reference : ℕ) (made : Made) (next : ℕ) → b.segment.shape ≡ a.segment.shape → b.answers.names ≡ a.answers.names → b.hand.own ≡ a.hand.own
-    → Offers a reference made next → Offers b reference made next
+    → OffersBlock a reference made next → OffersBlock b reference made next
 offers_still a b reference made next shape names same (own, is, nexts, makes, payload, may) = (
   own,
   ap (λ (list : List Own). own_at list reference) same ∙ is,
@@ -69,8 +69,8 @@ offers_still a b reference made next shape names same (own, is, nexts, makes, pa
 )
 
 -- its next is stored
-offers_queued : (a : Actor) (reference found : ℕ) (made : Made) → Offers a reference made 0
-    → Offers (next a (store_own_next reference) found) reference made 12
+offers_queued : (a : Actor) (reference found : ℕ) (made : Made) → OffersBlock a reference made 0
+    → OffersBlock (next a (store_own_next reference) found) reference made 12
 offers_queued a reference found made (own, is, nexts, makes, payload, may) = (
   record own { next = 12 },
   changed reference (λ own. record own { next = 12 }) own a.hand.own (λ x. refl) is,
@@ -82,7 +82,7 @@ offers_queued a reference found made (own, is, nexts, makes, payload, may) = (
 
 -- ---- a link
 
-module _ (a : Actor) (reference : ℕ) (made : Made) (offers : Offers a reference made 12) where
+module _ (a : Actor) (reference : ℕ) (made : Made) (offers : OffersBlock a reference made 12) where
   linked_as : published_as (own_at a.hand.own reference) reference ≡ record { reference = reference; made = made } ∷ []
   linked_as =
       let own = offers.0 in
@@ -104,12 +104,12 @@ module _ (a : Actor) (reference : ℕ) (made : Made) (offers : Offers a referenc
 
 -- ---- stage by stage
 
-tail_loaded : (a : Actor) (reference found : ℕ) (made : Made) (good : Bool) → good ≡ true → Offers a reference made 12
+tail_loaded : (a : Actor) (reference found : ℕ) (made : Made) (good : Bool) → good ≡ true → OffersBlock a reference made 12
     → PublishesAt (next a load_tail found) reference made (if good then Link found else Strayed)
 tail_loaded a reference found made true lawful offers = (refl, offers_still a (next a load_tail found) reference made 12 refl refl refl offers)
 tail_loaded a reference found made false lawful offers = absurd (true≢false (sym lawful))
 
-goes : (size version : ℕ) (a : Actor) (made : Made) (reference : ℕ) (stage : Stage) (event : atomic.Event)
+goes : (size version : ℕ) (a : Actor) (made : Made) (reference : ℕ) (stage : PubStage) (event : atomic.Access)
     → PublishesAt a reference made stage → event_at reference stage ≡ Some event
     → (act : PublishingEvent) × (publishes reference stage ≡ Some act) × (operation size version act ≡ single event) × Ready a act
     × ((found : ℕ) → Learned a act found → PublishesAt (next a act found) reference made (stage_after a.segment.shape.size reference found stage))

@@ -2,7 +2,7 @@
 -- flag, and it fits where what it knows and has seen lies behind the present.
 use Rattle.segment_invariant.proofs.Prelude.Std.{◌≡◌, ℕ, ◌<◌, ◌≤◌, Bool, true, false, List, [], ◌∷◌, map, replicate, sum_by, refl, sym, arith, All, Contains}
 use Rattle.segment_invariant.proofs.Prelude.Machine.{Histogram, Reading, IsStop, Actor, Cost, Entry, units_of, SawSample}
-use Rattle.segment_invariant.proofs.Prelude.Invariant.{Anatomy, order_of, IsFirst, IsFirstOf, Sees, Knows, RolesAreKept, Fits, IsSetBy}
+use Rattle.segment_invariant.proofs.Prelude.Invariant.{Anatomy, order_of, IsFirst, IsFirstOf, Sees, IsRightlyKnown, RolesAreKept, Fits, IsSetBy}
 use Rattle.bucket_ranges.specs.declared.spec.Spec.TheVariants as spec
 use Rattle.segment_invariant.specs.Invariant.{CursorsAreKept}
 use Rattle.segment_invariant.proofs.Openings.FirstActors.{first_roles, first_cursors, first_fits}
@@ -41,7 +41,7 @@ module _ (words references : List ℕ) (reading : Reading) (cursors : ℕ) where
 
   -- it fits where it sees what is there, knows the first record of each name, and met the sample of each of its entries
   pub opener_fits : (anatomy : Anatomy) → anatomy.version ≡ 2 → Sees anatomy (replicate cursors 12) opener.seen → IsStop (order_of anatomy) anatomy.tail
-      → All (Knows anatomy) opener.answers.names
+      → All (IsRightlyKnown anatomy) opener.answers.names
       → ((entry : Entry) (of : ℕ) → Contains opener.entries.first entry → 0 < entry.units → IsFirst anatomy.records entry.name spec.Sparse of
       → (at : ℕ) × IsFirstOf anatomy.records of entry.key at × Contains references at × SawSample opener.seen of entry.key at)
       → Fits opener.segment.shape anatomy (replicate cursors 12) actors opener 0 opener

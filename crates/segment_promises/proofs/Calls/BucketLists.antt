@@ -5,7 +5,7 @@ use Rattle.std.proofs.Common.{Less, Equal, Greater}
 use Rattle.std.specs.List.Sorted.{IsStrictlySortedBy}
 use Rattle.std.specs.Ordering.{int_cmp}
 use Rattle.std.proofs.lemmas.List.{map_push}
-use Rattle.bucket_ranges.specs.Ranges.{IsSplit}
+use Rattle.bucket_ranges.specs.Ranges.{SplitsValues}
 use Rattle.bucket_ranges.proofs.Buckets.{ascends}
 use Rattle.segment_promises.specs.Calls.{AreBelow, AreUnits}
 use Rattle.segment_promises.proofs.Growing.{all_push}
@@ -28,7 +28,7 @@ pub last_below : (known : Known) (bucket units : ℕ) (counts : List (ℤ × ℕ
 last_below known bucket units [] all = ((bucket, omega arith, refl), tt)
 last_below known bucket units (c ∷ counts) ((i, lt, is), rest) = ((i, omega (arith, lt), is), last_below known bucket units counts rest)
 
-module _ (known : Known) (split : IsSplit (buckets_of known.spec) (boundaries_of known.spec)) where
+module _ (known : Known) (split : SplitsValues (buckets_of known.spec) (boundaries_of known.spec)) where
   pub keys_below : (bucket : ℕ) → bucket < buckets_of known.spec → (counts : List (ℤ × ℕ)) → AreBelow known bucket counts
       → AllByRecursion (λ k. int_cmp k (bucket_key (Some known) bucket) ≡ Less) (map (λ (c : ℤ × ℕ). c.0) counts)
   keys_below bucket under [] all = tt

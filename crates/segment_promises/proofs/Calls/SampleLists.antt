@@ -4,13 +4,13 @@ use Rattle.segment_invariant.proofs.Prelude.Machine.{Actor, Known, Seen, SawOthe
 use lib.Seq.{get_or-append_seam}
 use Rattle.segment_machine.specs.Actor.{Sparse}
 use Rattle.segment_machine.specs.Taking.{IsLaterSample}
-use Rattle.segment_promises.specs.Values.{NoRepeats, ComesTo, Passes, first_of}
+use Rattle.segment_promises.specs.Values.{NoRepeats, ComesTo, PassesRecord, first_of}
 use Rattle.segment_promises.proofs.FirstValues.{Shows, later_sample, not_both}
 
 -- ---- the records that it passed
 
 -- what it saw of each
-shows_all : (Does : ℤ → ℕ → Type 0) (seen : Seen) (histogram : ℕ) (list : List ℕ) → AllByRecursion (Passes Does seen histogram) list
+shows_all : (Does : ℤ → ℕ → Type 0) (seen : Seen) (histogram : ℕ) (list : List ℕ) → AllByRecursion (PassesRecord Does seen histogram) list
     → AllByRecursion (Shows seen histogram) list
 shows_all Does seen histogram [] all = all
 shows_all Does seen histogram (r ∷ rest) (inl (value, saw, does), all) = (inl (value, saw), shows_all Does seen histogram rest all)
@@ -40,7 +40,7 @@ apart_from chain front passed rest histogram at split once r has same =
 -- a sample that is no later one of its value is the first: none of those before it is a sample of the value
 pub not_before : (known : Known) (a : Actor) (front passed rest : List ℕ) (at : ℕ) → Sparse a known.reference known
     → a.seen.chain ≡ front ++ known.reference ∷ (passed ++ at ∷ rest) → NoRepeats a.seen.chain → (Does : ℤ → ℕ → Type 0)
-    → AllByRecursion (Passes Does a.seen known.reference) passed → (value : ℤ) → SawSample a.seen known.reference value at → ¬ (IsLaterSample a at)
+    → AllByRecursion (PassesRecord Does a.seen known.reference) passed → (value : ℤ) → SawSample a.seen known.reference value at → ¬ (IsLaterSample a at)
     → (other : ℕ) → Contains passed other → SawSample a.seen known.reference value other → ⊥
 not_before known a front passed rest at sparse split once Does passes value saw first other there shown =
     first (later_sample a known value front passed rest at other sparse split (shows_all Does a.seen known.reference passed passes)
@@ -65,12 +65,12 @@ all_passed a histogram passed comes once = comes.chain ∙ by comes.behind comes
         absurd (once 0 (suc (length before)) (omega arith) (omega (arith, long)) (stands ∙ sym here))
 
 -- what it did with a sample that it passed
-pub did_with : (Does : ℤ → ℕ → Type 0) (seen : Seen) (histogram : ℕ) (passed : List ℕ) → AllByRecursion (Passes Does seen histogram) passed
+pub did_with : (Does : ℤ → ℕ → Type 0) (seen : Seen) (histogram : ℕ) (passed : List ℕ) → AllByRecursion (PassesRecord Does seen histogram) passed
     → (value : ℤ) (sample : ℕ) → Contains passed sample → SawSample seen histogram value sample → (v : ℤ) × SawSample seen histogram v sample × Does v sample
 did_with Does seen histogram [] all value sample (k, low, is) saw = absurd (omega (arith, low))
 did_with Does seen histogram (r ∷ rest) (one, all) value sample (zero, low, is) saw = by one
   where
-    by : Passes Does seen histogram r → (v : ℤ) × SawSample seen histogram v sample × Does v sample
+    by : PassesRecord Does seen histogram r → (v : ℤ) × SawSample seen histogram v sample × Does v sample
     by (inl (v, shown, does)) = (v, subst (SawSample seen histogram v) is shown, subst (Does v) is does)
     by (inr none) = absurd (not_both seen histogram value sample saw (subst (SawOther seen histogram value) is (none value saw.3)))
 did_with Does seen histogram (r ∷ rest) (one, all) value sample (suc k, low, is) saw =

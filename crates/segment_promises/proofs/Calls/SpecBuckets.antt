@@ -5,7 +5,7 @@ use Rattle.segment_invariant.proofs.Prelude.Invariant.{key_of_bucket}
 use Rattle.std.proofs.Common.{FitsSigned}
 use native.Mathlib.Decide.{dec_le}
 use Rattle.std.proofs.lemmas.List.{get_or_past}
-use Rattle.bucket_ranges.specs.Ranges.{clamped, AreBoundaries, IsBucketOf, IsSplit}
+use Rattle.bucket_ranges.specs.Ranges.{clamped, AreBoundaries, IsBucketOf, SplitsValues}
 use Rattle.bucket_ranges.proofs.Ascent.{boundaries_of-split}
 use Rattle.bucket_ranges.proofs.Buckets.{ascends}
 use Rattle.segment_machine.proofs.Keys.{keys_are_least}
@@ -20,7 +20,7 @@ module _ (spec : Spec) (lawful : spec_fault spec ≡ None) (bucketed : has_bucke
   pub apart : spec ≢ Sparse
   apart e = true≢false (sym bucketed ∙ ap has_buckets e)
 
-  pub split : IsSplit (buckets_of spec) (boundaries_of spec)
+  pub split : SplitsValues (buckets_of spec) (boundaries_of spec)
   split = boundaries_of-split spec lawful apart
 
   -- the first boundary is not the last, so there is a bucket

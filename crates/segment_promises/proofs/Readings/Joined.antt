@@ -1,7 +1,7 @@
 -- What the words of a kept state read as once all recorders are joined.
 use Rattle.segment_invariant.proofs.Prelude.Std.{◌≡◌, ◌≢◌, Bool, true, false, ◌||◌, ◌==◌, ℕ, suc, ◌+◌, ℤ, List, [], ◌∷◌, map, fold, ⊎_elim, refl, sym, ap, subst, ◌∙◌, arith, Contains, eqb-true, eqb-false, All-contains, some, some-injective, some-ne-none, get_elem?}
 use Rattle.segment_invariant.proofs.Prelude.Machine.{Dimensions, Spec, SameSpec, Histogram, Reading, Entry, Actor, Known, Portion, tally_units, tally_sum, tally_noted, taken_units, taken_sum, purse, State}
-use Rattle.segment_invariant.proofs.Prelude.Invariant.{Anatomy, moving_at, IsFirst, Knows, Invariant}
+use Rattle.segment_invariant.proofs.Prelude.Invariant.{Anatomy, moving_at, IsFirst, IsRightlyKnown, Invariant}
 use Rattle.std.proofs.Math.Bool.{or-false}
 use Rattle.segment_machine.specs.Actor.{all_owed}
 use Rattle.segment_machine.specs.Reached.{IsJoined}
@@ -58,8 +58,8 @@ module _ (shape : Dimensions) (opened : Anatomy) (state : State) (a : Actor) (ke
       none_owed : (known : Known) → Contains [] known → ⊥
       none_owed known (k, below, is) = omega (arith, below)
 
-  knows : (known : Known) → Contains a.answers.names known → Knows kept.anatomy known
-  knows known among = All-contains (Knows kept.anatomy) a.answers.names known (fits shape opened state a kept joins.0).names among
+  knows : (known : Known) → Contains a.answers.names known → IsRightlyKnown kept.anatomy known
+  knows known among = All-contains (IsRightlyKnown kept.anatomy) a.answers.names known (fits shape opened state a kept joins.0).names among
 
   -- the names that are read are those that were answered
   answers_read : (reading : Reading) → ReadsNames kept.anatomy.records reading → ReadsAnswers a.answers.names reading

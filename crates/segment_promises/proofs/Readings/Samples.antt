@@ -1,7 +1,7 @@
 -- The samples on the list of a kept state: none has a fault, so those that are read are all of them.
 use Rattle.segment_invariant.proofs.Prelude.Std.{◌≡◌, ◌≢◌, ◌⊎◌, Bool, true, false, cond, ◌&&◌, ◌||◌, ℕ, suc, ◌<◌, ◌≤◌, ℤ, List, [], ◌∷◌, ◌++◌, map, take, drop, length, append_assoc, inl, inr, refl, sym, ap, subst, ◌∙◌, arith, Option, Some, None, not, ◌==◌, nat_lt, slice_index, int_eq, filter, range_with_len, Contains, and_from, eqb-true, eqb-false, eq-eqb, le-ltb, Decides-int_eq, take-append-drop, some, get_elem?, contains_at, from_map, first_longer, split_among}
 use Rattle.segment_invariant.proofs.Prelude.Machine.{Dimensions, head_of, field_at, Spec, spec_fields, is_of_type, is_sparse, sample_value, Made, State}
-use Rattle.segment_invariant.proofs.Prelude.Invariant.{IsHistogram, Sample, sample, Listed, Anatomy, order_of, units_held, all_held, HasSample, IsNamed, IsValued, IsFirst, IsFirstOf, Invariant}
+use Rattle.segment_invariant.proofs.Prelude.Invariant.{IsHistogram, Sample, sample, Listed, Anatomy, order_of, units_held, all_held, HasSample, IsRecordNamed, IsValued, IsFirst, IsFirstOf, Invariant}
 use Rattle.std.specs.List.{list_any}
 use Rattle.std.proofs.lemmas.Bool.{or_from}
 use Rattle.std.proofs.lemmas.List.{take-map, same_lists, get_or_default}
@@ -165,7 +165,7 @@ module _ (shape : Dimensions) (opened : Anatomy) (state : State) (kept : Invaria
       let before : List Listed = take i kept.anatomy.records in
       let (name, first, its_name) = kept.records.sampled before (drop (suc i) kept.anatomy.records) at of value (split_there kept.anatomy.records i _ there) in
       let histogram_is : IsHistogram state.words (map (λ (l : Listed). l.reference) before) name of =
-      first_image (λ (l : Listed). l.reference) before (IsNamed name) (consistent.HasName state.words name)
+      first_image (λ (l : Listed). l.reference) before (IsRecordNamed name) (consistent.HasName state.words name)
       (λ f b l here named. name_or_before shape opened state kept name f (b ++ drop i kept.anatomy.records) l
       (sym (take-append-drop i kept.anatomy.records) ∙ (ap (λ (list : List Listed). list ++ drop i kept.anatomy.records) here ∙ append_assoc f (l ∷ b) (drop i kept.anatomy.records)))
       named)
@@ -176,7 +176,7 @@ module _ (shape : Dimensions) (opened : Anatomy) (state : State) (kept : Invaria
       (λ at there. no_listed_fault shape opened state kept at (contains_take i (order_of kept.anatomy) at there)) name of here in
       let whole : IsFirst kept.anatomy.records name spec.Sparse of =
       subst (λ (records : List Listed). IsFirst records name spec.Sparse of) (take-append-drop i kept.anatomy.records)
-      (first_longer (IsNamed name) before (drop i kept.anatomy.records) _ first) in
+      (first_longer (IsRecordNamed name) before (drop i kept.anatomy.records) _ first) in
       let (r, (has, named, specified)) = record_of_first shape opened state kept name spec.Sparse of whole in
       let sparse : is_sparse state.words of ≡ true =
       kind_word shape opened state kept of r has ∙ ap (λ (kind : Spec). slice_index (spec_fields kind) 0 == 4) specified in

@@ -91,7 +91,7 @@ fn put<T: Drop>(list: &mut Vec<T>, item: T) -> Result<(), Refusal> {
 
 // A thread at work.
 #[derive(Drop)]
-struct Worker<'a> {
+struct Caller<'a> {
     alloc: Global,
     done: Done<'a>,
     histograms: Vec<(&'static str, Hist)>,
@@ -145,7 +145,7 @@ fn batch_of(alloc: Global, numbers: &mut Numbers, name: &'static str) -> Result<
     Ok(Batch { name, items, sum })
 }
 
-impl<'a> Worker<'a> {
+impl<'a> Caller<'a> {
     fn add(&mut self, name: &'static str, histogram: Hist) -> Result<(), Refusal>
         requires { Knows self.old.done.recorder.state histogram }
         ensures { SharesSegment self.old.done.recorder self.new.done.recorder }
@@ -215,7 +215,7 @@ pub(crate) fn run<'a>(
     ensures { IfOk result (λ done. SharesSegment recorder.entry done.recorder) }
 {
     let histograms = meet_all(alloc, &mut recorder, seed as usize % NAMES.len())?;
-    let mut worker = Worker {
+    let mut worker = Caller {
         alloc,
         done: Done {
             recorder,
@@ -230,6 +230,6 @@ pub(crate) fn run<'a>(
     for _ in 0..CALLS {
         worker.call()?;
     }
-    let Worker { done, .. } = worker;
+    let Caller { done, .. } = worker;
     Ok(done)
 }

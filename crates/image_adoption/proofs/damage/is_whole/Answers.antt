@@ -2,7 +2,7 @@
 use Rattle.std.proofs.Common.{ℕ, List, sym, subst, ◌∙◌, arith, true≢false}
 use Rattle.list_core.specs.Chain.{IsStop}
 use Rattle.image_reader.proofs.Headers.{IsHeaded-from_header}
-use Rattle.image_adoption.specs.Conditions.{AreSettled, IsWhole}
+use Rattle.image_adoption.specs.Conditions.{AreSettled, IsWholeImage}
 use Rattle.image_adoption.specs.Records.{AreFaultless}
 use Rattle.image_adoption.proofs.Faultless.{faultless_of}
 use Rattle.image_adoption.proofs.damage.is_whole.Goals as goal
@@ -18,7 +18,7 @@ are_settled-requires-clause-faultless c =
 pub returns-then-not-are_settled : goal.returns-then-not-are_settled
 returns-then-not-are_settled c = (
   λ found. absurd (true≢false (sym found)),
-  λ (whole : IsWhole c.args.words.now c.args.head.now c.args.survey.now.references.items). absurd (true≢false (sym (c.are_settled.ensures.1
+  λ (whole : IsWholeImage c.args.words.now c.args.head.now c.args.survey.now.references.items). absurd (true≢false (sym (c.are_settled.ensures.1
       (subst (AreSettled c.args.words.now) (sym c.deref-references.ensures.value) whole.settled)) ∙ c.if-not-are_settled.true)),
 )
 
@@ -34,5 +34,5 @@ returns c =
         later = c.are_later_empty.ensures.0 later;
         apart = c.requires.apart;
       },
-      λ (whole : IsWhole words c.args.head.now c.args.survey.now.references.items). c.are_later_empty.ensures.1 whole.later,
+      λ (whole : IsWholeImage words c.args.head.now c.args.survey.now.references.items). c.are_later_empty.ensures.1 whole.later,
     )

@@ -3,7 +3,7 @@ use Rattle.std.proofs.Common.{◌≡◌, ℕ, ◌+◌, ◌≤◌, List, All, len
 use Rattle.std.proofs.lemmas.Bool.Decides.{Decides-like}
 use Rattle.std.proofs.lemmas.List.{take_all}
 use Rattle.image_reader.specs.Later.{later_samples}
-use Rattle.image_adoption.specs.Conditions.{CountsNothing}
+use Rattle.image_adoption.specs.Conditions.{IsEmptySample}
 use Rattle.image_adoption.proofs.Faultless.{faultless_of, sample_room}
 use Rattle.image_adoption.proofs.LaterSamples.{all_told, later_empty, later_nothing, told_each}
 use Rattle.image_adoption.proofs.samples.are_later_empty.Goals as goal
@@ -32,8 +32,8 @@ returns c =
     c.deref.ensures.value ∙ (c.requires.survey.later_are ∙ ap (later_samples words head) (sym (take_all (length references) references (omega arith)))) in
     Decides-like c.count_nothing.result
     (λ all. later_empty words references
-    (told_each words head references c.requires.good (CountsNothing words) (length references) (omega arith) (subst (All (CountsNothing words)) same all)))
-    (λ empty. subst (All (CountsNothing words)) (sym same)
-    (all_told words head references c.requires.good (CountsNothing words) (length references) (omega arith)
+    (told_each words head references c.requires.good (IsEmptySample words) (length references) (omega arith) (subst (All (IsEmptySample words)) same all)))
+    (λ empty. subst (All (IsEmptySample words)) (sym same)
+    (all_told words head references c.requires.good (IsEmptySample words) (length references) (omega arith)
     (later_nothing words references c.requires.survey.listed.walk.distinct empty)))
     c.count_nothing.ensures

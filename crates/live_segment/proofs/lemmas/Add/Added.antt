@@ -15,11 +15,11 @@ use Rattle.segment_machine.specs.Entry.{fresh}
 use Rattle.segment_machine.specs.Note.{Note, begins}
 use Rattle.segment_promises.specs.Follows.{noted_by}
 use Rattle.live_segment.specs.Add.Sample.{IsAdded}
-use Rattle.live_segment.specs.Add.Finish.{counted_entry, item_of, sample_of, HasSample, HasEnded}
+use Rattle.live_segment.specs.Add.Finish.{counted_entry, item_of, sample_of, HasCountedSample, HasEnded}
 use Rattle.segment_promises.specs.Onward.{DoesOn, GoesOn, SeesOn, is_holding}
 use Rattle.live_segment.specs.Steps.{IsAtRest}
 use Rattle.live_segment.specs.Steps.GhostNotes.{bucket_entry, entry_notes, KnowsAlone}
-use Rattle.live_segment.specs.Add.Progress.{counted_next, CountsAlone, HasCounted, MayCount}
+use Rattle.live_segment.specs.Add.Progress.{counted_next, CountsAlone, HasCounted, MayCountInBucket}
 use Rattle.live_segment.proofs.lemmas.Add.Beginning.{notes_new}
 use Rattle.live_segment.proofs.lemmas.Add.Ended.{still_open, changed_behind}
 use Rattle.segment_promises.proofs.Growing.{grows_on}
@@ -42,7 +42,7 @@ counts_alone known entry a rest alone named amount some enough = record {
 }
 
 pub may_count : (known : Known) (bucket units : ℕ) (a : Actor) → IsAtRest a → KnowsAlone a known → has_buckets known.spec ≡ true → 1 ≤ units
-    → units ≤ a.units.share → MayCount a known bucket units
+    → units ≤ a.units.share → MayCountInBucket a known bucket units
 may_count known bucket units a rest alone bucketed some enough =
     record { counts = counts_alone known (bucket_entry known bucket units) a rest alone refl refl some enough; bucketed = bucketed }
 
@@ -77,7 +77,7 @@ module _ (known : Known) (value : ℤ) (units : ℕ) (old mid : Actor) (rest : I
   }
   mid_is = has.proceeds.same ∙ (λ i. record old { units = units_mid i; entries = entries_mid i; hand = mid.hand; done = mid.done; seen = mid.seen })
 
-  pub has_sample : HasSample known value units mid
+  pub has_sample : HasCountedSample known value units mid
   has_sample = record {
     counted = record {
       recorder = ap (λ (x : Actor). is_opener x.role) mid_is ∙ rest.recorder;

@@ -29,7 +29,7 @@ use Rattle.live_segment.specs.Steps.{Pass, IsSame, Stepped}
 use Rattle.segment_promises.specs.Onward.{SeesOn}
 use Rattle.segment_promises.proofs.Growing.{grows_not}
 use Rattle.live_segment.specs.Steps.GhostNotes.{MayPack, HasPacked, Noted, bucket_entry, bucket_notes}
-use Rattle.live_segment.specs.Add.Progress.{LooksOn, LooksFor, MayCount, Tries}
+use Rattle.live_segment.specs.Add.Progress.{LooksOn, LooksFor, MayCountInBucket, Tries}
 use Rattle.live_segment.proofs.lemmas.Steps.Proceeding.{does_not, sees_not, sees_single}
 use Rattle.live_segment.specs.Alloc.Claims.{KeepsBlocks}
 use Rattle.live_segment.proofs.lemmas.Add.Blocks.{keeps_begun, keeps_on}
@@ -48,7 +48,7 @@ is_on word below = by_test (nat_le (2 ^ 63) word) refl
 -- between two attempts: what was asked, and what has become of it
 pub record IsPackingOn (segment : Segment) (known : Known) (bucket units : ℕ) (first old : Pass) : Type 0 where
   pub seated : IsSeated segment first
-  pub may : MayCount first.me.0 known bucket units
+  pub may : MayCountInBucket first.me.0 known bucket units
   pub same : IsSame first old
   pub looks : LooksFor (bucket_entry known bucket units) first.me.0 old.me.0
   pub keeps : KeepsBlocks first.me.0 old.me.0
@@ -64,7 +64,7 @@ module _ {segment : Segment} {known : Known} {bucket units : ℕ} {first old : P
   abbrev version : ℕ
   version = old.me.0.segment.version
 
-  still : MayCount old.me.0 known bucket units
+  still : MayCountInBucket old.me.0 known bucket units
   still = may_yet first.me.0 old.me.0 known bucket units attempt.may attempt.looks
 
   pub may_load : MayStep segment old (packing_event (load_single known.reference))
@@ -98,7 +98,7 @@ module _ {segment : Segment} {known : Known} {bucket units : ℕ} {first old : P
     pub counts_still : seat.me.0.seen.counts ≡ first.me.0.seen.counts
     counts_still = ap (λ (x : Actor). x.seen.counts) step.view ∙ attempt.counts
 
-    loaded_may : MayCount seat.me.0 known bucket units
+    loaded_may : MayCountInBucket seat.me.0 known bucket units
     loaded_may = may_yet first.me.0 seat.me.0 known bucket units attempt.may looks_at
 
     singles : seat.me.0.seen.singles ≡ old.me.0.seen.singles ++ seen_here ∷ []

@@ -26,7 +26,7 @@ use Rattle.segment_invariant.proofs.Lists.Elements.{all_from, each_of_one}
 use Rattle.segment_invariant.proofs.Lists.Maps.{contains_map}
 use Rattle.segment_promises.specs.Onward.{SeesOn}
 use Rattle.live_segment.specs.Steps.GhostNotes.{bucket_entry, entry_notes, opening_notes}
-use Rattle.live_segment.specs.Add.Progress.{CountsAlone, HaveEnded, IsOpenTo, LooksOn, MayCount, MayGoOn, HasNotBegun, Waits, HasBegun, LooksFor, HasCounted, counted_next}
+use Rattle.live_segment.specs.Add.Progress.{CountsAlone, HaveEnded, IsOpenTo, LooksOn, MayCountInBucket, MayGoOnWith, HasNotBegun, EntryWaits, HasBegunEntry, LooksFor, HasCounted, counted_next}
 use Rattle.live_segment.proofs.lemmas.Add.Ended.{goes_on_with, next_behind, notes_nothing}
 use Rattle.live_segment.proofs.lemmas.Steps.Proceeding.{does_not, proceeds_on, sees_single}
 
@@ -80,13 +80,13 @@ open_still entry some = falls (int_eq entry.amount (pos 0))
     falls b = ap (λ (z : Bool). (false || z) && (false || b) && (false || z)) none
 
 -- one that waits notes nothing
-notes_waiting : (a : Actor) (entry : Entry) → 1 ≤ entry.units → Waits a entry → entry_notes a entry ≡ []
+notes_waiting : (a : Actor) (entry : Entry) → 1 ≤ entry.units → EntryWaits a entry → entry_notes a entry ≡ []
 notes_waiting a entry some waits =
     ap (λ (r : List EntryProgress). opening_notes r entry entry.units) waits.runs
     ∙ notes_nothing (fresh entry) (open_still entry some) waits.before entry entry.units waits.ended.ended
 
 -- one with which a call goes on is noted beside those that have ended
-notes_going : (a : Actor) (entry : Entry) → MayGoOn a entry → entry_notes a entry ≡ goes_on entry entry.units ∷ []
+notes_going : (a : Actor) (entry : Entry) → MayGoOnWith a entry → entry_notes a entry ≡ goes_on entry entry.units ∷ []
 notes_going a entry may = goes_on_with a.entries.running entry entry.units may.runs may.ended.ended
 
 within : (entry : Entry) → entry.amount ≡ pos 0 → AreWithin entry.name entry.units (entry ∷ [])
@@ -131,13 +131,13 @@ may_tell a known entry may = by may.begun
     by (inr (inr waits)) = subst (MayNoteAll a) (sym (notes_waiting a entry may.some waits)) refl
 
 -- the entry then waits
-pub then_waits : (a : Actor) (known : Known) (entry : Entry) → CountsAlone a known entry → Waits (noted_by a (entry_notes a entry)) entry
+pub then_waits : (a : Actor) (known : Known) (entry : Entry) → CountsAlone a known entry → EntryWaits (noted_by a (entry_notes a entry)) entry
 then_waits a known entry may = by may.begun
   where
     same : (ns : List Note) → entry_notes a entry ≡ ns → (noted_by a (entry_notes a entry)).entries.running ≡ (noted_by a ns).entries.running
     same ns is = ap (λ (n : List Note). (noted_by a n).entries.running) is
 
-    by : IsOpenTo a entry → Waits (noted_by a (entry_notes a entry)) entry
+    by : IsOpenTo a entry → EntryWaits (noted_by a (entry_notes a entry)) entry
     by (inl new) = record {
       before = [];
       ended = record { ended = All-nil (λ c. has_ended c ≡ true); unsummed = All-nil (λ c. c.summed ≡ false) };
@@ -169,7 +169,7 @@ only_begun a known entry may = by may.begun
     by (inr (inl going)) = subst Same (sym (notes_going a entry going)) refl
     by (inr (inr waits)) = subst Same (sym (notes_waiting a entry may.some waits)) refl
 
-pub knows : (a : Actor) (known : Known) (bucket units : ℕ) → MayCount a known bucket units → Buckets a known.reference known
+pub knows : (a : Actor) (known : Known) (bucket units : ℕ) → MayCountInBucket a known bucket units → Buckets a known.reference known
 knows a known bucket units may = ((known_there a.answers.names known.reference known may.counts.alone).0, refl, may.bucketed)
 
 -- ---- while it waits
@@ -192,7 +192,7 @@ may_still a b known entry may looks =
       amount = may.amount;
     }
   where
-    by : ((b.units ≡ a.units) × (b.entries ≡ a.entries)) ⊎ HasBegun entry a b → IsOpenTo a entry → IsOpenTo b entry
+    by : ((b.units ≡ a.units) × (b.entries ≡ a.entries)) ⊎ HasBegunEntry entry a b → IsOpenTo a entry → IsOpenTo b entry
     by (inl (same_units, same_entries)) (inl new) =
         inl (
           ap (λ (e : Entries). e.running) same_entries ∙ new.0,
@@ -215,8 +215,8 @@ may_still a b known entry may looks =
         let waits = then_waits a known entry may in
         inr (inr (record { before = waits.before; ended = waits.ended; runs = ap (λ (e : Entries). e.running) entries_are ∙ waits.runs }))
 
-pub may_yet : (a b : Actor) (known : Known) (bucket units : ℕ) → MayCount a known bucket units → LooksFor (bucket_entry known bucket units) a b
-    → MayCount b known bucket units
+pub may_yet : (a b : Actor) (known : Known) (bucket units : ℕ) → MayCountInBucket a known bucket units → LooksFor (bucket_entry known bucket units) a b
+    → MayCountInBucket b known bucket units
 may_yet a b known bucket units may looks = record { counts = may_still a b known (bucket_entry known bucket units) may.counts looks; bucketed = may.bucketed }
 
 -- it begins only once
@@ -228,13 +228,13 @@ begins_once a b known entry may looks = by looks.begun may.begun
     notes : Actor → List Note
     notes x = entry_notes x entry
 
-    waiting : Waits b entry → b.units ≡ (noted_by a (notes a)).units → b.entries ≡ (noted_by a (notes a)).entries
+    waiting : EntryWaits b entry → b.units ≡ (noted_by a (notes a)).units → b.entries ≡ (noted_by a (notes a)).entries
         → ((noted_by b (notes b)).units ≡ (noted_by a (notes a)).units) × ((noted_by b (notes b)).entries ≡ (noted_by a (notes a)).entries)
     waiting waits units_are entries_are =
         let none = notes_waiting b entry may.some waits in
         (ap (λ (ns : List Note). (noted_by b ns).units) none ∙ units_are, ap (λ (ns : List Note). (noted_by b ns).entries) none ∙ entries_are)
 
-    by : ((b.units ≡ a.units) × (b.entries ≡ a.entries)) ⊎ HasBegun entry a b → IsOpenTo a entry
+    by : ((b.units ≡ a.units) × (b.entries ≡ a.entries)) ⊎ HasBegunEntry entry a b → IsOpenTo a entry
         → ((noted_by b (notes b)).units ≡ (noted_by a (notes a)).units) × ((noted_by b (notes b)).entries ≡ (noted_by a (notes a)).entries)
     by (inl (same_units, same_entries)) (inl new) =
         let mine = notes_new a entry new in
@@ -270,9 +270,9 @@ pub looks_for_on : (a b c : Actor) (known : Known) (entry : Entry) → CountsAlo
 looks_for_on a b c known entry may first second =
     record { proceeds = proceeds_on a b c first.proceeds second.proceeds; begun = by first.begun second.begun }
   where
-    by : ((b.units ≡ a.units) × (b.entries ≡ a.entries)) ⊎ HasBegun entry a b
-        → ((c.units ≡ b.units) × (c.entries ≡ b.entries)) ⊎ HasBegun entry b c
-        → ((c.units ≡ a.units) × (c.entries ≡ a.entries)) ⊎ HasBegun entry a c
+    by : ((b.units ≡ a.units) × (b.entries ≡ a.entries)) ⊎ HasBegunEntry entry a b
+        → ((c.units ≡ b.units) × (c.entries ≡ b.entries)) ⊎ HasBegunEntry entry b c
+        → ((c.units ≡ a.units) × (c.entries ≡ a.entries)) ⊎ HasBegunEntry entry a c
     by (inl was) (inl is) = inl (is.0 ∙ was.0, is.1 ∙ was.1)
     by (inr was) (inl is) = inr (is.0 ∙ was.0, is.1 ∙ was.1)
     by was (inr is) = let once = begins_once a b known entry may first in inr (is.0 ∙ once.0, is.1 ∙ once.1)

@@ -30,7 +30,7 @@ use Rattle.live_segment.specs.Rule.{IsOf}
 use Rattle.live_segment.specs.declared.segment.Segment.{Segment}
 use Rattle.segment_image.specs.Shape.{Dimensions}
 use Rattle.live_segment.specs.Steps.GhostNotes.{HasAddedTo, MayAddTo, Noted, bucket_entry, bucket_notes}
-use Rattle.live_segment.specs.Add.Progress.{HasCounted, IsOpenTo, LooksFor, LooksOn, MayCount, Tries}
+use Rattle.live_segment.specs.Add.Progress.{HasCounted, IsOpenTo, LooksFor, LooksOn, MayCountInBucket, Tries}
 use Rattle.live_segment.proofs.lemmas.Add.Beginning.{counted_behind, knows, looks_for, looks_for_on, may_yet, may_tell, only_begun}
 use Rattle.live_segment.proofs.lemmas.Add.Blocks.{keeps_counted}
 use Rattle.live_segment.proofs.lemmas.Add.Ended.{next_behind, none_open}
@@ -45,7 +45,7 @@ use Rattle.live_segment.specs.Add.Sample.{block_words}
 
 -- ---- what a call may do that may count units of a bucket
 
-module _ (a : Actor) (known : Known) (bucket units : ℕ) (may : MayCount a known bucket units) where
+module _ (a : Actor) (known : Known) (bucket units : ℕ) (may : MayCountInBucket a known bucket units) where
   abbrev entry : Entry
   entry = bucket_entry known bucket units
 
@@ -80,7 +80,7 @@ module _ (a : Actor) (known : Known) (bucket units : ℕ) (may : MayCount a know
 -- ---- a count
 
 -- the units are added to the count of their bucket
-module _ (known : Known) (bucket units counts : ℕ) (seat : Pass) (may : MayCount seat.me.0 known bucket units) (off : StandsOff seat.me.0 known counts)
+module _ (known : Known) (bucket units counts : ℕ) (seat : Pass) (may : MayCountInBucket seat.me.0 known bucket units) (off : StandsOff seat.me.0 known counts)
     (below : bucket < buckets_of known.spec) where
   abbrev a : Actor
   a = seat.me.0
@@ -142,13 +142,13 @@ module _ (known : Known) (bucket units counts : ℕ) (seat : Pass) (may : MayCou
 
 -- it looks at counts in use, and may add units of a bucket to the count of that
 pub record IsAtCounts (known : Known) (bucket units counts : ℕ) (old seat : Pass) : Type 0 where
-  pub may : MayCount old.me.0 known bucket units
+  pub may : MayCountInBucket old.me.0 known bucket units
   pub looks : LooksFor (bucket_entry known bucket units) old.me.0 seat.me.0
   pub filled : seat.me.0.done.filled ≡ old.me.0.done.filled
   pub off : StandsOff seat.me.0 known counts
 
 module _ {known : Known} {bucket units counts : ℕ} {old seat : Pass} (is : IsAtCounts known bucket units counts old seat) (below : bucket < buckets_of known.spec) where
-  may_here : MayCount seat.me.0 known bucket units
+  may_here : MayCountInBucket seat.me.0 known bucket units
   may_here = may_yet old.me.0 seat.me.0 known bucket units is.may is.looks
 
   pub room_here : (segment : Segment) → IsOf segment.setting old.me.0 → counts + 4 + bucket < segment.setting.shape.size
@@ -174,13 +174,13 @@ module _ {known : Known} {bucket units counts : ℕ} {old seat : Pass} (is : IsA
 
 -- ---- behind an attempt to pack
 
-module _ (known : Known) (bucket units : ℕ) (old mid : Pass) (may : MayCount old.me.0 known bucket units) where
+module _ (known : Known) (bucket units : ℕ) (old mid : Pass) (may : MayCountInBucket old.me.0 known bucket units) where
   -- the counts are in use: the reference is loaded
   module _ (tried : Tries known bucket units old.me.0 Off mid.me.0) where
     looks_off : LooksFor (bucket_entry known bucket units) old.me.0 mid.me.0
     looks_off = tried.0
 
-    pub counts_off : MayCount mid.me.0 known bucket units
+    pub counts_off : MayCountInBucket mid.me.0 known bucket units
     counts_off = may_yet old.me.0 mid.me.0 known bucket units may looks_off
 
     module _ {found : ℕ} {seat : Pass} (step : Stepped mid (counting_event (load_counts known.reference)) found seat) where
@@ -209,7 +209,7 @@ module _ (known : Known) (bucket units : ℕ) (old mid : Pass) (may : MayCount o
     looks_passed : LooksFor (bucket_entry known bucket units) old.me.0 mid.me.0
     looks_passed = tried.0
 
-    pub may_passed : MayCount mid.me.0 known bucket units
+    pub may_passed : MayCountInBucket mid.me.0 known bucket units
     may_passed = may_yet old.me.0 mid.me.0 known bucket units may looks_passed
 
     -- they are in use then

@@ -18,7 +18,7 @@ use Rattle.segment_machine.specs.Entry.{has_ended}
 use Rattle.segment_machine.specs.Event.{counting_event, next, Ready}
 use Rattle.segment_machine.specs.Note.{amounts, ends}
 use Rattle.segment_promises.specs.Follows.{noted_by}
-use Rattle.live_segment.specs.Add.Finish.{counted_entry, item_of, IsCounted, HasSample, IsSummed, HasEnded}
+use Rattle.live_segment.specs.Add.Finish.{counted_entry, item_of, IsCounted, HasCountedSample, IsSummed, HasEnded}
 use Rattle.live_segment.specs.Steps.{IsSame, Pass}
 use Rattle.live_segment.specs.Steps.GhostNotes.{MayAmount, HasAmount, MayDo, Noted}
 use Rattle.live_segment.proofs.lemmas.Add.Beginning.{known_there}
@@ -37,7 +37,7 @@ leaves_out known value units amount before a is none = record {
   free = is.free;
 }
 
-module _ (known : Known) (value : ℤ) (units : ℕ) (amount : ℤ) (seat : Pass) (is : HasSample known value units seat.me.0) (some : amount ≢ pos 0) where
+module _ (known : Known) (value : ℤ) (units : ℕ) (amount : ℤ) (seat : Pass) (is : HasCountedSample known value units seat.me.0) (some : amount ≢ pos 0) where
   abbrev a : Actor
   a = seat.me.0
 

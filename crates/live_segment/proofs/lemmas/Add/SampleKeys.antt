@@ -29,7 +29,7 @@ use Rattle.live_segment.specs.Known.{KnowsRight}
 use Rattle.live_segment.specs.List.Index.{IsIndexed}
 use Rattle.live_segment.specs.List.Keys.{HasLookedForSample, HasSeen, sample_key, seen_sample, seen_word}
 use Rattle.live_segment.specs.List.Walk.{IsWalkProgress}
-use Rattle.live_segment.specs.Hist.ListSearch.{Meets, SeesWords}
+use Rattle.live_segment.specs.Hist.ListSearch.{MayLoadRecord, SeesWords}
 use Rattle.live_segment.specs.Hist.Search.{HasSearched}
 use Rattle.live_segment.proofs.lemmas.Add.SampleOf.{split_there}
 use Rattle.live_segment.proofs.lemmas.List.Ends.{all_on}
@@ -128,7 +128,7 @@ module _ {size : ℕ} (histogram : ℕ) (value : ℤ) (old : Actor) {index : Rec
       first_met_here kind.Sample old.seen (sample_key histogram (cast_unsigned w64 value)) (SawOther old.seen histogram value) (other_sample old.seen histogram value)
       size index indexed at first
 
-  pub meets_sample : Meets at old
+  pub meets_sample : MayLoadRecord at old
   meets_sample =
       let (before, after, there, others, room, looked) = splits in
       (free, subst (λ (l : List ℕ). Contains l at) (sym there) (Contains-append_right before (at ∷ after) at (0, omega arith, refl)))

@@ -8,7 +8,7 @@ use Rattle.std.proofs.lemmas.List.Elements.{Contains-append_right}
 use Rattle.bucket_ranges.specs.Reading.{is_i32}
 use Rattle.segment_calls.specs.declared.refusal.Refusal.{Refusal}
 use Rattle.segment_calls.specs.declared.refusal.Refusal.TheVariants.{Full, Corrupt}
-use Rattle.segment_machine.specs.Actor.{AreApart, Sparse, is_bound, is_opener}
+use Rattle.segment_machine.specs.Actor.{AreOwnBlocksApart, Sparse, is_bound, is_opener}
 use Rattle.segment_machine.specs.declared.actor.Actor.{Actor}
 use Rattle.segment_machine.specs.declared.actor.Known.{Known}
 use Rattle.segment_machine.specs.declared.actor.Made.TheVariants.{Sample}
@@ -75,7 +75,7 @@ module _ (a : Actor) (at behind : ℕ) (raised : List Rise) (enough : at + 8 ≤
       );
     }
 
-    module _ (apart : AreApart now.me.0) where
+    module _ (apart : AreOwnBlocksApart now.me.0) where
       apart_there : Apart (a.hand.own ++ block at (behind - at) payload ∷ [])
       apart_there = subst (λ (x : Actor). Apart x.hand.own) is
           (apart (λ spent. true≢false (sym (ap is_bound spent) ∙ ap (λ (x : Actor). is_bound x.hand.place) is)))
@@ -104,7 +104,7 @@ pub record IsPut (a : Actor) (at behind : ℕ) (raised : List Rise) (histogram :
 
 module _ (segment : Segment) (old mid one : Pass) (at behind : ℕ) (raised : List Rise) (histogram : ℕ) (value : ℤ) (enough : at + 8 ≤ behind)
     (view : mid.me.0 ≡ claimed old.me.0 at behind 3 raised)
-    (apart : AreApart mid.me.0) (table : mid.table_id ≡ table_of segment) (records : is_opener old.me.0.role ≡ false)
+    (apart : AreOwnBlocksApart mid.me.0) (table : mid.table_id ≡ table_of segment) (records : is_opener old.me.0.role ≡ false)
     (first : Stepped mid (allocating_event (store_payload at 0 histogram)) histogram one) where
   with_first : one.me.0 ≡ with_block old.me.0 at behind raised (histogram ∷ [])
   with_first = stores old.me.0 at behind raised enough segment mid [] view table records apart 0 histogram one first
@@ -122,7 +122,7 @@ module _ (segment : Segment) (old mid one : Pass) (at behind : ℕ) (raised : Li
   may_store_value word =
       may_store old.me.0 at behind raised enough segment one (histogram ∷ []) with_first (first.same.0 ∙ table) records 1 word (omega arith) (omega arith)
 
-  pub put_two : (word : ℕ) → word ≡ cast_unsigned w64 value → AreApart one.me.0 → (two : Pass) → Stepped one (allocating_event (store_payload at 1 word)) word two
+  pub put_two : (word : ℕ) → word ≡ cast_unsigned w64 value → AreOwnBlocksApart one.me.0 → (two : Pass) → Stepped one (allocating_event (store_payload at 1 word)) word two
       → IsPut old.me.0 at behind raised histogram value two.me.0
   put_two word is_word apart_then two second = record {
     payload = histogram ∷ word ∷ [];

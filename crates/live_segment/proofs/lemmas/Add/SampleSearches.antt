@@ -20,7 +20,7 @@ use Rattle.live_segment.specs.Holders.{MayStep}
 use Rattle.live_segment.specs.Seated.{IsSeated}
 use Rattle.segment_promises.specs.Values.{NoRepeats}
 use Rattle.live_segment.specs.List.Records.{KnowsOwnSamples}
-use Rattle.live_segment.specs.Hist.ListSearch.{Meets, SeesWords}
+use Rattle.live_segment.specs.Hist.ListSearch.{MayLoadRecord, SeesWords}
 use Rattle.live_segment.specs.List.Ends.{SawAllOfList}
 use Rattle.live_segment.specs.Hist.Search.{HasSearched}
 use Rattle.live_segment.specs.Add.SampleSearch.{FindsSample, ShowsValue, WalksBehind}
@@ -83,7 +83,7 @@ module _ {segment : Segment} {old : Pass} {histogram : ℕ} {value : ℤ} {at : 
         )
 
     module _ (miss : found ≢ 12) where
-      pub meets : Meets found new.me.0
+      pub meets : MayLoadRecord found new.me.0
       meets = way.meets seated walks.way found new load miss
 
       pub room_found : found + 5 ≤ segment.setting.shape.size

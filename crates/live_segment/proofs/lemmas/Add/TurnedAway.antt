@@ -27,7 +27,7 @@ use Rattle.live_segment.specs.Steps.GhostNotes.{bucket_entry}
 use Rattle.segment_promises.specs.Onward.{DoesOn, GoesOn, SeesOn, is_holding}
 use Rattle.live_segment.specs.Add.Refusal.{given_up, how_many_ended, refusing_notes, IsNotCounted, IsTurnedAway}
 use Rattle.live_segment.specs.Steps.{IsAtRest}
-use Rattle.live_segment.specs.Add.Progress.{HasBegun, HasCounted, LooksFor}
+use Rattle.live_segment.specs.Add.Progress.{HasBegunEntry, HasCounted, LooksFor}
 use Rattle.live_segment.proofs.lemmas.Add.Beginning.{notes_new}
 use Rattle.live_segment.proofs.lemmas.Add.Refusing.{only_given_up}
 use Rattle.live_segment.proofs.lemmas.Add.Ended.{still_open}
@@ -55,7 +55,7 @@ module _ (entry : Entry) (old last new : Actor) (rest : IsAtRest old) (some : 1 
   back : Back
   back = by looks.begun
     where
-      by : ((last.units ≡ old.units) × (last.entries ≡ old.entries)) ⊎ HasBegun entry old last → Back
+      by : ((last.units ≡ old.units) × (last.entries ≡ old.entries)) ⊎ HasBegunEntry entry old last → Back
       by (inl (units_are, entries_are)) =
           let is : new ≡ last =
           ends ∙ ap (λ (r : List EntryProgress). noted_by last (refusing_notes r)) (ap (λ (e : Entries). e.running) entries_are ∙ rest.runs) in record {

@@ -11,7 +11,7 @@ use Rattle.live_segment.specs.declared.segment.Segment.{Segment}
 use Rattle.live_segment.specs.Delta.Outcome.{HasTakenSample, MayTakeSample, TakesOn, TakesValues, units_of_key}
 use Rattle.live_segment.specs.List.SampleRecords.{CountsSample, HasUnits, SeesSample}
 use Rattle.live_segment.specs.Steps.{IsSame, Pass}
-use Rattle.segment_promises.specs.Values.{Passes}
+use Rattle.segment_promises.specs.Values.{PassesRecord}
 use Rattle.live_segment.specs.List.Values.{TakesValue}
 use Rattle.live_segment.specs.List.Values.SampleCall.{OfDelta}
 use Rattle.live_segment.proofs.lemmas.Delta.OneBucket.{takes_then}
@@ -32,7 +32,7 @@ module _ {segment : Segment} {known : Known} (at : ℕ) {old mid : Pass} (takes 
   pub takes_nothing : CountsSample known.reference at None mid.me.0 → TakesValue segment known at None old mid
   takes_nothing counts = record { takes = takes_mid; on = none_taken; chain = chain_mid; lists = by counts }
     where
-      by : CountsSample known.reference at None mid.me.0 → Passes (λ value sample. TookSample mid.me.0 sample) mid.me.0.seen known.reference at
+      by : CountsSample known.reference at None mid.me.0 → PassesRecord (λ value sample. TookSample mid.me.0 sample) mid.me.0.seen known.reference at
       by (inl none) = inr none
       by (inr (value, saw, zero)) = inl (value, saw, (0, zero, inl refl))
 

@@ -35,7 +35,7 @@ use Rattle.segment_invariant.specs.Body.{Anatomy, Body, Listed, Piece, Record, h
 use Rattle.segment_invariant.specs.Consistent.{units_taken}
 use Rattle.segment_invariant.specs.Invariant.{HasKey, Invariant, is_living}
 use Rattle.segment_invariant.specs.Ledger.{key_of_bucket}
-use Rattle.segment_invariant.specs.Seen.{HasRecord, IsFixedIn, IsNamed, Knows, WasFixed}
+use Rattle.segment_invariant.specs.Seen.{HasRecord, IsFixedIn, IsRecordNamed, IsRightlyKnown, WasFixed}
 use Rattle.segment_invariant.proofs.Blocks.Pieces.{one_index, piece_word}
 use Rattle.segment_invariant.proofs.Blocks.Places.{fixed_within}
 use Rattle.segment_invariant.proofs.Counting.Samples.{first_met}
@@ -121,8 +121,8 @@ module _ (given : Opening) (number : ℕ) (old new : Actor) (since : new.since �
   lives : new.hand.place ≢ Spent
   lives = knower_lives given.setting.shape opened state kept number new standing.stands known has
 
-  knows : Knows kept.anatomy known
-  knows = All-contains (Knows kept.anatomy) new.answers.names known (kept.each number new standing.stands lives).names has
+  knows : IsRightlyKnown kept.anatomy known
+  knows = All-contains (IsRightlyKnown kept.anatomy) new.answers.names known (kept.each number new standing.stands lives).names has
 
   -- ---- what it had seen before
 
@@ -226,7 +226,7 @@ module _ (given : Opening) (number : ℕ) (old new : Actor) (since : new.since �
       → (bucket : ℕ) × (bucket < buckets_of known.spec) × (bucket_key (Some known) bucket ≡ key)
   bucket_of bucketed key (kind, at, first, either) =
       let (r, first_is, stands, named, many, keys) = known_first given.setting.shape opened state kept known knows in
-      let specified : kind ≡ r.spec = kind_is kind r.spec at known.reference (first_unique (IsNamed known.name) kept.anatomy.records _ _ first first_is) in
+      let specified : kind ≡ r.spec = kind_is kind r.spec at known.reference (first_unique (IsRecordNamed known.name) kept.anatomy.records _ _ first first_is) in
       ⊎_elim
       (λ (bucket, below, is).
       let within = ap buckets_of specified in (
@@ -236,7 +236,7 @@ module _ (given : Opening) (number : ℕ) (old new : Actor) (since : new.since �
       ))
       (λ (sparse, place, met).
       let its : knows.first_spec ≡ spec.Sparse =
-      sym (kind_is kind knows.first_spec at known.reference (first_unique (IsNamed known.name) kept.anatomy.records _ _ first knows.first)) ∙ sparse in
+      sym (kind_is kind knows.first_spec at known.reference (first_unique (IsRecordNamed known.name) kept.anatomy.records _ _ first knows.first)) ∙ sparse in
       absurd (not_sparse known.spec bucketed (subst (λ (s : Spec). SameSpec s known.spec) its knows.same)))
       either
 

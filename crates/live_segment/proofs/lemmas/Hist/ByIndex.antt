@@ -13,12 +13,12 @@ use Rattle.live_segment.specs.declared.list.index.RecordIndex.{RecordIndex}
 use Rattle.live_segment.specs.declared.segment.Segment.{Segment}
 use Rattle.live_segment.specs.declared.hist.search.Search.{Search}
 use Rattle.live_segment.specs.declared.hist.search.Search.TheVariants as search
-use Rattle.live_segment.specs.Hist.ListSearch.{IsAsked, Meets, SeesWords, ShowsName, ShowsSpec}
+use Rattle.live_segment.specs.Hist.ListSearch.{IsAsked, MayLoadRecord, SeesWords, ShowsName, ShowsSpec}
 use Rattle.live_segment.specs.declared.list.index.KeyKind.TheVariants.{Name}
 use Rattle.live_segment.specs.List.Index.{IsIndexed}
 use Rattle.live_segment.specs.List.Keys.{IsNameKey}
 use Rattle.live_segment.specs.Seated.{IsSeated}
-use Rattle.live_segment.specs.Hist.Search.{FoundEnd, HasSearched, Searches, WalksAt}
+use Rattle.live_segment.specs.Hist.Search.{FoundEnd, HasSearched, Searches, SearchesAt}
 use Rattle.live_segment.specs.Steps.{Pass}
 use Rattle.live_segment.proofs.lemmas.Hist.Indexing.{first_here}
 use Rattle.live_segment.proofs.lemmas.Hist.Searching.{first_with, first_without, name_still, others_still}
@@ -36,7 +36,7 @@ module _ {segment : Segment} {old : Pass} {asked : Asked} (is : IsAsked segment.
   splits =
       let (key, named, one) = first in first_here old.me.0.seen asked.name.items key named segment.setting.shape.size index indexed at one
 
-  pub meets_it : Meets at old.me.0
+  pub meets_it : MayLoadRecord at old.me.0
   meets_it =
       let (before, after, there, others, room) = splits in
       (free, subst (λ (l : List ℕ). Contains l at) (sym there) (Contains-append_right before (at ∷ after) at (0, omega arith, refl)))
@@ -45,7 +45,7 @@ module _ {segment : Segment} {old : Pass} {asked : Asked} (is : IsAsked segment.
   room_it = let (before, after, there, others, room) = splits in room
 
   -- where it has another name, a walk begins anew
-  pub walk_anew : (b : Actor) → SeesWords old.me.0 b → WalksAt asked.name.items 12 b
+  pub walk_anew : (b : Actor) → SeesWords old.me.0 b → SearchesAt asked.name.items 12 b
   walk_anew b sees =
       let from = segment.shaped.wide in
       let to = segment.shaped.one in
@@ -56,8 +56,8 @@ module _ {segment : Segment} {old : Pass} {asked : Asked} (is : IsAsked segment.
     both : SeesWords old.me.0 last
     both = sees_on old.me.0 named last sees then_sees
 
-    meets_last : Meets at last
-    meets_last = subst (Meets at) (sym both.view) meets_it
+    meets_last : MayLoadRecord at last
+    meets_last = subst (MayLoadRecord at) (sym both.view) meets_it
 
     is_first : IsFirstNamed last.seen asked.name.items at
     is_first =

@@ -18,14 +18,14 @@ use Rattle.segment_machine.specs.Note.{declines, knows, noted, MayNote}
 use Rattle.segment_machine.specs.State.{State}
 use Rattle.segment_invariant.specs.Body.{Anatomy, Listed, Record}
 use Rattle.segment_invariant.specs.Invariant.{Invariant, StandsAs}
-use Rattle.segment_invariant.specs.Seen.{HasRecord, Knows as IsKnown}
+use Rattle.segment_invariant.specs.Seen.{HasRecord, IsRightlyKnown}
 use Rattle.segment_invariant.proofs.Counting.Looks.{one_record}
 use Rattle.segment_invariant.proofs.Lists.Firsts.{split_among}
 use Rattle.segment_invariant.proofs.Notes.Names.{first_right}
 use Rattle.segment_promises.specs.Follows.{MayNoteAll}
 use Rattle.live_segment.specs.declared.rule.Announcement.{Announcement}
 use Rattle.live_segment.specs.declared.rule.Opening.{Opening}
-use Rattle.live_segment.specs.Steps.Answering.{Declines, HaveOneName, IsSaid, Knows}
+use Rattle.live_segment.specs.Steps.Answering.{Declines, HaveOneName, IsSaid, NotesKnown}
 use Rattle.live_segment.specs.Rule.{Runs}
 use Rattle.live_segment.specs.Steps.{Sat}
 use Rattle.live_segment.proofs.Seating.Openings.{announces}
@@ -42,7 +42,7 @@ one_said reference said x y (says, at) (also, place) =
 module _ (shape : Dimensions) (opened : Anatomy) (state : State) (kept : Invariant shape opened state) (id : ℕ) (a : Actor)
     (mine : get_elem? state.actors id ≡ some a) (lives : a.hand.place ≢ Spent) where
   -- a histogram that it knows has a record of its name
-  known_named : (known : Known) → IsKnown kept.anatomy known → (r : Record) × HasRecord kept.anatomy.pieces known.reference r × (r.name ≡ known.name)
+  known_named : (known : Known) → IsRightlyKnown kept.anatomy known → (r : Record) × HasRecord kept.anatomy.pieces known.reference r × (r.name ≡ known.name)
   known_named known is =
       let entry : Listed = record { reference = known.reference; made = Some (made.Histogram known.name is.first_spec) } in
       let listed : Contains kept.anatomy.records entry = split_among is.first.0 is.first.1 is.first.2 in
@@ -60,7 +60,7 @@ module _ (shape : Dimensions) (opened : Anatomy) (state : State) (kept : Invaria
 
 module _ (given : Opening) (slots id : ℕ) (me : Sat) (records : is_opener me.0.role ≡ false) where
   pub knows_said : (reference : ℕ) (said : Announcement) (known : Known) → IsSaid reference said known → is_bound me.0.hand.place ≡ false → MayNote me.0 (knows known)
-      → Allows (Runs given) slots id me 0 (λ n. either (n == reference) reference n) (Knows (step slots 0 reference reference (some said)) me)
+      → Allows (Runs given) slots id me 0 (λ n. either (n == reference) reference n) (NotesKnown (step slots 0 reference reference (some said)) me)
   knows_said reference said known says free may s run wide mine small =
       let (view, act, valid, holds, told) =
       announces given (knows known ∷ []) slots id me (λ n. either (n == reference) reference n)

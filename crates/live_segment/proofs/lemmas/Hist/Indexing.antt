@@ -16,7 +16,7 @@ use Rattle.live_segment.specs.declared.list.index.KeyKind.TheVariants.{Name}
 use Rattle.live_segment.specs.declared.list.index.RecordIndex.{RecordIndex}
 use Rattle.live_segment.specs.List.Index.{IsIndexed}
 use Rattle.live_segment.specs.List.Keys.{HasLookedForName, IsNameKey, seen_letters, seen_name, seen_word}
-use Rattle.live_segment.specs.Hist.Search.{WalksAt}
+use Rattle.live_segment.specs.Hist.Search.{SearchesAt}
 use Rattle.live_segment.proofs.lemmas.List.Indexed.{first_met_here, none_met_here, progress}
 use Rattle.live_segment.proofs.lemmas.List.Keyed.{name_some, seen_is, word_at, words_long}
 use Rattle.live_segment.proofs.lemmas.List.Showing.{words_apart}
@@ -74,7 +74,7 @@ module _ (seen : Seen) (name : List ℕ) (key : ℕ) (is : IsNameKey name key) w
 
 -- and one for a name that the index has not
 pub walks_behind : (size : ℕ) (a : Actor) (index : RecordIndex) (name : List ℕ) (key : ℕ) → a.segment.shape.size ≡ size → 17 ≤ size → MayTurn a
-    → IsIndexed Name size a.seen index → IsNameKey name key → first_of index.firsts key ≡ None → WalksAt name index.place.at a
+    → IsIndexed Name size a.seen index → IsNameKey name key → first_of index.firsts key ≡ None → SearchesAt name index.place.at a
 walks_behind size a index name key sized wide free indexed is none =
     let way = progress Name size a index sized wide free indexed in record {
       free = free;

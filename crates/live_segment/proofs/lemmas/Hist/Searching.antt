@@ -33,8 +33,8 @@ use Rattle.live_segment.specs.Seated.{IsSeated}
 use Rattle.segment_promises.specs.Onward.{Grows, is_holding}
 use Rattle.segment_promises.specs.Values.{NoRepeats}
 use Rattle.live_segment.specs.List.Records.{KnowsOwnNames}
-use Rattle.live_segment.specs.Hist.ListSearch.{IsAsked, Meets, SeesWords, ShowsName, ShowsSpec}
-use Rattle.live_segment.specs.Hist.Search.{WalksAt, HasSearched, Searches, HasMadeNone}
+use Rattle.live_segment.specs.Hist.ListSearch.{IsAsked, MayLoadRecord, SeesWords, ShowsName, ShowsSpec}
+use Rattle.live_segment.specs.Hist.Search.{SearchesAt, HasSearched, Searches, HasMadeNone}
 use Rattle.segment_promises.proofs.Growing.{extended_end, reference_behind, grows_on, still}
 use Rattle.segment_promises.proofs.Furthest.{last_of, last_least, last_most, last_stands}
 use Rattle.live_segment.proofs.lemmas.List.Showing.{sees_on}
@@ -90,7 +90,7 @@ sees_searched a b sees = record {
 
 -- ---- a next
 
-module _ {segment : Segment} {old : Pass} {name : List ℕ} {at : ℕ} (seated : IsSeated segment old) (walks : WalksAt name at old.me.0) where
+module _ {segment : Segment} {old : Pass} {name : List ℕ} {at : ℕ} (seated : IsSeated segment old) (walks : SearchesAt name at old.me.0) where
   abbrev given : List ℕ
   given = walks.given
 
@@ -133,7 +133,7 @@ module _ {segment : Segment} {old : Pass} {name : List ℕ} {at : ℕ} (seated :
 
     -- at the end of the list, all of it was seen
     pub ends : NoRepeats chain → KnowsOwnNames old.me.0 → found ≡ 12
-        → WalksAt name at new.me.0 × All (SawOtherName new.me.0.seen name) new.me.0.seen.chain × HasMadeNone name new.me.0
+        → SearchesAt name at new.me.0 × All (SawOtherName new.me.0.seen name) new.me.0.seen.chain × HasMadeNone name new.me.0
     ends once names end =
         let (rest, front) = walks.front in
         let whole : given ≡ chain =
@@ -173,7 +173,7 @@ module _ {segment : Segment} {old : Pass} {name : List ℕ} {at : ℕ} (seated :
       longer : Walks new.me.0 (given ++ found ∷ [])
       longer = subst (Walks new.me.0) gave_one walks_on
 
-      pub meets : Meets found new.me.0
+      pub meets : MayLoadRecord found new.me.0
       meets =
           let (rest, front) = longer.1 in (
             longer.0,
@@ -187,7 +187,7 @@ module _ {segment : Segment} {old : Pass} {name : List ℕ} {at : ℕ} (seated :
           (subst (λ (d : Dimensions). is_reference d.size found ≡ true) seated.of.shape load.learned.reference) miss).1
 
       -- what a walk knows that goes on behind a record of another name
-      pub walks_then : (b : Actor) → SeesWords new.me.0 b → SawOtherName b.seen name found → WalksAt name found b
+      pub walks_then : (b : Actor) → SeesWords new.me.0 b → SawOtherName b.seen name found → SearchesAt name found b
       walks_then b sees other =
           let long = length_push given found in
           let then_chain = ap (λ (x : Actor). x.seen.chain) sees.view in record {
@@ -255,7 +255,7 @@ seat_on old seated same searched = record {
 }
 
 -- the first of the name, with the spec or another
-module _ {shape : Dimensions} {asked : Asked} (is : IsAsked shape asked) (found : ℕ) (last : Actor) (met : Meets found last)
+module _ {shape : Dimensions} {asked : Asked} (is : IsAsked shape asked) (found : ℕ) (last : Actor) (met : MayLoadRecord found last)
     (first : IsFirstNamed last.seen asked.name.items found) where
   pub first_with : found + 15 + asked.letters ≤ last.segment.shape.size → ShowsSpec asked found true last.seen → Searches asked (search.Met found) last
   first_with within spec = (
@@ -272,13 +272,13 @@ module _ {shape : Dimensions} {asked : Asked} (is : IsAsked shape asked) (found 
   )
 
 module _ {segment : Segment} {old : Pass} {asked : Asked} (is : IsAsked segment.setting.shape asked) {at : ℕ} (seated : IsSeated segment old)
-    (walks : WalksAt asked.name.items at old.me.0) (found : ℕ) (new : Pass) (load : Stepped old (walking_event (load_next at)) found new) (miss : found ≢ 12)
+    (walks : SearchesAt asked.name.items at old.me.0) (found : ℕ) (new : Pass) (load : Stepped old (walking_event (load_next at)) found new) (miss : found ≢ 12)
     (named : Actor) (sees : SeesWords new.me.0 named) (name : ShowsName asked found true named) (last : Actor) (then_sees : SeesWords named last) where
   all_seen : SeesWords new.me.0 last
   all_seen = sees_on new.me.0 named last sees then_sees
 
-  it_meets : Meets found last
-  it_meets = subst (Meets found) (sym all_seen.view) (meets seated walks found new load miss)
+  it_meets : MayLoadRecord found last
+  it_meets = subst (MayLoadRecord found) (sym all_seen.view) (meets seated walks found new load miss)
 
   is_first : IsFirstNamed last.seen asked.name.items found
   is_first =

@@ -27,10 +27,10 @@ use Rattle.live_segment.specs.Add.Sample.{HasNoRoom}
 use Rattle.live_segment.specs.List.Ends.{SawAllOfList}
 use Rattle.live_segment.specs.Alloc.Allocation.{Allocates, filled, noticed, saw_free}
 use Rattle.live_segment.specs.Steps.Answering.{HaveOneName}
-use Rattle.live_segment.specs.Hist.NewRecord.{HasMade, Makes}
-use Rattle.live_segment.specs.Hist.Outcome.{IsRefusedBy, LooksAround, LooksUp, Owes, OwesAs, Settles}
+use Rattle.live_segment.specs.Hist.NewRecord.{HasMade, MakesRecord}
+use Rattle.live_segment.specs.Hist.Outcome.{IsHistRefusal, LooksAround, LooksUp, Owes, OwesAs, Settles}
 use Rattle.segment_promises.specs.Onward.{DoesOn, Grows}
-use Rattle.live_segment.specs.Hist.Search.{HasMadeNone, HasSearched, Searches, WalksAt, asked_at}
+use Rattle.live_segment.specs.Hist.Search.{HasMadeNone, HasSearched, Searches, SearchesAt, asked_at}
 use Rattle.live_segment.proofs.lemmas.List.Ends.{all_on}
 use Rattle.live_segment.proofs.lemmas.Alloc.Claimed.{sees_header}
 use Rattle.live_segment.proofs.lemmas.Alloc.Rooms.{lacked_since, lacks_room}
@@ -201,7 +201,7 @@ refused_around size a b why.OtherSpec none allocates = absurd allocates
 -- ---- all of it
 
 -- a walk that has just begun
-pub walk_begins : (name : List ℕ) (a : Actor) → MayTurn a → 17 ≤ a.segment.shape.size → WalksAt name 12 a
+pub walk_begins : (name : List ℕ) (a : Actor) → MayTurn a → 17 ≤ a.segment.shape.size → SearchesAt name 12 a
 walk_begins name a free wide = record {
   free = free;
   given = [];
@@ -212,7 +212,7 @@ walk_begins name a free wide = record {
 }
 
 -- behind the end that it had reached a walk goes on once a record is made
-pub walk_goes_on : (asked : Asked) (at : ℕ) (a b : Actor) → WalksAt asked.name.items at a → HasMade asked a b → WalksAt asked.name.items at b
+pub walk_goes_on : (asked : Asked) (at : ℕ) (a b : Actor) → SearchesAt asked.name.items at a → HasMade asked a b → SearchesAt asked.name.items at b
 walk_goes_on asked at a b walks made = record {
   free = made.free;
   given = walks.given;
@@ -271,7 +271,7 @@ module _ (asked : Asked) (a b c d : Actor) (none : a.answers.owed ≡ []) (first
 
 -- no block could be claimed for a record
 pub not_made : (asked : Asked) (at : ℕ) (a b c : Actor) (cause : Refusal) → a.answers.owed ≡ [] → a.entries.running ≡ [] → HasSearched a b
-    → Searches asked (search.End at) b → SawAllOfList a.seen b.seen → Makes asked b (Err cause) c → LooksUp asked a (Err cause) c
+    → Searches asked (search.End at) b → SawAllOfList a.seen b.seen → MakesRecord asked b (Err cause) c → LooksUp asked a (Err cause) c
 not_made asked at a b c cause none rests searched (walks, others, made_none) all allocates =
     let (looks, room, chain, words, owed, not_other) =
     refused_around (4 + length asked.payload.items) b c cause (ap (λ (x : Actor). x.entries.running) searched.view ∙ rests) allocates in
@@ -298,7 +298,7 @@ not_made asked at a b c cause none rests searched (walks, others, made_none) all
 -- ---- what is said of it
 
 -- a call that owes answers may refuse them, where the first record of the name has another spec
-pub may_decline : (asked : Asked) (cause : Refusal) (old a : Actor) → OwesAs asked cause a → IsRefusedBy asked cause old a → MayNoteAll a (map declines a.answers.owed)
+pub may_decline : (asked : Asked) (cause : Refusal) (old a : Actor) → OwesAs asked cause a → IsHistRefusal asked cause old a → MayNoteAll a (map declines a.answers.owed)
 may_decline asked why.OtherSpec old a (inl none) other = subst (λ (l : List Known). MayNoteAll a (map declines l)) (sym none) refl
 may_decline asked why.OtherSpec old a (inr (at, one)) other =
     subst (λ (l : List Known). MayNoteAll a (map declines l)) (sym one)
@@ -332,7 +332,7 @@ declined_none : (a : Actor) → a.answers.owed ≡ [] → noted_by a (map declin
 declined_none a none =
     ap (λ (l : List Known). noted_by a (map declines l)) none ∙ (λ i. record a { answers = record a.answers { owed = none i } })
 
-declined_all : (asked : Asked) (cause : Refusal) (old a : Actor) → OwesAs asked cause a → IsRefusedBy asked cause old a
+declined_all : (asked : Asked) (cause : Refusal) (old a : Actor) → OwesAs asked cause a → IsHistRefusal asked cause old a
     → noted_by a (map declines a.answers.owed) ≡ record a { answers = record a.answers { owed = [] } }
 declined_all asked why.OtherSpec old a (inl none) other = declined_none a none
 declined_all asked why.OtherSpec old a (inr (at, one)) other = declined_one a (asked_at asked at) one
@@ -347,8 +347,8 @@ declined_all asked why.NoMemory old a none cause = absurd cause.2
 declined_all asked why.TooLarge old a none cause = absurd cause.2
 
 -- the cause lies in what it has seen and done
-cause_of : (asked : Asked) (cause : Refusal) (old a : Actor) (owed : List Known) → IsRefusedBy asked cause old a
-    → IsRefusedBy asked cause old (record a { answers = record a.answers { owed = owed } })
+cause_of : (asked : Asked) (cause : Refusal) (old a : Actor) (owed : List Known) → IsHistRefusal asked cause old a
+    → IsHistRefusal asked cause old (record a { answers = record a.answers { owed = owed } })
 cause_of asked why.OtherSpec old a owed other = other
 cause_of asked why.Full old a owed cause = cause
 cause_of asked why.Corrupt old a owed cause = cause

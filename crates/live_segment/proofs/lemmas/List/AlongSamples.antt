@@ -17,7 +17,7 @@ use Rattle.segment_promises.proofs.Calls.Places.{behind_apart, behind_free}
 use Rattle.segment_promises.proofs.ValueWalks as way
 use Rattle.live_segment.specs.declared.segment.Segment.{Segment}
 use Rattle.live_segment.specs.Holders.{MayStep}
-use Rattle.live_segment.specs.List.Values.{Goes, HasDone, HasUnitsOf, ListsAlong, ListsOn, SampleCall}
+use Rattle.live_segment.specs.List.Values.{Goes, HasDealtWith, HasUnitsOf, ListsAlong, ListsOn, SampleCall}
 use Rattle.live_segment.specs.Ready.{LooksAtValues}
 use Rattle.live_segment.specs.Steps.{Pass, Stepped}
 use Rattle.live_segment.proofs.lemmas.Add.Beginning.{known_there}
@@ -34,7 +34,7 @@ begins call segment known at first goes comes = record {
   goes = goes;
   on = on_not call first.me.0;
   comes = comes;
-  lists = lists_nothing (HasDone call [] first.me.0) (HasUnitsOf call first.me.0) known.reference first.me.0.seen;
+  lists = lists_nothing (HasDealtWith call [] first.me.0) (HasUnitsOf call first.me.0) known.reference first.me.0.seen;
 }
 
 module _ {call : SampleCall} {segment : Segment} {known : Known} {passed : List ℕ} {at : ℕ} {listed : List (ℤ × ℕ)} {first old : Pass}
@@ -81,10 +81,10 @@ module _ {call : SampleCall} {segment : Segment} {known : Known} {passed : List 
     abbrev longer : List (ℤ × ℕ)
     longer = listed ++ listed_of one
 
-    lists_mid : ListsValues (HasDone call longer mid.me.0) (HasUnitsOf call mid.me.0) known.reference passed listed mid.me.0.seen
+    lists_mid : ListsValues (HasDealtWith call longer mid.me.0) (HasUnitsOf call mid.me.0) known.reference passed listed mid.me.0.seen
     lists_mid = let on = value.on in
         lists_still old.me.0.seen mid.me.0.seen (seen_on call segment known old mid (listed_of one) was.goes on).words known.reference
-        (HasDone call listed old.me.0) (HasDone call longer mid.me.0) (done_still call segment known old mid (listed_of one) was.goes on listed)
+        (HasDealtWith call listed old.me.0) (HasDealtWith call longer mid.me.0) (done_still call segment known old mid (listed_of one) was.goes on listed)
         (HasUnitsOf call old.me.0) (HasUnitsOf call mid.me.0) (units_still call segment known old mid (listed_of one) was.goes on) passed listed was.lists
 
     module _ {found : ℕ} {new : Pass} (step : Stepped mid event found new) (once : NoRepeats mid.me.0.seen.chain) where
@@ -113,8 +113,8 @@ module _ {call : SampleCall} {segment : Segment} {known : Known} {passed : List 
             step.learned (ap (λ (a : Actor). a.seen.chain) step.view);
         lists = lists_then known mid.me.0 new.me.0.seen was.comes.front passed rest at
             ((known_there mid.me.0.answers.names known.reference known looks_mid.alone).0, refl, looks_mid.sparse) split_mid once
-            (ap (λ (a : Actor). a.seen.words) step.view) (HasDone call longer mid.me.0) (HasDone call longer new.me.0)
-            (λ v sample did. subst (λ (l : List (ℤ × ℕ)). HasDone call l new.me.0 v sample) (append-nil longer)
+            (ap (λ (a : Actor). a.seen.words) step.view) (HasDealtWith call longer mid.me.0) (HasDealtWith call longer new.me.0)
+            (λ v sample did. subst (λ (l : List (ℤ × ℕ)). HasDealtWith call l new.me.0 v sample) (append-nil longer)
             (done_still call segment known mid new [] value.goes on_step longer v sample did))
             (HasUnitsOf call mid.me.0) (HasUnitsOf call new.me.0) (units_still call segment known mid new [] value.goes on_step) listed one lists_mid value.lists;
       }

@@ -22,7 +22,7 @@ use Rattle.segment_promises.proofs.ValueWalks.{comes_first, stands_there}
 use Rattle.live_segment.specs.declared.recorder.KnownHistogram.{KnownHistogram}
 use Rattle.live_segment.specs.declared.segment.Segment.{Segment}
 use Rattle.live_segment.specs.Known.{KnowsRight, known_view}
-use Rattle.live_segment.specs.List.IndexedValues.{AreOwn, HasGone, ListsIndexed, ListsThrough}
+use Rattle.live_segment.specs.List.IndexedValues.{AreOwn, HasListedValues, ListsIndexed, ListsThrough}
 use Rattle.live_segment.specs.List.Values.{Goes, ListsAlong, ListsOn, SampleCall}
 use Rattle.live_segment.specs.List.Values.SampleCall.{OfDelta, OfSnapshot}
 use Rattle.live_segment.specs.Ready.{IsReadyFor, LooksAtValues}
@@ -93,7 +93,7 @@ Anew a b = b ≡ record (looking a) { hand = record a.hand { place = b.hand.plac
 pub record HasBegun (call : SampleCall) (segment : Segment) (histogram : KnownHistogram) (first one : Pass) : Type 0 where
   pub same : IsSame first one
   pub goes : Goes call segment (known_view histogram) one
-  pub gone : HasGone call (known_view histogram) [] first.me.0 one.me.0
+  pub gone : HasListedValues call (known_view histogram) [] first.me.0 one.me.0
   pub right : KnowsRight segment.setting one.me.0 histogram
 
 module _ {segment : Segment} {histogram : KnownHistogram} {first one : Pass} (ready : IsReadyFor segment histogram first) (sparse : histogram.spec ≡ spec.Sparse)
@@ -212,8 +212,8 @@ module _ {segment : Segment} {histogram : KnownHistogram} {first one : Pass} (re
 
 -- ---- it has gone through all
 
-gone_on : (call : SampleCall) (known : Known) (first one two : Actor) (listed : List (ℤ × ℕ)) → is_bound two.hand.place ≡ false → HasGone call known [] first one
-    → ListsOn call listed one two → HasGone call known listed first two
+gone_on : (call : SampleCall) (known : Known) (first one two : Actor) (listed : List (ℤ × ℕ)) → is_bound two.hand.place ≡ false → HasListedValues call known [] first one
+    → ListsOn call listed one two → HasListedValues call known listed first two
 gone_on OfDelta k first one two listed free gone on = takes_some k first one two listed gone on
 gone_on OfSnapshot k first one two listed free gone on = record {
   same = on.view ∙ ap (λ (x : Actor). record x { hand = record x.hand { place = two.hand.place }; seen = two.seen }) gone.same;

@@ -11,7 +11,7 @@ use native.Mathlib.Decide.{ℕ_discrete}
 use lib.ListN.{get_elem?}
 use Rattle.segment_machine.specs.declared.actor.Actor.{Actor}
 use Rattle.segment_machine.specs.declared.actor.Own.{Own}
-use Rattle.segment_machine.specs.Actor.{is_bound, is_opener, AreApart}
+use Rattle.segment_machine.specs.Actor.{is_bound, is_opener, AreOwnBlocksApart}
 use Rattle.segment_machine.specs.Allocating.{store_payload, stored}
 use Rattle.segment_machine.specs.Calls.{change_last, change_own}
 use Rattle.segment_machine.specs.Event.{allocating_event}
@@ -140,7 +140,7 @@ module _ (at n : ℕ) (first : Actor) (block : HasBlock at n first) where
 
     -- one that is not 0 is stored
     pub stores : (new : Pass) → Stepped old (allocating_event (store_payload at index (slice_index payload index))) (slice_index payload index) new
-        → AreApart old.me.0 → IsFilledTo at payload first new.me.0 (index + 1)
+        → AreOwnBlocksApart old.me.0 → IsFilledTo at payload first new.me.0 (index + 1)
     stores new step apart = record {
       stored = more;
       view = step.view ∙ (λ i. let a = was.view i in record a { hand = record a.hand { own = own_then i } });

@@ -12,7 +12,7 @@ use Rattle.live_segment.specs.declared.list.index.RecordIndex.{RecordIndex}
 use Rattle.live_segment.specs.Alloc.Claims.{KeepsBlocks}
 use Rattle.live_segment.specs.List.SharedCursors.{AnswersNext}
 use Rattle.live_segment.specs.List.Index.{IsIndexed}
-use Rattle.live_segment.specs.Hist.NewRecord.{HasMade, Makes}
+use Rattle.live_segment.specs.Hist.NewRecord.{HasMade, MakesRecord}
 use Rattle.live_segment.specs.List.Records.{HasWalked}
 use Rattle.live_segment.specs.Hist.Search.{HasSearched}
 use Rattle.live_segment.proofs.lemmas.List.Indexed.{indexed_still}
@@ -40,7 +40,7 @@ module _ {of_kind : KeyKind} (size : ℕ) (index : RecordIndex) where
       (grows_same a.seen.chain b.seen.chain (ap (λ (x : Actor). x.seen.chain) made.view)) indexed)
 
   -- or none could be
-  pub refused_on : (asked : Asked) (cause : Refusal) (a b : Actor) → a.entries.running ≡ [] → Makes asked a (Err cause) b → IsIndexed of_kind size a.seen index
+  pub refused_on : (asked : Asked) (cause : Refusal) (a b : Actor) → a.entries.running ≡ [] → MakesRecord asked a (Err cause) b → IsIndexed of_kind size a.seen index
       → IsIndexed of_kind size b.seen index
   refused_on asked cause a b rests allocates indexed =
       let (looks, room, chain, words, owed, not_other) = refused_around (4 + length asked.payload.items) a b cause rests allocates in

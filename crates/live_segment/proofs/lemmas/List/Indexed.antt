@@ -27,7 +27,7 @@ use Rattle.live_segment.specs.declared.segment.Segment.{Segment}
 use Rattle.live_segment.specs.Hist.ListSearch.{SeesWords}
 use Rattle.live_segment.specs.Hist.Search.{HasSearched}
 use Rattle.live_segment.specs.List.Index.{Enters, IsIndexed, passed}
-use Rattle.live_segment.specs.List.Keys.{HasLooked, seen_key}
+use Rattle.live_segment.specs.List.Keys.{HasLookedForKey, seen_key}
 use Rattle.live_segment.specs.List.Walk.{HasCome, IsWalkProgress}
 use Rattle.live_segment.specs.Seated.{IsSeated}
 use Rattle.live_segment.specs.Steps.{Pass, Stepped}
@@ -43,14 +43,14 @@ module _ (of_kind : KeyKind) where
   -- ---- more was seen
 
   module _ (a b : Seen) (grows : Grows a.words b.words) where
-    keys_still : (list : List ℕ) → All (HasLooked of_kind a) list → map (keyed b) list ≡ map (keyed a) list
+    keys_still : (list : List ℕ) → All (HasLookedForKey of_kind a) list → map (keyed b) list ≡ map (keyed a) list
     keys_still [] looked = refl
     keys_still (x ∷ xs) looked =
-        let first = key_still a b grows of_kind x (All-head (HasLooked of_kind a) x xs looked) in
-        let rest = keys_still xs (All-tail (HasLooked of_kind a) x xs looked) in
+        let first = key_still a b grows of_kind x (All-head (HasLookedForKey of_kind a) x xs looked) in
+        let rest = keys_still xs (All-tail (HasLookedForKey of_kind a) x xs looked) in
         λ i. (x, first i) ∷ rest i
 
-    all_looked : (list : List ℕ) → All (HasLooked of_kind a) list → All (HasLooked of_kind b) list
+    all_looked : (list : List ℕ) → All (HasLookedForKey of_kind a) list → All (HasLookedForKey of_kind b) list
     all_looked list looked k d low = looked_still a b grows of_kind (get_or list k d) (looked k d low)
 
     module _ (size : ℕ) (index : RecordIndex) (chain : Grows a.chain b.chain) (indexed : IsIndexed of_kind size a index) where
@@ -65,7 +65,7 @@ module _ (of_kind : KeyKind) where
       indexed_still = record {
         of_kind = indexed.of_kind;
         come = come_still size a.chain b.chain index.place chain indexed.come;
-        looked = subst (All (HasLooked of_kind b)) (sym front_still) (all_looked given indexed.looked);
+        looked = subst (All (HasLookedForKey of_kind b)) (sym front_still) (all_looked given indexed.looked);
         grouping = indexed.grouping;
         holds = subst (λ (met : List Met). Holds met index.firsts)
             (sym (ap (map (keyed b)) front_still ∙ keys_still given indexed.looked)) indexed.holds;
@@ -76,7 +76,7 @@ module _ (of_kind : KeyKind) where
       indexed_as at key new (place, same_kind, same_groups, holds) = record {
         of_kind = same_kind ∙ indexed.of_kind;
         come = subst (HasCome size b.chain) (sym place) indexed_still.come;
-        looked = subst (λ (p : WalkPlace). All (HasLooked of_kind b) (take p.given b.chain)) (sym place) indexed_still.looked;
+        looked = subst (λ (p : WalkPlace). All (HasLookedForKey of_kind b) (take p.given b.chain)) (sym place) indexed_still.looked;
         grouping = λ is. same_groups ∙ indexed.grouping is;
         holds = subst (λ (p : WalkPlace). Holds (passed of_kind b p.given) new.firsts) (sym place)
             (holds (passed of_kind b index.place.given) indexed_still.holds);
@@ -84,7 +84,7 @@ module _ (of_kind : KeyKind) where
 
       -- one record more
       pub indexed_more : (at : ℕ) (key : Option ℕ) (new : RecordIndex) (rest : List ℕ) → b.chain ≡ (given ++ at ∷ []) ++ rest → 16 ≤ at → at + 5 ≤ size
-          → HasLooked of_kind b at → seen_key of_kind b at ≡ key → Enters at key index true new → IsIndexed of_kind size b new
+          → HasLookedForKey of_kind b at → seen_key of_kind b at ≡ key → Enters at key index true new → IsIndexed of_kind size b new
       indexed_more at key new rest front from to looked key_is (place, same_kind, same_groups, holds) =
           let long : length given ≡ index.place.given = length-take-le index.place.given a.chain indexed.come.few in
           let one = length_push given at in
@@ -107,8 +107,8 @@ module _ (of_kind : KeyKind) where
           } in record {
             of_kind = same_kind ∙ indexed.of_kind;
             come = subst (HasCome size b.chain) (sym place) come;
-            looked = subst (λ (p : WalkPlace). All (HasLooked of_kind b) (take p.given b.chain)) (sym place)
-                (subst (All (HasLooked of_kind b)) (sym taken) (All-push (HasLooked of_kind b) given at (all_looked given indexed.looked) looked));
+            looked = subst (λ (p : WalkPlace). All (HasLookedForKey of_kind b) (take p.given b.chain)) (sym place)
+                (subst (All (HasLookedForKey of_kind b)) (sym taken) (All-push (HasLookedForKey of_kind b) given at (all_looked given indexed.looked) looked));
             grouping = λ is. same_groups ∙ indexed.grouping is;
             holds = subst (λ (p : WalkPlace). Holds (passed of_kind b p.given) new.firsts) (sym place)
                 (subst (λ (l : List Met). Holds l new.firsts) (sym met) (holds (passed of_kind a index.place.given) indexed.holds));
@@ -119,14 +119,14 @@ module _ (of_kind : KeyKind) where
   -- Of a property that all records have which have another key: none that it has passed has the key, or the first that has it stands behind
   -- others.
   module _ (seen : Seen) (key : ℕ) (IsOther : ℕ → Type 0)
-      (other : (at : ℕ) → HasLooked of_kind seen at → seen_key of_kind seen at ≢ Some key → IsOther at) where
-    others_by_key : (list : List ℕ) → All (HasLooked of_kind seen) list → All (λ (m : Met). m.1 ≢ Some key) (map (keyed seen) list) → All IsOther list
+      (other : (at : ℕ) → HasLookedForKey of_kind seen at → seen_key of_kind seen at ≢ Some key → IsOther at) where
+    others_by_key : (list : List ℕ) → All (HasLookedForKey of_kind seen) list → All (λ (m : Met). m.1 ≢ Some key) (map (keyed seen) list) → All IsOther list
     others_by_key [] looked apart = All-nil IsOther
     others_by_key (x ∷ xs) looked apart =
         All-cons IsOther x xs
-        (other x (All-head (HasLooked of_kind seen) x xs looked)
+        (other x (All-head (HasLookedForKey of_kind seen) x xs looked)
         (All-head (λ (m : Met). m.1 ≢ Some key) (x, seen_key of_kind seen x) (map (keyed seen) xs) apart))
-        (others_by_key xs (All-tail (HasLooked of_kind seen) x xs looked)
+        (others_by_key xs (All-tail (HasLookedForKey of_kind seen) x xs looked)
         (All-tail (λ (m : Met). m.1 ≢ Some key) (x, seen_key of_kind seen x) (map (keyed seen) xs) apart))
 
     module _ (size : ℕ) (index : RecordIndex) (indexed : IsIndexed of_kind size seen index) where
@@ -141,7 +141,7 @@ module _ (of_kind : KeyKind) where
           others_by_key front indexed.looked (none_met (passed of_kind seen index.place.given) key (sym (indexed.holds.first key) ∙ none))
 
       pub first_met_here : (at : ℕ) → first_of index.firsts key ≡ Some at
-          → (before after : List ℕ) × (seen.chain ≡ before ++ at ∷ after) × All IsOther before × (at + 5 ≤ size) × HasLooked of_kind seen at
+          → (before after : List ℕ) × (seen.chain ≡ before ++ at ∷ after) × All IsOther before × (at + 5 ≤ size) × HasLookedForKey of_kind seen at
       first_met_here at one =
           let (keys_before, keys_after, is_met, apart) = one_met (passed of_kind seen index.place.given) key at (sym (indexed.holds.first key) ∙ one) in
           let (before, after, x, is_list, is_before, is_one) =
@@ -154,17 +154,17 @@ module _ (of_kind : KeyKind) where
             after ++ behind,
             sym (take-append-drop index.place.given seen.chain)
                 ∙ (ap (λ (l : List ℕ). l ++ behind) there ∙ append_assoc before (at ∷ after) behind),
-            others_by_key before (all_before before (at ∷ after) (subst (All (HasLooked of_kind seen)) there indexed.looked))
+            others_by_key before (all_before before (at ∷ after) (subst (All (HasLookedForKey of_kind seen)) there indexed.looked))
                 (subst (All (λ (m : Met). m.1 ≢ Some key)) (sym is_before) apart),
             (All-contains (λ r. (16 ≤ r) × (r + 5 ≤ size)) front at indexed.come.within met).1,
-            All-contains (HasLooked of_kind seen) front at indexed.looked met,
+            All-contains (HasLookedForKey of_kind seen) front at indexed.looked met,
           )
         where
-          all_before : (xs ys : List ℕ) → All (HasLooked of_kind seen) (xs ++ ys) → All (HasLooked of_kind seen) xs
-          all_before [] ys all = All-nil (HasLooked of_kind seen)
+          all_before : (xs ys : List ℕ) → All (HasLookedForKey of_kind seen) (xs ++ ys) → All (HasLookedForKey of_kind seen) xs
+          all_before [] ys all = All-nil (HasLookedForKey of_kind seen)
           all_before (x ∷ xs) ys all =
-              All-cons (HasLooked of_kind seen) x xs (All-head (HasLooked of_kind seen) x (xs ++ ys) all)
-              (all_before xs ys (All-tail (HasLooked of_kind seen) x (xs ++ ys) all))
+              All-cons (HasLookedForKey of_kind seen) x xs (All-head (HasLookedForKey of_kind seen) x (xs ++ ys) all)
+              (all_before xs ys (All-tail (HasLookedForKey of_kind seen) x (xs ++ ys) all))
 
   -- ---- the walk of the index
 
@@ -218,7 +218,7 @@ module _ (of_kind : KeyKind) where
           let few = load.learned.few in
           let chain = ap (λ (a : Actor). length a.seen.chain) load.view in omega (arith, size, few, chain)
 
-      module _ (miss : found ≢ 12) (b : Actor) (sees : SeesWords next.me.0 b) (looked : HasLooked of_kind b.seen found) (key : Option ℕ)
+      module _ (miss : found ≢ 12) (b : Actor) (sees : SeesWords next.me.0 b) (looked : HasLookedForKey of_kind b.seen found) (key : Option ℕ)
           (key_is : seen_key of_kind b.seen found ≡ key) (new : RecordIndex) where
         both : HasSearched old.me.0 b
         both = searched_on old.me.0 next.me.0 b (searched seated way found next load) (sees_searched next.me.0 b sees)

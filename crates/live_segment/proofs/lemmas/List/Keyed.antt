@@ -18,7 +18,7 @@ use Rattle.list_index.specs.Keys.{key_of, next_key}
 use Rattle.list_index.proofs.KeyOrder.{key_more}
 use Rattle.live_segment.specs.declared.list.index.KeyKind.{KeyKind}
 use Rattle.live_segment.specs.declared.list.index.KeyKind.TheVariants as kind
-use Rattle.live_segment.specs.List.Keys.{HasLooked, HasLookedForName, HasLookedForSample, HasSeen, sample_key, seen_key, seen_letters, seen_name, seen_sample, seen_word, seen_words}
+use Rattle.live_segment.specs.List.Keys.{HasLookedForKey, HasLookedForName, HasLookedForSample, HasSeen, sample_key, seen_key, seen_letters, seen_name, seen_sample, seen_word, seen_words}
 use Rattle.live_segment.specs.Steps.{Pass, Stepped}
 use Rattle.live_segment.proofs.lemmas.List.Showing.{sees_one, seen_one}
 
@@ -143,11 +143,11 @@ module _ (a b : Seen) (grows : Grows a.words b.words) where
       (λ apart. sample_none b at (λ is. apart (sym (word_still (at + 2) looked.tag) ∙ is)) ∙ sym (sample_none a at apart))
 
   -- or for its key
-  pub looked_still : (of_kind : KeyKind) (at : ℕ) → HasLooked of_kind a at → HasLooked of_kind b at
+  pub looked_still : (of_kind : KeyKind) (at : ℕ) → HasLookedForKey of_kind a at → HasLookedForKey of_kind b at
   looked_still kind.Name at looked = name_looked at looked
   looked_still kind.Sample at looked = sample_looked at looked
 
-  pub key_still : (of_kind : KeyKind) (at : ℕ) → HasLooked of_kind a at → seen_key of_kind b at ≡ seen_key of_kind a at
+  pub key_still : (of_kind : KeyKind) (at : ℕ) → HasLookedForKey of_kind a at → seen_key of_kind b at ≡ seen_key of_kind a at
   key_still kind.Name at looked = name_same at looked
   key_still kind.Sample at looked = sample_same at looked
 

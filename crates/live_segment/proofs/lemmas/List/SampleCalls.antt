@@ -14,7 +14,7 @@ use Rattle.segment_promises.specs.Values.{ListsOf, listed_of}
 use Rattle.segment_promises.proofs.Growing.{grows_not}
 use Rattle.segment_promises.proofs.Calls.Sights.{began_still, saw_count, sees_more, took_sample}
 use Rattle.live_segment.specs.declared.segment.Segment.{Segment}
-use Rattle.live_segment.specs.List.Values.{Goes, HasDone, HasUnitsOf, ListsOn, SampleCall, SeesMore, TakesValue}
+use Rattle.live_segment.specs.List.Values.{Goes, HasDealtWith, HasUnitsOf, ListsOn, SampleCall, OnlySeesMore, TakesValue}
 use Rattle.live_segment.specs.List.Values.SampleCall.{OfDelta, OfSnapshot}
 use Rattle.live_segment.specs.List.SampleRecords.{CountsSample, SeesSample}
 use Rattle.live_segment.specs.Ready.{LooksAtValues}
@@ -55,7 +55,7 @@ looks_of OfSnapshot segment known seat goes = goes
 -- ---- its recorder
 
 -- a snapshot sees more
-pub more_on : (a b c : Actor) → SeesMore a b → SeesMore b c → SeesMore a c
+pub more_on : (a b c : Actor) → OnlySeesMore a b → OnlySeesMore b c → OnlySeesMore a c
 more_on a b c one two = record {
   view = two.view ∙ ap (λ (x : Actor). record x { hand = record x.hand { place = c.hand.place }; seen = c.seen }) one.view;
   seen = sees_on a.seen b.seen c.seen one.seen two.seen;
@@ -127,10 +127,10 @@ module _ (call : SampleCall) (segment : Segment) (known : Known) (old new : Pass
   began = let looks = looks_of call segment known old goes in record { singles = looks.singles; counts = looks.counts }
 
   -- what it did it has done still
-  pub done_still : (listed : List (ℤ × ℕ)) (value : ℤ) (sample : ℕ) → HasDone call listed old.me.0 value sample → HasDone call (listed ++ more) new.me.0 value sample
+  pub done_still : (listed : List (ℤ × ℕ)) (value : ℤ) (sample : ℕ) → HasDealtWith call listed old.me.0 value sample → HasDealtWith call (listed ++ more) new.me.0 value sample
   done_still listed value sample = by call
     where
-      by : (c : SampleCall) → HasDone c listed old.me.0 value sample → HasDone c (listed ++ more) new.me.0 value sample
+      by : (c : SampleCall) → HasDealtWith c listed old.me.0 value sample → HasDealtWith c (listed ++ more) new.me.0 value sample
       by OfDelta took = took_sample old.me.0 new.me.0 sees began sample took
       by OfSnapshot (count, saw, either) = (
         count,
@@ -154,7 +154,7 @@ pub record ListsOne (call : SampleCall) (segment : Segment) (known : Known) (at 
   pub goes : Goes call segment known new
   pub on : ListsOn call (listed_of one) old.me.0 new.me.0
   pub chain : new.me.0.seen.chain ≡ old.me.0.seen.chain
-  pub lists : ListsOf (HasDone call (listed ++ listed_of one) new.me.0) (HasUnitsOf call new.me.0) known.reference at one new.me.0
+  pub lists : ListsOf (HasDealtWith call (listed ++ listed_of one) new.me.0) (HasUnitsOf call new.me.0) known.reference at one new.me.0
 
 -- a delta took it
 pub one_taken : {segment : Segment} {known : Known} {at : ℕ} (listed : List (ℤ × ℕ)) {one : Option (ℤ × ℕ)} {old new : Pass} → IsSame old new
@@ -174,7 +174,7 @@ one_looked {segment} {known} {at} listed {one} {old} {new} looks same sees count
     }
   where
     by : (o : Option (ℤ × ℕ)) → CountsSample known.reference at o new.me.0
-        → ListsOf (HasDone OfSnapshot (listed ++ listed_of o) new.me.0) (HasUnitsOf OfSnapshot new.me.0) known.reference at o new.me.0
+        → ListsOf (HasDealtWith OfSnapshot (listed ++ listed_of o) new.me.0) (HasUnitsOf OfSnapshot new.me.0) known.reference at o new.me.0
     by None (inl none) = inr none
     by None (inr (value, saw, zero)) = inl (value, saw, (0, zero, inl refl))
     by (Some (value, units)) has = (

@@ -18,7 +18,7 @@ use Rattle.segment_machine.specs.Firsts.{ComesFirst}
 use Rattle.segment_machine.specs.Made.{IsFirstSample, SawOther, SawSample}
 use Rattle.segment_machine.specs.Taking.{IsLaterSample}
 use Rattle.segment_promises.specs.Onward.{Grows}
-use Rattle.segment_promises.specs.Values.{NoKeyRepeats, Passes}
+use Rattle.segment_promises.specs.Values.{NoKeyRepeats, PassesRecord}
 use Rattle.segment_promises.proofs.FirstValues.{Shows, not_both, other_value}
 use Rattle.segment_promises.proofs.Growing.{all_push, others_still}
 use Rattle.segment_promises.proofs.ListedValues.{passes_still, sample_still}
@@ -39,7 +39,7 @@ module _ (a b : Seen) (grows : Grows a.words b.words) (chain : b.chain ≡ a.cha
   )
 
   module _ (Does Then : ℤ → ℕ → Type 0) (does : (value : ℤ) (at : ℕ) → Does value at → Then value at) where
-    passes_on : (list : List ℕ) → AllByRecursion (Passes Does a histogram) list → AllByRecursion (Passes Then b histogram) list
+    passes_on : (list : List ℕ) → AllByRecursion (PassesRecord Does a histogram) list → AllByRecursion (PassesRecord Then b histogram) list
     passes_on [] all = tt
     passes_on (r ∷ rest) (first, all) = (passes_still a b grows histogram Does Then does r first, passes_on rest all)
 
@@ -96,9 +96,9 @@ module _ (Does : ℤ → ℕ → Type 0) (Has : ℕ → ℕ → Type 0) (histogr
 
   module _ (passed : List ℕ) (listed : List (ℤ × ℕ)) (lists : ListsSamples Does Has histogram passed listed seen) (at : ℕ) where
     -- it lists nothing of it
-    pub lists_on : Passes Does seen histogram at → ListsSamples Does Has histogram (passed ++ at ∷ []) listed seen
+    pub lists_on : PassesRecord Does seen histogram at → ListsSamples Does Has histogram (passed ++ at ∷ []) listed seen
     lists_on passes = record {
-      passes = all_push (Passes Does seen histogram) passed at lists.passes passes;
+      passes = all_push (PassesRecord Does seen histogram) passed at lists.passes passes;
       firsts = λ k d low.
           let (sample, there, first, has) = lists.firsts k d low in (sample, Contains-append_left passed (at ∷ []) sample there, first, has);
       once = lists.once;

@@ -22,7 +22,7 @@ use Rattle.live_segment.specs.Holders.{MayStep}
 use Rattle.live_segment.specs.Seated.{IsSeated}
 use Rattle.segment_promises.specs.Onward.{Grows}
 use Rattle.segment_promises.proofs.Growing.{grows_on, extended_grows, extended_end, reference_within, reference_behind}
-use Rattle.live_segment.specs.List.SharedCursors.{AnswersNext, IsLate, IsGivenNext, IsAtEnd, StandsBehind, at_cursor, ended_at, given_behind}
+use Rattle.live_segment.specs.List.SharedCursors.{AnswersNext, IsLate, IsGivenNext, IsAtEnd, CursorMovesOn, at_cursor, ended_at, given_behind}
 use Rattle.live_segment.proofs.lemmas.List.Ends.{found_now}
 
 -- ---- what came before
@@ -197,7 +197,7 @@ module _ {segment : Segment} {cursor : ℕ} {first old : Pass} (turn : IsSharing
           moved = move.view ∙ ap (λ (a : Actor). after_cursor (other == at) a cursor found other) view
 
           -- the exchange took
-          pub given : other ≡ at → StandsBehind at found last.me.0 → IsGivenNext cursor first.me.0 found last.me.0
+          pub given : other ≡ at → CursorMovesOn at found last.me.0 → IsGivenNext cursor first.me.0 found last.me.0
           given took (chain, neighbours, ordered) =
               let shape : old.me.0.segment.shape ≡ first.me.0.segment.shape = ap (λ (a : Actor). a.segment.shape) turn.late.same in
               let (low, high) = reference_behind first.me.0.segment.shape.size found

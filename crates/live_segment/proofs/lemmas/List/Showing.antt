@@ -17,7 +17,7 @@ use Rattle.live_segment.specs.declared.segment.Segment.{Segment}
 use Rattle.live_segment.specs.Holders.{table_of, MayStep}
 use Rattle.segment_promises.specs.Onward.{Grows}
 use Rattle.live_segment.specs.Steps.{Pass, IsSame, Stepped}
-use Rattle.live_segment.specs.Hist.ListSearch.{Meets, SeesWords, ShowsWords}
+use Rattle.live_segment.specs.Hist.ListSearch.{MayLoadRecord, SeesWords, ShowsWords}
 use Rattle.segment_promises.proofs.Growing.{grows_on, still}
 
 -- ---- what was seen stays
@@ -66,8 +66,8 @@ sees_on a b c one two = record {
 }
 
 -- a record that was met is met still
-pub meets_still : (at : ℕ) (a b : Actor) → SeesWords a b → Meets at a → Meets at b
-meets_still at a b sees met = subst (Meets at) (sym sees.view) met
+pub meets_still : (at : ℕ) (a b : Actor) → SeesWords a b → MayLoadRecord at a → MayLoadRecord at b
+meets_still at a b sees met = subst (MayLoadRecord at) (sym sees.view) met
 
 -- ---- a load
 
@@ -85,7 +85,7 @@ module _ (old new : Pass) (at index found : ℕ) (step : Stepped old (walking_ev
   seen_one = ap (λ (l : List Sighting). word_seen l (at + index)) words_are ∙ seen_now old.me.0.seen.words (at + index) found step.learned.1
 
 module _ (segment : Segment) (first old : Pass) (at : ℕ) (table : first.table_id ≡ table_of segment) (records : is_opener first.me.0.role ≡ false)
-    (met : Meets at first.me.0) (same : IsSame first old) (sees : SeesWords first.me.0 old.me.0) where
+    (met : MayLoadRecord at first.me.0) (same : IsSame first old) (sees : SeesWords first.me.0 old.me.0) where
   -- a word may be loaded that never changes
   pub may_load_fixed : (index : ℕ) → IsFixed old.me.0 at index → MayStep segment old (walking_event (load_published at index))
   may_load_fixed index fixed = record {

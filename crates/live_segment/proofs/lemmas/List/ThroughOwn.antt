@@ -11,7 +11,7 @@ use Rattle.live_segment.specs.declared.recorder.KnownHistogram.{KnownHistogram}
 use Rattle.live_segment.specs.declared.segment.Segment.{Segment}
 use Rattle.live_segment.specs.Known.{KnowsRight, known_view}
 use Rattle.live_segment.specs.List.IndexedValues.{AreOwn, HasPassedAll, ListsIndexed, ListsSamples}
-use Rattle.live_segment.specs.List.Values.{Goes, HasDone, HasUnitsOf, ListsOn, SampleCall}
+use Rattle.live_segment.specs.List.Values.{Goes, HasDealtWith, HasUnitsOf, ListsOn, SampleCall}
 use Rattle.live_segment.specs.Ready.{LooksAtValues}
 use Rattle.live_segment.specs.Steps.{Pass}
 use Rattle.live_segment.proofs.lemmas.Add.Beginning.{known_there}
@@ -27,7 +27,7 @@ begins call segment known first goes = record {
   goes = goes;
   on = on_not call first.me.0;
   chain = refl;
-  lists = lists_nothing (HasDone call [] first.me.0) (HasUnitsOf call first.me.0) known.reference first.me.0.seen;
+  lists = lists_nothing (HasDealtWith call [] first.me.0) (HasUnitsOf call first.me.0) known.reference first.me.0.seen;
 }
 
 module _ {call : SampleCall} {segment : Segment} {histogram : KnownHistogram} {samples : List ℕ} {i : ℕ} {listed : List (ℤ × ℕ)} {first old : Pass}
@@ -64,20 +64,20 @@ module _ {call : SampleCall} {segment : Segment} {histogram : KnownHistogram} {s
     has_mid = passed_still size old.me.0.seen mid.me.0.seen own.0 value.chain (seen_on call segment known old mid (listed_of one) was.goes value.on).words has_old
 
     abbrev Lists : List (ℤ × ℕ) → List ℕ → List (ℤ × ℕ) → Type 0
-    Lists longer passed all = ListsSamples (HasDone call longer mid.me.0) (HasUnitsOf call mid.me.0) known.reference passed all mid.me.0.seen
+    Lists longer passed all = ListsSamples (HasDealtWith call longer mid.me.0) (HasUnitsOf call mid.me.0) known.reference passed all mid.me.0.seen
 
     lists_by : (o : Option (ℤ × ℕ)) → ListsOn call (listed_of o) old.me.0 mid.me.0
-        → ListsOf (HasDone call (listed ++ listed_of o) mid.me.0) (HasUnitsOf call mid.me.0) known.reference at o mid.me.0
+        → ListsOf (HasDealtWith call (listed ++ listed_of o) mid.me.0) (HasUnitsOf call mid.me.0) known.reference at o mid.me.0
         → Lists (listed ++ listed_of o) (take i samples ++ at ∷ []) (listed ++ listed_of o)
     lists_by o on = by o (lists_still old.me.0.seen mid.me.0.seen (seen_on call segment known old mid (listed_of o) was.goes on).words value.chain known.reference
-        (HasDone call listed old.me.0) (HasDone call (listed ++ listed_of o) mid.me.0) (done_still call segment known old mid (listed_of o) was.goes on listed)
+        (HasDealtWith call listed old.me.0) (HasDealtWith call (listed ++ listed_of o) mid.me.0) (done_still call segment known old mid (listed_of o) was.goes on listed)
         (HasUnitsOf call old.me.0) (HasUnitsOf call mid.me.0) (units_still call segment known old mid (listed_of o) was.goes on) (take i samples) listed was.lists)
       where
         by : (o : Option (ℤ × ℕ)) → Lists (listed ++ listed_of o) (take i samples) listed
-            → ListsOf (HasDone call (listed ++ listed_of o) mid.me.0) (HasUnitsOf call mid.me.0) known.reference at o mid.me.0
+            → ListsOf (HasDealtWith call (listed ++ listed_of o) mid.me.0) (HasUnitsOf call mid.me.0) known.reference at o mid.me.0
             → Lists (listed ++ listed_of o) (take i samples ++ at ∷ []) (listed ++ listed_of o)
         by None lists passes = subst (Lists (listed ++ []) (take i samples ++ at ∷ [])) (sym (append-nil listed))
-            (lists_on (HasDone call (listed ++ []) mid.me.0) (HasUnitsOf call mid.me.0) known.reference mid.me.0.seen (take i samples) listed lists at passes)
+            (lists_on (HasDealtWith call (listed ++ []) mid.me.0) (HasUnitsOf call mid.me.0) known.reference mid.me.0.seen (take i samples) listed lists at passes)
         by (Some (v, units)) lists (saw, did, has, no_later) =
             let (front, behind, split) = stands_there first.me.0.seen.chain known.reference right.met in
             let there = stand known.reference at v front behind met
@@ -86,7 +86,7 @@ module _ {call : SampleCall} {segment : Segment} {histogram : KnownHistogram} {s
             lists_first known mid.me.0 (all_looked_for size mid.me.0.seen own.0 has_mid)
             ((known_there mid.me.0.answers.names known.reference known looks_mid.alone).0, refl, looks_mid.sparse) front behind
             (value.chain ∙ (was.chain ∙ split)) v at (subst (λ (l : List ℕ). Contains l at) (sym value.chain) met) there saw no_later
-            (HasDone call (listed ++ (v, units) ∷ []) mid.me.0) (HasUnitsOf call mid.me.0) (take i samples) listed lists
+            (HasDealtWith call (listed ++ (v, units) ∷ []) mid.me.0) (HasUnitsOf call mid.me.0) (take i samples) listed lists
             (new_own size first.me.0.seen histogram.reference samples own (subst NoRepeats was.chain once) i below) units did has
 
     pub lists_one : ListsIndexed call segment known (take (i + 1) samples) (listed ++ listed_of one) first mid

@@ -23,7 +23,7 @@ use Rattle.live_segment.specs.Seated.{IsSeated}
 use Rattle.segment_promises.specs.Onward.{Grows, is_holding}
 use Rattle.segment_promises.specs.Values.{NoRepeats}
 use Rattle.live_segment.specs.List.Ends.{FoundNone, SawAllOfList}
-use Rattle.live_segment.specs.Hist.ListSearch.{Meets, SeesWords}
+use Rattle.live_segment.specs.Hist.ListSearch.{MayLoadRecord, SeesWords}
 use Rattle.live_segment.specs.Hist.Search.{HasSearched}
 use Rattle.live_segment.specs.List.Walk.{IsWalkProgress}
 use Rattle.segment_promises.proofs.Growing.{ended_grows, extended_end, extended_grows, reference_behind}
@@ -115,7 +115,7 @@ module _ {segment : Segment} {old : Pass} {given : List ℕ} {at : ℕ} (seated 
       longer : Walks new.me.0 (given ++ found ∷ [])
       longer = subst (Walks new.me.0) gave_one walks_on
 
-      pub meets : Meets found new.me.0
+      pub meets : MayLoadRecord found new.me.0
       meets =
           let (rest, front) = longer.1 in (
             longer.0,

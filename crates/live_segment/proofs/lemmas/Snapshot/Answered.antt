@@ -12,7 +12,7 @@ use Rattle.live_segment.specs.declared.rule.Announcement.TheVariants.{Answer}
 use Rattle.live_segment.specs.declared.rule.Opening.{Opening}
 use Rattle.live_segment.specs.Rule.{Runs}
 use Rattle.live_segment.specs.Steps.{Sat}
-use Rattle.live_segment.specs.Steps.Taking.{Answers, answered_as}
+use Rattle.live_segment.specs.Steps.Taking.{NotesAnswer, answered_as}
 use Rattle.live_segment.specs.Steps.GhostNotes.{KnowsAlone}
 use Rattle.live_segment.proofs.Seating.Openings.{announces}
 use Rattle.live_segment.proofs.Seating.Seated.{nothing_exchanged}
@@ -37,7 +37,7 @@ one_answer one other x y same =
 module _ (given : Opening) (slots id : ℕ) (me : Sat) (records : is_opener me.0.role ≡ false) where
   pub answers_said : (said : Announcement) (known : Known) (snapshot : Snapshot) → said ≡ Answer known.reference snapshot → KnowsAlone me.0 known
       → MayNote me.0 (answers (answered_as me.0 known snapshot))
-      → Allows (Runs given) slots id me 0 (λ n. either (n == 0) 0 n) (Answers (step slots 0 0 0 (some said)) me)
+      → Allows (Runs given) slots id me 0 (λ n. either (n == 0) 0 n) (NotesAnswer (step slots 0 0 0 (some said)) me)
   answers_said said known snapshot says alone may s run wide mine small =
       let note : Known → Snapshot → Note = λ k x. answers (answered_as me.0 k x) in
       let (view, act, valid, holds, told) =

@@ -21,7 +21,7 @@ use Rattle.live_segment.specs.declared.rule.Setting.{Setting}
 use Rattle.live_segment.specs.declared.segment.Segment.{Segment}
 use Rattle.live_segment.specs.Holders.{table_of, MayStep}
 use Rattle.segment_promises.specs.Onward.{SeesOn}
-use Rattle.live_segment.specs.Snapshot.Outcome.{HasLooked, HasSeenAll, HasSeenBuckets, HasSnapshot, saw_sum}
+use Rattle.live_segment.specs.Snapshot.Outcome.{HasLooked, HasLookedAtAll, HasSeenBuckets, HasSnapshot, saw_sum}
 use Rattle.live_segment.specs.Steps.{Pass, IsAtRest}
 use Rattle.live_segment.specs.Steps.Taking.{answered_as}
 use Rattle.live_segment.specs.Steps.GhostNotes.{KnowsAlone}
@@ -145,7 +145,7 @@ module _ (known : Known) (a b : Actor) (snapshot : Snapshot) (has : has_buckets 
 pub has_seen_buckets : {setting : Setting} {histogram : KnownHistogram} {a b : Actor} {totals counts : List (ℤ × ℕ)} → KnowsRight setting a histogram
     → has_buckets histogram.spec ≡ true → totals ≡ blank_totals histogram.ranges
     → map (λ (total : ℤ × ℕ). total.0) counts ≡ map (λ (total : ℤ × ℕ). total.0) totals → HasSeenBuckets (known_view histogram) a counts b
-    → HasSeenAll (known_view histogram) a counts b
+    → HasLookedAtAll (known_view histogram) a counts b
 has_seen_buckets {setting} {histogram} {a} {b} {totals} {counts} right has blank keys seen = record {
   looked = seen.looked;
   saw = λ behind once snapshot is.

@@ -22,7 +22,7 @@ use Rattle.live_segment.specs.Delta.Outcome.{AreUnits}
 use Rattle.live_segment.specs.List.IndexedValues.{HasListedAll, ListsThrough}
 use Rattle.live_segment.specs.List.Values.{HasListed}
 use Rattle.live_segment.specs.List.Values.SampleCall.{OfSnapshot}
-use Rattle.live_segment.specs.Snapshot.Outcome.{HasLooked, HasSeenAll}
+use Rattle.live_segment.specs.Snapshot.Outcome.{HasLooked, HasLookedAtAll}
 use Rattle.live_segment.specs.Steps.{Pass}
 use Rattle.live_segment.proofs.lemmas.Snapshot.Answering.{answered, began, redundant_last, saw_still, summed}
 
@@ -69,7 +69,7 @@ module _ (known : Known) (a b : Actor) (looked : HasLooked a b) (snapshot : Snap
 
 module _ {segment : Segment} {known : Known} {listed counts : List (ℤ × ℕ)} {first two : Pass} (through : ListsThrough OfSnapshot segment known listed first two)
     (sorted : AreSorted listed counts) where
-  pub has_seen_samples : HasSeenAll known first.me.0 counts two.me.0
+  pub has_seen_samples : HasLookedAtAll known first.me.0 counts two.me.0
   has_seen_samples = record {
     looked = through.gone;
     saw = λ behind once snapshot is.

@@ -24,7 +24,7 @@ use Rattle.segment_promises.proofs.Readings.Lists.{is_chain}
 use Rattle.live_segment.specs.declared.rule.Opening.{Opening}
 use Rattle.live_segment.specs.Rule.{Runs}
 use Rattle.live_segment.specs.Steps.{Sat}
-use Rattle.live_segment.specs.List.SharedCursors.{LoadsCursor, MovesCursor, StandsBehind, GaveInOrder}
+use Rattle.live_segment.specs.List.SharedCursors.{LoadsCursor, MovesCursor, CursorMovesOn, GaveInOrder}
 use Rattle.live_segment.proofs.lemmas.Steps.Allowed.{does_at}
 
 -- ---- its steps
@@ -80,7 +80,7 @@ module _ (shape : Dimensions) (opened others : Anatomy) (before after : State) (
     rises = then.cursors.ordered id b now records;
   }
 
-  stands_behind : (cursor old new : ℕ) → a.hand.place ≡ BehindCursor cursor old new → StandsBehind old new b
+  stands_behind : (cursor old new : ℕ) → a.hand.place ≡ BehindCursor cursor old new → CursorMovesOn old new b
   stands_behind cursor old new placed = (
     order_of kept.anatomy,
     (subst (StandsRight shape kept.anatomy id a) placed (kept.standing id a mine)).0,

@@ -18,7 +18,7 @@ use Rattle.segment_promises.specs.Follows.{MayNoteAll, noted_by, GhostNoted}
 use Rattle.live_segment.specs.declared.rule.Opening.{Opening}
 use Rattle.live_segment.specs.Rule.{Runs}
 use Rattle.live_segment.specs.Steps.{Sat, Does}
-use Rattle.live_segment.specs.Steps.GhostNotes.{TellsOf, InWord, InCounts, InSample, InSum, KnowsAlone, IsPacked, IsAddedTo, IsSampled, IsSummed, AddsMoved}
+use Rattle.live_segment.specs.Steps.GhostNotes.{TellsOf, InWord, InCounts, InSample, InSum, KnowsAlone, IsPacked, IsAddedTo, IsAddedToSample, IsAddedToSum, AddsMoved}
 use Rattle.live_segment.proofs.Seating.Openings.{follows}
 use Rattle.live_segment.proofs.lemmas.Steps.Allowed.{does}
 
@@ -70,7 +70,7 @@ one_added a word units x y here there ((one, stands, counts, of), knows, _, many
     (λ i. record { known = same i; counts = at i; bucket = bucket i; units = (many ∙ sym few) i })
 
 pub one_sampled : (a : Actor) (word units : ℕ) (x y : InSample) → word ≡ x.sample + 6 + 1 → word ≡ y.sample + 6 + 1
-    → IsSampled a x.sample units x → IsSampled a y.sample units y → x ≡ y
+    → IsAddedToSample a x.sample units x → IsAddedToSample a y.sample units y → x ≡ y
 one_sampled a word units x y here there (_, knows, (_, of, value, fits), many) (_, known, (_, from, word_is, small), few) =
     let sample : x.sample ≡ y.sample = omega arith in
     let histograms : Some x.known.reference ≡ Some y.known.reference = sym of ∙ (ap (λ (n : ℕ). word_seen a.seen.words (n + 4)) sample ∙ from) in
@@ -82,7 +82,7 @@ one_sampled a word units x y here there (_, knows, (_, of, value, fits), many) (
     (λ i. record { known = same i; sample = sample i; value = values i; units = (many ∙ sym few) i })
 
 pub one_summed : (a : Actor) (word number : ℕ) (x y : InSum) → word ≡ x.known.reference + 11 + 1 → word ≡ y.known.reference + 11 + 1
-    → IsSummed a x.known.reference number x → IsSummed a y.known.reference number y → x ≡ y
+    → IsAddedToSum a x.known.reference number x → IsAddedToSum a y.known.reference number y → x ≡ y
 one_summed a word number x y here there (_, knows, is, fits) (_, known, same, small) =
     let one : x.known ≡ y.known = one_known a x.known y.known (omega arith) knows known in
     let amount : x.amount ≡ y.amount = sym (to_z-of_z w64 x.amount fits) ∙ (ap (cast_signed w64) (is ∙ sym same) ∙ to_z-of_z w64 y.amount small) in

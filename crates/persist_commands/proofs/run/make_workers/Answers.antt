@@ -9,7 +9,7 @@ use Rattle.live_segment.specs.Holders.{table_of, view_of_opener, view_of_recorde
 use Rattle.live_segment.specs.Steps.{recorder_checks}
 use Rattle.live_segment.proofs.Seating.Callers.{made_still}
 use Rattle.persist_commands.specs.declared.worker.Worker.{Worker}
-use Rattle.persist_commands.specs.Recording.{IsReady}
+use Rattle.persist_commands.specs.Recording.{IsWorkerReady}
 use Rattle.persist_commands.proofs.Meetings.{each_pushed, fresh_newcomer, hands_more, not_refused}
 use Rattle.persist_commands.proofs.run.make_workers.Goals as goal
 
@@ -19,7 +19,7 @@ loop-number-preserved g c =
     let mine = c.in-Ok.ensures.mine in
     let theirs : (c.in-Ok.recorder.segment ≡ c.args.segment) × (view_of_recorder c.in-Ok.recorder ≡ newcomer (offering (view_of_opener c.loop-number.opener) c.units_of.result)) × (given_fresh c.in-Ok.recorder.state ≡ 0) =
     not_refused (first_fault (recorder_checks (view_of_opener c.loop-number.opener) c.units_of.result)) c.in-Ok.recorder c.in-Ok.ensures.theirs in
-    let P : ℕ → Worker g.row.G.Denot → Type 0 = λ k w. IsReady (table_of c.args.segment.now) (view_of_opener c.args.opener.now) c.args.script.now c.args.workers k w.part w.script.now w.recorder in
+    let P : ℕ → Worker g.row.G.Denot → Type 0 = λ k w. IsWorkerReady (table_of c.args.segment.now) (view_of_opener c.args.opener.now) c.args.script.now c.args.workers k w.part w.script.now w.recorder in
     let old : List (Worker g.row.G.Denot) = c.loop-number.all.items in
     let x : Worker g.row.G.Denot = record {
       alloc = c.args.alloc;

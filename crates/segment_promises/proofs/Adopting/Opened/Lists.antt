@@ -35,7 +35,7 @@ stands_as pieces at (held block) has listable = absurd listable
 stands_as pieces at (counts c) has listable = absurd listable
 
 -- a body that is on a list where it was given to a maker
-listed_as : (records : List Listed) (at : ℕ) (b : Body) → Contains records (record { reference = at; made = made_by b }) → invariant.IsListed records at b
+listed_as : (records : List Listed) (at : ℕ) (b : Body) → Contains records (record { reference = at; made = made_by b }) → invariant.IsOnList records at b
 listed_as records at (histogram r) there = there
 listed_as records at (sample s) there = there
 listed_as records at (other size tag next payload) there = λ tagged. there
@@ -50,7 +50,7 @@ IsUnlisted (counts c) = Unit {0}
 IsUnlisted (other size tag next payload) = tag ≡ 2
 IsUnlisted _ = ⊥
 
-unlisted_as : (records : List Listed) (at : ℕ) (b : Body) → IsUnlisted b → invariant.IsListed records at b
+unlisted_as : (records : List Listed) (at : ℕ) (b : Body) → IsUnlisted b → invariant.IsOnList records at b
 unlisted_as records at (counts c) is = tt
 unlisted_as records at (other size tag next payload) is = λ tagged. absurd (tagged is)
 unlisted_as records at (queue next) is = absurd is
@@ -95,7 +95,7 @@ module _ (words references : List ℕ) (reading : Reading) (narrow : All (λ wor
       (stands_as its.pieces at (record_body words references at) (listed_body words references reading narrow listed reads adoptable at among) (listable at among)))
 
   -- a claimed block is on the list, or one of counts
-  alone : (at : ℕ) (b : Body) → Stands its.pieces at none b → is_claimed b ≡ true → invariant.IsListed its.records at b
+  alone : (at : ℕ) (b : Body) → Stands its.pieces at none b → is_claimed b ≡ true → invariant.IsOnList its.records at b
   alone at b has claimed =
       let (begun, unowned_there, is) = stood_block words references reading narrow listed reads adoptable at none b has claimed in
       elim (body_cases words references reading narrow listed reads adoptable at begun) [
@@ -107,7 +107,7 @@ module _ (words references : List ℕ) (reading : Reading) (narrow : All (λ wor
             (subst IsUnlisted (sym (is ∙ that)) (owned_counts words references reading narrow listed reads adoptable at owner owns).0)
       ]
 
-  alone_each : (at : ℕ) (b : Body) → Stands its.pieces at none b → invariant.IsListed its.records at b
+  alone_each : (at : ℕ) (b : Body) → Stands its.pieces at none b → invariant.IsOnList its.records at b
   alone_each at (queue next) has = tt
   alone_each at (plain words) has = tt
   alone_each at (held block) has = tt

@@ -1,7 +1,7 @@
 -- The names of an image: in its anatomy the first record of a name is the one that is read, and the opener knows it.
 use Rattle.segment_invariant.proofs.Prelude.Std.{◌≡◌, ◌≢◌, inl, inr, Bool, true, ℕ, ◌^◌, ◌<◌, List, [], map, All, Contains, refl, sym, ap, ◌∙◌, subst, Some, None, if◌then◌else◌, eq-eqb, Contains-append_left, some-injective, get_elem?, split_among, all_of, at_from, contains_map, contains_mapped}
 use Rattle.segment_invariant.proofs.Prelude.Machine.{field_at, head_of, Spec, is_of_type, name_of, spec_of, record_fault, Histogram, IsListed, Reading, reading_along, Known}
-use Rattle.segment_invariant.proofs.Prelude.Invariant.{Body, histogram, sample, Listed, Anatomy, IsHistogram, IsNamed, IsFirst, Knows}
+use Rattle.segment_invariant.proofs.Prelude.Invariant.{Body, histogram, sample, Listed, Anatomy, IsHistogram, IsRecordNamed, IsFirst, IsRightlyKnown}
 use Rattle.bucket_ranges.specs.Reading.{read_records, lawful_samples, histogram_of}
 use Rattle.segment_machine.specs.declared.actor.Made.TheVariants as made
 use Rattle.list_lemmas.specs.Firsts.{IsFirstThat}
@@ -85,8 +85,8 @@ module _ (words references : List ℕ) (reading : Reading) (narrow : All (λ wor
       let (among, one) = read_listed at there in
       let made_is : (listed_at words references at).made ≡ Some (made.Histogram name (spec_of words at)) =
       ap made_by (read_body at one (test_there read at there)) ∙ ap (λ (name : List ℕ). Some (made.Histogram name (spec_of words at))) is.4.1 in
-      subst (IsFirstThat (IsNamed name) (map (listed_at words references) front)) (λ i. record { reference = at; made = made_is i })
-      (first_image (listed_at words references) front (HasName words name) (IsNamed name)
+      subst (IsFirstThat (IsRecordNamed name) (map (listed_at words references) front)) (λ i. record { reference = at; made = made_is i })
+      (first_image (listed_at words references) front (HasName words name) (IsRecordNamed name)
       (λ xs ys x split (kind, given). let (tag, first, named, specified) = listed_given x name kind given in inl (tag, named)) at is (spec_of words at, made_is))
 
   pub read_first : (at : ℕ) → Contains read at → IsFirst its.records (name_of words at) (spec_of words at) at
@@ -128,10 +128,10 @@ module _ (words references : List ℕ) (reading : Reading) (narrow : All (λ wor
         named,
       )
 
-  pub knows : (cursors : ℕ) → All (Knows its) (opener words references reading cursors).answers.names
+  pub knows : (cursors : ℕ) → All (IsRightlyKnown its) (opener words references reading cursors).answers.names
   unfolding known_of
   knows cursors =
-      all_of (Knows its) (map known_of reading.hists) (λ known there.
+      all_of (IsRightlyKnown its) (map known_of reading.hists) (λ known there.
       let (h, among, is) = contains_mapped known_of reading.hists known there in
       let (at, here, same) = hist_read h among in
-      subst (Knows its) (ap known_of same ∙ is) (record { first_spec = spec_of words at; first = read_first at here; same = (refl, refl) }))
+      subst (IsRightlyKnown its) (ap known_of same ∙ is) (record { first_spec = spec_of words at; first = read_first at here; same = (refl, refl) }))

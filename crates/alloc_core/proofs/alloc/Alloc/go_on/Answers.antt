@@ -1,6 +1,6 @@
 -- What an allocation becomes is lawful again.
 use Rattle.std.proofs.Common.{◌≡◌, ◌∙◌, ℕ, ap, sym, subst}
-use Rattle.alloc_core.specs.declared.alloc.Stage.{Stage}
+use Rattle.alloc_core.specs.declared.alloc.AllocStage.{AllocStage}
 use Rattle.alloc_core.specs.Alloc.{Allocation, seen_after, stage_after, IsLawful}
 use Rattle.alloc_core.proofs.Lawful.{moved_lawful}
 use Rattle.alloc_core.proofs.alloc.Alloc.go_on.Goals as goal
@@ -18,5 +18,5 @@ invariant_of-self c =
     c.seen_after-seen.ensures ∙ ap (λ (a : Allocation). seen_after a c.args.found a.stage) (sym c.self.view_is) in
     let stage : c.stage_after-stage.result ≡ stage_after old c.args.found old.stage =
     c.stage_after-stage.ensures ∙ ap (λ (a : Allocation). stage_after a c.args.found a.stage) (sym c.self.view_is) in
-    subst (λ (after : ℕ × Stage). IsLawful (record old { seen = after.0; stage = after.1 }))
+    subst (λ (after : ℕ × AllocStage). IsLawful (record old { seen = after.0; stage = after.1 }))
     (λ i. (sym seen i, sym stage i)) (moved_lawful old c.args.found c.self.invariant)

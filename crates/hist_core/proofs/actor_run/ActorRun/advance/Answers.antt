@@ -1,7 +1,7 @@
 use Rattle.segment_invariant.proofs.Prelude.Std.{◌≤◌, ◌<◌, ◌+◌, take, length, ap, sym, subst, ◌∙◌, refl, arith, rules, vec_len, Some, None, vec_capacity, props, ∥∥₁_elim}
 use Rattle.hist_core.specs.declared.call.Answer.TheVariants.{Flagged}
 use Rattle.hist_core.specs.declared.call.Stepped.TheVariants.{Done}
-use Rattle.hist_core.specs.ActorRun.{HasRoom}
+use Rattle.hist_core.specs.ActorRun.{HasRoomForHist}
 use Rattle.hist_core.proofs.AddCall.Adding.{add_goes, add_answers, some_add}
 use Rattle.hist_core.proofs.BatchCall.Batched.{batch_goes, batch_answers, some_batch, pending_there, added_few}
 use Rattle.hist_core.proofs.HistCall.Asking.{some_hist, some_words, some_room, hist_goes, hist_answers}
@@ -52,7 +52,7 @@ step-said-requires c = record {
 pub after_hist-requires : goal.after_hist-requires
 after_hist-requires c = record {
   room = ∥∥₁_elim c.requires.stands (hlevel props) (λ some.
-      subst (λ running. HasRoom running (vec_len c.args.self.now.known) (vec_capacity c.args.self.now.known)) (c.in-Some-Hist.is ∙ ap Some c.in-Some-Hist.field-0-is)
+      subst (λ running. HasRoomForHist running (vec_len c.args.self.now.known) (vec_capacity c.args.self.now.known)) (c.in-Some-Hist.is ∙ ap Some c.in-Some-Hist.field-0-is)
       (some_room (length c.args.words.now) c.args.self.now some));
   asks = tt;
 }

@@ -6,7 +6,7 @@ use Rattle.hist_core.specs.declared.actor_run.Running.TheVariants.{Delta}
 use Rattle.hist_core.specs.declared.actor_run.ActorRun.{ActorRun}
 use Rattle.hist_core.specs.declared.delta_call.DeltaCallStep.{DeltaCallStep}
 use Rattle.hist_core.specs.declared.delta_call.DeltaCallStep.TheVariants.{Took, Done}
-use Rattle.hist_core.specs.ActorRun.{HasEndedDelta, HasPlace, IsDeltaAnnounced, LastBecomes, TakesOfOne}
+use Rattle.hist_core.specs.ActorRun.{HasEndedDelta, HasDraftRoom, IsDeltaAnnounced, LastBecomes, TakesOfOne}
 use Rattle.hist_core.proofs.DeltaCall.Deltas.{last_fits, last_split, placed}
 use Rattle.hist_core.proofs.actor_run.ActorRun.after_delta.Goals as goal
 
@@ -15,15 +15,15 @@ draw-requires-clause-some c =
     let (delta_call, fresh, was) = placed c.args.said c.args.self.now.running c.args.self.now.taken c.requires.place in
     let shown = c.show.ensures delta_call fresh was in
     let fits = last_fits c.args.said delta_call fresh c.args.self.now.taken c.show.new.self.taken.items
-    (subst (λ running. HasPlace c.args.said running c.args.self.now.taken) was c.requires.place) shown.1 in
+    (subst (λ running. HasDraftRoom c.args.said running c.args.self.now.taken) was c.requires.place) shown.1 in
     let some = fits.0 in let ok = c.show.new.self.taken.ok in omega (arith, some, ok)
 
 pub draw-requires-clause-room : goal.draw-requires-clause-room
 draw-requires-clause-room c =
     let (delta_call, fresh, was) = placed c.args.said c.args.self.now.running c.args.self.now.taken c.requires.place in
     let shown = c.show.ensures delta_call fresh was in
-    let said_so = subst (λ (p : DeltaCallStep × Running). HasPlace p.0 (Some p.1) c.args.self.now.taken) (λ i. (c.in-Took.is i, Delta delta_call fresh))
-    (subst (λ running. HasPlace c.args.said running c.args.self.now.taken) was c.requires.place) in
+    let said_so = subst (λ (p : DeltaCallStep × Running). HasDraftRoom p.0 (Some p.1) c.args.self.now.taken) (λ i. (c.in-Took.is i, Delta delta_call fresh))
+    (subst (λ running. HasDraftRoom c.args.said running c.args.self.now.taken) was c.requires.place) in
     (last_fits (Took c.in-Took.key c.in-Took.units) delta_call fresh c.args.self.now.taken c.show.new.self.taken.items said_so shown.1).1
 
 pub end_delta-requires-clause-takes : goal.end_delta-requires-clause-takes
@@ -37,14 +37,14 @@ end_delta-requires-clause-some c =
     let (delta_call, fresh, was) = placed c.args.said c.args.self.now.running c.args.self.now.taken c.requires.place in
     let shown = c.show.ensures delta_call fresh was in
     let fits = last_fits c.args.said delta_call fresh c.args.self.now.taken c.show.new.self.taken.items
-    (subst (λ running. HasPlace c.args.said running c.args.self.now.taken) was c.requires.place) shown.1 in
+    (subst (λ running. HasDraftRoom c.args.said running c.args.self.now.taken) was c.requires.place) shown.1 in
     let some = fits.0 in let ok = c.show.new.self.taken.ok in omega (arith, some, ok)
 
 pub returns-in-More : goal.returns-in-More
 returns-in-More c = λ delta_call fresh was.
     let shown = c.show.ensures delta_call fresh was in
     let fits = last_fits c.args.said delta_call fresh c.args.self.now.taken c.show.new.self.taken.items
-    (subst (λ running. HasPlace c.args.said running c.args.self.now.taken) was c.requires.place) shown.1 in
+    (subst (λ running. HasDraftRoom c.args.said running c.args.self.now.taken) was c.requires.place) shown.1 in
     let (before, last, is) = last_split c.show.new.self.taken.items fits.0 in
     subst (λ said. IsDeltaAnnounced delta_call fresh c.args.self.now said c.show.new.self stepped.More) (sym c.in-More.is)
     ((before, last, last, sym shown.1 ∙ is, is, refl), shown.0, refl)

@@ -2,7 +2,7 @@ use Rattle.segment_invariant.proofs.Prelude.Std.{unsigned_abs, ◌≤◌, ◌*�
 use Rattle.segment_invariant.proofs.Prelude.Machine.{boundaries_of, key_of}
 use Rattle.hist_core.specs.Add.{IsStarted}
 use Rattle.bucket_ranges.specs.Tally.{amount_of}
-use Rattle.hist_core.specs.declared.hist.Known.{Known}
+use Rattle.hist_core.specs.declared.hist.KnownHist.{KnownHist}
 use Rattle.hist_core.specs.ActorRun.{known_of}
 use Rattle.hist_core.proofs.actor_run.ActorRun.begin_add.Goals as goal
 
@@ -17,7 +17,7 @@ returns-clause-begins c = λ known at.
     let amount_is : to_z w64 (of_z w64 c.amount_of-amount.result) ≡ amount_of (boundaries_of known.spec) (value, units) =
     amount_held ∙ (c.amount_of-amount.ensures.amount ∙ (λ i. amount_of (ranges_are i) (value_held i, units))) in
     let started : IsStarted c.args.shape c.args.version (known_of known) value units (amount_of (boundaries_of known.spec) (value, units)) add =
-    subst (λ (p : Known × ℤ × ℤ). IsStarted c.args.shape c.args.version (known_of p.0) p.1 units p.2 add) (λ i. (same i, value_held i, amount_is i)) c.start-add.ensures in
+    subst (λ (p : KnownHist × ℤ × ℤ). IsStarted c.args.shape c.args.version (known_of p.0) p.1 units p.2 add) (λ i. (same i, value_held i, amount_is i)) c.start-add.ensures in
     let key : c.key_of.result ≡ key_of (boundaries_of known.spec) add.value =
     c.key_of.ensures ∙ (λ i. key_of (ranges_are i) ((value_held ∙ sym started.counts) i)) in
     let key_held : to_z w32 (of_z w32 c.key_of.result) ≡ c.key_of.result = search rules in

@@ -3,7 +3,7 @@ use Rattle.std.specs.List.{AllZip}
 use Rattle.hist_core.specs.Add.{IsStarted}
 use Rattle.segment_machine.specs.Entry.{batch_entries}
 use Rattle.hist_core.specs.declared.batch.Batch.{Batch}
-use Rattle.hist_core.specs.declared.hist.Known.{Known}
+use Rattle.hist_core.specs.declared.hist.KnownHist.{KnownHist}
 use Rattle.hist_core.specs.ActorRun.{known_of}
 use Rattle.hist_core.proofs.actor_run.ActorRun.begin_batch.Goals as goal
 
@@ -23,7 +23,7 @@ returns-clause-begins c = λ known at.
     } in
     record {
       call = call;
-      started = subst (λ (k : Known). AllZip (λ item add. IsStarted c.args.shape c.args.version (known_of k) item.0 item.1 (pos 0) add) items c.in_ok-new_items.field-0.items) same
+      started = subst (λ (k : KnownHist). AllZip (λ item add. IsStarted c.args.shape c.args.version (known_of k) item.0 item.1 (pos 0) add) items c.in_ok-new_items.field-0.items) same
           c.in_ok-new_items.ensures;
       fresh = λ j. record call { histogram = (same j).reference; sum = sum_held j };
       begins = record {

@@ -1,7 +1,7 @@
 use Rattle.segment_invariant.proofs.Prelude.Std.{arith, sym, ap, subst, ◌∙◌, ◌<◌, ℕ, length, max, slice_set}
 use Rattle.segment_invariant.proofs.Prelude.Machine.{word_at}
 use Rattle.hist_core.specs.declared.delta_call.DeltaStage.{DeltaStage}
-use Rattle.hist_core.specs.DeltaCall.{IsTaken}
+use Rattle.hist_core.specs.DeltaCall.{TakesBucket}
 use Rattle.hist_core.proofs.DeltaCall.Going.{some_ranges}
 use Rattle.hist_core.proofs.DeltaCall.Marks.{gives_raised, mark_there, some_mark}
 use Rattle.hist_core.proofs.delta_call.DeltaCall.raise.Goals as goal
@@ -39,6 +39,6 @@ take_bucket-requires-clause-room c =
 pub returns-clause-steps : goal.returns-clause-steps
 returns-clause-steps c = λ shape known earlier a long order is.
     gives_raised shape known earlier c.args.self.now a c.args.words.now is c.args.mounted c.args.bucket c.args.total c.requires.next c.take_bucket.new.self c.take_bucket.result c.fetch_max-mark.result
-    (subst (λ (stage : DeltaStage). IsTaken c.args.bucket c.args.total c.fetch_max-mark.result (record c.args.self.now { stage = stage }) c.take_bucket.new.self c.take_bucket.result) c.behind_bucket-self.ensures c.take_bucket.ensures)
+    (subst (λ (stage : DeltaStage). TakesBucket c.args.bucket c.args.total c.fetch_max-mark.result (record c.args.self.now { stage = stage }) c.take_bucket.new.self c.take_bucket.result) c.behind_bucket-self.ensures c.take_bucket.ensures)
     (c.fetch_max-mark.ensures.found ∙ ap (word_at c.args.words.now) c.mark_of.ensures) c.fetch_max-mark.new.words
     (c.fetch_max-mark.ensures.words ∙ ap (λ (n : ℕ). slice_set c.args.words.now n (max (word_at c.args.words.now n) c.args.total)) c.mark_of.ensures)

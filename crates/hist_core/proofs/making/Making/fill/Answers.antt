@@ -2,7 +2,7 @@ use Rattle.segment_invariant.proofs.Prelude.Std.{◌≡◌, ◌≤◌, ◌<◌, 
 use Rattle.alloc_core.specs.Event as atomic
 use Rattle.hist_core.specs.declared.making.Making.{Making}
 use Rattle.hist_core.specs.declared.making.MakingStage.TheVariants.{Filling}
-use Rattle.hist_core.specs.Making.{IsSomeMaking, IsFilled}
+use Rattle.hist_core.specs.Making.{IsSomeMaking, IsPayloadFilled}
 use Rattle.hist_core.proofs.Makes.Fills.{fills_so, fill_bounds}
 use Rattle.hist_core.proofs.making.Making.fill.Goals as goal
 
@@ -34,7 +34,7 @@ pub returns : goal.returns
 returns c = λ shape version wanted a long its is.
     fills_so shape version wanted c.args.self.now a c.args.words.now long is c.args.at c.args.index c.requires.fills c.store.new.words c.filled.new.self
     (c.store.ensures.words ∙ ap (λ (l : List ℕ). atomic.after (atomic.store_payload c.args.at c.args.index (slice_index l c.args.index)) c.args.words.now) (sym its))
-    (subst (λ (l : List ℕ). IsFilled l c.args.at (c.args.index + 1) c.filled.new.self) (sym its) c.filled.ensures)
+    (subst (λ (l : List ℕ). IsPayloadFilled l c.args.at (c.args.index + 1) c.filled.new.self) (sym its) c.filled.ensures)
 
 pub offset_bounds-payload-index : goal.offset_bounds-payload-index
 offset_bounds-payload-index c = let inside = bounds c.args.self.now c.args.words.now c.args.payload.now c.args.at c.args.index c.requires.fills c.requires.stands in omega (arith, inside.0, inside.1, inside.2)

@@ -16,7 +16,7 @@ use Rattle.live_segment.specs.Add.Finish.{counted_entry, item_of}
 use Rattle.live_segment.specs.Holders.{MayStep, table_of}
 use Rattle.live_segment.specs.Steps.{IsSame, Pass, Stepped}
 use Rattle.live_segment.specs.Steps.GhostNotes.{entry_notes}
-use Rattle.live_segment.specs.Add.Progress.{CountsAlone, HasCounted, FrameOfCall, Waits, counted_next}
+use Rattle.live_segment.specs.Add.Progress.{CountsAlone, HasCounted, FrameOfCall, EntryWaits, counted_next}
 use Rattle.live_segment.proofs.lemmas.Add.Beginning.{known_there, then_waits}
 use Rattle.live_segment.proofs.lemmas.Add.Ended.{changed_behind, next_behind, still_open}
 use Rattle.live_segment.proofs.lemmas.Steps.Proceeding.{does_not, proceeds_on, sees_count}
@@ -29,7 +29,7 @@ module _ (known : Known) (value : ℤ) (units : ℕ) (old mid : Pass) (may : Cou
   abbrev last : EntryProgress
   last = counted_entry entry false
 
-  pub waits : Waits (noted_by old.me.0 (entry_notes old.me.0 entry)) entry
+  pub waits : EntryWaits (noted_by old.me.0 (entry_notes old.me.0 entry)) entry
   waits = then_waits old.me.0 known entry may
 
   -- its entry is counted, behind those that have ended

@@ -20,12 +20,12 @@ use Rattle.segment_machine.specs.Entry.{fresh, tally_noted}
 use Rattle.segment_machine.specs.Note.{refused, units_running}
 use Rattle.segment_promises.specs.Follows.{noted_by}
 use Rattle.live_segment.specs.Alloc.Claims.{ClaimsForEach}
-use Rattle.live_segment.specs.Add.Batch.{HasItems, StopsAt, ended_item, holding}
+use Rattle.live_segment.specs.Add.Batch.{HasItems, StopsAtItem, ended_item, holding}
 use Rattle.live_segment.specs.Add.Finish.{item_of}
 use Rattle.segment_promises.specs.Onward.{DoesOn, GoesOn, SeesOn, is_holding}
 use Rattle.live_segment.specs.Add.Refusal.{IsNotCounted, given_up, how_many_ended, refusing_notes}
 use Rattle.live_segment.specs.Steps.{IsAtRest}
-use Rattle.live_segment.specs.Add.Progress.{HasBegun, LooksFor, FrameOfCall}
+use Rattle.live_segment.specs.Add.Progress.{HasBegunEntry, LooksFor, FrameOfCall}
 use Rattle.live_segment.proofs.lemmas.Add.Blocks.{keeps_none}
 use Rattle.live_segment.proofs.lemmas.Add.Batch.Blocks.{claims_all}
 use Rattle.live_segment.proofs.lemmas.Add.Ended.{how_many_before, how_many, still_open}
@@ -128,7 +128,7 @@ module _ (known : Known) (item : ℤ × ℕ) (old a last new : Actor) (rest : Is
         taken_all l = ap (take (length l)) (sym (append-nil l)) ∙ take-append_seam l []
 
   -- it had
-  begun_with : (items : List (ℤ × ℕ)) → HasItems known items old a → units_of items + item.1 ≤ old.units.share → HasBegun entry a last
+  begun_with : (items : List (ℤ × ℕ)) → HasItems known items old a → units_of items + item.1 ≤ old.units.share → HasBegunEntry entry a last
       → IsBack known items old last new
   begun_with items has enough (units_are, entries_are) =
       let running = over known items ++ fresh entry ∷ [] in
@@ -143,7 +143,7 @@ module _ (known : Known) (item : ℤ × ℕ) (old a last new : Actor) (rest : Is
   pub back : (items : List (ℤ × ℕ)) → HasItems known items old a → units_of items + item.1 ≤ old.units.share → IsBack known items old last new
   back items has enough = by looks.begun
     where
-      by : ((last.units ≡ a.units) × (last.entries ≡ a.entries)) ⊎ HasBegun entry a last → IsBack known items old last new
+      by : ((last.units ≡ a.units) × (last.entries ≡ a.entries)) ⊎ HasBegunEntry entry a last → IsBack known items old last new
       by (inl (units_are, entries_are)) = before_it units_are entries_are items has (omega (arith, enough))
       by (inr begun) = begun_with items has enough begun
 
@@ -193,7 +193,7 @@ module _ (known : Known) (all : List (ℤ × ℕ)) (k : ℕ) (d : ℤ × ℕ) (o
     owes = ap (λ (x : Actor). x.answers.owed) kept ∙ rest.owes;
   }
 
-  pub stops_at : StopsAt known all (record { added = k; why = why }) old new
+  pub stops_at : StopsAtItem known all (record { added = k; why = why }) old new
   stops_at = (
     record {
       item = get_or all k d;

@@ -7,7 +7,7 @@ use Rattle.segment_machine.specs.Event.{counting_event}
 use Rattle.segment_machine.specs.Counting.{add_sum}
 use Rattle.segment_machine.specs.Note.{amounts}
 use Rattle.live_segment.specs.Rule.{Runs}
-use Rattle.live_segment.specs.Steps.GhostNotes.{InSum, IsSummed, TellsOf}
+use Rattle.live_segment.specs.Steps.GhostNotes.{InSum, IsAddedToSum, TellsOf}
 use Rattle.live_segment.proofs.lemmas.Steps.GhostNoted.{tells, one_summed}
 use Rattle.live_segment.proofs.segment.Segment.add_amount.Goals as goal
 
@@ -20,7 +20,7 @@ fetch_add-requires c =
     let at : word ≡ x.known.reference + 11 + 1 = let e = fits.0 in omega arith in
     let small : FitsSigned w64 x.amount = subst (FitsSigned w64) (sym fits.2) c.ranges.amount in
     let is : cast_unsigned w64 x.amount ≡ number = ap (cast_unsigned w64) (fits.2 ∙ sym (to_z-of_z w64 c.args.amount c.ranges.amount)) ∙ sym c.cast_unsigned.ensures in
-    let Fits = λ (y : InSum). (word ≡ y.known.reference + 11 + 1) × IsSummed c.args.seat.now.me.0 y.known.reference number y in
+    let Fits = λ (y : InSum). (word ≡ y.known.reference + 11 + 1) × IsAddedToSum c.args.seat.now.me.0 y.known.reference number y in
     let before = λ (y : InSum). amounts y.amount ∷ [] in
     let event = λ (y : InSum). counting_event (add_sum y.known.reference y.amount) in (
       search rules,

@@ -2,7 +2,7 @@ use Rattle.std.proofs.Common.{ℤ, ◌∷◌, [], refl, sym, subst, w32}
 use Rattle.std.proofs.lemmas.Int.{to_z-of_z}
 use Rattle.std.proofs.lemmas.Result.{err_from_is_err_and}
 use Rattle.live_segment.specs.Alloc.Claims.{ClaimsFor}
-use Rattle.live_segment.specs.Add.Finish.{HasEnded, HasSample, item_of, sample_of}
+use Rattle.live_segment.specs.Add.Finish.{HasEnded, HasCountedSample, item_of, sample_of}
 use Rattle.live_segment.specs.Known.{known_view}
 use Rattle.live_segment.specs.Add.Refusal.{IsNotCounted}
 use Rattle.live_segment.specs.Add.Progress.{CountsAlone, HasCounted}
@@ -43,7 +43,7 @@ finish_sample-requires-clause-counted c =
     let known = known_view c.args.histogram.now in
     let has = subst (λ (v : ℤ). HasCounted (item_of known v c.args.units) c.args.seat.now.me.0 c.count_value.new.seat.me.0)
     (to_z-of_z w32 c.args.value c.ranges.value) c.in_ok-count_value.ensures.outcome in
-    subst (λ (v : ℤ). HasSample known v c.args.units c.count_value.new.seat.me.0) (sym (to_z-of_z w32 c.args.value c.ranges.value))
+    subst (λ (v : ℤ). HasCountedSample known v c.args.units c.count_value.new.seat.me.0) (sym (to_z-of_z w32 c.args.value c.ranges.value))
     (has_sample known c.args.value c.args.units c.args.seat.now.me.0 c.count_value.new.seat.me.0 c.requires.rests c.requires.right.alone
     c.requires.units.0 c.requires.units.1 has)
 

@@ -3,7 +3,7 @@ use Rattle.segment_machine.specs.declared.actor.Actor.{Actor}
 use Rattle.std.specs.Prelude.{Err}
 use Rattle.std.proofs.lemmas.Result.{err_from_is_err_and}
 use Rattle.segment_calls.specs.declared.refusal.Refusal.{Refusal}
-use Rattle.live_segment.specs.Hist.NewRecord.{Makes}
+use Rattle.live_segment.specs.Hist.NewRecord.{MakesRecord}
 use Rattle.live_segment.proofs.lemmas.Hist.Blocks.{searches_none, makes_one}
 use Rattle.live_segment.proofs.lemmas.List.IndexKept.{made_on, refused_on}
 use Rattle.live_segment.proofs.lemmas.Hist.Settled.{walk_goes_on, meets_own, met_first, met_another, met_then, met_another_then, not_made}
@@ -53,7 +53,7 @@ pub returns-in_err-make_record-clause-claims : goal.returns-in_err-make_record-c
 returns-in_err-make_record-clause-claims c =
     let p = err_from_is_err_and c.from_residual.result c.from_residual.ensures.1 in
     rw (p.1, p.2)
-    (λ is. absurd (subst (λ (w : Refusal). Makes c.args.asked.now c.search.new.seat.me.0 (Err w) c.make_record.new.seat.me.0) is c.in_err-make_record.ensures.outcome))
+    (λ is. absurd (subst (λ (w : Refusal). MakesRecord c.args.asked.now c.search.new.seat.me.0 (Err w) c.make_record.new.seat.me.0) is c.in_err-make_record.ensures.outcome))
 
 pub returns-in-Met-find-clause-claims : goal.returns-in-Met-find-clause-claims
 returns-in-Met-find-clause-claims c =

@@ -4,7 +4,7 @@ use Rattle.std.proofs.lemmas.List.{with_items_is}
 use Rattle.bucket_ranges.specs.Spec.{buckets_of}
 use Rattle.segment_invariant.proofs.Packing.OffForms.{few_buckets}
 use Rattle.live_segment.specs.Known.{known_view}
-use Rattle.live_segment.specs.Snapshot.Outcome.{HasSeenAll}
+use Rattle.live_segment.specs.Snapshot.Outcome.{HasLookedAtAll}
 use Rattle.segment_promises.proofs.Calls.BlankTotals.{keys_of_buckets, no_units}
 use Rattle.live_segment.proofs.lemmas.Delta.FewKeys.{few_of_snapshot}
 use Rattle.live_segment.proofs.lemmas.Snapshot.Answering.{has_seen_buckets}
@@ -26,7 +26,7 @@ look_at_buckets-requires-clause-blank c =
 pub finish_snapshot-requires-clause-saw : goal.finish_snapshot-requires-clause-saw
 finish_snapshot-requires-clause-saw c =
     let known = known_view c.args.histogram.now in
-    let all = subst (λ (l : List (ℤ × ℕ)). HasSeenAll known c.args.seat.now.me.0 l c.look_at_buckets.new.seat.me.0)
+    let all = subst (λ (l : List (ℤ × ℕ)). HasLookedAtAll known c.args.seat.now.me.0 l c.look_at_buckets.new.seat.me.0)
     (sym (with_items_is c.args.totals c.look_at_buckets.new.totals (c.look_at_buckets.auto.totals ∙ c.as_mut_slice.ensures.len)))
     (has_seen_buckets c.requires.ready.right c.requires.bucketed (c.as_mut_slice.ensures.value ∙ c.requires.blank) c.look_at_buckets.ensures.keys c.look_at_buckets.ensures.saw) in
     (c.args.seat.now.me.0, c.requires.ready.rests, c.requires.ready.right.alone, all)
@@ -34,7 +34,7 @@ finish_snapshot-requires-clause-saw c =
 pub returns-clause-answer : goal.returns-clause-answer
 returns-clause-answer c =
     let known = known_view c.args.histogram.now in
-    let all = subst (λ (l : List (ℤ × ℕ)). HasSeenAll known c.args.seat.now.me.0 l c.look_at_buckets.new.seat.me.0)
+    let all = subst (λ (l : List (ℤ × ℕ)). HasLookedAtAll known c.args.seat.now.me.0 l c.look_at_buckets.new.seat.me.0)
     (sym (with_items_is c.args.totals c.look_at_buckets.new.totals (c.look_at_buckets.auto.totals ∙ c.as_mut_slice.ensures.len)))
     (has_seen_buckets c.requires.ready.right c.requires.bucketed (c.as_mut_slice.ensures.value ∙ c.requires.blank) c.look_at_buckets.ensures.keys c.look_at_buckets.ensures.saw) in
     c.finish_snapshot.ensures.answer c.args.seat.now.me.0 c.requires.ready.right.alone all
@@ -42,7 +42,7 @@ returns-clause-answer c =
 pub returns-clause-few : goal.returns-clause-few
 returns-clause-few c =
     let known = known_view c.args.histogram.now in
-    let all = subst (λ (l : List (ℤ × ℕ)). HasSeenAll known c.args.seat.now.me.0 l c.look_at_buckets.new.seat.me.0)
+    let all = subst (λ (l : List (ℤ × ℕ)). HasLookedAtAll known c.args.seat.now.me.0 l c.look_at_buckets.new.seat.me.0)
     (sym (with_items_is c.args.totals c.look_at_buckets.new.totals (c.look_at_buckets.auto.totals ∙ c.as_mut_slice.ensures.len)))
     (has_seen_buckets c.requires.ready.right c.requires.bucketed (c.as_mut_slice.ensures.value ∙ c.requires.blank) c.look_at_buckets.ensures.keys c.look_at_buckets.ensures.saw) in
     few_of_snapshot c.args.self.now known c.args.seat.now.me.0 c.finish_snapshot.result c.finish_snapshot.new.seat.me.0 c.requires.bucketed

@@ -2,7 +2,7 @@ use Rattle.std.proofs.Common.{rules, ◌%◌, ℕ, Option, subst, ap, sym, ◌�
 use Rattle.atomic_table.specs.Table.{Me}
 use Rattle.owned_recorder.specs.declared.owned.OwnedRecorder.{OwnedRecorder}
 use Rattle.povundiri_c.specs.declared.seat_state.SeatState.{SeatState}
-use Rattle.povundiri_c.specs.Mailbox.{MayReach, MayTake, View}
+use Rattle.povundiri_c.specs.Mailbox.{MayReachInto, MayTake, View}
 use Rattle.povundiri_c.proofs.Passing.{laid_at, may_reach, missed_keeper, took_it}
 use Rattle.povundiri_c.proofs.Mailboxes.{same_seat, sees}
 use Rattle.povundiri_c.proofs.mailbox.Mailbox.take.Goals.{then-number-ne2-via-then-number-ne2, then-number-ne2-via-else-number-ne2+then-number}
@@ -27,7 +27,7 @@ returns-then-number-ne2 c =
 pub replace-requires-clause-may : goal.replace-requires-clause-may
 replace-requires-clause-may c =
     let it = c.load-number.ensures in
-    subst (λ (me : Me (Option OwnedRecorder) View). MayReach c.load-number.result me.0) (sym it.2.0)
+    subst (λ (me : Me (Option OwnedRecorder) View). MayReachInto c.load-number.result me.0) (sym it.2.0)
     (may_reach c.load-number.result c.args.keeper.now.me.0.1 c.args.keeper.now.me.0.2 c.args.keeper.now.me.0.3 c.requires.may c.requires.keeper.2 it.2.1)
 
 pub returns-in-Ok : goal.returns-in-Ok

@@ -5,7 +5,7 @@ use Rattle.std.specs.declared.sync.Arc.{Arc}
 use Rattle.live_segment.specs.Holders.{view_of_opener}
 use Rattle.live_segment.specs.declared.opener.Opener.{Opener}
 use Rattle.povundiri_c.specs.declared.mailbox.Mailbox.{Mailbox}
-use Rattle.povundiri_c.specs.Joins.{IsLent}
+use Rattle.povundiri_c.specs.Joins.{IsLendDone}
 use Rattle.povundiri_c.specs.Mailbox.{BelongsTo}
 use Rattle.povundiri_c.proofs.Joining.{lent_since, not_passed, passed}
 use Rattle.povundiri_c.proofs.owned_segment.OwnedSegment.lend.Goals as goal
@@ -27,10 +27,10 @@ lend_found-requires-clause-enough c =
 pub returns-in-Ok-find : goal.returns-in-Ok-find
 returns-in-Ok-find c = inr (
   omega arith,
-  passed (IsLent c.args.units) Refuses c.args.joinable c.args.self.now _ _ c.lend_found.new.self c.in-Ok-find.found c.find.new.self c.in-Ok-find.ensures
+  passed (IsLendDone c.args.units) Refuses c.args.joinable c.args.self.now _ _ c.lend_found.new.self c.in-Ok-find.found c.find.new.self c.in-Ok-find.ensures
       c.lend_found.ensures.gone
       (lent_since c.args.units c.in-Ok-find.found c.args.self.now c.find.new.self c.lend_found.new.self _ _ c.in-Ok-find.ensures.0 c.lend_found.ensures.lends),
 )
 
 pub returns-in-Err : goal.returns-in-Err
-returns-in-Err c = inr (omega arith, not_passed (IsLent c.args.units) Refuses c.args.joinable c.args.self.now _ _ c.find.new.self (inr refl) c.in-Err.ensures)
+returns-in-Err c = inr (omega arith, not_passed (IsLendDone c.args.units) Refuses c.args.joinable c.args.self.now _ _ c.find.new.self (inr refl) c.in-Err.ensures)

@@ -6,7 +6,8 @@
 //! - [`Shape::of`], [`header`] and [`block`] answer what the words say exactly where all checks hold, and otherwise
 //!   the first check that fails, in the order that [`ImageFault`] lists them. They take no memory.
 //! - [`read_bytes`] answers all bytes that a reader had left, up to a limit, and otherwise why there are none.
-//! - [`read_words`] answers the words whose bytes are all that a reader had left, and otherwise why there are none.
+//! - [`read_words`] answers the words whose bytes are all that a reader had left, and otherwise why there are none;
+//!   [`read_more_words`] appends them to words that are there.
 //! - [`write_words`] writes the bytes that words are.
 //! - An [`Image`] has the words of a whole segment: those of a new one, or such as [`header`] accepts.
 //! - A [`Watched`] passes reads and writes on, and says whether one of them failed, and whether a flush went well
@@ -27,5 +28,5 @@ pub use fault::{ImageFault, ReadFault, WriteFault};
 pub use head::{SegmentHead, header};
 pub use image::{Image, blank_is_ready, ready_header};
 pub use shape::Shape;
-pub use transfer::{fill, push_words, read_bytes, read_words, write_words};
+pub use transfer::{fill, push_words, read_bytes, read_more_words, read_words, write_words};
 pub use watched::Watched;

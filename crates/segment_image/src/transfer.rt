@@ -1,6 +1,6 @@
 //! Bytes and words from a device.
 
-ghost use Rattle.std.specs.Prelude.{◌≡◌, ◌≢◌, ◌↔◌, ◌+◌, ◌*◌, ◌<◌, ◌≤◌, ◌%◌, ◌++◌, ◌||◌, true, false, length, take, is_err, IfSome, IfOk, IfErr, OnOk, OnErr, IsErrOf, MatchResult, vec_len};
+ghost use Rattle.std.specs.Prelude.{◌≡◌, ◌≢◌, ◌↔◌, ◌+◌, ◌*◌, ◌-◌, ◌<◌, ◌≤◌, ◌%◌, ◌++◌, ◌||◌, true, false, length, take, is_err, IfSome, IfOk, IfErr, OnOk, OnErr, IsErrOf, MatchResult, vec_len};
 ghost use Rattle.std.specs.Io.KnownBytes.{Appends, Consumes, IsAtEnd};
 ghost use Rattle.byteorder.specs.Endian.{little_bytes, little_number};
 ghost use Rattle.segment_image.specs.Words.{bytes_of_words, words_in};
@@ -110,6 +110,52 @@ pub fn push_words(words: &mut Vec<u64>, bytes: &[u8]) -> Result<(), AllocError>
     Ok(())
 }
 
+/// Reads all bytes that a reader has left, as words of eight bytes each, the least byte first, after the words that are
+/// there: `limit` words at most, these included.
+///
+/// The reader has not failed before. On `Ok` the bytes of the words are those of the words that were there, and then
+/// all that the reader had left. `TooLong` comes only where there are more bytes than the words up to `limit` have;
+/// `NotWords` only where there are no more and their number is no multiple of eight, which is known at their end
+/// [answer]. On `Ok` there are at most `limit` words, whatever the reader is [within], and the reader is at its end
+/// [end]. `Device` comes exactly where a read failed in this call, of whatever sort the
+/// failure is [device]. `NoMemory` comes where memory runs out for the words, for which memory is asked only as bytes
+/// come. At most one byte more is taken from the reader than the words up to `limit` have [taken].
+pub fn read_more_words<R: Read>(
+    words: &mut Vec<u64>,
+    reader: &mut Watched<R>,
+    limit: usize,
+) -> Result<(), ReadFault>
+    requires fewer { length words.old.items ≤ limit }
+    requires went { has_failed reader.old ≡ false }
+    ensures answer { IfSome (R.remaining (watched_inner reader.old)) (λ bytes. MatchResult result
+        (λ _. bytes_of_words words.new.items ≡ bytes_of_words words.old.items ++ bytes) (IsCausedBy (limit - length words.old.items) bytes)) }
+    ensures within { OnOk result (length words.new.items ≤ limit) }
+    ensures device { IsErrOf result ReadFault.Device ↔ (has_failed reader.new ≡ true) }
+    ensures end { OnOk result (IsAtEnd (R.remaining (watched_inner reader.new))) }
+    ensures taken { TakesAtMost (8 * (limit - length words.old.items) + 1) (R.remaining (watched_inner reader.old)) (R.remaining (watched_inner reader.new)) }
+{
+    let mut block = [0u8; BLOCK_BYTES];
+    loop {
+        let room = limit - words.len();
+        let wanted = if room < BLOCK_WORDS {
+            8 * room + 1
+        } else {
+            BLOCK_BYTES
+        };
+        let filled = fill(reader, &mut block[..wanted])?;
+        if filled.div_ceil(8) > room {
+            return Err(ReadFault::TooLong);
+        }
+        if filled % 8 != 0 {
+            return Err(ReadFault::NotWords);
+        }
+        push_words(words, &block[..filled]).map_err(|_| ReadFault::NoMemory)?;
+        if filled < wanted {
+            return Ok(());
+        }
+    }
+}
+
 /// Reads all bytes that a reader has left, as at most `limit` words of eight bytes each, the least byte first.
 ///
 /// The reader has not failed before. On `Ok` the words' bytes are all that it had left. `TooLong` comes only where
@@ -132,26 +178,8 @@ pub fn read_words<R: Read>(
     ensures taken { TakesAtMost (8 * limit + 1) (R.remaining (watched_inner reader.old)) (R.remaining (watched_inner reader.new)) }
 {
     let mut words = Vec::new(alloc);
-    let mut block = [0u8; BLOCK_BYTES];
-    loop {
-        let room = limit - words.len();
-        let wanted = if room < BLOCK_WORDS {
-            8 * room + 1
-        } else {
-            BLOCK_BYTES
-        };
-        let filled = fill(reader, &mut block[..wanted])?;
-        if filled.div_ceil(8) > room {
-            return Err(ReadFault::TooLong);
-        }
-        if filled % 8 != 0 {
-            return Err(ReadFault::NotWords);
-        }
-        push_words(&mut words, &block[..filled]).map_err(|_| ReadFault::NoMemory)?;
-        if filled < wanted {
-            return Ok(words);
-        }
-    }
+    read_more_words(&mut words, reader, limit)?;
+    Ok(words)
 }
 
 /// Writes words, eight bytes for each, the least byte first. It takes no memory, and does not flush.

@@ -1,13 +1,12 @@
 use Rattle.std.proofs.Common.{◌≡◌, ◌≤◌, ◌-◌, false, vec_len}
-use Rattle.std.specs.Io.KnownBytes.{Consumes}
-use Rattle.segment_image.specs.Words.{bytes_of_words}
 use Rattle.segment_image.specs.Watched.{has_failed, watched_inner}
-use Rattle.segment_image.proofs.transfer.read_words.Given as goal
+use Rattle.segment_image.proofs.ReadWords.{IsReadSo}
+use Rattle.segment_image.proofs.transfer.read_more_words.Given as goal
 
 abbrev pub invariant-loop-wanted : goal.invariant-loop-wanted
 invariant-loop-wanted g l = record {
   within : vec_len l.words ≤ l.limit;
-  bytes : Consumes (g.R.Read.remaining (watched_inner l.initial.reader)) (g.R.Read.remaining (watched_inner l.reader)) (bytes_of_words l.words.items);
+  bytes : IsReadSo (g.R.Read.remaining (watched_inner l.initial.reader)) (g.R.Read.remaining (watched_inner l.reader)) l.initial.words.items l.words.items;
   went : has_failed l.reader ≡ false;
 }
 

@@ -22,6 +22,9 @@ sys.path.insert(0, str(pathlib.Path(__file__).resolve().parents[1]))
 from support.layout import BLOCK_COOKIE, GREATEST, MOST_SUM, MOST_UNITS, MOST_WORDS, QUEUE, SEGMENT_COOKIE, TOP
 
 MOST_BYTES = 8 * MOST_WORDS
+# A mapped file has a word before the image, and up to nine after it.
+MOST_MAPPED_BYTES = MOST_BYTES + 80
+MAPPED_FRONT = struct.pack("<2Q", 0, SEGMENT_COOKIE)
 MOST_PACKED = 65_535
 NOTHING_PACKED = 65_535
 KINDS = {1: "linear", 2: "boolean", 3: "custom", 4: "sparse"}
@@ -101,9 +104,12 @@ def signed(word: int) -> int:
 
 
 def words_of(data: bytes, seen: Seen) -> tuple[int, ...]:
-    require_image(len(data) <= MOST_BYTES, "TooLong", "TooLong", seen)
+    """The words of an image. Those of a mapped file begin at its second word, as many as the header there says."""
+    is_mapped = data[:16] == MAPPED_FRONT
+    require_image(len(data) <= (MOST_MAPPED_BYTES if is_mapped else MOST_BYTES), "TooLong", "TooLong", seen)
     require_image(len(data) % 8 == 0, "NotWords", "NotWords", seen)
-    return struct.unpack(f"<{len(data) // 8}Q", data)
+    words = struct.unpack(f"<{len(data) // 8}Q", data)
+    return words[1 : 1 + min(words[3], len(words))] if is_mapped and len(words) > 3 else words[is_mapped * len(words) :]
 
 
 def check_header(words: Words, seen: Seen) -> None:

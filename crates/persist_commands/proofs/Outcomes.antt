@@ -15,6 +15,7 @@ use Rattle.live_segment.specs.Holders.{IsNew, view_of_opener}
 use Rattle.persist_report_core.specs.declared.fault.CliFault.{CliFault}
 use Rattle.persist_report_core.specs.declared.fault.CliFault.TheVariants as cli
 use Rattle.persist_report_core.specs.declared.script.fault.ScriptFault.{ScriptFault}
+use Rattle.persist_report_core.specs.Input.{image_in}
 use Rattle.persist_report_core.specs.Report.{AreWordsOf}
 use Rattle.persist_report_core.specs.Script.{Script, script_for, script_of}
 use Rattle.persist_commands.specs.Recorded.{HasOnlyOpened, IsRecordedImage, setting_for}
@@ -129,13 +130,14 @@ run_so (Ok x) (Some bytes) script workers segment opener A B new is wrote =
 
 -- ---- a segment that continues from an image
 
--- the words of an image that were read, and something of them, by their bytes
-pub based_so : {T F : Type 0} (A : Type 0) (r : Result T F) (remaining : Option (List ℕ)) (words : List ℕ) (P Q : List ℕ → T → Type 0)
-    → IfSome remaining (λ bytes. (bytes_of_words words ≡ bytes) × A) → IfOk r (λ base. P words base × Q words base × AreWordsOf (bytes_of_words words) words)
-    → IfOk r (λ base. (words : List ℕ) × P words base × Q words base × IfSome remaining (λ bytes. AreWordsOf bytes words))
-based_so A (Err fault) remaining words P Q same is = tt
-based_so A (Ok base) None words P Q same is = (words, is.0, is.1, tt)
-based_so A (Ok base) (Some bytes) words P Q same is = (words, is.0, is.1, subst (λ (bytes : List ℕ). AreWordsOf bytes words) same.0 is.2)
+-- the image in words that were read, and something of it, by their bytes
+pub based_so : {T F : Type 0} (r : Result T F) (remaining : Option (List ℕ)) (words : List ℕ) (P Q : List ℕ → T → Type 0)
+    → IfSome remaining (λ bytes. bytes_of_words words ≡ bytes)
+    → IfOk r (λ base. P (image_in words) base × Q (image_in words) base × AreWordsOf (bytes_of_words words) (image_in words))
+    → IfOk r (λ base. (image : List ℕ) × P image base × Q image base × IfSome remaining (λ bytes. AreWordsOf bytes image))
+based_so (Err fault) remaining words P Q same is = tt
+based_so (Ok base) None words P Q same is = (image_in words, is.0, is.1, tt)
+based_so (Ok base) (Some bytes) words P Q same is = (image_in words, is.0, is.1, subst (λ (bytes : List ℕ). AreWordsOf bytes (image_in words)) same is.2)
 
 -- the image of these words was adopted, and this is its header
 module _ (image : List ℕ) (head : SegmentHead) (segment : Segment) (opener : Opener) (adopted : IsAdopted image 0 segment opener) (head_is : head ≡ head_of image) where

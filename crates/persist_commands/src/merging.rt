@@ -15,10 +15,10 @@ ghost use Rattle.segment_merge.specs.Merge.{IsMerged};
 use crate::outputs::write_image;
 use image_reader::Reading;
 use live_segment::{Recorder, Segment};
-use persist_report_core::{CliFault, MAX_WORDS};
+use persist_report_core::{CliFault, image_in, read_input};
 use segment_calls::Refusal;
 use segment_image::layout::VERSION_FROZEN;
-use segment_image::{Image, SegmentHead, Watched, header, read_words};
+use segment_image::{Image, SegmentHead, Watched, header};
 use segment_merge::{MergeReport, MergeStop, merge};
 use std::alloc::Global;
 use std::io::{Read, Write};
@@ -30,18 +30,19 @@ struct Input {
     reading: Reading,
 }
 
-// The image that words are.
+// The image in the words of an input.
 fn image_of_words(alloc: Global, words: &[u64]) -> Result<Input, CliFault>
     ensures image { IfOk result (λ input. AreImageBytes (bytes_of_words words.now) input.head (reading_view input.reading)) }
     ensures cause { IfErr result (λ fault. IsCausedByImage (bytes_of_words words.now) fault) }
     ensures other { IfErr result (λ fault. (fault ≢ CliFault.Read) × (fault ≢ CliFault.Write)) }
 {
-    let head = header(words)?;
-    let reading = image_reader::read(alloc, words)?;
+    let image = image_in(words);
+    let head = header(image)?;
+    let reading = image_reader::read(alloc, image)?;
     Ok(Input { head, reading })
 }
 
-// The image that the reader has left.
+// The image in what the reader has left: a closed image or a mapped file.
 fn read_image<R: Read>(alloc: Global, reader: &mut Watched<R>) -> Result<Input, CliFault>
     requires { has_failed reader.old ≡ false }
     ensures image { IfOk result (λ input. IfSome (R.remaining (watched_inner reader.old)) (λ bytes. AreImageBytes bytes input.head (reading_view input.reading))) }
@@ -49,7 +50,7 @@ fn read_image<R: Read>(alloc: Global, reader: &mut Watched<R>) -> Result<Input, 
     ensures read { IsErrOf result CliFault.Read ↔ (has_failed reader.new ≡ true) }
     ensures other { IfErr result (λ fault. fault ≢ CliFault.Write) }
 {
-    let words = read_words(alloc, reader, MAX_WORDS)?;
+    let words = read_input(alloc, reader)?;
     image_of_words(alloc, &words)
 }
 

@@ -6,6 +6,7 @@ ghost use Rattle.segment_image.specs.Head.{head_of};
 ghost use Rattle.segment_image.specs.Words.{bytes_of_words};
 ghost use Rattle.segment_image.specs.Watched.{has_failed, is_flushed, watched_inner};
 ghost use Rattle.live_segment.specs.Adopted.{IsAdopted};
+ghost use Rattle.persist_report_core.specs.Input.{image_in};
 ghost use Rattle.persist_report_core.specs.Report.{AreWordsOf};
 ghost use Rattle.persist_commands.specs.Resume.{IsBase, IsFaultOfBase, IsFaultOfResume, IsResumeOf};
 ghost use Rattle.persist_commands.specs.Stop.{TellsWant};
@@ -14,9 +15,8 @@ use crate::gate::Gate;
 use crate::run::run_in;
 use crate::scripts::take_script_for;
 use live_segment::{Opener, Segment};
-use persist_report_core::CliFault;
-use segment_image::layout::MAX_SIZE;
-use segment_image::{SegmentHead, Watched, header, read_words};
+use persist_report_core::{CliFault, image_in, read_input};
+use segment_image::{SegmentHead, Watched, header};
 use std::alloc::Global;
 use std::io::{Read, Write};
 use std::sync::Wait;
@@ -30,18 +30,19 @@ struct Base {
     opener: Opener,
 }
 
-// The segment that continues from the words of an image, without shared cursors.
+// The segment that continues from the image in the words of an input, without shared cursors.
 fn adopt_words(alloc: Global, words: &[u64]) -> Result<Base, CliFault>
-    ensures base { IfOk result (λ base. IsAdopted words.now 0 base.segment base.opener × (base.head ≡ head_of words.now) × AreWordsOf (bytes_of_words words.now) words.now) }
+    ensures base { IfOk result (λ base. IsAdopted (image_in words.now) 0 base.segment base.opener × (base.head ≡ head_of (image_in words.now)) × AreWordsOf (bytes_of_words words.now) (image_in words.now)) }
     ensures cause { IfErr result (λ fault. IsFaultOfBase (bytes_of_words words.now) fault) }
     ensures other { IfErr result (λ fault. (fault ≢ CliFault.Read) × (fault ≢ CliFault.Write)) }
     ensures tells { IfErr result TellsWant }
 {
-    let (segment, opener) = match Segment::adopt(alloc, words, 0) {
+    let image = image_in(words);
+    let (segment, opener) = match Segment::adopt(alloc, image, 0) {
         Ok(made) => made,
         Err(fault) => return Err(CliFault::from(fault)),
     };
-    let Ok(head) = header(words) else {
+    let Ok(head) = header(image) else {
         unreachable!()
     };
     Ok(Base {
@@ -60,11 +61,11 @@ fn read_base<B: Read>(alloc: Global, reader: &mut Watched<B>) -> Result<Base, Cl
     ensures other { IfErr result (λ fault. fault ≢ CliFault.Write) }
     ensures tells { IfErr result TellsWant }
 {
-    let words = read_words(alloc, reader, MAX_SIZE as usize)?;
+    let words = read_input(alloc, reader)?;
     adopt_words(alloc, &words)
 }
 
-/// Continues from the image that the first reader, BASE, has left, and runs the script that the second one has left
+/// Continues from the image in what the first reader, BASE, has left, a closed image or a mapped file, and runs the script that the second one has left
 /// in its segment, by 1 to 16 workers, as [`run_script`](crate::run_script) does in a new one. Writes the image of
 /// that segment, and then the report of that image.
 ///
@@ -82,8 +83,8 @@ fn read_base<B: Read>(alloc: Global, reader: &mut Watched<B>) -> Result<Base, Cl
 /// worker the marks of each other are the units, and its sum mark the sum, that BASE has and that the `add` records
 /// before its last `delta` record add up to [recorded]. Both outputs are flushed [flushed].
 ///
-/// A fault has its cause in BASE: `TooLong` where there are more than 8,388,608 bytes; `NotWords` where their number
-/// is no multiple of eight; `Adopt` with a fault for which its words may not be adopted without shared cursors. Or
+/// A fault has its cause in BASE: `TooLong` where there are more than 8,388,608 bytes, or in a mapped file 80 more;
+/// `NotWords` where their number is no multiple of eight; `Adopt` with a fault for which its words may not be adopted without shared cursors. Or
 /// BASE is an image that may be adopted, and the fault is one of the script or of its run, as of `run_script`; then
 /// `BadLine` of record 1 comes also where that names another segment than BASE, and `Refused` with `NoUnits` also for
 /// the first record that adds more than BASE has left [cause]. Out of memory is `NoMemory`: no `Refused` has it as

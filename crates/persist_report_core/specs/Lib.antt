@@ -1,6 +1,7 @@
 pub use Rattle.segment_image.specs.Watched
 pub use Rattle.bucket_ranges.specs.Reading
 pub mod Fault
+pub mod Input
 pub mod Report
 pub mod Number
 pub mod Request

@@ -4,16 +4,19 @@ use Rattle.segment_image.specs.Words.{bytes_of_words}
 use Rattle.segment_image.specs.Head.{header_of}
 use Rattle.segment_image.specs.declared.head.SegmentHead.{SegmentHead}
 use Rattle.bucket_ranges.specs.Reading.{Reading, IsReading}
+use Rattle.persist_report_core.specs.Input.{image_in, most_bytes}
 use Rattle.persist_report_core.specs.declared.fault.CliFault.{CliFault}
 use Rattle.persist_report_core.specs.declared.fault.CliFault.TheVariants.{Read, Write, TooLong, NotWords, Image, BadLine, Refused, Gate, Merge, NoThread, NoMemory, Adopt, NoSegment}
 use Rattle.reading_texts.specs.Text.{IsTextOf}
 
--- the words of 64 bits that the bytes are; a number past them would have the bytes of another word
+-- The words of the image in an input with these bytes. The words of the input have 64 bits: a number past them would have the bytes of another word.
 pub record AreWordsOf (bytes words : List ℕ) : Type 0 where
-  pub fit : All (λ word. word < 2 ^ 64) words
-  pub bytes_are : bytes_of_words words ≡ bytes
+  pub all : List ℕ
+  pub fit : All (λ word. word < 2 ^ 64) all
+  pub bytes_are : bytes_of_words all ≡ bytes
+  pub image_is : words ≡ image_in all
 
--- this is the reading of the words that the bytes are
+-- this is the reading of the image in an input with these bytes
 pub record IsReadingOf (bytes : List ℕ) (reading : Reading) : Type 0 where
   pub words : List ℕ
   pub words_are : AreWordsOf bytes words
@@ -21,7 +24,7 @@ pub record IsReadingOf (bytes : List ℕ) (reading : Reading) : Type 0 where
   pub head_is : header_of words ≡ Ok head
   pub reading_is : IsReading words head reading
 
--- the text is such a one of the reading of the words that the bytes are
+-- the text is such a one of that reading
 pub record IsOfBytes (IsOf : Reading → List ℕ → Type 0) (bytes text : List ℕ) : Type 0 where
   pub reading : Reading
   pub reading_is : IsReadingOf bytes reading
@@ -36,8 +39,8 @@ IsReportOfBytes bytes text = IsOfBytes IsTextOf bytes text
 abbrev pub IsCausedByImage : List ℕ → CliFault → Type 0
 IsCausedByImage bytes Read = ⊤
 IsCausedByImage bytes Write = ⊤
-IsCausedByImage bytes TooLong = 8388608 < length bytes
-IsCausedByImage bytes NotWords = (length bytes ≤ 8388608) × (length bytes % 8 ≢ 0)
+IsCausedByImage bytes TooLong = most_bytes bytes < length bytes
+IsCausedByImage bytes NotWords = (length bytes ≤ most_bytes bytes) × (length bytes % 8 ≢ 0)
 IsCausedByImage bytes (Image fault) = (words : List ℕ) × AreWordsOf bytes words × (header_of words ≡ Err fault)
 IsCausedByImage bytes (BadLine number) = ⊥
 IsCausedByImage bytes (Refused number why) = ⊥

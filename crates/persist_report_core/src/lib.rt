@@ -8,6 +8,7 @@
 
 mod fault;
 mod fields;
+mod input;
 mod number;
 mod reporting;
 mod rows;
@@ -15,9 +16,10 @@ mod script;
 
 pub use fault::CliFault;
 pub use fields::{read_spec, three_from};
+pub use input::{MAX_WORDS, image_in, read_input};
 pub use number::{long_number, signed_long_number, signed_number, unsigned_number};
 pub use reading_texts::report_text;
-pub use reporting::{MAX_WORDS, read_image, report_of, write_and_flush};
+pub use reporting::{read_image, report_of, write_and_flush};
 pub use rows::read_rows;
 pub use script::{
     CallKind, Script, ScriptCall, ScriptFault, ScriptHist, read_script, read_script_for,

@@ -9,17 +9,14 @@ ghost use Rattle.image_reader.specs.Readable.{IsReadable};
 ghost use Rattle.image_reader.specs.Views.{histogram_view, reading_view};
 
 use crate::fault::CliFault;
+use crate::input::image_in;
 use image_reader::Reading;
 use reading_texts::report_text;
 use segment_image::Watched;
-use segment_image::layout::MAX_SIZE;
 use std::alloc::Global;
 use std::io::Write;
 
-/// An image has at most so many words.
-pub const MAX_WORDS: usize = MAX_SIZE as usize;
-
-/// Returns what the image that the words are reads as [reading]. Of each histogram the spec is valid, each bucket has
+/// Returns what the image in the words reads as [reading]: they are those of a closed image or of a mapped file. Of each histogram the spec is valid, each bucket has
 /// its count, and the units fit a word [readable].
 ///
 /// The fault is `Image` with the first fault of the image's header [cause], or `NoMemory` where memory runs out;
@@ -30,11 +27,11 @@ pub fn read_image(alloc: Global, words: &[u64]) -> Result<Reading, CliFault>
     ensures cause { IfErr result (λ fault. IsCausedByImage (bytes_of_words words.now) fault) }
     ensures other { IfErr result (λ fault. (fault ≢ CliFault.Read) × (fault ≢ CliFault.Write)) }
 {
-    let reading = image_reader::read(alloc, words)?;
+    let reading = image_reader::read(alloc, image_in(words))?;
     Ok(reading)
 }
 
-/// Returns the text of the report of the image that the words are [text].
+/// Returns the text of the report of the image in the words [text]: those of a closed image or of a mapped file.
 ///
 /// Records that are no valid histograms, and a list of records that is broken, are lines of the report. The fault is
 /// `Image` with the first fault of the image's header [cause], or `NoMemory` where memory runs out; never `Read` or

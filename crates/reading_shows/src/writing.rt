@@ -7,19 +7,19 @@ ghost use Rattle.persist_report_core.specs.Report.{IsCausedByImage};
 ghost use Rattle.reading_shows.specs.Writing.{IsWrittenFrom};
 
 use crate::form::Form;
-use persist_report_core::{CliFault, MAX_WORDS, read_image, write_and_flush};
-use segment_image::{Watched, read_words};
+use persist_report_core::{CliFault, read_image, read_input, write_and_flush};
+use segment_image::Watched;
 use std::alloc::Global;
 use std::io::{Read, Write};
 
-/// Writes the text of the image that the reader has left, in a form. The reader and the writer have not failed
+/// Writes the text of the image in what the reader has left, a closed image or a mapped file, in a form. The reader and the writer have not failed
 /// before.
 ///
 /// On `Ok` exactly this text of the input was written [text], and then flushed [flushed]. Records that are no valid
 /// histograms, and a list of records that is broken, are no faults: the text names them.
 ///
-/// `TooLong` comes only where there are more than 8,388,608 bytes, `NotWords` only where their number is no multiple
-/// of eight, and `Image` only with the first fault of the image's header [cause]. `Read` comes exactly where a read
+/// `TooLong` comes only where there are more than 8,388,608 bytes, or in a mapped file 80 more, `NotWords` only where
+/// their number is no multiple of eight, and `Image` only with the first fault of the image's header [cause]. `Read` comes exactly where a read
 /// failed [read], and `Write` exactly where the write or the flush failed [write]. `NoMemory` comes where memory runs
 /// out. After every fault but `Write` nothing was written [untouched].
 pub fn write_text<R: Read, W: Write>(
@@ -37,7 +37,7 @@ pub fn write_text<R: Read, W: Write>(
     ensures flushed { OnOk result (is_flushed writer.new ≡ true) }
     ensures untouched { IfErr result (λ fault. fault ≢ CliFault.Write → writer.new ≡ writer.old) }
 {
-    let words = read_words(alloc, reader, MAX_WORDS)?;
+    let words = read_input(alloc, reader)?;
     let reading = read_image(alloc, &words)?;
     let text = form.text_of(alloc, &reading)?;
     write_and_flush(writer, &text)

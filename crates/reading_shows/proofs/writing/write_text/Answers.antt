@@ -11,5 +11,5 @@ returns-clause-text g c =
     let shown : IsOfBytes (IsTextIn c.args.form) (bytes_of_words c.in_ok-words.words.items) c.in_ok-text.text.items =
     record { reading = reading_view c.in_ok-reading.reading; reading_is = reading; text_is = c.in_ok-text.ensures } in
     let written = rw c.deref-2.ensures.value at c.write_and_flush.ensures.ok in
-    OnOk-map _ _ (shown_of_bytes (λ words. words.items) _ _ (IsTextIn c.args.form) c.in_ok-text.text.items _ _ c.read_words.result c.in_ok-words.words c.in_ok-words.was shown _ c.read_words.ensures.answer)
+    OnOk-map _ _ (shown_of_bytes c.in_ok-words.words.items (IsTextIn c.args.form) c.in_ok-text.text.items _ _ shown _ c.in_ok-words.ensures.words)
     c.write_and_flush.result written

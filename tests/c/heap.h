@@ -9,9 +9,9 @@
 /* What is in front of each block: its size. */
 enum { FRONT = 16 };
 
-/* How many blocks the library has, and how many bytes. */
+/* How many blocks the library has, how many bytes, and the most bytes that it had at a time; a test may lower that. */
 static long blocks;
-static size_t kept;
+static size_t kept, most_kept;
 
 /* What the heap returns. */
 struct tried {
@@ -27,6 +27,7 @@ static struct tried with_size(void *block, size_t size) {
     struct tried given = {true, (char *)block + FRONT};
     memcpy(block, &size, sizeof size);
     kept += size;
+    if (kept > most_kept) most_kept = kept;
     return given;
 }
 

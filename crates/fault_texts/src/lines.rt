@@ -4,8 +4,10 @@ use crate::complaint::Complaint;
 use crate::header::{wanted_of, word_of};
 use crate::script::{Finding, finding_of};
 use crate::shown::Shown;
-use crate::table::{FaultText, fault_text};
+use crate::table::{FaultText, fault_text, world_text};
+use crate::too_large::record_size_text;
 use persist_report_core::CliFault;
+use segment_calls::Refusal;
 use segment_image::ImageFault;
 use segment_image::layout::COOKIE_WORD;
 use std::alloc::{AllocError, Global};
@@ -39,8 +41,13 @@ impl fmt::Display for Origin<'_> {
     }
 }
 
-// The text of a fault: that of the last word of its line that has one.
+// The text of a fault: that of the last word of its line that has one. After `World` a name is one of a world.
 fn text_of_line(line: &str) -> Option<FaultText<'static>> {
+    if line.starts_with("World ") {
+        return line
+            .rsplit(' ')
+            .find_map(|word| world_text(word).or_else(|| fault_text(word)));
+    }
     line.rsplit(' ').find_map(fault_text)
 }
 
@@ -136,7 +143,8 @@ impl fmt::Display for Finding {
     }
 }
 
-/// The line of the record of a script that has this number; and what is wrong with it, where it is a `BadLine`.
+/// The line of the record of a script that has this number; and what is wrong with it, where it is a `BadLine`, or how many words it
+/// needs, where it is `TooLarge`.
 pub fn script_lines(
     alloc: Global,
     script: Source<'_, '_>,
@@ -147,6 +155,13 @@ pub fn script_lines(
     let (origin, line) = (script.origin, finding.line);
     match fault {
         CliFault::BadLine(_) => format!(in alloc; "  {origin}, line {line}: {finding}\n"),
+        CliFault::Refused {
+            why: Refusal::TooLarge,
+            ..
+        } => {
+            let size = record_size_text(alloc, script.bytes, &finding.fields)?;
+            format!(in alloc; "  {origin}, line {line}{size}\n")
+        }
         _ => format!(in alloc; "  {origin}, line {line}\n"),
     }
 }

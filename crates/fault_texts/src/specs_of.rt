@@ -30,14 +30,14 @@ fn survey_of_words(alloc: Global, words: &[u64]) -> Option<Survey> {
     Survey::of(alloc, words, &head, list).ok()
 }
 
-// What an image reads as, which was read before.
-fn reading_of(alloc: Global, bytes: &[u8]) -> Option<Reading> {
+/// What an image reads as, which was read before.
+pub(crate) fn reading_of(alloc: Global, bytes: &[u8]) -> Option<Reading> {
     let words = words_of(alloc, bytes)?;
     image_reader::read(alloc, &words).ok()
 }
 
-// The spec of the histogram of a name.
-fn spec_of<'a>(reading: &'a Reading, name: &[u8]) -> Option<&'a Spec> {
+/// The spec of the histogram of a name.
+pub(crate) fn spec_of<'a>(reading: &'a Reading, name: &[u8]) -> Option<&'a Spec> {
     let found = reading
         .hists
         .iter()

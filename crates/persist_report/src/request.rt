@@ -3,6 +3,7 @@
 mod arguments;
 mod mistakes;
 mod reading;
+mod texts;
 mod writing;
 
 use crate::nth::Nth;
@@ -86,13 +87,14 @@ fn command<'a>(alloc: Global) -> Result<Command<'a>, AllocError> {
     Command::new(alloc, "persist_report")
         .version("0.1.0")
         .about("Show, convert, merge and continue the histograms of a Povundiri segment")
+        .after_long_help(texts::PROGRAM)
         .subcommand_required(true)
+        .subcommand(show_command(alloc)?)?
         .subcommand(report_command(alloc)?)?
         .subcommand(export_command(alloc)?)?
-        .subcommand(show_command(alloc)?)?
+        .subcommand(merge_command(alloc)?)?
         .subcommand(run_command(alloc)?)?
         .subcommand(resume_command(alloc)?)?
-        .subcommand(merge_command(alloc)?)?
         .subcommand(extract_command(alloc)?)?
         .subcommand(explain_command(alloc)?)
 }

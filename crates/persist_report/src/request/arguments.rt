@@ -13,10 +13,15 @@ pub fn explain_flag<'a>(alloc: Global) -> Arg<'a> {
     Arg::new(alloc, "explain")
         .long("explain")
         .action(ArgAction::SetTrue)
-        .help("Explain errors: file, line, reason and what to do (on by default in a terminal)")
+        .help("Explain errors (on by default in a terminal)")
+        .long_help(
+            "Explain errors: file, line, reason and what to do (on by default in a\nterminal)",
+        )
 }
 
 /// The image that is read.
 pub fn image<'a>(alloc: Global) -> Arg<'a> {
-    Arg::new(alloc, "FILE").help("Image file; standard input if it is left out or -")
+    Arg::new(alloc, "FILE")
+        .help("Image file [default: standard input]")
+        .long_help("Image file; standard input if it is left out or -")
 }

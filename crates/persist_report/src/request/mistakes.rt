@@ -19,12 +19,18 @@ pub fn not_text(alloc: Global) -> Result<Error, AllocError>
     )
 }
 
-/// Returns what is wrong with a command line that asks for a fault that does not exist: a wrong value. The one error
-/// is that memory runs out.
-pub fn no_fault(alloc: Global) -> Result<Error, AllocError>
+/// Returns what is wrong with a command line that asks for a fault that does not exist: a wrong value. It names the
+/// fault that was meant, if one is like it. The one error is that memory runs out.
+pub fn no_fault(alloc: Global, nearest: Option<&str>) -> Result<Error, AllocError>
     ensures { IfOk result (λ error. kind_of error ≡ ErrorKind.InvalidValue) }
 {
-    command(alloc)?.error(ErrorKind::InvalidValue, "no fault has this name")
+    let mut message = String::from_str(alloc, "no fault has this name")?;
+    if let Some(name) = nearest {
+        message.push_str("; did you mean ")?;
+        message.push_str(name)?;
+        message.push_str("?")?;
+    }
+    command(alloc)?.error(ErrorKind::InvalidValue, message.as_str())
 }
 
 /// Returns what is wrong with a command line whose prefix is invalid: a mistake in a value. The one error is that

@@ -1,7 +1,7 @@
 //! The commands that read an image, and `explain`: their arguments, and what these ask for.
 
-use crate::request::Task;
 use crate::request::arguments::{explain_flag, image};
+use crate::request::{Task, texts};
 use clap::{Arg, ArgAction, ArgMatches, Command, value_parser};
 use reading_shows::Style;
 use std::alloc::{AllocError, Global};
@@ -9,7 +9,8 @@ use std::alloc::{AllocError, Global};
 pub fn report_command<'a>(alloc: Global) -> Result<Command<'a>, AllocError> {
     Command::new(alloc, "report")
         .about("Print the histograms of an image as CSV")
-        .after_help("Example:\n  persist_report report examples/three_samples.img")
+        .long_about(texts::REPORT)
+        .after_help("Example:\n  persist_report report my.img")
         .arg(image(alloc))?
         .arg(explain_flag(alloc))
 }
@@ -19,10 +20,12 @@ pub fn export_command<'a>(alloc: Global) -> Result<Command<'a>, AllocError> {
         .long("prefix")
         .value_name("PREFIX")
         .default_value("povundiri")
-        .help("Prefix of all metric names: letters, digits, _ and :, no digit first");
+        .help("Prefix of all metric names")
+        .long_help("Prefix of all metric names: letters, digits, _ and :, no digit first");
     Command::new(alloc, "export")
         .about("Print the histograms of an image in the Prometheus text format")
-        .after_help("Example:\n  persist_report export examples/three_samples.img")
+        .long_about(texts::EXPORT)
+        .after_help("Example:\n  persist_report export my.img --prefix my")
         .arg(image(alloc))?
         .arg(prefix)?
         .arg(explain_flag(alloc))
@@ -34,7 +37,8 @@ fn style_options<'a>(alloc: Global, command: Command<'a>) -> Result<Command<'a>,
         .long("width")
         .value_name("COLUMNS")
         .value_parser(value_parser!(u16).range(40..=200))
-        .help("Width of a line, 40 to 200 [default: COLUMNS of the environment, or 80]");
+        .help("Width of a line, 40 to 200 [default: COLUMNS, or 80]")
+        .long_help("Width of a line, 40 to 200 [default: COLUMNS of the environment, or\n80]");
     let ascii = Arg::new(alloc, "ascii")
         .long("ascii")
         .action(ArgAction::SetTrue)
@@ -46,8 +50,9 @@ fn style_options<'a>(alloc: Global, command: Command<'a>) -> Result<Command<'a>,
     let all = Arg::new(alloc, "all")
         .long("all")
         .action(ArgAction::SetTrue)
-        .help("Show all values of a sparse histogram, not only the 20 with the most units");
-    command.arg(width)?.arg(ascii)?.arg(log)?.arg(all)
+        .help("Show all values of sparse histograms")
+        .long_help("Show all values of a sparse histogram, not only the 20 with the most\nunits");
+    command.arg(width)?.arg(all)?.arg(log)?.arg(ascii)
 }
 
 pub fn show_command<'a>(alloc: Global) -> Result<Command<'a>, AllocError> {
@@ -65,10 +70,12 @@ pub fn show_command<'a>(alloc: Global) -> Result<Command<'a>, AllocError> {
         .conflicts_with("width")?
         .conflicts_with("ascii")?
         .conflicts_with("log")?
-        .help("Write one self-contained HTML page (not with --width, --ascii or --log)");
+        .help("Write one self-contained HTML page")
+        .long_help("Write one self-contained HTML page (not with --width, --ascii or\n--log)");
     let command = Command::new(alloc, "show")
         .about("Show the histograms of an image: numbers, quantiles and bars")
-        .after_help("Example:\n  persist_report show examples/three_samples.img A --width 60")
+        .long_about(texts::SHOW)
+        .after_help("Example:\n  persist_report show my.img A --width 60")
         .arg(image(alloc))?
         .arg(names)?
         .arg(part)?
@@ -77,9 +84,10 @@ pub fn show_command<'a>(alloc: Global) -> Result<Command<'a>, AllocError> {
 }
 
 pub fn explain_command<'a>(alloc: Global) -> Result<Command<'a>, AllocError> {
-    let name = Arg::new(alloc, "NAME").help("Name of a fault; all if it is left out");
+    let name = Arg::new(alloc, "NAME").help("Name of a fault, in any case; all if it is left out");
     Command::new(alloc, "explain")
         .about("Say what a fault means and what to do")
+        .long_about(texts::EXPLAIN)
         .after_help("Example:\n  persist_report explain BadLine")
         .arg(name)
 }

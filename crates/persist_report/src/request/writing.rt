@@ -1,8 +1,8 @@
 //! The commands that write an image: their arguments, and what these ask for.
 
 use crate::nth::Nth;
-use crate::request::Task;
 use crate::request::arguments::{explain_flag, file};
+use crate::request::{Task, texts};
 use crate::workers::Workers;
 use clap::{Arg, ArgMatches, Command, value_parser};
 use std::alloc::{AllocError, Global};
@@ -19,11 +19,10 @@ fn workers_option<'a>(alloc: Global) -> Arg<'a> {
 
 pub fn run_command<'a>(alloc: Global) -> Result<Command<'a>, AllocError> {
     Command::new(alloc, "run")
-        .about("Run a script: write the image to OUT and its report to standard output")
-        .after_help(
-            "Example:\n  persist_report run examples/three_samples.csv three.img --workers 2",
-        )
-        .arg(file(alloc, "SCRIPT", "Script to run, as CSV"))?
+        .about("Run a script: write the image to OUT, and print its report")
+        .long_about(texts::RUN)
+        .after_help("Example:\n  persist_report run my.csv my.img --workers 2")
+        .arg(file(alloc, "SCRIPT", "Script to run, as CSV").long_help(texts::SCRIPT))?
         .arg(file(alloc, "OUT", "File for the image"))?
         .arg(workers_option(alloc))?
         .arg(explain_flag(alloc))
@@ -31,17 +30,14 @@ pub fn run_command<'a>(alloc: Global) -> Result<Command<'a>, AllocError> {
 
 pub fn resume_command<'a>(alloc: Global) -> Result<Command<'a>, AllocError> {
     Command::new(alloc, "resume")
-        .about(
-            "Continue from image BASE: run a script and write the new image to OUT and its report to standard output",
-        )
-        .after_help(
-            "Example:\n  persist_report resume three.img examples/three_samples.csv six.img --workers 2",
-        )
+        .about("Continue from image BASE: run a script, and write the new image")
+        .long_about(texts::RESUME)
+        .after_help("Example:\n  persist_report resume my.img my.csv my.img")
         .arg(file(alloc, "BASE", "Image to continue from, of version 2"))?
         .arg(file(
             alloc,
             "SCRIPT",
-            "Script to run, as CSV; its segment record has the size, page and id of BASE",
+            "Script to run, as CSV; its segment record has the size,\npage and id of BASE",
         ))?
         .arg(file(alloc, "OUT", "File for the new image"))?
         .arg(workers_option(alloc))?
@@ -50,10 +46,9 @@ pub fn resume_command<'a>(alloc: Global) -> Result<Command<'a>, AllocError> {
 
 pub fn merge_command<'a>(alloc: Global) -> Result<Command<'a>, AllocError> {
     Command::new(alloc, "merge")
-        .about("Add two images into a new one; counts that a delta has already taken are left out")
-        .after_help(
-            "Example:\n  persist_report merge examples/three_samples.img three.img both.img",
-        )
+        .about("Add two images into a new one, without what deltas have taken")
+        .long_about(texts::MERGE)
+        .after_help("Example:\n  persist_report merge my.img my.img both.img")
         .arg(file(
             alloc,
             "BASE",
@@ -72,10 +67,9 @@ pub fn extract_command<'a>(alloc: Global) -> Result<Command<'a>, AllocError> {
         .default_value("1")
         .help("Which of the segments in the file, counted from 1");
     Command::new(alloc, "extract")
-        .about(
-            "Find a segment in any file, such as a mapped file or a core dump, and write its image to OUT; prints its offset",
-        )
-        .after_help("Example:\n  persist_report extract core.1234 found.img --nth 2")
+        .about("Find a segment in any file, and write its image to OUT")
+        .long_about(texts::EXTRACT)
+        .after_help("Example:\n  persist_report extract my.img found.img")
         .arg(file(alloc, "FILE", "File to search"))?
         .arg(file(alloc, "OUT", "File for the image"))?
         .arg(nth)?

@@ -63,7 +63,7 @@ def commands_in(text: str) -> list[str]:
 
 def options_in(text: str) -> list[str]:
     """The options that a help lists, in its order."""
-    return re.findall(r"^ +(?:-\w, )?(--[\w-]+)", text, re.MULTILINE)
+    return re.findall(r"^(?:  -\w, |      )(--[\w-]+)(?: .*)?$", text, re.MULTILINE)
 
 
 def examples_in(text: str) -> list[str]:

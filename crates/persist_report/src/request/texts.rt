@@ -43,7 +43,7 @@ the old file until it is the whole new one.";
 
 /// What a script is.
 pub const SCRIPT: &str = "Script to run, as CSV records in this order:
-segment,SIZE,PAGE,ID              words of segment and page, any number
+segment,SIZE,PAGE,ID              words of segment and page; a number
 hist,NAME,linear,MIN,MAX,BUCKETS  the histograms: this one,
 hist,NAME,boolean                 or one of these kinds
 hist,NAME,custom,VALUE,..

@@ -509,7 +509,7 @@ inline uint32_t povundiri_report_bounded(const uint64_t *words, size_t length, c
                                            text_length, needed != NULL ? needed : &own, most_keys);
 }
 
-/* The name of a status; any number may be passed. `persist_report explain NAME` says what most names from 101 on mean. */
+/* The name of a status; any number may be passed. `persist_report explain NAME` says what each name means. */
 const char *povundiri_status_text(uint32_t status);
 
 #ifdef __cplusplus

@@ -76,7 +76,7 @@ enum class Status : std::uint32_t {
     ImageNoMemory = POVUNDIRI_IMAGE_NO_MEMORY
 };
 
-// The name of a status, which no other has; of any number. 'persist_report explain' knows most.
+// The name of a status, which no other has; of any number. 'persist_report explain' says what it means.
 inline const char* text(Status status) noexcept {
     return status == Status::Forked ? "Forked" : povundiri_status_text(static_cast<std::uint32_t>(status));
 }

@@ -77,7 +77,7 @@ def exported(installed: native.Installed) -> Iterator[Case]:
 
 
 def text_of_statuses(program: pathlib.Path) -> Iterator[Case]:
-    """Each status has a name that no other has. Where one has two words, `persist_report` explains the last."""
+    """Each status has a name that no other has, and `persist_report` explains it: of two words the last."""
     header, names = ((native.LIBRARY / name).read_text() for name in ("povundiri.h", "povundiri.c"))
     listed = dict(re.findall(r"^    \{(POVUNDIRI_\w+), \"([\w ]+)\"\},$", names, re.MULTILINE))
     statuses = re.findall(r"^    (POVUNDIRI_\w+) = \d+", header.split("enum povundiri_status")[1], re.MULTILINE)
@@ -90,9 +90,9 @@ def text_of_statuses(program: pathlib.Path) -> Iterator[Case]:
     yield "each status is one of povundiri::Status", wrong
     shared = sorted(name for name in listed.values() if [*listed.values()].count(name) > 1)
     yield "no two statuses have one name", f"shared are {shared}" if shared else None
-    words = sorted({name.split()[-1] for name in listed.values() if " " in name})
-    unknown = [word for word in words if answer(program, ["explain", word]).status != 0]
-    yield "names of two words are explained", None if words and not unknown else f"not explained are {unknown}"
+    names_of_all = sorted(set(listed.values()) | {"Forked"})
+    unknown = [name for name in names_of_all if answer(program, ["explain", name]).status != 0]
+    yield "each name is explained", f"not explained are {unknown}" if unknown else None
 
 
 def report_in(program: Path, file: pathlib.Path) -> Answer:

@@ -62,9 +62,24 @@ REFUSED = {
     "hist,B,custom,0": "BadSpec Empty",
     "hist,B,custom,2147483647": "BadSpec BadRange",
     "hist,!,boolean": "BadName",
-    "hist,B,linear,1,900,90": "TooLarge",
     "add,A,1,0": "ZeroCount",
     "add,A,1,4294967295\nadd,A,1,1": "NoUnits",
+}
+# Records that are too large for a page of 64 words, and how many words they have: a record 15, one for each 8 bytes of
+# its name and one for each value of a custom one; counts 4, and 2 for each bucket.
+TOO_LARGE = {
+    "hist,B,linear,1,900,90": "the counts have 184 words",
+    "hist,B,linear,1,900,31": "the counts have 66 words",
+    f"hist,B,custom,{','.join(map(str, range(1, 50)))}": "the record has 65 words",
+    f"hist,{'B' * 9},custom,{','.join(map(str, range(1, 50)))}": "the record has 66 words",
+}
+# Those that have just room.
+FITTING = ["hist,B,linear,1,900,30", f"hist,B,custom,{','.join(map(str, range(1, 30)))}"]
+# Names that are not those of faults, and the name that is meant.
+NEAREST = {
+    "badlne": "BadLine", "BadLine 1": "BadLine", "toolage": "TooLarge", "NoUnit": "NoUnits", "rea": "Read",
+    "reed": "Read", "world1": "World", "othrsegment": "OtherSegment", "": None, "Re": None, "xyz": None,
+    "wxyzwxyz": None,
 }
 # What is stored at a word of a valid header, the fault, and what is said of it.
 WORDS = [
@@ -137,6 +152,14 @@ def scripts(program: pathlib.Path, folder: pathlib.Path) -> Iterator[Case]:
         script.write_bytes(f"{SEGMENT}\nhist,A,sparse\n{bad}\n".encode())
         later = bad.count("\n")
         yield f"{bad!r}", both(program, words, f"Refused {3 + later} {why}", 3, [f'"{script}", line {4 + later}'])
+    for bad, said in TOO_LARGE.items():
+        script.write_bytes(f"{SEGMENT}\nhist,A,sparse\n{bad}\n".encode())
+        lines = [f'"{script}", line 4: {said}, a page has 64']
+        yield f"{bad!r}", both(program, words, "Refused 3 TooLarge", 3, lines)
+    for fitting in FITTING:
+        script.write_bytes(f"{SEGMENT}\n{fitting}\n".encode())
+        came = answer(program, [*words, "--explain"])
+        yield f"{fitting!r}, which has room", None if (came.error, came.status) == (b"", 0) else f"{came}"
     yield "a script without an end", both(
         program, ["run", "/dev/zero", out], "TooLong", 3, ['"/dev/zero": 16777217 bytes were read']
     )
@@ -377,15 +400,25 @@ def told(program: pathlib.Path, folder: pathlib.Path) -> Iterator[Case]:
         answer(program, ["report", EXAMPLE]), on_terminal(program, ["report", EXAMPLE])
     )
     every = b""
-    for name, meaning, remedy in faults.texts():
+    texts: dict[str, bytes] = {}
+    for name, meaning, remedy in faults.all_texts():
         text = f"{name}: {meaning}\n  {remedy}\n".encode()
-        yield f"explain {name}", difference(Answer(text), answer(program, ["explain", name]))
+        texts[name] = texts.get(name, b"") + text
         every += text
+    for name, text in texts.items():
+        for asked in (name, name.lower(), name.upper()):
+            yield f"explain {asked}", difference(Answer(text), answer(program, ["explain", asked]))
     yield "explain", difference(Answer(every), answer(program, ["explain"]))
-    for name in ("badline", "", "BadLine 1"):
+    for status, name in faults.fault_names().items():
+        for asked in (f"POVUNDIRI_{status}", f"povundiri_{status.lower()}"):
+            yield f"explain {asked}", difference(Answer(texts[name]), answer(program, ["explain", asked]))
+    advised = [name for name, meaning, remedy in faults.all_texts() if "--explain" in meaning + remedy]
+    yield "no explanation advises --explain", f"{advised} do" if advised else None
+    for name, nearest in NEAREST.items():
         came = answer(program, ["explain", name])
-        is_right = came.error.startswith(b"error: no fault has this name\n") and (came.output, came.status) == (b"", 2)
-        yield f"explain {name!r}", None if is_right else f"wanted that no fault has this name, came {came}"
+        said = "error: no fault has this name" + (f"; did you mean {nearest}?\n" if nearest else "\n")
+        is_right = came.error.decode().startswith(said) and (came.output, came.status) == (b"", 2)
+        yield f"explain {name!r}", None if is_right else f"wanted {said!r}, came {came}"
 
 
 def cases(program: pathlib.Path, folder: pathlib.Path, options: argparse.Namespace) -> Iterator[Case]:

@@ -1,10 +1,12 @@
 //! What faults mean, and what a fault of a script or of an image is about: its line and field, its word, its two specs.
 //!
-//! The texts are one table, `TEXTS`. What a complaint about a record says of its fields is so (`specs/Complaint.antt`), and a
+//! The texts are three tables: `TEXTS`, `WORLD_TEXTS` of `stepped`, and `C_TEXTS` of statuses that only programs in C see. What a complaint about a record says of its fields is so (`specs/Complaint.antt`), and a
 //! line of a file is one more than the line feeds before it. The lines themselves are only tested.
 #![tactic(auto)]
 
 mod adopting;
+mod asked;
+mod c_table;
 mod complaint;
 mod field;
 mod header;
@@ -14,8 +16,12 @@ mod script;
 mod shown;
 mod specs_of;
 mod table;
+mod too_large;
+mod world_table;
 
 pub use adopting::{adopt_lines, base_lines};
+pub use asked::{nearest_name, texts_for};
+pub use c_table::C_TEXTS;
 pub use complaint::{Complaint, RecordForm, complaint_of};
 pub use field::Wanted;
 pub use header::{wanted_of, word_of};
@@ -27,4 +33,6 @@ pub use records::{ScriptRecord, is_named, line_of, record_of};
 pub use script::{Finding, finding_of};
 pub use shown::{Shown, ShownSpec};
 pub use specs_of::merge_lines;
-pub use table::{AllTexts, FaultText, TEXTS, fault_text};
+pub use table::{AllTexts, FaultText, TEXTS, fault_text, world_text};
+pub use too_large::merge_size_lines;
+pub use world_table::WORLD_TEXTS;

@@ -4,10 +4,12 @@ use crate::complaint::Complaint;
 use crate::header::{wanted_of, word_of};
 use crate::script::{Finding, finding_of};
 use crate::shown::Shown;
-use crate::table::{FaultText, fault_text};
+use crate::table::{FaultText, fault_text, world_text};
+use crate::too_large::record_size_text;
 use persist_report_core::CliFault;
+use segment_calls::Refusal;
 use segment_image::ImageFault;
-use segment_image::layout::COOKIE_WORD;
+use segment_image::layout::{COOKIE_WORD, SEGMENT_COOKIE};
 use std::alloc::{AllocError, Global};
 use std::{fmt, io};
 
@@ -39,8 +41,13 @@ impl fmt::Display for Origin<'_> {
     }
 }
 
-// The text of a fault: that of the last word of its line that has one.
+// The text of a fault: that of the last word of its line that has one. After `World` a name is one of a world.
 fn text_of_line(line: &str) -> Option<FaultText<'static>> {
+    if line.starts_with("World ") {
+        return line
+            .rsplit(' ')
+            .find_map(|word| world_text(word).or_else(|| fault_text(word)));
+    }
     line.rsplit(' ').find_map(fault_text)
 }
 
@@ -136,7 +143,8 @@ impl fmt::Display for Finding {
     }
 }
 
-/// The line of the record of a script that has this number; and what is wrong with it, where it is a `BadLine`.
+/// The line of the record of a script that has this number; and what is wrong with it, where it is a `BadLine`, or how many words it
+/// needs, where it is `TooLarge`.
 pub fn script_lines(
     alloc: Global,
     script: Source<'_, '_>,
@@ -147,16 +155,37 @@ pub fn script_lines(
     let (origin, line) = (script.origin, finding.line);
     match fault {
         CliFault::BadLine(_) => format!(in alloc; "  {origin}, line {line}: {finding}\n"),
+        CliFault::Refused {
+            why: Refusal::TooLarge,
+            ..
+        } => {
+            let size = record_size_text(alloc, script.bytes, &finding.fields)?;
+            format!(in alloc; "  {origin}, line {line}{size}\n")
+        }
         _ => format!(in alloc; "  {origin}, line {line}\n"),
     }
 }
 
-/// A word of an image, the least byte first; 0 where it has not so many.
-pub(crate) fn word_at(bytes: &[u8], at: usize) -> u64 {
+// A word of bytes, the least byte first; 0 if they have fewer.
+fn word_of_bytes(bytes: &[u8], at: usize) -> u64 {
     let word = bytes.chunks_exact(8).nth(at).unwrap_or_default();
     word.iter()
         .rev()
         .fold(0, |number, byte| number << 8 | u64::from(*byte))
+}
+
+// The bytes from the first word of an image on: in a mapped file one word comes before it.
+fn image_bytes(bytes: &[u8]) -> &[u8] {
+    if word_of_bytes(bytes, 0) == 0 && word_of_bytes(bytes, 1) == SEGMENT_COOKIE {
+        bytes.get(8..).unwrap_or_default()
+    } else {
+        bytes
+    }
+}
+
+/// A word of the image in an input; 0 if it has fewer.
+pub(crate) fn word_at(bytes: &[u8], at: usize) -> u64 {
+    word_of_bytes(image_bytes(bytes), at)
 }
 
 /// Which word of the header of an image is wrong, what it is and what it has to be; or how many bytes an image has.
@@ -166,11 +195,17 @@ pub fn image_lines(
     fault: ImageFault,
 ) -> Result<String, AllocError> {
     let (origin, wanted) = (image.origin, wanted_of(fault));
+    let bytes = image_bytes(image.bytes);
+    let of_image = if bytes.len() < image.bytes.len() {
+        " of the image in it"
+    } else {
+        ""
+    };
     match word_of(fault) {
         None => {
             format!(in alloc;
-                "  {origin} has {} bytes; an image has 128 or more\n",
-                image.bytes.len()
+                "  {origin} has {} bytes{of_image}; an image has 128 or more\n",
+                bytes.len()
             )
         }
         Some(COOKIE_WORD) => {
@@ -179,7 +214,7 @@ pub fn image_lines(
         }
         Some(at) => {
             let word = word_at(image.bytes, at);
-            format!(in alloc; "  {origin}, word {at} is {word}; it has to be {wanted}\n")
+            format!(in alloc; "  {origin}, word {at}{of_image} is {word}; it has to be {wanted}\n")
         }
     }
 }

@@ -4,13 +4,14 @@ use crate::lines::Source;
 use crate::shown::{Shown, ShownSpec};
 use bucket_ranges::Spec;
 use image_reader::{Reading, Survey, list_of};
-use persist_report_core::MAX_WORDS;
-use segment_image::{Watched, header, read_words};
+use persist_report_core::{image_in, read_input};
+use segment_image::{Watched, header};
 use std::alloc::{AllocError, Global};
 
-/// The words of an image, which was read before.
+/// The words of the image in an input that was read before: a closed image or a mapped file.
 pub(crate) fn words_of(alloc: Global, bytes: &[u8]) -> Option<Vec<u64>> {
-    read_words(alloc, &mut Watched::new(bytes), MAX_WORDS).ok()
+    let words = read_input(alloc, &mut Watched::new(bytes)).ok()?;
+    Vec::from_slice(alloc, image_in(&words)).ok()
 }
 
 /// What the list of an image has, which was read before.
@@ -30,14 +31,14 @@ fn survey_of_words(alloc: Global, words: &[u64]) -> Option<Survey> {
     Survey::of(alloc, words, &head, list).ok()
 }
 
-// What an image reads as, which was read before.
-fn reading_of(alloc: Global, bytes: &[u8]) -> Option<Reading> {
+/// What an image reads as, which was read before.
+pub(crate) fn reading_of(alloc: Global, bytes: &[u8]) -> Option<Reading> {
     let words = words_of(alloc, bytes)?;
     image_reader::read(alloc, &words).ok()
 }
 
-// The spec of the histogram of a name.
-fn spec_of<'a>(reading: &'a Reading, name: &[u8]) -> Option<&'a Spec> {
+/// The spec of the histogram of a name.
+pub(crate) fn spec_of<'a>(reading: &'a Reading, name: &[u8]) -> Option<&'a Spec> {
     let found = reading
         .hists
         .iter()

@@ -2,6 +2,8 @@
 
 ghost use Rattle.std.specs.Prelude.{◌≡◌, IfSome};
 
+use crate::c_table::C_TEXTS;
+use crate::world_table::WORLD_TEXTS;
 use std::fmt;
 
 /// What a fault means, and what to do.
@@ -21,16 +23,26 @@ impl fmt::Display for FaultText<'_> {
     }
 }
 
-/// The texts of all faults, one after the other.
+// Writes the texts of a table, one after the other.
+fn write_table<W: fmt::Write>(
+    f: &mut fmt::Formatter<W>,
+    table: &[(&str, &str, &str)],
+) -> fmt::Result {
+    for entry in table {
+        writeln!(f, "{}: {}\n  {}", entry.0, entry.1, entry.2)?;
+    }
+    Ok(())
+}
+
+/// The texts of all faults, one after the other: those of `TEXTS`, of `stepped`, and of C.
 #[derive(Clone, Copy, Debug)]
 pub struct AllTexts;
 
 impl fmt::Display for AllTexts {
     fn fmt<W: fmt::Write>(&self, f: &mut fmt::Formatter<W>) -> fmt::Result {
-        for entry in &TEXTS {
-            writeln!(f, "{}: {}\n  {}", entry.0, entry.1, entry.2)?;
-        }
-        Ok(())
+        write_table(f, &TEXTS)?;
+        write_table(f, &WORLD_TEXTS)?;
+        write_table(f, &C_TEXTS)
     }
 }
 
@@ -50,7 +62,14 @@ fn find_text<'a>(table: &'a [(&'a str, &'a str, &'a str)], name: &str) -> Option
     None
 }
 
-/// Returns the text of a fault by its name, where there is one; it has that name.
+/// Returns the text of a fault of a world of `stepped` by its name, where there is one; it has that name.
+pub fn world_text(name: &str) -> Option<FaultText<'static>>
+    ensures { IfSome result (λ text. text.name.now ≡ name.now) }
+{
+    find_text(&WORLD_TEXTS, name)
+}
+
+/// Returns the text of a fault by its name, where there is one in `TEXTS`; it has that name.
 pub fn fault_text(name: &str) -> Option<FaultText<'static>>
     ensures { IfSome result (λ text. text.name.now ≡ name.now) }
 {
@@ -77,7 +96,7 @@ pub const TEXTS: [(&str, &str, &str); 49] = [
     ),
     (
         "TooLong",
-        "An image has more than 8,388,608 bytes, or a script more than 16,777,216; or 2^64 bytes were searched.",
+        "An image has more than 8,388,608 bytes, or a script or a schedule more than 16,777,216; or 2^64 bytes were searched.",
         "Is it the right file? Split a long script in two, and add up the reports.",
     ),
     (
@@ -92,13 +111,13 @@ pub const TEXTS: [(&str, &str, &str); 49] = [
     ),
     (
         "BadLine",
-        "A record of the script is malformed, out of order, or names an unknown histogram; with `resume`, also: its segment differs from BASE. The number counts records; empty lines are none.",
-        "Correct the record: --explain says its line in the file, and what is wrong.",
+        "A record of the script or the schedule is malformed, out of order, or names an unknown histogram; with `resume`, also: its segment differs from BASE. The number counts records; empty lines are none.",
+        "Correct the record.",
     ),
     (
         "Refused",
         "What a record of the script asks for is refused. The reason follows the number of the record.",
-        "Look the reason up: `explain NAME`. --explain says the line in the file.",
+        "Look the reason up: `explain NAME`.",
     ),
     (
         "Gate",
@@ -108,7 +127,7 @@ pub const TEXTS: [(&str, &str, &str); 49] = [
     (
         "Merge",
         "A merge stopped at a histogram. Its name and the reason follow.",
-        "Look the reason up: `explain NAME`. --explain shows both specs of a name that has two.",
+        "Look the reason up: `explain NAME`.",
     ),
     (
         "NoThread",
@@ -202,22 +221,22 @@ pub const TEXTS: [(&str, &str, &str); 49] = [
     ),
     (
         "ZeroCount",
-        "An `add` record has the count 0.",
+        "A sample or an `add` record has the count 0.",
         "Give it a count of 1 or more, or leave it out.",
     ),
     (
         "NoUnits",
-        "More units are needed than there are. A segment has 4,294,967,295 in its whole life, also when recording continues in its image.",
-        "Record into two segments, and add up the reports.",
+        "A recorder has used up its share of units. Or more are asked for than the segment has left: it has 4,294,967,295 in its whole life, also when recording continues in its image.",
+        "Lend the recorder more, and join recorders that are done: the segment has their rest again. If the segment has too few, record into two segments, and add up the reports.",
     ),
     (
         "TooMany",
-        "A linear spec has more than 1,000 buckets or more than MAX - MIN + 2; or a custom one has more than 999 values; or 256 recorders are not joined.",
-        "Use fewer buckets or values. If a recorder was asked for, join one first.",
+        "The segment has 256 recorders that are not joined, and no more at once. Of a spec: a linear one has more than 1,000 buckets or more than MAX - MIN + 2, or a custom one more than 999 values.",
+        "Join a recorder before you ask for the next one. Of a spec: use fewer buckets or values.",
     ),
     (
         "TooLarge",
-        "The record of a histogram or its counts are longer than a page.",
+        "The record of a histogram or its counts have more words than a page. A record has 15 and one for each 8 bytes of the name, rounded up; of a custom histogram also one for each value. Counts have 4 and 2 for each bucket.",
         "Use larger pages, fewer buckets or a shorter name. For a merge, let BASE be the image with the larger pages.",
     ),
     (

@@ -133,7 +133,7 @@ fn merge_inputs(alloc: Global, base: &Input, dead: &Input) -> Result<Image, CliF
 /// it. The units of each key, the sum and the redundant count are what is left of BASE and of DEAD together. All
 /// marks and sum marks are 0, and no flag is set [image]. The writer is flushed [flushed].
 ///
-/// A fault has its cause in BASE, or in DEAD where BASE has none, or in both: `TooLong`, `NotWords` and `Image` as
+/// A fault has its cause in BASE, or in DEAD if BASE has none, or in both: `TooLong`, `NotWords` and `Image` as
 /// for a report; `Merge` with the name of the histogram at which the merge stopped, and why. `Merge` is never
 /// `Corrupt` [cause]:
 ///
@@ -145,8 +145,8 @@ fn merge_inputs(alloc: Global, base: &Input, dead: &Input) -> Result<Image, CliF
 ///   what was merged before it, and of as many of its items. From the free pointer of these words its next block
 ///   passes the end: its record, if the name is not there, else its counts or a sample.
 ///
-/// `Read` comes exactly where a read of one failed [read]; DEAD is read only where BASE was, and is an image
-/// [base_first]. `Write` comes exactly where the write or the flush failed [write]. `NoMemory` comes where memory
+/// `Read` comes exactly if a read of one failed [read]; DEAD is read only if BASE was, and is an image
+/// [base_first]. `Write` comes exactly if the write or the flush failed [write]. `NoMemory` comes if memory
 /// runs out. After every fault but `Write` nothing was written [untouched].
 pub fn merge_files<A: Read, B: Read, W: Write>(
     alloc: Global,

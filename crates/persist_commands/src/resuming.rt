@@ -83,16 +83,17 @@ fn read_base<B: Read>(alloc: Global, reader: &mut Watched<B>) -> Result<Base, Cl
 /// worker the marks of each other are the units, and its sum mark the sum, that BASE has and that the `add` records
 /// before its last `delta` record add up to [recorded]. Both outputs are flushed [flushed].
 ///
-/// A fault has its cause in BASE: `TooLong` where there are more than 8,388,608 bytes, or in a mapped file 80 more;
-/// `NotWords` where their number is no multiple of eight; `Adopt` with a fault for which its words may not be adopted without shared cursors. Or
+/// A fault has its cause in BASE: `TooLong` if there are more than 8,388,608 bytes, or in a mapped file 80 more;
+/// `NotWords` if their number is no multiple of eight; `Adopt` with a fault for which its words may not be adopted
+/// without shared cursors. Or
 /// BASE is an image that may be adopted, and the fault is one of the script or of its run, as of `run_script`; then
-/// `BadLine` of record 1 comes also where that names another segment than BASE, and `Refused` with `NoUnits` also for
+/// `BadLine` of record 1 comes also if that names another segment than BASE, and `Refused` with `NoUnits` also for
 /// the first record that adds more than BASE has left [cause]. Out of memory is `NoMemory`: no `Refused` has it as
 /// its cause [tells].
 ///
-/// `Read` comes exactly where a read of one failed [read]; that of the script fails only where that of BASE has not,
-/// and BASE may be adopted [base_first]. `Write` comes exactly where a write or a flush of one of the writers failed
-/// [write]. After every other fault nothing was written [untouched]. Where the writer of the image has failed,
+/// `Read` comes exactly if a read of one failed [read]; that of the script fails only if that of BASE has not,
+/// and BASE may be adopted [base_first]. `Write` comes exactly if a write or a flush of one of the writers failed
+/// [write]. After every other fault nothing was written [untouched]. If the writer of the image has failed,
 /// nothing of the report was written [unbegun].
 pub fn resume_script<R: Threads + Wait, B: Read, S: Read, I: Write, W: Write, G: Gate + Sync>(
     rt: &R,

@@ -210,15 +210,15 @@ fn new_segment(alloc: Global, script: &Script) -> Result<(Segment, Opener), CliF
 /// one worker the marks of each other are the units, and its sum mark the sum, that the `add` records before its last
 /// `delta` record add up to [recorded]. Both outputs are flushed [flushed].
 ///
-/// `TooLong` comes only where there are more than 16,777,216 bytes. Of a script with a fault the first one is
+/// `TooLong` comes only if there are more than 16,777,216 bytes. Of a script with a fault the first one is
 /// reported: `BadLine` with the record that has no valid form, or `Refused` with one that adds no unit, or more than
-/// a segment has. A script without a fault may end with `Write`, or, by the first of these: `NoThread` where a worker
-/// could not be started, `NoMemory`, `Gate` where the gate did not let a call come, and `Refused` with the least
+/// a segment has. A script without a fault may end with `Write`, or, by the first of these: `NoThread` if a worker
+/// could not be started, `NoMemory`, `Gate` if the gate did not let a call come, and `Refused` with the least
 /// record whose histogram or whose call was refused [cause]. Out of memory is `NoMemory`: no `Refused` has it as its
 /// cause [tells].
 ///
-/// `Read` comes exactly where a read failed [read], and `Write` exactly where a write or a flush of one of the
-/// writers failed [write]. After every other fault nothing was written [untouched]. Where the writer of the image has
+/// `Read` comes exactly if a read failed [read], and `Write` exactly if a write or a flush of one of the
+/// writers failed [write]. After every other fault nothing was written [untouched]. If the writer of the image has
 /// failed, nothing of the report was written [unbegun].
 pub fn run_script<R: Threads + Wait, S: Read, I: Write, W: Write, G: Gate + Sync>(
     rt: &R,

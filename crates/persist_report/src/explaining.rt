@@ -7,10 +7,11 @@ use crate::context::Context;
 use crate::failure::Failure;
 use crate::lock::Unopened;
 use fault_texts::{
-    Origin, Source, adopt_lines, base_lines, device_lines, image_lines, merge_lines, remedy_lines,
-    remedy_lines_of, script_lines, size_lines,
+    Origin, Source, adopt_lines, base_lines, device_lines, image_lines, merge_lines,
+    merge_size_lines, remedy_lines, remedy_lines_of, script_lines, size_lines,
 };
 use persist_report_core::CliFault;
+use segment_calls::Refusal;
 use std::alloc::{AllocError, Global};
 use std::io;
 
@@ -56,9 +57,13 @@ fn lines_of(
             record_lines(alloc, fault, *number, known)?
         }
         CliFault::Adopt(fault) => adopt_lines(alloc, known.input, *fault)?,
-        CliFault::Merge { name, .. } => {
+        CliFault::Merge { name, why } => {
             let base = known.base.unwrap_or(known.input);
-            merge_lines(alloc, base, known.input, name.as_slice())?
+            if let Refusal::TooLarge = why {
+                merge_size_lines(alloc, base, known.input, name.as_slice())?
+            } else {
+                merge_lines(alloc, base, known.input, name.as_slice())?
+            }
         }
         CliFault::Gate | CliFault::NoThread | CliFault::NoMemory | CliFault::NoSegment => {
             String::new(alloc)

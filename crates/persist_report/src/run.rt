@@ -9,7 +9,7 @@ use crate::failure::Failure;
 use crate::files::{merge_files_into, resume_file, run_file, write_file};
 use crate::request::{Request, Task, no_fault, no_prefix, not_text};
 use crate::terminal::{columns, is_terminal};
-use fault_texts::{AllTexts, fault_text};
+use fault_texts::{AllTexts, nearest_name, texts_for};
 use persist_report_core::CliFault;
 use reading_shows::{Choice, Form, Style};
 use reading_texts::is_prefix;
@@ -69,9 +69,12 @@ fn explain<R: Print + AllocGlobal>(rt: &R, name: Option<&str>) -> Result<(), Fai
 {
     match name {
         None => rt.print(AllTexts).map_err(|_| CliFault::Write)?,
-        Some(name) => match fault_text(name) {
-            Some(text) => rt.print(text).map_err(|_| CliFault::Write)?,
-            None => return Err(Failure::Usage(no_fault(rt.alloc())?)),
+        Some(name) => match texts_for(rt.alloc(), name)? {
+            Some(texts) => rt.print(texts).map_err(|_| CliFault::Write)?,
+            None => {
+                let nearest = nearest_name(rt.alloc(), name)?;
+                return Err(Failure::Usage(no_fault(rt.alloc(), nearest)?));
+            }
         },
     }
     Ok(())

@@ -8,6 +8,34 @@ use clap::{Arg, ArgAction, ArgMatches, Command, Error, value_parser};
 use std::alloc::{AllocError, Global};
 use std::convert::AsStr;
 
+// What `--help` says of the program. `clap` does not wrap lines, so each text has its line ends.
+const LONG_ABOUT: &str =
+    "Replay a schedule of calls on a segment, one atomic step at a time; the segment
+is new, or continues an image. It prints a line for each begin of a call, each
+step and each answer, unless an option says otherwise.";
+
+// What a schedule is.
+const SCHEDULE: &str = "Schedule, as CSV records in this order:
+world,SIZE,PAGE,ID,ACTORS,VERSION  a new segment, with this many actors
+adopt,FILE,ACTORS                  or, in its place, that of an image
+hist,ACTOR,NAME,KIND,..            then who begins a call: a histogram, as
+add,ACTOR,NAME,VALUE,COUNT         in scripts of persist_report; a sample,
+batch,ACTOR,NAME,SUM,VALUE,COUNT,..
+delta,ACTOR,NAME
+snapshot,ACTOR,NAME
+set_corrupt,ACTOR
+step,ACTOR,TIMES                   and who does the next TIMES steps";
+
+// Examples that work in an empty folder, one after the other.
+const EXAMPLES: &str = "Examples:
+  printf '%s\\n' world,128,64,7,2,2 hist,0,A,boolean hist,1,A,boolean \\
+      step,0,9 step,1,99 step,0,99 > race.csv
+  stepped race.csv --show
+  stepped race.csv --stop 20 --report
+
+The first makes a schedule in which two actors ask for one name at once. In the
+picture an exchange that fails shows what it wanted and what it found.";
+
 /// What is shown of a world.
 #[derive(Clone, Copy)]
 pub enum Show {
@@ -50,29 +78,28 @@ fn flag<'a>(alloc: Global, name: &'a str, help: &'a str) -> Arg<'a> {
 fn command<'a>(alloc: Global) -> Result<Command<'a>, AllocError> {
     let schedule = Arg::new(alloc, "SCHEDULE")
         .required(true)
-        .help("Schedule of calls and steps, as CSV");
+        .help("Schedule of calls and steps, as CSV")
+        .long_help(SCHEDULE);
     let picture = flag(alloc, "show", "Draw the steps as a picture for people");
     let report = flag(
         alloc,
         "report",
-        "Print the report of the segment at the end, or where --stop ended",
+        "Print the report of the segment at the end,\nor where --stop ended",
     );
     let image = flag(
         alloc,
         "image",
-        "Write the words of the segment at the end, or where --stop ended, as an image",
+        "Write the words of the segment at the end,\nor where --stop ended, as an image",
     );
     Command::new(alloc, "stepped")
         .version("0.1.0")
-        .about(
-            "Replay a schedule of calls on a segment, one atomic step at a time; the segment is new, or continues an image",
-        )
-        .after_help(
-            "Example:\n  stepped examples/race_for_a_name.csv --stop 20 --report\n  stepped examples/race_for_a_name.csv --show",
-        )
+        .about("Replay a schedule of calls on a segment, one atomic step at a time")
+        .long_about(LONG_ABOUT)
+        .after_help("Example:\n  stepped race.csv --show")
+        .after_long_help(EXAMPLES)
         .arg(schedule)?
-        .arg(stop_argument(alloc))?
         .arg(picture.conflicts_with("report")?.conflicts_with("image")?)?
+        .arg(stop_argument(alloc))?
         .arg(report.conflicts_with("image")?)?
         .arg(image)
 }

@@ -1,0 +1,100 @@
+//! What those statuses of the calls from C and C++ mean that no other program prints, and what to do.
+
+/// Each status by the name that `povundiri_status_text` has for it, with what it means and what to do, as in `TEXTS`.
+pub const C_TEXTS: [(&str, &str, &str); 19] = [
+    (
+        "Done",
+        "In C: the call did what it says.",
+        "Nothing is to be done.",
+    ),
+    (
+        "Null",
+        "In C: a pointer is null that must not be.",
+        "Pass the address of something. Only an array of length 0 may be null.",
+    ),
+    (
+        "BadRoom",
+        "In C: the room for a segment is not aligned to 16 bytes, or is no multiple of 16 bytes, or has none.",
+        "Take it from `aligned_alloc(16, ..)` or from whole pages, and round its length to a multiple of 16.",
+    ),
+    (
+        "EmptyHandle",
+        "In C: the handle holds nothing. It was never filled, or it is closed, joined or dropped.",
+        "Fill it first, and do not use it after it was closed, joined or dropped.",
+    ),
+    (
+        "FullHandle",
+        "In C: the handle that is to be filled holds something.",
+        "Close, join or drop what it holds first, or pass another handle, which begins as zeros.",
+    ),
+    (
+        "OtherKind",
+        "In C: the handle is a recorder's where a segment's is needed, or the other way round.",
+        "Look at the order of the arguments.",
+    ),
+    (
+        "OtherSegment",
+        "In C: the recorder is of another segment.",
+        "Pass each recorder with the segment that made it.",
+    ),
+    (
+        "Short",
+        "In C: the array is too short. The length that it needs is returned, and nothing was taken.",
+        "Call again with an array of that length. Other threads may have added to it meanwhile, so do this in a loop.",
+    ),
+    (
+        "UnknownHistogram",
+        "In C: no call returned this histogram to this recorder.",
+        "Ask this recorder for it by its name: the number of a histogram is for one recorder only.",
+    ),
+    (
+        "NoCursor",
+        "In C: the segment has no shared cursor of this number.",
+        "Open it with more cursors, at most eight. They are counted from 0.",
+    ),
+    (
+        "NoSuchKind",
+        "In C: there is no such kind of histogram; of `povundiri_open`, no such policy.",
+        "Use one of the constants of the header.",
+    ),
+    (
+        "InUse",
+        "In C: the segment has recorders.",
+        "Join or drop them first.",
+    ),
+    (
+        "ListEnds",
+        "In C: there is no record after the cursor yet.",
+        "Nothing is wrong: ask again when more histograms may have been made.",
+    ),
+    (
+        "Elsewhere",
+        "In C: the recorder was passed with a segment that is not its own, while another thread joined at its own. Its own segment has it now, and its handle is empty.",
+        "Pass each recorder with the segment that made it.",
+    ),
+    (
+        "Busy",
+        "In C: another thread passes a recorder of the same segment at this moment. Nothing has happened.",
+        "Try again, and pass each recorder with the segment that made it: then this should not come.",
+    ),
+    (
+        "System",
+        "In C: a call of the system failed for a segment in a file. Its number (`errno.h`) is returned beside this status.",
+        "Print that number by `strerror`.",
+    ),
+    (
+        "TooManyKeys",
+        "In C: the image has more keys than the caller allows, and is not reported.",
+        "Allow more if you trust the image. A forged one can have very many.",
+    ),
+    (
+        "Forked",
+        "In C++: the segment or the recorder is of the process from which this one was forked.",
+        "Open it after the fork: after `daemon`, and in each process of a server that forks its workers.",
+    ),
+    (
+        "NoSuchStatus",
+        "In C: the number is not that of a status.",
+        "Pass what a call returned to `povundiri_status_text`.",
+    ),
+];

@@ -1,0 +1,27 @@
+//! The arguments that several commands have.
+
+use clap::{Arg, ArgAction};
+use std::alloc::Global;
+
+/// A file that has to be named.
+pub fn file<'a>(alloc: Global, name: &'a str, help: &'a str) -> Arg<'a> {
+    Arg::new(alloc, name).required(true).help(help)
+}
+
+/// Asks for the lines that follow the line of a fault.
+pub fn explain_flag<'a>(alloc: Global) -> Arg<'a> {
+    Arg::new(alloc, "explain")
+        .long("explain")
+        .action(ArgAction::SetTrue)
+        .help("Explain errors (on by default in a terminal)")
+        .long_help(
+            "Explain errors: file, line, reason and what to do (on by default in a\nterminal)",
+        )
+}
+
+/// The image that is read.
+pub fn image<'a>(alloc: Global) -> Arg<'a> {
+    Arg::new(alloc, "FILE")
+        .help("Image file [default: standard input]")
+        .long_help("Image file; standard input if it is left out or -")
+}

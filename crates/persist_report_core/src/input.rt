@@ -1,6 +1,6 @@
 //! The words of an input: a closed image, or a mapped file with an image in it.
 
-ghost use Rattle.std.specs.Prelude.{◌≡◌, ◌≢◌, ◌↔◌, true, false, IfOk, IfErr, IfSome, IsErrOf};
+ghost use Rattle.std.specs.Prelude.{◌≡◌, ◌≢◌, ◌↔◌, true, false, IfOk, IfErr, IfSome, IsErrOf, if◌then◌else◌};
 ghost use Rattle.segment_image.specs.Words.{bytes_of_words};
 ghost use Rattle.segment_image.specs.Watched.{has_failed, watched_inner};
 ghost use Rattle.persist_report_core.specs.Report.{IsCausedByImage};
@@ -23,6 +23,17 @@ fn is_mapped(words: &[u64]) -> bool
     ensures { result ≡ is_mapped words.now }
 {
     words.len() > 1 && words[0] == 0 && words[1] == SEGMENT_COOKIE
+}
+
+// The most words of an input that begins with these.
+fn most_words(words: &[u64]) -> usize
+    ensures { result ≡ (if is_mapped words.now then MAX_MAPPED_WORDS else MAX_WORDS) }
+{
+    if is_mapped(words) {
+        MAX_MAPPED_WORDS
+    } else {
+        MAX_WORDS
+    }
 }
 
 /// Returns the image in the words of an input. In those of a mapped file, which begins with a word of 0 and then the
@@ -63,12 +74,8 @@ pub fn read_input<R: Read>(alloc: Global, reader: &mut Watched<R>) -> Result<Vec
     }
     push_words(&mut words, &front[..came])?;
     if came == front.len() {
-        let limit = if is_mapped(&words) {
-            MAX_MAPPED_WORDS
-        } else {
-            MAX_WORDS
-        };
-        read_more_words(&mut words, reader, limit)?;
+        let most = most_words(&words);
+        read_more_words(&mut words, reader, most)?;
     }
     Ok(words)
 }

@@ -11,4 +11,6 @@ mod lists;
 #[cfg(test)]
 mod ranges;
 #[cfg(test)]
+mod scales;
+#[cfg(test)]
 mod words;

@@ -5,6 +5,7 @@
 //!
 //! - [`Shape::of`], [`header`] and [`block`] answer what the words say exactly where all checks hold, and otherwise
 //!   the first check that fails, in the order that [`ImageFault`] lists them. They take no memory.
+//! - [`Shape::fit`] answers the shape for a number of words, whose page it chooses.
 //! - [`read_bytes`] answers all bytes that a reader had left, up to a limit, and otherwise why there are none.
 //! - [`read_words`] answers the words whose bytes are all that a reader had left, and otherwise why there are none.
 //! - [`write_words`] writes the bytes that words are.
@@ -15,6 +16,7 @@
 
 mod blocks;
 mod fault;
+pub mod fitting;
 mod head;
 mod image;
 pub mod layout;

@@ -13,4 +13,6 @@ mod ranges;
 #[cfg(test)]
 mod scales;
 #[cfg(test)]
+mod shapes;
+#[cfg(test)]
 mod words;

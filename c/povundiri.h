@@ -22,9 +22,10 @@
  *   pointers    Each is null or leads to memory for what its type says (an array: for as many elements as its length says), aligned
  *               for that type. During the call no other thread touches it, or writes what is const. No two point to the same memory.
  *   handles     A handle begins as zeros. Only these calls change it. It is not copied: to move it, copy it and zero the old one.
- *   turns       A handle is passed to one call at a time. It goes to another thread in order: by a lock, the start or the join of a
- *               thread, or a sequentially consistent atomic. So each thread has a recorder of its own, and the handle of the
- *               segment is with one thread at a time, which makes recorders, lends to its own and joins those that are done.
+ *   turns       A handle is passed to one call at a time, and each call happens before the next, as C has it: if another thread makes
+ *               the next one, they are ordered by a lock, the start or the join of a thread, a channel, or an atomic that is stored
+ *               with release and loaded with acquire. So each thread has a recorder of its own, and the handle of the segment is
+ *               with one thread at a time, which makes recorders, lends to its own and joins those that are done.
  *   room        It is aligned to 16, and a multiple of 16 bytes that is not 0. From the call on it is the segment's: nobody writes
  *               to it or unmaps it until the segment is closed or dropped and each of its recorders is joined or dropped. Another
  *               process may read it, word by word.

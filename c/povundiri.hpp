@@ -63,6 +63,16 @@ constexpr Shape shape(std::uint64_t size, std::uint64_t page, std::uint64_t id =
     return {size, page, id, cursors, version};
 }
 
+// The shape of a segment in so many bytes, whose page and version are chosen; the id is the caller's. It has as few pages as hold these
+// bytes if a page has at most 4,096 words, all of one size, which is a multiple of 16 words; so it has at most the bytes, and less than 16
+// words for each page are left over. The shape is valid from 512 bytes to 8,388,608 (8 MiB); 'create' and 'open' refuse others with
+// OpenBadShape. From 32,768 bytes on, a histogram of 1,000 buckets fits in a page; below that a page is the whole segment.
+constexpr Shape shape_for(std::uint64_t bytes, std::uint64_t id = 0, std::size_t cursors = 0) noexcept {
+    const std::uint64_t words = bytes / 8, pages = words / 4096 + (words % 4096 != 0);
+    const std::uint64_t page = pages == 0 ? 0 : words / pages / 16 * 16;
+    return shape(words > 1'048'576 ? words : pages * page, page, id, cursors);
+}
+
 // ---- Arguments and results ----
 
 // Contiguous elements, borrowed for a call: of a vector, an array, a list in braces.
@@ -354,6 +364,11 @@ public:
     [[nodiscard]] Status try_custom(std::string_view name, Span<const std::uint32_t> values, Hist& hist) noexcept {
         return try_hist(name, {POVUNDIRI_CUSTOM, 0, 0, 0}, values, hist);
     }
+    // Of the values from 0 to n - 1, each with a bucket of its own, and one more for n and above: linear from 1 to n with n + 1 buckets. n is
+    // from 2 to 999. Below that it is SpecBadMax, above it SpecTooMany or SpecBadMax.
+    [[nodiscard]] Status try_enumeration(std::string_view name, std::uint32_t n, Hist& hist) noexcept {
+        return try_linear(name, 1, n, n + 1, hist);
+    }
     [[nodiscard]] Status try_sparse(std::string_view name, Hist& hist) noexcept {
         return try_hist(name, {POVUNDIRI_SPARSE, 0, 0, 0}, {}, hist);
     }
@@ -370,6 +385,11 @@ public:
     Hist custom(std::string_view name, Span<const std::uint32_t> values) {
         Hist hist;
         detail::need(try_custom(name, values, hist), "hist", name);
+        return hist;
+    }
+    Hist enumeration(std::string_view name, std::uint32_t n) {
+        Hist hist;
+        detail::need(try_enumeration(name, n, hist), "hist", name);
         return hist;
     }
     Hist sparse(std::string_view name) {

@@ -160,6 +160,50 @@ void names() {
     HOLDS(!std::error_code(Status::Done) && std::string(povundiri::category().name()) == "povundiri");
 }
 
+// A shape for bytes is valid, has them or a little less, and a page of 2,048 words where there are 4,096; and outside of the bounds none is.
+void shapes() {
+    struct Row {
+        std::uint64_t bytes, size, page;
+    };
+    static_assert(povundiri::shape_for(65'536, 7, 3).id == 7 && povundiri::shape_for(65'536, 7, 3).cursors == 3);
+    static_assert(povundiri::shape_for(65'536).version == povundiri::kFrozenVersion);
+    for (const Row& row : {Row{512, 64, 64}, Row{8191, 1008, 1008}, Row{32'767, 4080, 4080}, Row{32'768, 4096, 4096}, Row{32'776, 4096, 2048},
+                           Row{65'535, 8160, 4080}, Row{524'288, 65'536, 4096}, Row{8'388'600, 1'044'480, 4080},
+                           Row{8'388'608, 1'048'576, 4096}, Row{8'388'615, 1'048'576, 4096}}) {
+        const povundiri::Shape shape = povundiri::shape_for(row.bytes, 7);
+        Segment segment;
+        HOLDS(shape.size == row.size && shape.page == row.page);
+        DONE(Segment::try_create(shape, segment));
+    }
+    for (const std::uint64_t bytes : {std::uint64_t{0}, std::uint64_t{511}, std::uint64_t{8'388'616}, UINT64_MAX}) {
+        Segment segment;
+        RETURNS(OpenBadShape, Segment::try_create(povundiri::shape_for(bytes), segment));
+    }
+}
+
+// An enumeration of n is linear, and has a bucket for each value below n and one from n on.
+void enumerations() {
+    Segment segment;
+    Recorder recorder;
+    Hist hist, again;
+    Counts counts;
+    DONE(Segment::try_create(povundiri::shape_for(65'536, 7), segment));
+    DONE(segment.try_recorder(recorder, 10));
+    DONE(recorder.try_enumeration("e", 5, hist));
+    DONE(recorder.try_linear("e", 1, 5, 6, again));
+    for (int value = 0; value < 7; ++value) HOLDS(recorder.add(hist, value));
+    DONE(recorder.try_snapshot(hist, counts));
+    HOLDS(counts.units().size() == 6);
+    for (int value = 0; value < 6; ++value) HOLDS(counts.units()[static_cast<std::size_t>(value)].key == value);
+    HOLDS(counts.units()[4].count == 1 && counts.units()[5].count == 2);
+    DONE(recorder.try_enumeration("least", 2, hist));
+    DONE(recorder.try_enumeration("most", 999, hist));
+    RETURNS(SpecBadMax, recorder.try_enumeration("k", 0, hist));
+    RETURNS(SpecBadMax, recorder.try_enumeration("k", 1, hist));
+    RETURNS(SpecTooMany, recorder.try_enumeration("k", 1000, hist));
+    RETURNS(SpecBadMax, recorder.try_enumeration("k", UINT32_MAX, hist));
+}
+
 #if defined(__cpp_exceptions)
 
 // What was thrown, and its status.
@@ -195,6 +239,7 @@ void exceptions() {
     THROWS(RefusedZeroCount, "add, value 1, count 0: ZeroCount", recorder.add_or_throw(linear, 1, 0));
     THROWS(Unknown, "batch, items 1: UnknownHistogram", recorder.batch_or_throw(Hist(), {{1, 91}}, 0));
     THROWS(SpecBadMin, "hist \"k\": BadMin", recorder.linear("k", 0, 1, 3));
+    THROWS(SpecBadMax, "hist \"k\": BadMax", recorder.enumeration("k", 1));
     THROWS(RefusedOtherSpec, "hist \"l\": OtherSpec", recorder.sparse("l"));
     THROWS(RefusedBadName, "hist \"a b\": BadName", recorder.boolean("a b"));
     THROWS(NoCursor, "next_shared, cursor 3: NoCursor", recorder.next_shared(3));
@@ -255,6 +300,8 @@ int main() {
     failed += group("corrupt", corrupt);
     failed += group("moves", moves);
     failed += group("names", names);
+    failed += group("shapes", shapes);
+    failed += group("enumerations", enumerations);
 #if defined(__cpp_exceptions)
     failed += group("exceptions", exceptions);
 #endif

@@ -30,6 +30,7 @@ CHECKS: tuple[tuple[str, list[str], bool], ...] = (
     ("refused_memory.c", [], False),
     ("crossing.cpp", [], False),
     ("crossing_lends.c", [], False),
+    ("handed.c", [], False),
     ("recorders.cpp", [], True),
     ("recorders.cpp", [NO_EXCEPTIONS], True),
     ("forked.cpp", [], True),

@@ -87,6 +87,15 @@ def mistakes(folder: pathlib.Path) -> Iterator[Case]:
         yield f"refused: {statement or f'nothing ({suffix})'}", wrong
 
 
+# What runs under the thread sanitizer, with which words, and whether that has to find a race: a handle that is handed on
+# by relaxed steps is one.
+SANITIZED_RUNS: tuple[tuple[str, list[str], bool], ...] = (
+    ("recorders.cpp", [], False),
+    ("handed.c", [], False),
+    ("handed.c", ["relaxed"], True),
+)
+
+
 def own_lines(source: pathlib.Path, *flags: str) -> list[str]:
     """What the preprocessor leaves of the library's headers."""
     text = native.run([*native.compiler(".cpp"), *flags, f"-I{native.LIBRARY}", "-E", source])
@@ -141,12 +150,16 @@ def thread_sanitized(folder: pathlib.Path) -> Iterator[Case]:
     """What is in `c/` alone, with a stand-in for the proved functions: the sanitizer cannot see into those."""
     flags = ["-fsanitize=thread", "-DSTAND_IN"]
     sources = [native.LIBRARY / name for name in ("povundiri.c", "povundiri_file.c", "povundiri_raise.cpp")]
-    sources += [native.PROGRAMS / "stand_in.cpp", native.PROGRAMS / "recorders.cpp"]
-    objects = [compiled(folder, source, *flags) for source in sources]
-    program = folder / "recorders_threads"
-    native.run([*native.compiler(".cpp"), *flags, "-pthread", "-o", program, *objects])
-    status, said = said_by(program, folder)
-    yield "recorders.cpp under the thread sanitizer", None if status == 0 else f"status {status}: {said[-3000:]}"
+    objects = [compiled(folder, source, *flags) for source in (*sources, native.PROGRAMS / "stand_in.cpp")]
+    for name, words, is_race in SANITIZED_RUNS:
+        program = folder / f"{name}_threads"
+        if not program.exists():
+            own = compiled(folder, native.PROGRAMS / name, *flags)
+            native.run([*native.compiler(".cpp"), *flags, "-pthread", "-o", program, *objects, own])
+        status, said = said_by(program, *(words or [folder]))
+        is_right = status != 0 and "data race" in said if is_race else status == 0
+        title = " ".join([name, *words, "under the thread sanitizer"])
+        yield title, None if is_right else f"status {status}: {said[-3000:]}"
 
 
 def cases(installed: native.Installed, folder: pathlib.Path) -> Iterator[Case]:

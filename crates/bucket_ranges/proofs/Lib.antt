@@ -12,3 +12,7 @@ pub mod Named
 pub mod Earlier
 pub mod FirstSamples
 pub mod SameSpecs
+pub mod Scales
+pub mod ScaleLists
+pub mod ScaleTurns
+pub mod ScaleFaults

@@ -5,6 +5,7 @@ pub use Rattle.segment_image.specs.Blocks
 pub mod Fault
 pub mod Spec
 pub mod Ranges
+pub mod Scale
 pub mod Single
 pub mod Listed
 pub mod Record

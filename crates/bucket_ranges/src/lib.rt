@@ -11,11 +11,13 @@ pub mod limits;
 mod ranges;
 pub mod reading;
 mod samples;
+pub mod scale;
 mod single;
 mod spec;
 
 pub use custom::{CustomValues, distinct_values_stand_once};
 pub use ranges::{Ranges, buckets_split_values, one_bucket_has_a_value};
 pub use samples::{Plain, amount_of, empty_buckets, tally};
+pub use scale::log_linear;
 pub use single::SingleWord;
 pub use spec::{Spec, SpecFault};

@@ -72,10 +72,11 @@ pub enum SpecFault {
     /// The maximum is not above the minimum, or above 2,147,483,646.
     #[error("BadMax")]
     BadMax = 2,
-    /// There are fewer than three buckets.
+    /// There are fewer than three buckets; or a scale has 0 bits.
     #[error("TooFew")]
     TooFew = 3,
-    /// There are over 1,000 buckets, or more than the values from minimum to maximum give; or over 999 custom values.
+    /// There are over 1,000 buckets, or more than the values from minimum to maximum give; or over 999 custom values; or
+    /// a scale has over 8 bits.
     #[error("TooMany")]
     TooMany = 4,
     /// A custom value is above 2,147,483,646.

@@ -1,3 +1,4 @@
 pub mod TakePut
 pub mod ReadWords
 pub mod WordsOfBytes
+pub mod Fitted

@@ -7,3 +7,4 @@ pub mod Blocks
 pub mod Image
 pub mod Watched
 pub mod Transfer
+pub mod Fitting

@@ -5,6 +5,7 @@
 //!
 //! - [`Shape::of`], [`header`] and [`block`] answer what the words say exactly where all checks hold, and otherwise
 //!   the first check that fails, in the order that [`ImageFault`] lists them. They take no memory.
+//! - [`Shape::fit`] answers the shape for a number of words, whose page it chooses.
 //! - [`read_bytes`] answers all bytes that a reader had left, up to a limit, and otherwise why there are none.
 //! - [`read_words`] answers the words whose bytes are all that a reader had left, and otherwise why there are none;
 //!   [`read_more_words`] appends them to words that are there.
@@ -16,6 +17,7 @@
 
 mod blocks;
 mod fault;
+pub mod fitting;
 mod head;
 mod image;
 pub mod layout;

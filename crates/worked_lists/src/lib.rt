@@ -11,4 +11,8 @@ mod lists;
 #[cfg(test)]
 mod ranges;
 #[cfg(test)]
+mod scales;
+#[cfg(test)]
+mod shapes;
+#[cfg(test)]
 mod words;

@@ -245,6 +245,15 @@ def merges(program: pathlib.Path, folder: pathlib.Path) -> Iterator[Case]:
     answer(program, ["run", folder / "script.csv", folder / "small.img"])
     words = ["merge", folder / "small.img", folder / "large.img", folder / "out"]
     yield "no room", both(program, words, "Merge S Full", 3, [f'DEAD "{folder / "large.img"}" has `S` as sparse'])
+    words = ["merge", folder / "small.img", images[1], folder / "out"]
+    many = f"custom,{','.join(map(str, range(1, 50)))}"
+    (folder / "script.csv").write_bytes(f"segment,512,128,7\nhist,M,{many}\nadd,M,1,1\n".encode())
+    answer(program, ["run", folder / "script.csv", images[1]])
+    said = [
+        f'DEAD "{images[1]}" has `M` as custom,{",".join(map(str, range(1, 17)))},...',
+        f'BASE "{folder / "small.img"}": the record has 65 words, a page has 64',
+    ]
+    yield "larger than a page of BASE", both(program, words, "Merge M TooLarge", 3, said)
 
 
 def with_words(image: bytes, stored: Mapping[int, int]) -> bytes:

@@ -134,6 +134,6 @@ def cases(program: pathlib.Path, _options: argparse.Namespace) -> Iterator[Case]
             yield f"help {name}", difference(long, answer(reporting, ["help", name]))
         yield from helps(stepping, [], [STEPPED])
         yield "help", difference(answer(reporting, ["--help"]), answer(reporting, ["help"]))
-        texts = [asked(reporting, [*words, "--help"]) for words in ([], *([name] for name in commands))]
-        yield from examples(programs, texts)
+        own = asked(reporting, ["--help"])
+        yield from examples(programs, [own, *(asked(reporting, [name, "--help"]) for name in commands)])
         yield from examples(programs, [asked(stepping, ["--help"])])

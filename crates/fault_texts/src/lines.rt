@@ -41,12 +41,18 @@ impl fmt::Display for Origin<'_> {
     }
 }
 
+// The text of a word in the line of a fault of a world.
+fn text_in_world(word: &str) -> Option<FaultText<'static>> {
+    match world_text(word) {
+        Some(text) => Some(text),
+        None => fault_text(word),
+    }
+}
+
 // The text of a fault: that of the last word of its line that has one. After `World` a name is one of a world.
 fn text_of_line(line: &str) -> Option<FaultText<'static>> {
     if line.starts_with("World ") {
-        return line
-            .rsplit(' ')
-            .find_map(|word| world_text(word).or_else(|| fault_text(word)));
+        return line.rsplit(' ').find_map(text_in_world);
     }
     line.rsplit(' ').find_map(fault_text)
 }

@@ -47,9 +47,11 @@ pub(crate) fn record_size_text(
     script: &[u8],
     fields: &ByteRecord,
 ) -> Result<String, AllocError> {
-    let (Some(name), Some(kind)) = (fields.get(1), fields.get(2)) else {
+    if fields.len() < 3 {
         return Ok(String::new(alloc));
-    };
+    }
+    let name = fields.get(1).unwrap_or_default();
+    let kind = fields.get(2).unwrap_or_default();
     let spec = read_spec(alloc, kind, fields, 3)?;
     match (page_of(alloc, script)?, spec) {
         (Some(page), Some(spec)) => size_text(alloc, u64::from(page), name, &spec),

@@ -43,6 +43,22 @@ fn record_lines(
     Ok(lines)
 }
 
+// What both images have of the name at which a merge stopped, and how many words it needs if it is too large.
+fn merged_lines(
+    alloc: Global,
+    base: Source<'_, '_>,
+    dead: Source<'_, '_>,
+    name: &[u8],
+    why: Refusal,
+) -> Result<String, AllocError> {
+    let mut lines = merge_lines(alloc, base, dead, name)?;
+    if let Refusal::TooLarge = why {
+        let more = merge_size_lines(alloc, base, dead, name)?;
+        lines.push_str(more.as_str())?;
+    }
+    Ok(lines)
+}
+
 // The lines that follow the line of a fault.
 fn lines_of(
     alloc: Global,
@@ -59,11 +75,7 @@ fn lines_of(
         CliFault::Adopt(fault) => adopt_lines(alloc, known.input, *fault)?,
         CliFault::Merge { name, why } => {
             let base = known.base.unwrap_or(known.input);
-            if let Refusal::TooLarge = why {
-                merge_size_lines(alloc, base, known.input, name.as_slice())?
-            } else {
-                merge_lines(alloc, base, known.input, name.as_slice())?
-            }
+            merged_lines(alloc, base, known.input, name.as_slice(), *why)?
         }
         CliFault::Gate | CliFault::NoThread | CliFault::NoMemory | CliFault::NoSegment => {
             String::new(alloc)

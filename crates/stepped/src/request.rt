@@ -16,15 +16,15 @@ step and each answer, unless an option says otherwise.";
 
 // What a schedule is.
 const SCHEDULE: &str = "Schedule, as CSV records in this order:
-world,SIZE,PAGE,ID,ACTORS,VERSION  a new segment, with this many actors
-adopt,FILE,ACTORS                  or, in its place, that of an image
-hist,ACTOR,NAME,KIND,..            then who begins a call: a histogram, as
-add,ACTOR,NAME,VALUE,COUNT         in scripts of persist_report; a sample,
+world,SIZE,PAGE,ID,ACTORS,VERSION    a new segment,
+adopt,FILE,ACTORS                    or that of an image;
+hist,ACTOR,NAME,KIND,..              then who begins a call; KIND and
+add,ACTOR,NAME,VALUE,COUNT           the others are as in a script
 batch,ACTOR,NAME,SUM,VALUE,COUNT,..
 delta,ACTOR,NAME
 snapshot,ACTOR,NAME
 set_corrupt,ACTOR
-step,ACTOR,TIMES                   and who does the next TIMES steps";
+step,ACTOR,TIMES                     and who does the next TIMES steps";
 
 // Examples that work in an empty folder, one after the other.
 const EXAMPLES: &str = "Examples:

@@ -87,8 +87,8 @@ def mistakes(folder: pathlib.Path) -> Iterator[Case]:
         yield f"refused: {statement or f'nothing ({suffix})'}", wrong
 
 
-# What runs under the thread sanitizer, with which words, and whether that has to find a race: a handle that is handed on
-# by relaxed steps is one.
+# What runs under the thread sanitizer, with which words, and whether that has to find a race, as in a handle that is
+# handed on by relaxed steps.
 SANITIZED_RUNS: tuple[tuple[str, list[str], bool], ...] = (
     ("recorders.cpp", [], False),
     ("handed.c", [], False),

@@ -156,7 +156,7 @@ def thread_sanitized(folder: pathlib.Path) -> Iterator[Case]:
         if not program.exists():
             own = compiled(folder, native.PROGRAMS / name, *flags)
             native.run([*native.compiler(".cpp"), *flags, "-pthread", "-o", program, *objects, own])
-        status, said = said_by(program, *(words or [folder]))
+        status, said = said_by(program, *words, folder)
         is_right = status != 0 and "data race" in said if is_race else status == 0
         title = " ".join([name, *words, "under the thread sanitizer"])
         yield title, None if is_right else f"status {status}: {said[-3000:]}"

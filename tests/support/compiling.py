@@ -87,8 +87,8 @@ def mistakes(folder: pathlib.Path) -> Iterator[Case]:
         yield f"refused: {statement or f'nothing ({suffix})'}", wrong
 
 
-# What runs under the thread sanitizer, with which words, and whether that has to find a race: a handle that is handed on
-# by relaxed steps is one.
+# What runs under the thread sanitizer, with which words, and whether that has to find a race, as in a handle that is
+# handed on by relaxed steps.
 SANITIZED_RUNS: tuple[tuple[str, list[str], bool], ...] = (
     ("recorders.cpp", [], False),
     ("handed.c", [], False),
@@ -156,7 +156,7 @@ def thread_sanitized(folder: pathlib.Path) -> Iterator[Case]:
         if not program.exists():
             own = compiled(folder, native.PROGRAMS / name, *flags)
             native.run([*native.compiler(".cpp"), *flags, "-pthread", "-o", program, *objects, own])
-        status, said = said_by(program, *(words or [folder]))
+        status, said = said_by(program, *words, folder)
         is_right = status != 0 and "data race" in said if is_race else status == 0
         title = " ".join([name, *words, "under the thread sanitizer"])
         yield title, None if is_right else f"status {status}: {said[-3000:]}"

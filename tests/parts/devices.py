@@ -43,7 +43,7 @@ HEADER_FAULTS = [
 HELP = b"""\
 Show, convert, merge and continue the histograms of a Povundiri segment
 
-Usage: persist_report <COMMAND>
+Usage: persist_report [OPTIONS] <COMMAND>
 
 Commands:
   report   Print the histograms of an image as CSV
@@ -58,8 +58,12 @@ offset
   help     Print this message or the help of the given subcommand(s)
 
 Options:
+      --explain  Explain errors: file, line, reason and what to do (on by default in a terminal)
   -h, --help     Print help
   -V, --version  Print version
+
+With PERSIST_REPORT_EXPLAIN=1 in the environment every error is explained, as by
+--explain: for cron, systemd, containers and CI.
 """
 REPORT_HELP = b"""\
 Print the histograms of an image as CSV
@@ -186,7 +190,7 @@ Example:
 NOT_TEXT = b"""\
 error: invalid UTF-8 was detected in one or more arguments
 
-Usage: persist_report <COMMAND>
+Usage: persist_report [OPTIONS] <COMMAND>
 
 For more information, try '--help'.
 """
@@ -221,7 +225,8 @@ MISTAKES: list[list[Word]] = [
     ["report", "--explain", "--explain"],
     ["explain", "Read", "Write"],
     ["explain", "--explain"],
-    ["--explain", "report"],
+    ["--explain"],
+    ["--explain", "--explain", "report"],
 ]
 
 

@@ -5,6 +5,7 @@
 #![tactic(auto)]
 
 mod adopting;
+mod asking;
 mod complaint;
 mod field;
 mod header;
@@ -16,6 +17,7 @@ mod specs_of;
 mod table;
 
 pub use adopting::{adopt_lines, base_lines};
+pub use asking::{VARIABLE, VARIABLE_HELP, is_asked, is_terminal_at};
 pub use complaint::{Complaint, RecordForm, complaint_of};
 pub use field::Wanted;
 pub use header::{wanted_of, word_of};

@@ -7,6 +7,7 @@ use crate::nth::Nth;
 use crate::workers::Workers;
 use clap::error::ErrorKind;
 use clap::{Arg, ArgAction, ArgMatches, Command, Error, value_parser};
+use fault_texts::VARIABLE_HELP;
 use reading_shows::Style;
 use std::alloc::{AllocError, Global};
 use std::convert::AsStr;
@@ -60,7 +61,7 @@ pub enum Task<'a> {
         dead: &'a str,
         out: &'a str,
     },
-    /// Find a segment in a file. Write its image to another, and to standard output where it was.
+    /// Find a segment in a file. Write its image to another, and to the error stream where it was.
     Extract {
         file: &'a str,
         out: &'a str,
@@ -243,11 +244,14 @@ fn explain_command<'a>(alloc: Global) -> Result<Command<'a>, AllocError> {
         .arg(name)
 }
 
-fn command<'a>(alloc: Global) -> Result<Command<'a>, AllocError> {
+/// The command line of the program.
+pub fn command<'a>(alloc: Global) -> Result<Command<'a>, AllocError> {
     Command::new(alloc, "persist_report")
         .version("0.1.0")
         .about("Show, convert, merge and continue the histograms of a Povundiri segment")
+        .after_help(VARIABLE_HELP)
         .subcommand_required(true)
+        .arg(explain_flag(alloc))?
         .subcommand(report_command(alloc)?)?
         .subcommand(export_command(alloc)?)?
         .subcommand(show_command(alloc)?)?
@@ -363,7 +367,7 @@ impl<'a> Request<'a> {
         if let Some((name, found)) = matches.subcommand()
             && let Some(task) = task_of(alloc, name, found, columns)?
         {
-            let explains = found.get_flag("explain");
+            let explains = found.get_flag("explain") || matches.get_flag("explain");
             return Ok(Request { task, explains });
         }
         Err(command.error(ErrorKind::MissingSubcommand, "a subcommand is required")?)

@@ -30,6 +30,8 @@ pub struct Request<'a> {
     pub events: u64,
     /// What it shows.
     pub show: Show,
+    /// Whether faults are to be explained.
+    pub explains: bool,
 }
 
 fn stop_argument<'a>(alloc: Global) -> Arg<'a> {
@@ -68,13 +70,18 @@ fn command<'a>(alloc: Global) -> Result<Command<'a>, AllocError> {
             "Replay a schedule of calls on a segment, one atomic step at a time; the segment is new, or continues an image",
         )
         .after_help(
-            "Example:\n  stepped examples/race_for_a_name.csv --stop 20 --report\n  stepped examples/race_for_a_name.csv --show",
+            "Example:\n  stepped examples/race_for_a_name.csv --stop 20 --report\n  stepped examples/race_for_a_name.csv --show\n\nWith PERSIST_REPORT_EXPLAIN=1 in the environment every error is explained, as by\n--explain: for cron, systemd, containers and CI.",
         )
         .arg(schedule)?
         .arg(stop_argument(alloc))?
         .arg(picture.conflicts_with("report")?.conflicts_with("image")?)?
         .arg(report.conflicts_with("image")?)?
-        .arg(image)
+        .arg(image)?
+        .arg(flag(
+            alloc,
+            "explain",
+            "Explain errors: file, line, reason and what to do (on by default in a terminal)",
+        ))
 }
 
 fn show_of(matches: &ArgMatches<'_>) -> Show {
@@ -101,6 +108,7 @@ impl<'a> Request<'a> {
                 schedule,
                 events: matches.get_one::<u64>("stop").unwrap_or(u64::MAX),
                 show: show_of(&matches),
+                explains: matches.get_flag("explain"),
             }),
             None => Err(command.error(
                 ErrorKind::MissingRequiredArgument,

@@ -100,7 +100,7 @@ def report_in(program: Path, file: pathlib.Path) -> Answer:
     """The report of the segment that stands at byte 8 of a file, or what was said in its place."""
     image = file.with_suffix(".img")
     found = answer(program, ["extract", file, image])
-    return answer(program, ["report", image]) if found == Answer(b"8\n") else found
+    return answer(program, ["report", image]) if found == Answer(error=b"8\n") else found
 
 
 def recorded_twice(

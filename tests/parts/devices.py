@@ -43,7 +43,7 @@ HEADER_FAULTS = [
 NOT_TEXT = b"""\
 error: invalid UTF-8 was detected in one or more arguments
 
-Usage: persist_report <COMMAND>
+Usage: persist_report [OPTIONS] <COMMAND>
 
 For more information, try '--help'.
 """
@@ -78,7 +78,8 @@ MISTAKES: list[list[Word]] = [
     ["report", "--explain", "--explain"],
     ["explain", "Read", "Write"],
     ["explain", "--explain"],
-    ["--explain", "report"],
+    ["--explain"],
+    ["--explain", "--explain", "report"],
 ]
 
 

@@ -386,10 +386,11 @@ def wants(program: pathlib.Path, folder: pathlib.Path, options: argparse.Namespa
     yield "no memory", None if came in wanted else difference(wanted[0], came)
 
 
-def on_terminal(program: pathlib.Path, words: Sequence[Word]) -> Answer:
+def on_terminal(program: pathlib.Path, words: Sequence[Word], **settings: Any) -> Answer:
     """What a program writes to an error stream that is a terminal."""
     mine, its = pty.openpty()
-    done = subprocess.run([program, *words], stdin=subprocess.DEVNULL, stdout=subprocess.PIPE, stderr=its)
+    streams: dict[str, Any] = {"stdout": subprocess.PIPE, **settings}
+    done = subprocess.run([program, *words], stdin=subprocess.DEVNULL, stderr=its, **streams)
     os.close(its)
     text = b""
     try:
@@ -398,7 +399,7 @@ def on_terminal(program: pathlib.Path, words: Sequence[Word]) -> Answer:
     except OSError:
         pass
     os.close(mine)
-    return Answer(done.stdout, text.replace(b"\r\n", b"\n"), done.returncode)
+    return Answer(done.stdout or b"", text.replace(b"\r\n", b"\n"), done.returncode)
 
 
 def told(program: pathlib.Path, folder: pathlib.Path) -> Iterator[Case]:

@@ -70,7 +70,7 @@ def wrong_of(program: pathlib.Path, folder: pathlib.Path, data: bytes) -> str | 
     """What is wrong with what comes of a file for each number, or None."""
     file, out = folder / "file", folder / "out"
     file.write_bytes(data)
-    wanted = [(Answer(f"{place}\n".encode()), image) for place, image in segments(data)]
+    wanted = [(Answer(error=f"{place}\n".encode()), image) for place, image in segments(data)]
     for nth, (right, image) in enumerate([*wanted, (NO_SEGMENT, STOOD)], 1):
         out.write_bytes(STOOD)
         number = ["--nth", str(nth)] if nth > 1 else []
@@ -171,11 +171,13 @@ def devices(program: pathlib.Path, folder: pathlib.Path) -> Iterator[Case]:
     ]
     for name, words, wanted in failing:
         yield name, difference(wanted, answer(program, ["extract", *words]))
-    yield "a pipe", difference(Answer(b"8\n"), answer(program, ["extract", "/dev/stdin", out], file.read_bytes()))
+    yield "a pipe", difference(
+        Answer(error=b"8\n"), answer(program, ["extract", "/dev/stdin", out], file.read_bytes())
+    )
     out.write_bytes(STOOD)
     with open("/dev/full", "wb") as full:
-        wrong = difference(WRITE_FAULT, answer(program, ["extract", file, out], stdout=full))
-    yield "standard output has no room", wrong if wrong or content(out) == STOOD else "OUT is not as it was"
+        wrong = difference(Answer(status=4), answer(program, ["extract", file, out], stderr=full))
+    yield "the error stream has no room", wrong if wrong or content(out) == STOOD else "OUT is not as it was"
     both: list[Word] = [file, out]
     mistakes: list[list[Word]] = [
         [], [file], [*both, "more"],
@@ -199,7 +201,7 @@ def memory(program: pathlib.Path, folder: pathlib.Path) -> Iterator[Case]:
             long.seek(before)
             long.write(image)
         came = refused.answer_within(program, least + pages, ["extract", file, out], b"", {})
-        wrong = difference(Answer(f"{before}\n".encode()), came)
+        wrong = difference(Answer(error=f"{before}\n".encode()), came)
         yield f"{name} behind {before} bytes", wrong if wrong or content(out) == image else "OUT is not the image"
     file.write_bytes(bytes(8) + blank(64))
     yield "memory that is refused", refused.wrong_of(

@@ -183,8 +183,16 @@ def wrong_syncs(command: Command) -> str | None:
 
 
 def wrong_locks(command: Command) -> str | None:
-    """The lock of OUT is taken where OUT stands, and tried again where another has it."""
-    wrong = wrong_where(command, WRITE_FAULT, "lock", numbers=(tracer.LOCK,), error=errno.ENOLCK)
+    """The lock of OUT is taken where OUT stands, and tried again where another has it. Without a lock of its own the
+    new file is written all the same, and another one is made where a run that tidies up has the lock."""
+    refused = tracer.Fault((tracer.LOCK,), at=0, error=errno.ENOLCK)
+    wrong = command.untouched(WRITE_FAULT, *command.failing(refused)) or (
+        None if refused.met == 1 else "more was locked after a refusal"
+    )
+    for error in (errno.ENOLCK, errno.EWOULDBLOCK):
+        second = tracer.Fault((tracer.LOCK,), at=1, error=error)
+        is_done = command.is_done(*command.failing(second))
+        wrong = wrong or (None if is_done and second.met > 1 else f"{errno.errorcode[error]} for the new file")
     never = tracer.Fault((tracer.LOCK,), at=0, lasting=True, error=errno.EWOULDBLOCK)
     wrong = (
         wrong

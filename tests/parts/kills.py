@@ -53,7 +53,7 @@ class Chain(bounds.Runs):
         if is_none and not self.is_made and not any(data):
             self.met["nothing was made"] += 1
             return None
-        if (found.output, found.status) != (b"8\n", 0):
+        if (found.output, found.error, found.status) != (b"", b"8\n", 0):
             return f"extract: {found}"
         report = answer(self.program, ["report", self.image])
         if report.status != 0:

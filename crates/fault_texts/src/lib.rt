@@ -7,6 +7,7 @@
 mod adopting;
 mod asked;
 mod c_table;
+mod asking;
 mod complaint;
 mod field;
 mod header;
@@ -22,6 +23,7 @@ mod world_table;
 pub use adopting::{adopt_lines, base_lines};
 pub use asked::{nearest_name, texts_for};
 pub use c_table::C_TEXTS;
+pub use asking::{VARIABLE, VARIABLE_HELP, is_asked, is_terminal_at};
 pub use complaint::{Complaint, RecordForm, complaint_of};
 pub use field::Wanted;
 pub use header::{wanted_of, word_of};

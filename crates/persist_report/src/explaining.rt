@@ -86,8 +86,19 @@ fn lines_of(
     Ok(lines)
 }
 
+// Whether a write failed because nobody reads standard output any more, as in `report IMAGE | head -1`.
+fn is_unread(fault: &CliFault, known: FaultContext<'_, '_>) -> bool {
+    match (fault, known.device, known.reason) {
+        (CliFault::Write, Origin::Output, Some(reason)) => {
+            reason.kind() == io::ErrorKind::BrokenPipe
+        }
+        _ => false,
+    }
+}
+
 /// Returns the failure of a fault, with the lines that follow it if the command explains its faults. `Usage` comes
-/// only for a mistake on the command line. If memory runs out for the lines, there are none.
+/// only for a mistake on the command line. If memory runs out for the lines, there are none; nor are there if standard output
+/// is a pipe whose reader has closed it.
 pub fn failure_of<R: AllocGlobal>(
     context: &Context<'_, R>,
     fault: CliFault,
@@ -95,7 +106,7 @@ pub fn failure_of<R: AllocGlobal>(
 ) -> Failure
     ensures { UsageIsMistake result }
 {
-    if !context.explains {
+    if !context.explains || is_unread(&fault, known) {
         return Failure::Fault(fault);
     }
     match lines_of(context.alloc(), &fault, known) {

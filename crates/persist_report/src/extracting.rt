@@ -8,7 +8,7 @@ use crate::context::Context;
 use crate::failure::Failure;
 use crate::files::{end, open, open_out};
 use crate::nth::Nth;
-use persist_report_core::{CliFault, write_and_flush};
+use persist_report_core::CliFault;
 use segment_image::Watched;
 use segment_search::{SearchFault, extract};
 use std::alloc::Global;
@@ -29,45 +29,40 @@ fn fault_of(fault: SearchFault) -> CliFault {
     }
 }
 
-// Writes the image of a segment, and then a line with the number of bytes before it.
-fn extract_both<I: Read, W: Write, L: Write>(
+// Writes the image of a segment, and then to the error stream a line with the number of bytes before it.
+fn extract_both<E: Eprint, I: Read, W: Write>(
+    rt: &E,
     alloc: Global,
     reader: &mut Watched<I>,
     nth: Nth,
     image: &mut Watched<W>,
-    line: &mut Watched<L>,
 ) -> Result<(), CliFault>
     requires reader { has_failed reader.old ≡ false }
     requires image { has_failed image.old ≡ false }
-    requires line { has_failed line.old ≡ false }
 {
     let place = extract(alloc, reader, nth.number(), image).map_err(fault_of)?;
     let text: String = format!(in alloc; "{place}\n")?;
-    write_and_flush(line, text.as_bytes())
+    rt.eprint(text).map_err(|_| CliFault::Write)
 }
 
-/// Finds a segment in a file, writes its image to another, and to standard output how many bytes come before it. The
+/// Finds a segment in a file, writes its image to another, and to the error stream how many bytes come before it. The
 /// image takes the other file's place after that line. No copy is kept of what is read: it may be long. `Usage` comes
 /// only for a mistake on the command line.
-pub fn extract_file<'a, R: Files<File = File> + Clock + Print + RandomSource + AllocGlobal>(
-    context: &Context<'_, R>,
-    file: &'a str,
-    out: &'a str,
-    nth: Nth,
-) -> Result<(), Failure>
+pub fn extract_file<
+    'a,
+    R: Files<File = File> + Clock + Input + Print + Eprint + RandomSource + AllocGlobal,
+>(context: &Context<'_, R>, file: &'a str, out: &'a str, nth: Nth) -> Result<(), Failure>
     ensures { IfErr result UsageIsMistake }
 {
     let mut reader = open(context, file, None)?;
     let mut image = open_out(context, out)?;
-    let mut line = context.output();
-    let outcome = extract_both(context.alloc(), &mut reader, nth, &mut image, &mut line);
-    let reason = line.into_inner().reason();
+    let outcome = extract_both(context.rt, context.alloc(), &mut reader, nth, &mut image);
     end(
         context,
         outcome,
         None,
         &reader.into_inner(),
         image.into_inner(),
-        reason,
+        None,
     )
 }

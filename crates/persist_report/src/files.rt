@@ -1,5 +1,5 @@
 //! The commands over files. Each opens its inputs in the order of its arguments, and then the file that it writes, before it
-//! reads anything. That file is unchanged until the command has done all else.
+//! reads anything. That file is unchanged until the command has done all else. `-` is standard input, and as OUT standard output.
 
 ghost use Rattle.std.specs.Prelude.{◌≡◌, false, IfErr, IfOk};
 ghost use Rattle.persist_report.specs.Failure.{UsageIsMistake};
@@ -7,17 +7,20 @@ ghost use Rattle.segment_image.specs.Watched.{has_failed};
 
 use crate::cause::Cause;
 use crate::context::Context;
+use crate::dashes::DASH;
 use crate::explaining::{FaultContext, failure_of, unopened, unopened_out};
 use crate::failure::Failure;
+use crate::incoming::Incoming;
 use crate::noted::{Noted, Stream};
 use crate::output::{Output, open_output};
+use crate::terminal::reads_terminal;
 use crate::workers::Workers;
 use fault_texts::Origin;
 use persist_commands::{OpenGate, merge_files, resume_script, run_script};
 use persist_report_core::CliFault;
 use reading_shows::{Form, write_text};
 use std::fs::File;
-use std::io::Read;
+use std::io::{Printer, Read};
 use std::random::RandomSource;
 use std::rt::Files;
 use std::sync::Wait;
@@ -25,31 +28,39 @@ use std::thread::Threads;
 use std::time::Clock;
 use std::{fs, io};
 
-/// Opens a file that is there, to read it. What is read is put into the copy, if there is one. On `Ok` the file has
-/// not failed [file]; `Usage` comes only for a mistake on the command line [fault].
-pub fn open<'a, R: Files + AllocGlobal>(
+/// Opens a file that is there, to read it, or standard input for `-`. What is read is put into the copy, if there is one.
+/// On `Ok` the file has not failed [file]; `Usage` comes only for a mistake on the command line [fault].
+pub fn open<'a, R: Files + Input + AllocGlobal>(
     context: &Context<'_, R>,
     path: &'a str,
     copy: Option<Vec<u8>>,
-) -> Result<Stream<'a, R::File>, Failure>
+) -> Result<Stream<'a, Incoming<R::File, R::Reader>>, Failure>
     ensures file { IfOk result (λ file. has_failed file ≡ false) }
     ensures fault { IfErr result UsageIsMistake }
 {
+    if path == DASH {
+        let input = Incoming::Standard(context.rt.reader());
+        return Ok(Noted::stream(input, Origin::Input, copy));
+    }
     match fs::open(context.rt, path) {
-        Ok(file) => Ok(Noted::stream(file, Origin::File(path), copy)),
+        Ok(file) => Ok(Noted::stream(Incoming::File(file), Origin::File(path), copy)),
         Err(error) => Err(unopened(context, Cause::of(CliFault::Read, error), path)),
     }
 }
 
-/// Opens the file that is written. On `Ok` it has not failed [file]; `Usage` comes only for a mistake on the command
-/// line [fault].
-pub fn open_out<'a, R: Files<File = File> + Clock + RandomSource + AllocGlobal>(
-    context: &Context<'_, R>,
+/// Opens the file that is written, or standard output for `-`. On `Ok` it has not failed [file]; `Usage` comes only for a
+/// mistake on the command line [fault].
+pub fn open_out<'a, 'r, R: Files<File = File> + Clock + Print + RandomSource + AllocGlobal>(
+    context: &Context<'r, R>,
     path: &'a str,
-) -> Result<Stream<'a, Output<File>>, Failure>
+) -> Result<Stream<'a, Output<File, Printer<'r, R>>>, Failure>
     ensures file { IfOk result (λ file. has_failed file ≡ false) }
     ensures fault { IfErr result UsageIsMistake }
 {
+    if path == DASH {
+        let output = Output::Standard(io::writer(context.rt));
+        return Ok(Noted::stream(output, Origin::Output, None));
+    }
     match open_output(context.rt, path) {
         Ok(output) => Ok(Noted::stream(output, Origin::File(path), None)),
         Err(why) => Err(unopened_out(context, why, path)),
@@ -86,12 +97,12 @@ fn failed<'a, R: AllocGlobal, I>(
 /// Ends a command over files with this outcome: the image that it wrote takes its place, or is removed. BASE, if
 /// there is one, was read before the input; `reason` is why standard output failed. `Usage` comes only for a mistake
 /// on the command line.
-pub fn end<'a, R: Files<File = File> + AllocGlobal>(
+pub fn end<'a, R: Files<File = File> + AllocGlobal, I, P: Drop>(
     context: &Context<'_, R>,
     outcome: Result<(), CliFault>,
-    base: Option<&Noted<'a, File>>,
-    input: &Noted<'a, File>,
-    image: Noted<'a, Output<File>>,
+    base: Option<&Noted<'a, I>>,
+    input: &Noted<'a, I>,
+    image: Noted<'a, Output<File, P>>,
     reason: Option<io::Error>,
 ) -> Result<(), Failure>
     ensures { IfErr result UsageIsMistake }
@@ -124,32 +135,37 @@ fn write_from<R: Print + AllocGlobal, I: Read + Drop>(
     Err(failed(context, fault, None, &reader.into_inner(), output))
 }
 
-/// Writes a form of the image in a file to standard output; of that on standard input if no file is named, or `-`.
-/// `Usage` comes only for a mistake on the command line.
-pub fn write_file<R: Files + Input + Print + AllocGlobal>(
+// Says on the error stream that standard input is read, if that is a terminal: a user may have forgotten FILE. If this cannot be
+// written, the image is read all the same.
+fn say_what_is_read<R: Files + Eprint>(rt: &R) {
+    if reads_terminal(rt) {
+        let _ = rt.eprint(
+            "persist_report: reads the image from standard input, since no FILE is named (Ctrl-C ends it)\n",
+        );
+    }
+}
+
+/// Writes a form of the image in a file to standard output; of that on standard input if no file is named, or `-`. If no file
+/// is named and standard input is a terminal, this is said. `Usage` comes only for a mistake on the command line.
+pub fn write_file<R: Files + Input + Print + Eprint + AllocGlobal>(
     context: &Context<'_, R>,
     form: Form<'_>,
     file: Option<&str>,
 ) -> Result<(), Failure>
     ensures { IfErr result UsageIsMistake }
 {
-    match file {
-        Some(path) if path != "-" => {
-            let reader = open(context, path, context.copy())?;
-            write_from(context, form, reader)
-        }
-        _ => {
-            let reader = Noted::stream(context.rt.reader(), Origin::Input, context.copy());
-            write_from(context, form, reader)
-        }
+    if file.is_none() {
+        say_what_is_read(context.rt);
     }
+    let reader = open(context, file.unwrap_or(DASH), context.copy())?;
+    write_from(context, form, reader)
 }
 
 /// Runs the script in a file, and writes the image to another and its report to standard output. The image takes the
 /// other file's place after the report. `Usage` comes only for a mistake on the command line.
 pub fn run_file<
     'a,
-    R: Files<File = File> + Clock + Print + RandomSource + AllocGlobal + Threads + Wait,
+    R: Files<File = File> + Clock + Input + Print + RandomSource + AllocGlobal + Threads + Wait,
 >(context: &Context<'_, R>, script: &'a str, out: &'a str, workers: Workers) -> Result<(), Failure>
     ensures { IfErr result UsageIsMistake }
 {
@@ -181,7 +197,7 @@ pub fn run_file<
 /// mistake on the command line.
 pub fn resume_file<
     'a,
-    R: Files<File = File> + Clock + Print + RandomSource + AllocGlobal + Threads + Wait,
+    R: Files<File = File> + Clock + Input + Print + RandomSource + AllocGlobal + Threads + Wait,
 >(
     context: &Context<'_, R>,
     base: &'a str,
@@ -218,12 +234,10 @@ pub fn resume_file<
 
 /// Merges the images in two files into a new one, and writes it to a third. `Usage` comes only for a mistake on the
 /// command line.
-pub fn merge_files_into<'a, R: Files<File = File> + Clock + RandomSource + AllocGlobal>(
-    context: &Context<'_, R>,
-    base: &'a str,
-    dead: &'a str,
-    out: &'a str,
-) -> Result<(), Failure>
+pub fn merge_files_into<
+    'a,
+    R: Files<File = File> + Clock + Input + Print + RandomSource + AllocGlobal,
+>(context: &Context<'_, R>, base: &'a str, dead: &'a str, out: &'a str) -> Result<(), Failure>
     ensures { IfErr result UsageIsMistake }
 {
     let mut first = open(context, base, context.copy())?;

@@ -4,10 +4,13 @@
 
 mod cause;
 mod context;
+mod dashes;
 mod explaining;
 mod extracting;
 mod failure;
 mod files;
+mod incoming;
+mod leftover;
 mod lock;
 mod noted;
 mod nth;

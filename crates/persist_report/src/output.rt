@@ -2,7 +2,7 @@
 //!
 //! So no byte is written to OUT itself. The bytes go to a new file in its folder, and a flush brings them to the device. The
 //! new file takes OUT's name when all else is done, and is removed if the command fails. A kill may leave it there, and leaves
-//! OUT unchanged.
+//! OUT unchanged. So the new file is locked until then, and what killed runs left is removed (`leftover.rt`).
 //!
 //! An OUT that has no bytes to keep, such as a device or a pipe, is written itself.
 //!
@@ -13,13 +13,14 @@
 ghost use Rattle.std.specs.Prelude.{◌≡◌, IfErr, IsErrAnd, OnOk};
 
 use crate::cause::Cause;
+use crate::leftover::{PREFIX, is_at, tidy};
 use crate::lock::{Unopened, take_lock};
 use crate::place::{has_name, place_of};
 use persist_report_core::CliFault;
 use std::alloc::AllocError;
-use std::fs::{File, Metadata, OpenFile, OpenOptions, Permissions};
+use std::fs::{File, OpenFile, OpenOptions, Permissions, TryLockError};
 use std::io::{ErrorKind, Write};
-use std::os::unix::fs::{MetadataExt, OpenOptionsExt};
+use std::os::unix::fs::OpenOptionsExt;
 use std::path::PathBuf;
 use std::random::RandomSource;
 use std::rt::Files;
@@ -35,9 +36,9 @@ const MOST_OPENINGS: u32 = 16;
 // Who may use a new file before it gets the permissions of the old one.
 const OWNER_ALONE: u32 = 0o600;
 
-/// The file that a command writes.
+/// The file that a command writes, or standard output.
 #[derive(Drop)]
-pub enum Output<F> {
+pub enum Output<F, P> {
     /// A new file at the path `new`, which is to take the path `out`, and the locked file that is there, if there is one.
     New {
         file: F,
@@ -47,12 +48,15 @@ pub enum Output<F> {
     },
     /// What OUT leads to.
     Itself(F),
+    /// Standard output.
+    Standard(P),
 }
 
-impl<F: Write + OpenFile> Write for Output<F> {
+impl<F: Write + OpenFile, P: Write> Write for Output<F, P> {
     fn write(&mut self, buf: &[u8]) -> io::Result<usize> {
         match self {
             Output::New { file, .. } | Output::Itself(file) => file.write(buf),
+            Output::Standard(printer) => printer.write(buf),
         }
     }
 
@@ -61,11 +65,12 @@ impl<F: Write + OpenFile> Write for Output<F> {
         match self {
             Output::New { file, .. } => file.sync_all(),
             Output::Itself(file) => file.flush(),
+            Output::Standard(printer) => printer.flush(),
         }
     }
 }
 
-impl<F: Drop> Output<F> {
+impl<F: Drop, P: Drop> Output<F, P> {
     /// Ends the output of a command with this outcome. If the command failed, the new file is removed, and the fault
     /// is that of the command [same]. Else the new file takes OUT's name, and the fault is `Write` if it cannot
     /// [write].
@@ -73,7 +78,13 @@ impl<F: Drop> Output<F> {
         ensures same { IfErr outcome (λ fault. IsErrAnd result (λ cause. cause.fault ≡ fault)) }
         ensures write { OnOk outcome (IfErr result (λ cause. cause.fault ≡ CliFault.Write)) }
     {
-        let Output::New { new, out, old, .. } = self else {
+        let Output::New {
+            file,
+            new,
+            out,
+            old,
+        } = self
+        else {
             return match outcome {
                 Ok(()) => Ok(()),
                 Err(fault) => Err(Cause::from(fault)),
@@ -86,6 +97,8 @@ impl<F: Drop> Output<F> {
         if ended.is_err() {
             remove(rt, &new);
         }
+        // Until here both are locked.
+        drop(file);
         drop(old);
         ended
     }
@@ -105,14 +118,14 @@ fn rename<R: Files>(rt: &R, new: &PathBuf, out: &PathBuf, stood: bool) -> Result
     }
 }
 
-/// Opens the output for OUT, which is unchanged.
+/// Opens the output for OUT, which is unchanged. What killed runs left beside it is removed.
 ///
 /// `Busy` if another process has had the lock of OUT for 100 ms. `Write` if OUT cannot be written, or no new file can be made
 /// in its folder.
-pub fn open_output<R: Files<File = File> + Clock + RandomSource + AllocGlobal>(
+pub fn open_output<P: Drop, R: Files<File = File> + Clock + RandomSource + AllocGlobal>(
     rt: &R,
     out: &str,
-) -> Result<Output<File>, Unopened> {
+) -> Result<Output<File, P>, Unopened> {
     for _ in 0..MOST_OPENINGS {
         let opened = try_output(rt, out)?;
         if let Some(output) = opened {
@@ -123,10 +136,10 @@ pub fn open_output<R: Files<File = File> + Clock + RandomSource + AllocGlobal>(
 }
 
 // The same; none if another file took the name of the one that was opened before it was locked.
-fn try_output<R: Files<File = File> + Clock + RandomSource + AllocGlobal>(
+fn try_output<P: Drop, R: Files<File = File> + Clock + RandomSource + AllocGlobal>(
     rt: &R,
     out: &str,
-) -> Result<Option<Output<File>>, Unopened> {
+) -> Result<Option<Output<File, P>>, Unopened> {
     match OpenOptions::new().write(true).open(rt, out) {
         Ok(file) => open_for(rt, out, file),
         Err(error) if error.kind() == ErrorKind::NotFound => match place_of(rt, out)? {
@@ -138,18 +151,18 @@ fn try_output<R: Files<File = File> + Clock + RandomSource + AllocGlobal>(
 }
 
 // The output if OUT is there, as this open file.
-fn open_for<R: Files<File = File> + Clock + RandomSource + AllocGlobal>(
+fn open_for<P: Drop, R: Files<File = File> + Clock + RandomSource + AllocGlobal>(
     rt: &R,
     out: &str,
     file: File,
-) -> Result<Option<Output<File>>, Unopened> {
+) -> Result<Option<Output<File, P>>, Unopened> {
     let found = file.metadata().map_err(Cause::of_write)?;
     if !found.is_file() {
         return Ok(Some(Output::Itself(file)));
     }
     take_lock(rt, &file)?;
     match place_of(rt, out)? {
-        Some(place) if !stands_at(rt, &found, &place)? => Ok(None),
+        Some(place) if !is_at(rt, &found, &place).map_err(Cause::of_write)? => Ok(None),
         Some(place) => {
             let output = create_beside(rt, place, Some((file, found.permissions())))?;
             Ok(Some(output))
@@ -161,25 +174,17 @@ fn open_for<R: Files<File = File> + Clock + RandomSource + AllocGlobal>(
     }
 }
 
-// Whether the file with this metadata is the one at a path.
-fn stands_at<R: Files>(rt: &R, found: &Metadata, place: &PathBuf) -> Result<bool, Cause> {
-    match fs::symlink_metadata(rt, place) {
-        Ok(named) => Ok(named.dev() == found.dev() && named.ino() == found.ino()),
-        Err(error) if error.kind() == ErrorKind::NotFound => Ok(false),
-        Err(error) => Err(Cause::of_write(error)),
-    }
-}
-
 // A new file in the folder of `out`, with the permissions of the old one if there is one.
-fn create_beside<R: Files + RandomSource + AllocGlobal>(
+fn create_beside<P: Drop, R: Files<File = File> + RandomSource + AllocGlobal>(
     rt: &R,
     out: PathBuf,
-    old: Option<(R::File, Permissions)>,
-) -> Result<Output<R::File>, Cause> {
+    old: Option<(File, Permissions)>,
+) -> Result<Output<File, P>, Cause> {
     if !has_name(&out) {
         return Err(Cause::from(CliFault::Write));
     }
     let (file, new) = create_new(rt, &out, old.is_some())?;
+    tidy(rt, &file, &new);
     let Some((old, permissions)) = old else {
         return Ok(Output::New {
             file,
@@ -205,12 +210,12 @@ fn remove<R: Files>(rt: &R, new: &PathBuf) {
     let _ = fs::remove_file(rt, new);
 }
 
-// A new file in the folder of `out`, and its path.
-fn create_new<R: Files + RandomSource + AllocGlobal>(
+// A new file in the folder of `out`, and its path. It is locked, so that no other run takes it for one that was left.
+fn create_new<R: Files<File = File> + RandomSource + AllocGlobal>(
     rt: &R,
     out: &PathBuf,
     is_private: bool,
-) -> Result<(R::File, PathBuf), Cause> {
+) -> Result<(File, PathBuf), Cause> {
     let mut options = OpenOptions::new();
     options.write(true).create_new(true);
     if is_private {
@@ -220,7 +225,12 @@ fn create_new<R: Files + RandomSource + AllocGlobal>(
         let name = new_name(rt)?;
         let new = out.with_file_name(rt.alloc(), name.as_str())?;
         match options.open(rt, &new) {
-            Ok(file) => return Ok((file, new)),
+            Ok(file) => {
+                if is_kept(rt, &file, &new) {
+                    return Ok((file, new));
+                }
+                remove(rt, &new);
+            }
             Err(error) if error.kind() == ErrorKind::AlreadyExists => {}
             Err(error) => return Err(Cause::of_write(error)),
         }
@@ -228,11 +238,23 @@ fn create_new<R: Files + RandomSource + AllocGlobal>(
     Err(Cause::from(CliFault::Write))
 }
 
+// Takes the lock of a new file; whether it has that, and still its name. Before it was locked, another run could take it for one
+// that was left, and remove it. Where the system has no locks, no other run takes it.
+fn is_kept<R: Files>(rt: &R, file: &File, new: &PathBuf) -> bool {
+    if let Err(TryLockError::WouldBlock) = file.try_lock() {
+        return false;
+    }
+    match file.metadata() {
+        Ok(found) => is_at(rt, &found, new).unwrap_or(false),
+        Err(_) => false,
+    }
+}
+
 // A name that hardly any other file has.
 fn new_name<R: RandomSource + AllocGlobal>(rt: &R) -> Result<String, Cause> {
     let mut bytes = [0u8; 8];
     rt.fill_bytes(&mut bytes).map_err(Cause::of_write)?;
     let number = u64::from_le_bytes(bytes);
-    let name: Result<String, AllocError> = format!(in rt.alloc(); ".persist_report-{number:016x}");
+    let name: Result<String, AllocError> = format!(in rt.alloc(); "{PREFIX}{number:016x}");
     Ok(name?)
 }

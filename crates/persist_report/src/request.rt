@@ -8,8 +8,10 @@ mod writing;
 
 use crate::nth::Nth;
 use crate::workers::Workers;
+use arguments::explain_flag;
 use clap::error::ErrorKind;
 use clap::{ArgMatches, Command, Error};
+use fault_texts::VARIABLE_HELP;
 pub use mistakes::{no_fault, no_prefix, not_text};
 use reading::{
     explain_command, export_command, export_task, report_command, show_command, show_task,
@@ -71,7 +73,7 @@ pub enum Task<'a> {
         dead: &'a str,
         out: &'a str,
     },
-    /// Find a segment in a file. Write its image to another, and to standard output where it was.
+    /// Find a segment in a file. Write its image to another, and to the error stream where it was.
     Extract {
         file: &'a str,
         out: &'a str,
@@ -83,12 +85,15 @@ pub enum Task<'a> {
     },
 }
 
-fn command<'a>(alloc: Global) -> Result<Command<'a>, AllocError> {
+/// The command line of the program.
+pub fn command<'a>(alloc: Global) -> Result<Command<'a>, AllocError> {
     Command::new(alloc, "persist_report")
         .version("0.1.0")
         .about("Show, convert, merge and continue the histograms of a Povundiri segment")
+        .after_help(VARIABLE_HELP)
         .after_long_help(texts::PROGRAM)
         .subcommand_required(true)
+        .arg(explain_flag(alloc))?
         .subcommand(show_command(alloc)?)?
         .subcommand(report_command(alloc)?)?
         .subcommand(export_command(alloc)?)?
@@ -141,7 +146,7 @@ impl<'a> Request<'a> {
         if let Some((name, found)) = matches.subcommand()
             && let Some(task) = task_of(alloc, name, found, columns)?
         {
-            let explains = found.get_flag("explain");
+            let explains = found.get_flag("explain") || matches.get_flag("explain");
             return Ok(Request { task, explains });
         }
         Err(command.error(ErrorKind::MissingSubcommand, "a subcommand is required")?)

@@ -4,12 +4,13 @@ ghost use Rattle.std.specs.Prelude.{IfErr};
 ghost use Rattle.persist_report.specs.Failure.{UsageIsMistake};
 
 use crate::context::Context;
+use crate::dashes::check_dashes;
 use crate::extracting::extract_file;
 use crate::failure::Failure;
 use crate::files::{merge_files_into, resume_file, run_file, write_file};
 use crate::request::{Request, Task, no_fault, no_prefix, not_text};
-use crate::terminal::{columns, is_terminal};
-use fault_texts::{AllTexts, nearest_name, texts_for};
+use crate::terminal::columns;
+use fault_texts::{AllTexts, is_asked, nearest_name, texts_for};
 use persist_report_core::CliFault;
 use reading_shows::{Choice, Form, Style};
 use reading_texts::is_prefix;
@@ -32,6 +33,7 @@ pub fn run<
         + Clock
         + Input
         + Print
+        + Eprint
         + RandomSource
         + AllocGlobal
         + Threads
@@ -42,7 +44,7 @@ pub fn run<
     let words = words(rt)?;
     match Request::of(rt.alloc(), words.as_slice(), columns(rt)) {
         Ok(Request { task, explains }) => {
-            let explains = explains || is_terminal(rt);
+            let explains = explains || is_asked(rt);
             meet(&Context { rt, explains }, task)?;
         }
         Err(error) if error.use_stderr() => return Err(Failure::from(error)),
@@ -81,7 +83,7 @@ fn explain<R: Print + AllocGlobal>(rt: &R, name: Option<&str>) -> Result<(), Fai
 }
 
 // Writes the metrics of an image, if names may begin with the prefix.
-fn export<R: Files + Input + Print + AllocGlobal>(
+fn export<R: Files + Input + Print + Eprint + AllocGlobal>(
     context: &Context<'_, R>,
     file: Option<&str>,
     prefix: &str,
@@ -115,11 +117,21 @@ fn form_of<'a>(style: Style, is_page: bool, choice: Choice<'a>) -> Form<'a> {
     }
 }
 
+// Does what a task says, if `-` stands only where it may.
 fn meet<
-    R: Files<File = File> + Clock + Input + Print + RandomSource + AllocGlobal + Threads + Wait,
+    R: Files<File = File>
+        + Clock
+        + Input
+        + Print
+        + Eprint
+        + RandomSource
+        + AllocGlobal
+        + Threads
+        + Wait,
 >(context: &Context<'_, R>, task: Task<'_>) -> Result<(), Failure>
     ensures { IfErr result UsageIsMistake }
 {
+    check_dashes(context.alloc(), &task)?;
     match task {
         Task::Report { file } => write_file(context, Form::Report, file),
         Task::Export { file, prefix } => export(context, file, prefix),

@@ -6,13 +6,14 @@ use Rattle.clap.specs.declared.error.kind.ErrorKind.{ErrorKind}
 use Rattle.clap.specs.declared.error.kind.ErrorKind.TheVariants.{DisplayHelp, DisplayVersion, OutOfMemory}
 use Rattle.stepped.specs.declared.fault.ReplayFault.TheVariants.{NoMemory}
 use Rattle.stepped.specs.declared.failure.Failure.{Failure}
-use Rattle.stepped.specs.declared.failure.Failure.TheVariants.{Usage, Fault}
+use Rattle.stepped.specs.declared.failure.Failure.TheVariants.{Usage, Fault, Explained}
 use Rattle.stepped.specs.Fault.{replay_status}
 
 -- the status of a failure: 2 for a command line that asks for nothing that the program does
 abbrev pub failure_status : Failure → ℕ
 failure_status (Usage error) = 2
 failure_status (Fault fault) = replay_status fault
+failure_status (Explained fault lines) = replay_status fault
 
 -- what the failure is if the command line is not parsed: out of memory is no mistake in the words
 abbrev pub IsFailureOf : Error → Failure → Type 0
@@ -30,3 +31,4 @@ pub record IsMistake (kind : ErrorKind) : Type 0 where
 abbrev pub UsageIsMistake : Failure → Type 0
 UsageIsMistake (Usage error) = IsMistake (kind_of error)
 UsageIsMistake (Fault fault) = ⊤
+UsageIsMistake (Explained fault lines) = ⊤

@@ -17,16 +17,18 @@ pub enum Failure {
     Usage(clap::Error),
     /// What it asks for failed.
     Fault(ReplayFault),
+    /// It failed, and these lines follow the line of the fault.
+    Explained(ReplayFault, String),
 }
 
 impl Failure {
-    /// Returns the exit status: 2 for `Usage`, and that of the fault for `Fault`.
+    /// Returns the exit status: 2 for `Usage`, else that of the fault.
     pub fn status(&self) -> u8
         ensures { result ≡ failure_status self.now }
     {
         match self {
             Failure::Usage(_) => 2,
-            Failure::Fault(fault) => fault.status(),
+            Failure::Fault(fault) | Failure::Explained(fault, _) => fault.status(),
         }
     }
 }
@@ -65,6 +67,10 @@ impl fmt::Display for Failure {
         match self {
             Failure::Usage(error) => write!(f, "{error}"),
             Failure::Fault(fault) => writeln!(f, "stepped: {fault}"),
+            Failure::Explained(fault, lines) => {
+                writeln!(f, "stepped: {fault}")?;
+                f.write_str(lines.as_str())
+            }
         }
     }
 }

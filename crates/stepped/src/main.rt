@@ -2,11 +2,13 @@
 //! interleaving and stop it anywhere.
 #![tactic(auto)]
 
+mod explaining;
 mod failure;
 mod fault;
 mod form;
 mod lines;
 mod meaning;
+mod noted;
 mod picture;
 mod replay;
 mod request;

@@ -34,7 +34,17 @@ const EXAMPLES: &str = "Examples:
   stepped race.csv --stop 20 --report
 
 The first makes a schedule in which two actors ask for one name at once. In the
-picture an exchange that fails shows what it wanted and what it found.";
+picture an exchange that fails shows what it wanted and what it found.
+
+With PERSIST_REPORT_EXPLAIN=1 in the environment every error is explained, as by
+--explain: for cron, systemd, containers and CI.";
+
+// What `-h` has after the options.
+const SHORT_EXAMPLE: &str = "Example:
+  stepped race.csv --show
+
+With PERSIST_REPORT_EXPLAIN=1 in the environment every error is explained, as by
+--explain: for cron, systemd, containers and CI.";
 
 /// What is shown of a world.
 #[derive(Clone, Copy)]
@@ -58,6 +68,8 @@ pub struct Request<'a> {
     pub events: u64,
     /// What it shows.
     pub show: Show,
+    /// Whether faults are to be explained.
+    pub explains: bool,
 }
 
 fn stop_argument<'a>(alloc: Global) -> Arg<'a> {
@@ -95,13 +107,23 @@ fn command<'a>(alloc: Global) -> Result<Command<'a>, AllocError> {
         .version("0.1.0")
         .about("Replay a schedule of calls on a segment, one atomic step at a time")
         .long_about(LONG_ABOUT)
-        .after_help("Example:\n  stepped race.csv --show")
+        .after_help(SHORT_EXAMPLE)
         .after_long_help(EXAMPLES)
         .arg(schedule)?
         .arg(picture.conflicts_with("report")?.conflicts_with("image")?)?
         .arg(stop_argument(alloc))?
         .arg(report.conflicts_with("image")?)?
-        .arg(image)
+        .arg(image)?
+        .arg(
+            flag(
+                alloc,
+                "explain",
+                "Explain errors (on by default in a terminal)",
+            )
+            .long_help(
+                "Explain errors: file, line, reason and what to do (on by default in a\nterminal)",
+            ),
+        )
 }
 
 fn show_of(matches: &ArgMatches<'_>) -> Show {
@@ -128,6 +150,7 @@ impl<'a> Request<'a> {
                 schedule,
                 events: matches.get_one::<u64>("stop").unwrap_or(u64::MAX),
                 show: show_of(&matches),
+                explains: matches.get_flag("explain"),
             }),
             None => Err(command.error(
                 ErrorKind::MissingRequiredArgument,

@@ -12,11 +12,14 @@ ghost use Rattle.stepped.specs.Lines.{Deed};
 ghost use Rattle.stepped.specs.Output.{IsReportOf};
 ghost use Rattle.stepped.specs.Replay.{Replays};
 
+use crate::explaining::{Seen, failure_of};
 use crate::failure::Failure;
 use crate::fault::ReplayFault;
 use crate::form::Form;
+use crate::noted::Noted;
 use crate::replay::Replay;
 use crate::request::{Request, Show, not_text};
+use fault_texts::is_asked;
 use persist_report_core::report_text;
 use schedule::{Opening, Order, Schedule, read_schedule};
 use segment_image::layout::MAX_SIZE;
@@ -36,7 +39,12 @@ pub fn run<R: Env + Files + Print + AllocGlobal>(rt: &R) -> Result<(), Failure>
 {
     let words = words(rt)?;
     match Request::of(rt.alloc(), words.as_slice()) {
-        Ok(request) => meet(rt, request)?,
+        Ok(request) => {
+            let mut seen = Seen::nothing(rt.alloc(), request.explains || is_asked(rt));
+            if let Err(fault) = meet(rt, request, &mut seen) {
+                return Err(failure_of(rt.alloc(), fault, request.schedule, &seen));
+            }
+        }
         Err(error) if error.use_stderr() => return Err(Failure::from(error)),
         Err(shown) => rt.print(shown).map_err(|_| ReplayFault::Write)?,
     }
@@ -55,16 +63,47 @@ fn words<R: Env + AllocGlobal>(rt: &R) -> Result<Vec<String>, Failure>
     }
 }
 
-// The schedule in a file.
-fn schedule_in<R: Files + AllocGlobal>(rt: &R, path: &str) -> Result<Schedule, ReplayFault> {
-    let file = fs::open(rt, path).map_err(|_| ReplayFault::Read)?;
-    Ok(read_schedule(rt.alloc(), &mut Watched::new(file))?)
+// Opens a file that is there, to read it.
+fn open<'n, R: Files + AllocGlobal>(
+    rt: &R,
+    path: &str,
+    seen: &'n Seen,
+) -> Result<Noted<'n, R::File>, ReplayFault> {
+    match fs::open(rt, path) {
+        Ok(inner) => Ok(Noted {
+            inner,
+            reason: &seen.reason,
+            copy: seen.copy(rt.alloc()),
+        }),
+        Err(error) => {
+            seen.reason.set(Some(error));
+            Err(ReplayFault::Read)
+        }
+    }
+}
+
+// The schedule in a file. What was read of it is seen.
+fn schedule_in<R: Files + AllocGlobal>(
+    rt: &R,
+    path: &str,
+    seen: &mut Seen,
+) -> Result<Schedule, ReplayFault> {
+    let mut reader = Watched::new(open(rt, path, seen)?);
+    let outcome = read_schedule(rt.alloc(), &mut reader);
+    let text = reader.into_inner().copy;
+    seen.text = text.unwrap_or(Vec::new(rt.alloc()));
+    Ok(outcome?)
 }
 
 // The words in the file of an image. A name that is no text is one that cannot be opened.
-fn words_in<R: Files + AllocGlobal>(rt: &R, name: &[u8]) -> Result<Vec<u64>, ReplayFault> {
+fn words_in<R: Files + AllocGlobal>(
+    rt: &R,
+    name: &[u8],
+    seen: &mut Seen,
+) -> Result<Vec<u64>, ReplayFault> {
     let path = str::from_utf8(name).map_err(|_| ReplayFault::Read)?;
-    let file = fs::open(rt, path).map_err(|_| ReplayFault::Read)?;
+    seen.image = Some(String::from_str(rt.alloc(), path)?);
+    let file = open(rt, path, seen)?;
     Ok(read_words(rt.alloc(), &mut Watched::new(file), MAX_SIZE as usize)?)
 }
 
@@ -73,6 +112,7 @@ fn start<R: Files + AllocGlobal>(
     rt: &R,
     opening: Opening,
     request: Request<'_>,
+    seen: &mut Seen,
 ) -> Result<Replay, ReplayFault> {
     let Request { events, show, .. } = request;
     let form = match show {
@@ -82,18 +122,26 @@ fn start<R: Files + AllocGlobal>(
     match opening {
         Opening::New(world) => Replay::new(rt.alloc(), world, events, form),
         Opening::Adopt(file, actors) => {
-            let words = words_in(rt, &file)?;
+            let words = words_in(rt, &file, seen)?;
             Replay::adopt(rt.alloc(), &words, actors, events, form)
         }
     }
 }
 
 // Replays a schedule, and shows what was asked for.
-fn meet<R: Files + Print + AllocGlobal>(rt: &R, request: Request<'_>) -> Result<(), ReplayFault> {
+fn meet<R: Files + Print + AllocGlobal>(
+    rt: &R,
+    request: Request<'_>,
+    seen: &mut Seen,
+) -> Result<(), ReplayFault> {
     let alloc = rt.alloc();
-    let Schedule { opening, orders } = schedule_in(rt, request.schedule)?;
-    let mut replay = start(rt, opening, request)?;
-    let mut writer = Watched::new(io::writer(rt));
+    let Schedule { opening, orders } = schedule_in(rt, request.schedule, seen)?;
+    let mut replay = start(rt, opening, request, seen)?;
+    let mut writer = Watched::new(Noted {
+        inner: io::writer(rt),
+        reason: &seen.reason,
+        copy: None,
+    });
     match request.show {
         Show::Lines | Show::Picture => write_texts(alloc, writer, &mut replay, &orders).map(|_| ()),
         Show::Report => show_report(alloc, &mut writer, &mut replay, &orders),

@@ -15,7 +15,10 @@ the library.
 A fault is one line on the error stream, such as 'persist_report: Read'. The
 status is 0 if all is done, 2 for a mistake in the command line, 3 if the bytes
 are no image or no script or what they ask for is refused, 4 if a device failed
-or a file cannot be opened, and 5 if memory or a thread is missing.";
+or a file cannot be opened, and 5 if memory or a thread is missing.
+
+With PERSIST_REPORT_EXPLAIN=1 in the environment every error is explained, as by
+--explain: for cron, systemd, containers and CI.";
 
 /// What `report` does.
 pub const REPORT: &str =
@@ -66,7 +69,7 @@ out.";
 /// What `extract` does.
 pub const EXTRACT: &str =
     "Find a segment in any file, such as a mapped file or a core dump, and write its
-image to OUT; prints its offset.";
+image to OUT; prints its offset on the error stream.";
 
 /// What `explain` does.
 pub const EXPLAIN: &str =

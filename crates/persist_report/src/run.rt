@@ -7,6 +7,7 @@ use crate::context::Context;
 use crate::extracting::extract_file;
 use crate::failure::Failure;
 use crate::files::{merge_files_into, resume_file, run_file, write_file};
+use crate::sizing::size_of_task;
 use crate::request::{Request, Task, no_fault, no_prefix, not_text};
 use crate::terminal::{columns, is_terminal};
 use fault_texts::{AllTexts, fault_text};
@@ -143,6 +144,7 @@ fn meet<
         } => resume_file(context, base, script, out, workers),
         Task::Merge { base, dead, out } => merge_files_into(context, base, dead, out),
         Task::Extract { file, out, nth } => extract_file(context, file, out, nth),
+        Task::Size(size) => size_of_task(context, &size),
         Task::Explain { name } => explain(context.rt, name),
     }
 }

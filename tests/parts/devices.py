@@ -54,6 +54,7 @@ Commands:
   merge    Add two images into a new one; counts that a delta has already taken are left out
   extract  Find a segment in any file, such as a mapped file or a core dump, and write its image to OUT; prints its \
 offset
+  size     Say how large a segment has to be for histograms
   explain  Say what a fault means and what to do
   help     Print this message or the help of the given subcommand(s)
 

@@ -1,6 +1,6 @@
 //! The command that says how large a segment has to be.
 
-ghost use Rattle.std.specs.Prelude.{◌≡◌, false, IfErr, IfOk};
+ghost use Rattle.std.specs.Prelude.{◌≡◌, false, IfErr};
 ghost use Rattle.persist_report.specs.Failure.{UsageIsMistake};
 ghost use Rattle.segment_image.specs.Watched.{has_failed};
 

@@ -24,10 +24,10 @@ pub fn size_command<'a>(alloc: Global) -> Result<Command<'a>, AllocError> {
         .help("Script, as CSV; of its add records the sparse values are counted");
     let hists = Arg::new(alloc, "hist")
         .long("hist")
-        .value_name("NAME,KIND,..")
+        .value_name("HIST")
         .action(ArgAction::Append)
         .conflicts_with("SCRIPT")?
-        .help("A histogram, as after hist in a script; may be repeated");
+        .help("Histogram as in a script: NAME,KIND,..; repeatable");
     let page = Arg::new(alloc, "page")
         .long("page")
         .value_name("WORDS")
@@ -37,7 +37,7 @@ pub fn size_command<'a>(alloc: Global) -> Result<Command<'a>, AllocError> {
         .long("values")
         .value_name("N")
         .value_parser(value_parser!(u64).range(0..=1048576))
-        .help("Values in each sparse histogram [default: those of the script]");
+        .help("Values of each sparse histogram [default: the script's]");
     Command::new(alloc, "size")
         .about("Say how large a segment has to be for histograms")
         .after_help(

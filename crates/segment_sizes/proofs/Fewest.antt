@@ -1,5 +1,5 @@
 -- The pages of the formula are enough.
-use Rattle.std.proofs.Common.{◌≡◌, ℕ, zero, suc, ◌+◌, ◌-◌, ◌*◌, ◌/◌, ◌%◌, ◌<◌, ◌≤◌, ◌⊎◌, inl, inr, List, [], ◌∷◌, Bool, true, false, refl, sym, ap, subst, ◌∙◌, arith}
+use Rattle.std.proofs.Common.{◌≡◌, ℕ, zero, suc, ◌+◌, ◌-◌, ◌*◌, ◌/◌, ◌%◌, ◌<◌, ◌≤◌, inl, inr, List, [], ◌∷◌, Bool, true, false, refl, sym, ap, subst, ◌∙◌, arith}
 use Rattle.std.specs.Prelude.{nat_le, min, fold, if◌then◌else◌, sum_by, All}
 use Rattle.std.specs.List.Sorted.{IsPermutation}
 use Rattle.std.proofs.Math.Decide.{dec_le}
@@ -12,7 +12,7 @@ use Rattle.std.proofs.lemmas.List.Elements.{All-head, All-tail}
 use Rattle.segment_image.specs.Shape.{Dimensions, is_size}
 use Rattle.alloc_core.specs.Layout.{IsShape}
 use Rattle.segment_sizes.specs.Filling.{AreClaimedFrom, FitInEveryOrder}
-use Rattle.segment_sizes.specs.Needed.{IsLeast, FitsPage, load_over, pages_over, needed_pages, needed_words, AreTried}
+use Rattle.segment_sizes.specs.Needed.{IsLeast, FitsPage, load_over, pages_over, needed_pages, needed_words}
 use Rattle.segment_sizes.proofs.Orders.{weight, MayLeave, Reaches, fills}
 
 -- ---- the pages by one bound

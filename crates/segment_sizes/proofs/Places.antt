@@ -40,9 +40,12 @@ claims_by shape q has free block is below fits inside false true absorbs e f g =
     absurd (omega (arith, room, less))
 claims_by shape q has free block is below fits inside false false true e f g =
     let room : room_at shape free ≡ shape.page - has = room_of shape q has free is below in
-    let few : room_at shape free - block < 5 = ltb-true (room_at shape free - block) 5 g in
-    (room_at shape free, free + room_at shape free, refl,
-    record { within = fits; place = inr (omega (arith, room), omega (arith, room, few)) })
+    let few : room_at shape free - block < 5 = ltb-true (room_at shape free - block) 5 g in (
+      room_at shape free,
+      free + room_at shape free,
+      refl,
+      record { within = fits; place = inr (omega (arith, room), omega (arith, room, few)) },
+    )
 claims_by shape q has free block is below fits inside false false false e f g =
     let room : room_at shape free ≡ shape.page - has = room_of shape q has free is below in
     let some : 5 ≤ room_at shape free - block = ltb-false (room_at shape free - block) 5 g in
@@ -75,8 +78,9 @@ pub wastes : (shape : Dimensions) (q has free block : ℕ) → free ≡ q * shap
     → free + block ≤ shape.size → (room : ℕ) × (planned free block shape ≡ Waste room) × (free + room ≡ q * shape.page + shape.page)
 unfolding plan_by
 wastes shape q has free block is below over inside =
-    let room : room_at shape free ≡ shape.page - has = room_of shape q has free is below in
-    (room_at shape free,
-    wastes_by shape q has free block is below over inside (nat_lt shape.size (free + block)) (nat_lt (room_at shape free) block)
-    (nat_lt (room_at shape free - block) 5) refl refl refl,
-    omega (arith, room))
+    let room : room_at shape free ≡ shape.page - has = room_of shape q has free is below in (
+      room_at shape free,
+      wastes_by shape q has free block is below over inside (nat_lt shape.size (free + block)) (nat_lt (room_at shape free) block)
+          (nat_lt (room_at shape free - block) 5) refl refl refl,
+      omega (arith, room),
+    )

@@ -8,7 +8,8 @@ use std::fmt;
 use std::fmt::Write;
 
 // What is said below the size.
-const RACES: &str = "First uses at the same moment may take more: for each further thread a record of the histogram or of the value, \
+const RACES: &str =
+    "First uses at the same moment may take more: for each further thread a record of the histogram or of the value, \
                      and a block of counts.\n";
 
 // Writes a name: those of a script may have any bytes.
@@ -45,10 +46,15 @@ fn write_needed<W: fmt::Write>(
         Ok(size) => {
             let pages = size.checked_div(page).unwrap_or(0);
             let bytes = size.saturating_mul(8);
-            writeln!(f, "Smallest size: {size} words ({bytes} bytes), {pages} x {page}")?;
+            writeln!(
+                f,
+                "Smallest size: {size} words ({bytes} bytes), {pages} x {page}"
+            )?;
             f.write_str(RACES)
         }
-        Err(SizeFault::TooLarge) => f.write_str("Smallest size: none, a block has more words than a page\n"),
+        Err(SizeFault::TooLarge) => f.write_str(
+            "Smallest size: none, a block has more words than a page\n",
+        ),
         Err(_) => f.write_str("Smallest size: none, a segment has at most 1048576 words\n"),
     }
 }
@@ -64,7 +70,10 @@ impl fmt::Display for Sizes<'_> {
         }
         let count = self.blocks.len();
         writeln!(f, "Page: {} words", self.page)?;
-        writeln!(f, "Words: {words}, in {count} blocks and the header, without rests of pages")?;
+        writeln!(
+            f,
+            "Words: {words}, in {count} blocks and the header, without rests of pages"
+        )?;
         write_needed(f, self.page, self.needed)
     }
 }

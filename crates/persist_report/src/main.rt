@@ -18,6 +18,8 @@ mod output;
 mod place;
 mod request;
 mod run;
+mod sizing;
+mod sizing_request;
 mod terminal;
 mod workers;
 

@@ -7,6 +7,7 @@ mod texts;
 mod writing;
 
 use crate::nth::Nth;
+use crate::sizing_request::{SizeTask, size_command, size_task};
 use crate::workers::Workers;
 use arguments::explain_flag;
 use clap::error::ErrorKind;
@@ -79,6 +80,8 @@ pub enum Task<'a> {
         out: &'a str,
         nth: Nth,
     },
+    /// Say how large a segment has to be for histograms.
+    Size(SizeTask<'a>),
     /// Write what the fault of a name means, or what each means if there is no name.
     Explain {
         name: Option<&'a str>,
@@ -101,6 +104,7 @@ pub fn command<'a>(alloc: Global) -> Result<Command<'a>, AllocError> {
         .subcommand(run_command(alloc)?)?
         .subcommand(resume_command(alloc)?)?
         .subcommand(extract_command(alloc)?)?
+        .subcommand(size_command(alloc)?.arg(explain_flag(alloc))?)?
         .subcommand(explain_command(alloc)?)
 }
 
@@ -111,13 +115,14 @@ fn task_of<'a>(
     found: &ArgMatches<'a>,
     columns: u16,
 ) -> Result<Option<Task<'a>>, AllocError> {
-    if name == "show" {
-        return Ok(Some(show_task(alloc, found, columns)?));
+    match name {
+        "show" => Ok(Some(show_task(alloc, found, columns)?)),
+        "size" => Ok(Some(Task::Size(size_task(alloc, found)?))),
+        _ => Ok(plain_task(name, found)),
     }
-    Ok(plain_task(name, found))
 }
 
-// The same, of each command but `show`.
+// The same, of each command but `show` and `size`.
 fn plain_task<'a>(name: &str, found: &ArgMatches<'a>) -> Option<Task<'a>> {
     match name {
         "report" => Some(Task::Report {

@@ -9,6 +9,7 @@ use crate::extracting::extract_file;
 use crate::failure::Failure;
 use crate::files::{merge_files_into, resume_file, run_file, write_file};
 use crate::request::{Request, Task, no_fault, no_prefix, not_text};
+use crate::sizing::size_of_task;
 use crate::terminal::columns;
 use fault_texts::{AllTexts, is_asked, nearest_name, texts_for};
 use persist_report_core::CliFault;
@@ -158,6 +159,7 @@ fn meet<
         } => resume_file(context, base, script, out, workers),
         Task::Merge { base, dead, out } => merge_files_into(context, base, dead, out),
         Task::Extract { file, out, nth } => extract_file(context, file, out, nth),
+        Task::Size(size) => size_of_task(context, &size),
         Task::Explain { name } => explain(context.rt, name),
     }
 }

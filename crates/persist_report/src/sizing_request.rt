@@ -1,0 +1,86 @@
+//! What the command line asks for of `size`.
+
+ghost use Rattle.std.specs.Prelude.{◌≡◌, IfOk};
+ghost use Rattle.clap.specs.Words.{kind_of};
+
+use clap::error::ErrorKind;
+use clap::{Arg, ArgAction, ArgMatches, Command, Error, value_parser};
+use std::alloc::{AllocError, Global};
+
+/// What `size` is asked for: the histograms of a script, or those of options; in pages of so many words, if not those of the script;
+/// and with so many values in each sparse one, if not those that the script records.
+#[derive(Drop)]
+pub struct SizeTask<'a> {
+    pub script: Option<&'a str>,
+    pub hists: Vec<&'a str>,
+    pub page: Option<u64>,
+    pub values: Option<u64>,
+}
+
+/// Returns the command. The error is that memory ran out.
+pub fn size_command<'a>(alloc: Global) -> Result<Command<'a>, AllocError> {
+    let script = Arg::new(alloc, "SCRIPT")
+        .required_unless_present("hist")?
+        .help("Script, as CSV; of its add records the sparse values are counted");
+    let hists = Arg::new(alloc, "hist")
+        .long("hist")
+        .value_name("HIST")
+        .action(ArgAction::Append)
+        .conflicts_with("SCRIPT")?
+        .help("Histogram as in a script: NAME,KIND,..; repeatable");
+    let page = Arg::new(alloc, "page")
+        .long("page")
+        .value_name("WORDS")
+        .value_parser(value_parser!(u64).range(64..=65536))
+        .help("Words of a page [default: those of the script, or 4096]");
+    let values = Arg::new(alloc, "values")
+        .long("values")
+        .value_name("N")
+        .value_parser(value_parser!(u64).range(0..=1048576))
+        .help("Values of each sparse histogram [default: the script's]");
+    Command::new(alloc, "size")
+        .about("Say how large a segment has to be for histograms")
+        .after_help(
+            "Example:\n  persist_report size --hist ms,linear,1,1000,50 --hist hits,sparse --values 100",
+        )
+        .arg(script)?
+        .arg(hists)?
+        .arg(page)?
+        .arg(values)
+}
+
+/// Returns what the words ask for. The error is that memory ran out.
+pub fn size_task<'a>(alloc: Global, size: &ArgMatches<'a>) -> Result<SizeTask<'a>, AllocError> {
+    let hists = match size.get_strs("hist") {
+        Some(hists) => Vec::from_slice(alloc, hists)?,
+        None => Vec::new(alloc),
+    };
+    Ok(SizeTask {
+        script: size.get_str("SCRIPT"),
+        hists,
+        page: size.get_one::<u64>("page"),
+        values: size.get_one::<u64>("values"),
+    })
+}
+
+/// Returns what is wrong with a command line whose page is invalid: a mistake in a value. The one error is that memory
+/// runs out.
+pub fn no_page(alloc: Global) -> Result<Error, AllocError>
+    ensures { IfOk result (λ error. kind_of error ≡ ErrorKind.ValueValidation) }
+{
+    size_command(alloc)?.error(
+        ErrorKind::ValueValidation,
+        "a page has a multiple of 16 words",
+    )
+}
+
+/// Returns what is wrong with a command line that names no histogram: a mistake in a value. The one error is that
+/// memory runs out.
+pub fn no_hist(alloc: Global) -> Result<Error, AllocError>
+    ensures { IfOk result (λ error. kind_of error ≡ ErrorKind.ValueValidation) }
+{
+    size_command(alloc)?.error(
+        ErrorKind::ValueValidation,
+        "a histogram is NAME,linear,MIN,MAX,BUCKETS or NAME,boolean or NAME,custom,VALUE,.. or NAME,sparse",
+    )
+}

@@ -70,6 +70,8 @@ Arguments:
   [FILE]  Image file; standard input if it is left out or -
 
 Options:
+      --rows     Print the buckets alone, after a line with the names of the columns
+      --whole    End with a fault if a record is bad or the list of records stops early
       --explain  Explain errors: file, line, reason and what to do (on by default in a terminal)
   -h, --help     Print help
 
@@ -86,6 +88,7 @@ Arguments:
 
 Options:
       --prefix <PREFIX>  Prefix of all metric names: letters, digits, _ and :, no digit first [default: povundiri]
+      --whole            End with a fault if a record is bad or the list of records stops early
       --explain          Explain errors: file, line, reason and what to do (on by default in a terminal)
   -h, --help             Print help
 
@@ -108,6 +111,7 @@ Options:
       --ascii            Draw bars with # instead of blocks
       --log              Draw bars in proportion to the logarithms of units
       --all              Show all values of a sparse histogram, not only the 20 with the most units
+      --whole            End with a fault if a record is bad or the list of records stops early
       --explain          Explain errors: file, line, reason and what to do (on by default in a terminal)
   -h, --help             Print help
 

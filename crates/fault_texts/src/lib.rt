@@ -6,9 +6,11 @@
 
 mod adopting;
 mod complaint;
+mod damage;
 mod field;
 mod header;
 mod lines;
+mod nearest;
 mod records;
 mod script;
 mod shown;
@@ -17,12 +19,14 @@ mod table;
 
 pub use adopting::{adopt_lines, base_lines};
 pub use complaint::{Complaint, RecordForm, complaint_of};
+pub use damage::{bad_lines, stopped_lines};
 pub use field::Wanted;
 pub use header::{wanted_of, word_of};
 pub use lines::{
     Origin, Source, device_lines, image_lines, remedy_lines, remedy_lines_of, script_lines,
     size_lines,
 };
+pub use nearest::{missing_lines, nearest};
 pub use records::{ScriptRecord, is_named, line_of, record_of};
 pub use script::{Finding, finding_of};
 pub use shown::{Shown, ShownSpec};

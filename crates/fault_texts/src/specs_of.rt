@@ -30,8 +30,8 @@ fn survey_of_words(alloc: Global, words: &[u64]) -> Option<Survey> {
     Survey::of(alloc, words, &head, list).ok()
 }
 
-// What an image reads as, which was read before.
-fn reading_of(alloc: Global, bytes: &[u8]) -> Option<Reading> {
+/// What an image reads as, which was read before.
+pub(crate) fn reading_of(alloc: Global, bytes: &[u8]) -> Option<Reading> {
     let words = words_of(alloc, bytes)?;
     image_reader::read(alloc, &words).ok()
 }

@@ -7,8 +7,8 @@ use crate::context::Context;
 use crate::failure::Failure;
 use crate::lock::Unopened;
 use fault_texts::{
-    Origin, Source, adopt_lines, base_lines, device_lines, image_lines, merge_lines, remedy_lines,
-    remedy_lines_of, script_lines, size_lines,
+    Origin, Source, adopt_lines, bad_lines, base_lines, device_lines, image_lines, merge_lines,
+    missing_lines, remedy_lines, remedy_lines_of, script_lines, size_lines, stopped_lines,
 };
 use persist_report_core::CliFault;
 use std::alloc::{AllocError, Global};
@@ -60,6 +60,9 @@ fn lines_of(
             let base = known.base.unwrap_or(known.input);
             merge_lines(alloc, base, known.input, name.as_slice())?
         }
+        CliFault::NoHistogram(name) => missing_lines(alloc, known.input, name.as_slice())?,
+        CliFault::Bad { reference, fault } => bad_lines(alloc, known.input, *reference, *fault)?,
+        CliFault::Stopped(fault) => stopped_lines(alloc, known.input, *fault)?,
         CliFault::Gate | CliFault::NoThread | CliFault::NoMemory | CliFault::NoSegment => {
             String::new(alloc)
         }

@@ -17,14 +17,17 @@ pub struct Request<'a> {
     pub task: Task<'a>,
     /// Whether faults are to be explained.
     pub explains: bool,
+    /// Whether an image that is not whole is a fault.
+    pub wants_whole: bool,
 }
 
 /// What a command does. The image in `file` is that on standard input if there is no file.
 #[derive(Drop)]
 pub enum Task<'a> {
-    /// Write the report of an image.
+    /// Write the report of an image, or the rows of that alone.
     Report {
         file: Option<&'a str>,
+        has_rows_alone: bool,
     },
     /// Write the metrics of an image, whose names begin with the prefix.
     Export {
@@ -85,16 +88,30 @@ fn explain_flag<'a>(alloc: Global) -> Arg<'a> {
         .help("Explain errors: file, line, reason and what to do (on by default in a terminal)")
 }
 
+// Asks for a fault where the image is not whole.
+fn whole_flag<'a>(alloc: Global) -> Arg<'a> {
+    Arg::new(alloc, "whole")
+        .long("whole")
+        .action(ArgAction::SetTrue)
+        .help("End with a fault if a record is bad or the list of records stops early")
+}
+
 // The image that is read.
 fn image<'a>(alloc: Global) -> Arg<'a> {
     Arg::new(alloc, "FILE").help("Image file; standard input if it is left out or -")
 }
 
 fn report_command<'a>(alloc: Global) -> Result<Command<'a>, AllocError> {
+    let rows = Arg::new(alloc, "rows")
+        .long("rows")
+        .action(ArgAction::SetTrue)
+        .help("Print the buckets alone, after a line with the names of the columns");
     Command::new(alloc, "report")
         .about("Print the histograms of an image as CSV")
         .after_help("Example:\n  persist_report report examples/three_samples.img")
         .arg(image(alloc))?
+        .arg(rows)?
+        .arg(whole_flag(alloc))?
         .arg(explain_flag(alloc))
 }
 
@@ -109,6 +126,7 @@ fn export_command<'a>(alloc: Global) -> Result<Command<'a>, AllocError> {
         .after_help("Example:\n  persist_report export examples/three_samples.img")
         .arg(image(alloc))?
         .arg(prefix)?
+        .arg(whole_flag(alloc))?
         .arg(explain_flag(alloc))
 }
 
@@ -157,7 +175,9 @@ fn show_command<'a>(alloc: Global) -> Result<Command<'a>, AllocError> {
         .arg(names)?
         .arg(part)?
         .arg(html)?;
-    style_options(alloc, command)?.arg(explain_flag(alloc))
+    style_options(alloc, command)?
+        .arg(whole_flag(alloc))?
+        .arg(explain_flag(alloc))
 }
 
 // How many workers record.
@@ -339,6 +359,7 @@ fn plain_task<'a>(name: &str, found: &ArgMatches<'a>) -> Option<Task<'a>> {
     match name {
         "report" => Some(Task::Report {
             file: found.get_str("FILE"),
+            has_rows_alone: found.get_flag("rows"),
         }),
         "export" => export_task(found),
         "run" => run_task(found),
@@ -363,8 +384,11 @@ impl<'a> Request<'a> {
         if let Some((name, found)) = matches.subcommand()
             && let Some(task) = task_of(alloc, name, found, columns)?
         {
-            let explains = found.get_flag("explain");
-            return Ok(Request { task, explains });
+            return Ok(Request {
+                task,
+                explains: found.get_flag("explain"),
+                wants_whole: found.get_flag("whole"),
+            });
         }
         Err(command.error(ErrorKind::MissingSubcommand, "a subcommand is required")?)
     }

@@ -7,3 +7,4 @@ pub mod ScriptRows
 pub mod Records
 pub mod ReadScripts
 mod ReadWhole
+pub mod Wholeness

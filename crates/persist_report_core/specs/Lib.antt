@@ -2,6 +2,7 @@ pub use Rattle.segment_image.specs.Watched
 pub use Rattle.bucket_ranges.specs.Reading
 pub mod Fault
 pub mod Report
+pub mod Damage
 pub mod Number
 pub mod Request
 pub mod Script

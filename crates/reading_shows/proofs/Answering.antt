@@ -16,6 +16,13 @@ shown_of_bytes items B C IsOf text old new r v was shown (Some bytes) answer wri
     let read = MatchResult-at_ok (λ v. (bytes_of_words (items v) ≡ bytes) × B v) (C bytes) v was answer in
     (text, subst (λ b. IsOfBytes IsOf b text) read.0 shown, written)
 
+-- what holds of the bytes of words holds of those from which they were read
+pub known_of_bytes : {V E : Type 0} (items : V → List ℕ) (B : V → Type 0) (C : List ℕ → E → Type 0) (P : List ℕ → Type 0) (r : Result V E) (v : V) → r ≡ Ok v → P (bytes_of_words (items v))
+    → (remaining : Option (List ℕ)) → IfSome remaining (λ bytes. MatchResult r (λ v. (bytes_of_words (items v) ≡ bytes) × B v) (C bytes)) → IfSome remaining P
+known_of_bytes items B C P r v was known None answer = tt
+known_of_bytes items B C P r v was known (Some bytes) answer =
+    let read = MatchResult-at_ok (λ v. (bytes_of_words (items v) ≡ bytes) × B v) (C bytes) v was answer in subst P read.0 known
+
 -- what follows from what holds where a result is Ok
 pub OnOk-map : {T E : Type 0} (P Q : Type 0) → (P → Q) → (r : Result T E) → OnOk r P → OnOk r Q
 OnOk-map P Q f (Ok x) p = f p

@@ -1,6 +1,7 @@
 -- The names that are asked for and that no histogram of a reading has.
-use Rattle.std.specs.Prelude.{◌≡◌, Bool, not, true, ℕ, Bor, List, [], find, Option, All}
-use Rattle.std.specs.List.{list_any}
+use Rattle.std.specs.Prelude.{◌≡◌, Bool, not, true, ℕ, List, [], Option, All}
+use Rattle.std.specs.Borrow.{Bor}
+use Rattle.std.specs.List.{find, list_any}
 use Rattle.std.specs.Str.{bytes_eq}
 use Rattle.bucket_ranges.specs.Reading.{Histogram, Reading}
 use Rattle.reading_shows.specs.declared.choice.Choice.{Choice}

@@ -1,7 +1,7 @@
 -- What is not found, and what holds of all.
-use Rattle.std.proofs.Common.{◌≡◌, Bool, true, false, not, cond, List, [], ◌∷◌, Option, Some, None, All, refl, ap}
+use Rattle.std.proofs.Common.{◌≡◌, ◌||◌, Bool, map, true, false, not, cond, List, [], ◌∷◌, Option, Some, None, All, refl, ap}
 use Rattle.std.specs.Prelude.{◌↔◌, is_some}
-use Rattle.std.specs.List.{find}
+use Rattle.std.specs.List.{find, list_any}
 use Rattle.std.proofs.lemmas.List.Elements.{All-nil, All-cons, All-head, All-tail}
 
 -- the first element passes, and no other one fails
@@ -27,3 +27,8 @@ none-fails q (x ∷ xs) all =
 -- no element fails a test exactly where all pass it
 pub none-exactly : {X : Type 0} (q : X → Bool) (xs : List X) → (is_some (find (λ x. not (q x)) xs) ≡ false) ↔ All (λ x. q x ≡ true) xs
 none-exactly q xs = (all-pass q xs, none-fails q xs)
+
+-- a test of images
+pub list_any-map : {X Y : Type 0} (p : Y → Bool) (f : X → Y) (xs : List X) → list_any p (map f xs) ≡ list_any (λ x. p (f x)) xs
+list_any-map p f [] = refl
+list_any-map p f (x ∷ xs) = ap (λ b. p (f x) || b) (list_any-map p f xs)

@@ -78,12 +78,14 @@ def widths_complaint(read: page_text.Page, bars: Iterable[tuple[int, int]]) -> s
 
 
 def beside(program: pathlib.Path, data: bytes, words: Sequence[Word] = (), **options: Any) -> str | None:
-    """Where the page of an image is not what the plain renderer wants; of what is no image the fault is wanted."""
+    """Where the page of an image is not what the plain renderer wants; of what is no image the fault is wanted, and a
+    name that no histogram has is a fault after the page."""
     output, error, status = plain_show.answer(data, **options)
     came = answer(program, ["show", "-", *words, "--html"], data)
-    if status != 0 or came.status != 0:
+    if output == b"" or came.output == b"":
         return difference(Answer(output, error, status), came)
-    return complaint(data, came.output, **options)
+    wrong = difference(Answer(came.output, error, status), came)
+    return wrong or complaint(data, came.output, **options)
 
 
 def escaped(name: str) -> str:

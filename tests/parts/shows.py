@@ -86,8 +86,11 @@ MANY_TEXT = (
 Choice = tuple[list[str], dict[str, Any]]
 CHOICES: list[Choice] = [
     (["page.load"], {"names": ["page.load"]}),
-    (["~s", "page.load", "no.such.name"], {"names": ["page.load", "~s"]}),
+    (["~s", "page.load"], {"names": ["~s", "page.load"]}),
+    (["~s", "page.load", "no.such.name"], {"names": ["~s", "page.load", "no.such.name"]}),
+    (["no.such.name", "page.load", "nor.this"], {"names": ["no.such.name", "page.load", "nor.this"]}),
     (["no.such.name"], {"names": ["no.such.name"]}),
+    (["page"], {"names": ["page"]}),
     (["--match", "page"], {"part": "page"}),
     (["--match", "e"], {"part": "e"}),
     (["--match=.s"], {"part": ".s"}),

@@ -35,7 +35,8 @@ not edit it, but these, and then run `tests/support/faults.py --write`.
 The line of a fault is its name. Some have more on it: `Image FAULT`, `Adopt FAULT`, `BadLine NUMBER`, `Refused NUMBER
 WHY` and `Merge NAME WHY`, where WHY is `BadName`, `BadSpec` and what is wrong with the spec, `TooLarge`, `ZeroCount`,
 `NoUnits`, `Corrupt`, `Full` or `OtherSpec`, as in `Refused 2 BadSpec TooFew`. NUMBER is that of a record of the script.
-`stepped` writes `World NUMBER FAULT`.
+After the text of an image come `NoHistogram NAME`, and with `--whole` `Bad REFERENCE FAULT` and `Stopped FAULT`;
+REFERENCE is the index of the record's first word. `stepped` writes `World NUMBER FAULT`.
 
 'Status' is that of the program. A fault of status 0 is only a line of a report, and one without a status only programs
 of your own can see. 'In C' has the statuses of `povundiri.h`, without `POVUNDIRI_`.

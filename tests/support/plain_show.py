@@ -203,9 +203,17 @@ def text_of(
     return "".join(f"{line}\n" for line in lines).encode()
 
 
+def missing_of(data: bytes, names: Iterable[str]) -> str | None:
+    """The first of these names that no histogram has; raises the image's fault."""
+    by_name = plain_reader.reading_of(data, collections.Counter())[0]
+    return next((name for name in names if name.encode() not in by_name), None)
+
+
 def answer(data: bytes, **options: Any) -> tuple[bytes, bytes, int]:
-    """What a program writes to its two streams, and its status."""
+    """What a program writes to its two streams, and its status: a name that no histogram has is a fault after the
+    text."""
     try:
-        return text_of(data, **options), b"", 0
+        text, missing = text_of(data, **options), missing_of(data, options.get("names", ()))
     except plain_reader.ImageFault as fault:
         return b"", f"persist_report: {fault}\n".encode(), 3
+    return (text, b"", 0) if missing is None else (text, f"persist_report: NoHistogram {missing}\n".encode(), 3)

@@ -1,5 +1,6 @@
 //! What is told of an image that is recorded into again, and of the script that is to be recorded there.
 
+use crate::damage::{bad_lines, stopped_lines};
 use crate::lines::{Source, image_lines, word_at};
 use crate::records::record_of;
 use crate::specs_of::{spec_lines, survey_of, words_of};
@@ -45,13 +46,8 @@ fn damage_lines(alloc: Global, base: Source<'_, '_>) -> Result<String, AllocErro
         return format!(in alloc; "  {origin}\n");
     };
     match (survey.bad.first(), survey.stopped) {
-        (Some(bad), _) => {
-            let (at, fault) = (bad.reference, bad.fault);
-            format!(in alloc; "  {origin}, the record at word {at} is {fault}\n")
-        }
-        (None, Some(fault)) => format!(in alloc;
-            "  {origin}, the list of records stops: {fault}\n"
-        ),
+        (Some(bad), _) => bad_lines(alloc, base, bad.reference, bad.fault),
+        (None, Some(fault)) => stopped_lines(alloc, base, fault),
         (None, None) => {
             format!(in alloc;
                 "  {origin}, all records are read; other words are none that a segment can have\n"

@@ -9,9 +9,11 @@ mod asked;
 mod c_table;
 mod asking;
 mod complaint;
+mod damage;
 mod field;
 mod header;
 mod lines;
+mod nearest;
 mod records;
 mod script;
 mod shown;
@@ -25,12 +27,14 @@ pub use asked::{nearest_name, texts_for};
 pub use c_table::C_TEXTS;
 pub use asking::{VARIABLE, VARIABLE_HELP, is_asked, is_terminal_at};
 pub use complaint::{Complaint, RecordForm, complaint_of};
+pub use damage::{bad_lines, stopped_lines};
 pub use field::Wanted;
 pub use header::{wanted_of, word_of};
 pub use lines::{
     Origin, Source, device_lines, image_lines, remedy_lines, remedy_lines_of, script_lines,
     size_lines,
 };
+pub use nearest::{missing_lines, nearest};
 pub use records::{ScriptRecord, is_named, line_of, record_of};
 pub use script::{Finding, finding_of};
 pub use shown::{Shown, ShownSpec};

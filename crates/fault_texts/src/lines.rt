@@ -65,8 +65,11 @@ pub fn remedy_lines_of(alloc: Global, line: &str) -> Result<String, AllocError> 
     }
 }
 
-/// What a fault means, and what to do.
+/// What a fault means, and what to do. The name of a histogram may be that of a fault, and says nothing.
 pub fn remedy_lines(alloc: Global, fault: &CliFault) -> Result<String, AllocError> {
+    if let CliFault::NoHistogram(_) = fault {
+        return remedy_lines_of(alloc, "NoHistogram");
+    }
     let line: String = format!(in alloc; "{fault}")?;
     remedy_lines_of(alloc, line.as_str())
 }

@@ -78,7 +78,7 @@ pub fn fault_text(name: &str) -> Option<FaultText<'static>>
 
 /// Each fault by its name, with what it means and what to do: those of the program, of the header of an image, of what is
 /// refused, of specs, and of the lines of a report that begin with `!`.
-pub const TEXTS: [(&str, &str, &str); 49] = [
+pub const TEXTS: [(&str, &str, &str); 52] = [
     (
         "Read",
         "An input cannot be opened, or a read of it failed.",
@@ -148,6 +148,21 @@ pub const TEXTS: [(&str, &str, &str); 49] = [
         "NoSegment",
         "The file that was searched has fewer than N segments. A segment is a valid header with all its words before the end.",
         "Leave --nth out, to see whether there is any. Was the file written completely, and while the segment was in use?",
+    ),
+    (
+        "NoHistogram",
+        "No histogram of the image has the name that follows. Those of the other names are shown.",
+        "Look at the name. `--match PART` shows the histograms whose name contains PART.",
+    ),
+    (
+        "Bad",
+        "With --whole: the record at the word that follows has the fault that is named after it. All else is in the text.",
+        "Look that name up: `explain NAME`. Without --whole it is a line of the text, and no fault.",
+    ),
+    (
+        "Stopped",
+        "With --whole: the list of records stops before its end, and the reason follows. All before that is in the text.",
+        "Look that name up: `explain NAME`. Without --whole it is a line of the text, and no fault.",
     ),
     (
         "TooShort",

@@ -47,6 +47,9 @@ late_fault (cli.Merge name why) meaning bytes script few is may = absurd may
 late_fault cli.NoThread meaning bytes script few is may = (few, told cli.NoThread meaning script is may)
 late_fault (cli.Adopt fault) meaning bytes script few is may = absurd may
 late_fault cli.NoSegment meaning bytes script few is may = absurd may
+late_fault (cli.NoHistogram name) meaning bytes script few is may = absurd may
+late_fault (cli.Bad reference fault) meaning bytes script few is may = absurd may
+late_fault (cli.Stopped fault) meaning bytes script few is may = absurd may
 
 pub run_cause : (r : Result ⊤ CliFault) (remaining : Option (List ℕ)) (meaning : List ℕ → Result Script ScriptFault) (script : Script) → IfErr r MayEndRun
     → IfSome remaining (λ bytes. (length bytes ≤ 16777216) × (meaning bytes ≡ Ok script))
@@ -70,6 +73,9 @@ not_read (cli.Merge name why) may = λ e. cc e
 not_read cli.NoThread may = λ e. cc e
 not_read (cli.Adopt fault) may = λ e. cc e
 not_read cli.NoSegment may = λ e. cc e
+not_read (cli.NoHistogram name) may = λ e. cc e
+not_read (cli.Bad reference fault) may = λ e. cc e
+not_read (cli.Stopped fault) may = λ e. cc e
 
 pub reads_late : (r : Result ⊤ CliFault) (failed : Bool) → IfErr r MayEndRun → (failed ≡ true → ⊥) → IsErrOf r cli.Read ↔ (failed ≡ true)
 reads_late (Ok x) failed late well = (λ is. absurd (cc is), λ e. absurd (well e))

@@ -5,14 +5,14 @@ use Rattle.clap.specs.declared.error.Error.{Error}
 use Rattle.clap.specs.declared.error.kind.ErrorKind.{ErrorKind}
 use Rattle.clap.specs.declared.error.kind.ErrorKind.TheVariants.{DisplayHelp, DisplayVersion, OutOfMemory}
 use Rattle.persist_report_core.specs.declared.fault.CliFault.{CliFault}
-use Rattle.persist_report_core.specs.declared.fault.CliFault.TheVariants.{Read, Write, TooLong, NotWords, Image, BadLine, Refused, Gate, Merge, NoThread, NoMemory, Adopt, NoSegment}
+use Rattle.persist_report_core.specs.declared.fault.CliFault.TheVariants.{Read, Write, TooLong, NotWords, Image, BadLine, Refused, Gate, Merge, NoThread, NoMemory, Adopt, NoSegment, NoHistogram, Bad, Stopped}
 use Rattle.persist_report.specs.declared.failure.Failure.{Failure}
 use Rattle.persist_report.specs.declared.failure.Failure.TheVariants.{Usage, Fault, Explained, Busy}
 use Rattle.persist_report.specs.declared.lock.Unopened.{Unopened}
 use Rattle.persist_report.specs.declared.lock.Unopened.TheVariants as unopened
 
--- the status of a fault: 3 if the bytes are no image or no script, or what they ask for is refused; 4 if a device failed; 5
--- if a thread could not be started or memory ran out
+-- the status of a fault: 3 if the bytes are no image or no script, what they ask for is refused, or what is wanted of them is
+-- not there; 4 if a device failed; 5 if a thread could not be started or memory ran out
 abbrev pub fault_status : CliFault → ℕ
 fault_status Read = 4
 fault_status Write = 4
@@ -27,6 +27,9 @@ fault_status NoThread = 5
 fault_status NoMemory = 5
 fault_status (Adopt fault) = 3
 fault_status NoSegment = 3
+fault_status (NoHistogram name) = 3
+fault_status (Bad reference fault) = 3
+fault_status (Stopped fault) = 3
 
 -- the status of a failure: 2 for a command line that the program does not support, and 4 for a file that another process has
 -- locked

@@ -9,11 +9,12 @@ use std::alloc::Global;
 use std::io;
 use std::io::Printer;
 
-/// What a command runs with: the system, and whether it explains its faults.
+/// What a command runs with: the system, whether it explains its faults, and whether an image that is not whole is one.
 #[derive(Drop)]
 pub struct Context<'r, R> {
     pub rt: &'r R,
     pub explains: bool,
+    pub wants_whole: bool,
 }
 
 impl<R: AllocGlobal> Context<'_, R> {

@@ -7,8 +7,9 @@ use crate::context::Context;
 use crate::failure::Failure;
 use crate::lock::Unopened;
 use fault_texts::{
-    Origin, Source, adopt_lines, base_lines, device_lines, image_lines, merge_lines,
-    merge_size_lines, remedy_lines, remedy_lines_of, script_lines, size_lines,
+    Origin, Source, adopt_lines, bad_lines, base_lines, device_lines, image_lines, merge_lines,
+    merge_size_lines, missing_lines, remedy_lines, remedy_lines_of, script_lines, size_lines,
+    stopped_lines,
 };
 use persist_report_core::CliFault;
 use segment_calls::Refusal;
@@ -77,6 +78,9 @@ fn lines_of(
             let base = known.base.unwrap_or(known.input);
             merged_lines(alloc, base, known.input, name.as_slice(), *why)?
         }
+        CliFault::NoHistogram(name) => missing_lines(alloc, known.input, name.as_slice())?,
+        CliFault::Bad { reference, fault } => bad_lines(alloc, known.input, *reference, *fault)?,
+        CliFault::Stopped(fault) => stopped_lines(alloc, known.input, *fault)?,
         CliFault::Gate | CliFault::NoThread | CliFault::NoMemory | CliFault::NoSegment => {
             String::new(alloc)
         }

@@ -36,8 +36,8 @@ impl Failure {
     }
 }
 
-/// Returns the exit status of a fault: 3 if the bytes are no image or no script, or what they ask for is refused; 4 if a
-/// device failed; 5 if a thread could not be started or memory ran out.
+/// Returns the exit status of a fault: 3 if the bytes are no image or no script, what they ask for is refused, or what is
+/// wanted of them is not there; 4 if a device failed; 5 if a thread could not be started or memory ran out.
 fn fault_status(fault: &CliFault) -> u8
     ensures { result ≡ fault_status fault.now }
 {
@@ -46,6 +46,7 @@ fn fault_status(fault: &CliFault) -> u8
         CliFault::BadLine(_) | CliFault::Refused { .. } => 3,
         CliFault::Gate | CliFault::Merge { .. } | CliFault::Adopt(_) => 3,
         CliFault::NoSegment => 3,
+        CliFault::NoHistogram(_) | CliFault::Bad { .. } | CliFault::Stopped(_) => 3,
         CliFault::Read | CliFault::Write => 4,
         CliFault::NoThread | CliFault::NoMemory => 5,
     }

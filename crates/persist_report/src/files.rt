@@ -16,9 +16,11 @@ use crate::output::{Output, open_output};
 use crate::terminal::reads_terminal;
 use crate::workers::Workers;
 use fault_texts::Origin;
+use image_reader::Reading;
 use persist_commands::{OpenGate, merge_files, resume_script, run_script};
-use persist_report_core::CliFault;
-use reading_shows::{Form, write_text};
+use persist_report_core::{CliFault, damage_of};
+use reading_shows::{Form, first_missing, write_text};
+use std::alloc::Global;
 use std::fs::File;
 use std::io::{Printer, Read};
 use std::random::RandomSource;
@@ -118,7 +120,24 @@ pub fn end<'a, R: Files<File = File> + AllocGlobal, I, P: Drop>(
     Err(failed(context, cause.fault, base, input, output))
 }
 
-// Writes a form of what a reader has left to standard output.
+// What is wrong with a reading of which the text is written: it is not whole, where that is wanted; or it lacks a histogram
+// that is asked for by its name.
+fn check(
+    alloc: Global,
+    form: Form<'_>,
+    wants_whole: bool,
+    reading: &Reading,
+) -> Result<(), CliFault> {
+    if wants_whole && let Some(fault) = damage_of(reading) {
+        return Err(fault);
+    }
+    match first_missing(form.choice(), reading) {
+        Some(name) => Err(CliFault::NoHistogram(Vec::from_slice(alloc, name.as_bytes())?)),
+        None => Ok(()),
+    }
+}
+
+// Writes a form of what a reader has left to standard output, and then sees what is wrong with what was read.
 fn write_from<R: Print + AllocGlobal, I: Read + Drop>(
     context: &Context<'_, R>,
     form: Form<'_>,
@@ -128,7 +147,11 @@ fn write_from<R: Print + AllocGlobal, I: Read + Drop>(
     ensures { IfErr result UsageIsMistake }
 {
     let mut writer = context.output();
-    let Err(fault) = write_text(context.alloc(), form, &mut reader, &mut writer) else {
+    let outcome = match write_text(context.alloc(), form, &mut reader, &mut writer) {
+        Ok(reading) => check(context.alloc(), form, context.wants_whole, &reading),
+        Err(fault) => Err(fault),
+    };
+    let Err(fault) = outcome else {
         return Ok(());
     };
     let output = (Origin::Output, writer.into_inner().reason());
@@ -146,7 +169,8 @@ fn say_what_is_read<R: Files + Eprint>(rt: &R) {
 }
 
 /// Writes a form of the image in a file to standard output; of that on standard input if no file is named, or `-`. If no file
-/// is named and standard input is a terminal, this is said. `Usage` comes only for a mistake on the command line.
+/// is named and standard input is a terminal, this is said. If what was read is not whole and has to be, or lacks a histogram
+/// of a name, that is a fault, which comes after the text. `Usage` comes only for a mistake on the command line.
 pub fn write_file<R: Files + Input + Print + Eprint + AllocGlobal>(
     context: &Context<'_, R>,
     form: Form<'_>,

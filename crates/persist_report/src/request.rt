@@ -31,14 +31,17 @@ pub struct Request<'a> {
     pub task: Task<'a>,
     /// Whether faults are to be explained.
     pub explains: bool,
+    /// Whether an image that is not whole is a fault.
+    pub wants_whole: bool,
 }
 
 /// What a command does. The image in `file` is that on standard input if there is no file.
 #[derive(Drop)]
 pub enum Task<'a> {
-    /// Write the report of an image.
+    /// Write the report of an image, or the rows of that alone.
     Report {
         file: Option<&'a str>,
+        has_rows_alone: bool,
     },
     /// Write the metrics of an image, whose names begin with the prefix.
     Export {
@@ -127,6 +130,7 @@ fn plain_task<'a>(name: &str, found: &ArgMatches<'a>) -> Option<Task<'a>> {
     match name {
         "report" => Some(Task::Report {
             file: found.get_str("FILE"),
+            has_rows_alone: found.get_flag("rows"),
         }),
         "export" => export_task(found),
         "run" => run_task(found),
@@ -151,8 +155,11 @@ impl<'a> Request<'a> {
         if let Some((name, found)) = matches.subcommand()
             && let Some(task) = task_of(alloc, name, found, columns)?
         {
-            let explains = found.get_flag("explain") || matches.get_flag("explain");
-            return Ok(Request { task, explains });
+            return Ok(Request {
+                task,
+                explains: found.get_flag("explain") || matches.get_flag("explain"),
+                wants_whole: found.get_flag("whole"),
+            });
         }
         Err(command.error(ErrorKind::MissingSubcommand, "a subcommand is required")?)
     }

@@ -44,9 +44,18 @@ pub fn run<
 {
     let words = words(rt)?;
     match Request::of(rt.alloc(), words.as_slice(), columns(rt)) {
-        Ok(Request { task, explains }) => {
-            let explains = explains || is_asked(rt);
-            meet(&Context { rt, explains }, task)?;
+        Ok(request) => {
+            let Request {
+                task,
+                explains,
+                wants_whole,
+            } = request;
+            let context = Context {
+                rt,
+                explains: explains || is_asked(rt),
+                wants_whole,
+            };
+            meet(&context, task)?;
         }
         Err(error) if error.use_stderr() => return Err(Failure::from(error)),
         Err(shown) => rt.print(shown).map_err(|_| CliFault::Write)?,
@@ -106,6 +115,15 @@ fn choice_of<'a>(names: &'a [&'a str], part: Option<&'a str>) -> Choice<'a> {
     }
 }
 
+// How a report is written: whole, or its rows alone.
+fn report_form<'a>(has_rows_alone: bool) -> Form<'a> {
+    if has_rows_alone {
+        Form::Rows
+    } else {
+        Form::Report
+    }
+}
+
 // How histograms are written for people.
 fn form_of<'a>(style: Style, is_page: bool, choice: Choice<'a>) -> Form<'a> {
     if is_page {
@@ -134,7 +152,10 @@ fn meet<
 {
     check_dashes(context.alloc(), &task)?;
     match task {
-        Task::Report { file } => write_file(context, Form::Report, file),
+        Task::Report {
+            file,
+            has_rows_alone,
+        } => write_file(context, report_form(has_rows_alone), file),
         Task::Export { file, prefix } => export(context, file, prefix),
         Task::Show {
             file,

@@ -8,3 +8,4 @@ pub mod Records
 pub mod ReadScripts
 mod ReadWhole
 pub mod Inputs
+pub mod Wholeness

@@ -24,6 +24,9 @@ cli_fault_number cli.NoThread = 10
 cli_fault_number cli.NoMemory = 11
 cli_fault_number (cli.Adopt fault) = 12
 cli_fault_number cli.NoSegment = 13
+cli_fault_number (cli.NoHistogram name) = 14
+cli_fault_number (cli.Bad reference fault) = 15
+cli_fault_number (cli.Stopped fault) = 16
 
 -- the fault of a call whose reading of words failed
 abbrev pub fault_of_read : ReadFault → CliFault

@@ -3,6 +3,7 @@ pub use Rattle.bucket_ranges.specs.Reading
 pub mod Fault
 pub mod Input
 pub mod Report
+pub mod Damage
 pub mod Number
 pub mod Request
 pub mod Script

@@ -1,5 +1,6 @@
 //! Why a call of the program did not do its work.
 
+use image_reader::RecordFault;
 use segment_calls::{AdoptFault, Refusal};
 use segment_image::{ImageFault, ReadFault};
 use std::alloc::AllocError;
@@ -49,16 +50,29 @@ pub enum CliFault {
     /// Fewer segments stand among the bytes that were searched.
     #[error("NoSegment")]
     NoSegment,
+    /// The image has no histogram of this name; the text has the others that were asked for.
+    #[error("NoHistogram {letters}", letters = Letters(.0))]
+    NoHistogram(Vec<u8>),
+    /// The record of the image at this word has this fault; the text has all that is valid.
+    #[error("Bad {reference} {fault}")]
+    Bad { reference: u64, fault: RecordFault },
+    /// The list of the image's records stops before its end, for this reason; the text has all before it.
+    #[error("Stopped {0}")]
+    Stopped(ImageFault),
 }
 
-// The bytes of a name as text: those of a lawful name are letters, digits and signs of ASCII.
+// The bytes of a name as text on one line: blanks, letters, digits and signs of ASCII as they are, and any other byte by its
+// number. A valid name has none.
 #[derive(Clone, Copy)]
 struct Letters<'a>(&'a [u8]);
 
 impl fmt::Display for Letters<'_> {
     fn fmt<W: fmt::Write>(&self, f: &mut fmt::Formatter<W>) -> fmt::Result {
         for byte in self.0 {
-            f.write_char(char::from(*byte))?;
+            match *byte {
+                b' '..=b'~' => f.write_char(char::from(*byte))?,
+                byte => write!(f, "\\x{byte:02x}")?,
+            }
         }
         Ok(())
     }
@@ -86,6 +100,9 @@ impl CliFault {
             CliFault::NoMemory => 11,
             CliFault::Adopt(_) => 12,
             CliFault::NoSegment => 13,
+            CliFault::NoHistogram(_) => 14,
+            CliFault::Bad { .. } => 15,
+            CliFault::Stopped(_) => 16,
         }
     }
 }

@@ -6,6 +6,7 @@
 //! A script is read whole too, and is then a value or its first faulty record: `specs/Script.antt`.
 #![tactic(auto)]
 
+mod damage;
 mod fault;
 mod fields;
 mod input;
@@ -14,6 +15,7 @@ mod reporting;
 mod rows;
 mod script;
 
+pub use damage::damage_of;
 pub use fault::CliFault;
 pub use fields::{read_spec, three_from};
 pub use input::{MAX_WORDS, image_in, read_input};

@@ -1,5 +1,5 @@
 -- What is shown of the bytes of words.
-use Rattle.std.proofs.Common.{◌≡◌, List, ℕ, Option, Some, None, Result, Ok, Err, IfSome, OnOk, subst}
+use Rattle.std.proofs.Common.{◌≡◌, List, ℕ, Option, Some, None, IfSome, subst}
 use Rattle.std.specs.Io.KnownBytes.{Appends}
 use Rattle.segment_image.specs.Words.{bytes_of_words}
 use Rattle.bucket_ranges.specs.Reading.{Reading}
@@ -12,7 +12,8 @@ pub shown_of_bytes : (words : List ℕ) (IsOf : Reading → List ℕ → Type 0)
 shown_of_bytes words IsOf text old new shown None same written = tt
 shown_of_bytes words IsOf text old new shown (Some bytes) same written = (text, subst (λ b. IsOfBytes IsOf b text) same shown, written)
 
--- what follows from what holds where a result is Ok
-pub OnOk-map : {T E : Type 0} (P Q : Type 0) → (P → Q) → (r : Result T E) → OnOk r P → OnOk r Q
-OnOk-map P Q f (Ok x) p = f p
-OnOk-map P Q f (Err e) p = tt
+-- what holds of the bytes of words holds of those from which they were read
+pub known_of_bytes : (words : List ℕ) (P : List ℕ → Type 0) → P (bytes_of_words words) → (remaining : Option (List ℕ))
+    → IfSome remaining (λ bytes. bytes_of_words words ≡ bytes) → IfSome remaining P
+known_of_bytes words P known None same = tt
+known_of_bytes words P known (Some bytes) same = subst P same known

@@ -4,3 +4,4 @@ pub mod Inert
 pub mod Numbered
 pub mod Steps
 pub mod Totals
+pub mod AllThere

@@ -41,7 +41,7 @@ or-true : (b : Bool) → (b || true) ≡ true
 or-true true = refl
 or-true false = refl
 
-any_at : {X : Type 0} (p : X → Bool) (xs : List X) (i : ℕ) (d : X) → i < length xs → p (get_or xs i d) ≡ true → list_any p xs ≡ true
+pub any_at : {X : Type 0} (p : X → Bool) (xs : List X) (i : ℕ) (d : X) → i < length xs → p (get_or xs i d) ≡ true → list_any p xs ≡ true
 any_at p [] i d h passes = absurd (omega (arith, h))
 any_at p (x ∷ xs) zero d h passes = ap (λ b. b || list_any p xs) passes
 any_at p (x ∷ xs) (suc i) d h passes = ap (λ b. p x || b) (any_at p xs i d (omega (arith, h)) passes) ∙ or-true (p x)

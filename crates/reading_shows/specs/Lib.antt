@@ -7,6 +7,7 @@ pub mod Naming
 pub mod Bars
 pub mod Heights
 pub mod Choice
+pub mod Missing
 pub mod Most
 pub mod Showing
 pub mod Escapes

@@ -2,16 +2,28 @@
 use Rattle.std.specs.Prelude.{ℕ, List}
 use Rattle.bucket_ranges.specs.Reading.{Reading}
 use Rattle.reading_texts.specs.Text.{IsTextOf}
+use Rattle.reading_texts.specs.Table.{IsTableOf}
 use Rattle.reading_texts.specs.Exporting.{IsExportOf}
 use Rattle.persist_report_core.specs.Report.{IsOfBytes}
 use Rattle.reading_shows.specs.declared.form.Form.{Form}
-use Rattle.reading_shows.specs.declared.form.Form.TheVariants.{Report, Export, Show, Page}
+use Rattle.reading_shows.specs.declared.form.Form.TheVariants.{Report, Rows, Export, Show, Page}
+use Rattle.reading_shows.specs.declared.choice.Choice.{Choice}
+use Rattle.reading_shows.specs.declared.choice.Choice.TheVariants.{All}
 use Rattle.reading_shows.specs.Showing.{IsShowOf}
 use Rattle.reading_shows.specs.Page.{IsPageOf}
 
--- the text of a reading in a form: its report, its metrics, the text for people or the web page
+-- which histograms a form has: all, where none is chosen
+abbrev pub choice_in : Form → Choice
+choice_in Report = All
+choice_in Rows = All
+choice_in (Export prefix) = All
+choice_in (Show style choice) = choice
+choice_in (Page all choice) = choice
+
+-- the text of a reading in a form: its report, the rows of that, its metrics, the text for people or the web page
 abbrev pub IsTextIn : Form → Reading → List ℕ → Type 0
 IsTextIn Report reading text = IsTextOf reading text
+IsTextIn Rows reading text = IsTableOf reading text
 IsTextIn (Export prefix) reading text = IsExportOf prefix.now reading text
 IsTextIn (Show style choice) reading text = IsShowOf style choice reading text
 IsTextIn (Page all choice) reading text = IsPageOf all choice reading text

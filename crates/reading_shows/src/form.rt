@@ -1,16 +1,16 @@
 //! The forms in which a reading is written.
 
-ghost use Rattle.std.specs.Prelude.{All, IfOk, map};
+ghost use Rattle.std.specs.Prelude.{◌≡◌, All, IfOk, map};
 ghost use Rattle.image_reader.specs.Readable.{IsReadable};
 ghost use Rattle.image_reader.specs.Views.{histogram_view, reading_view};
-ghost use Rattle.reading_shows.specs.Writing.{IsTextIn};
+ghost use Rattle.reading_shows.specs.Writing.{IsTextIn, choice_in};
 
 use crate::choice::Choice;
 use crate::page::page_text;
 use crate::showing::show_text;
 use crate::style::Style;
 use image_reader::Reading;
-use reading_texts::{export_text, report_text};
+use reading_texts::{export_text, report_text, table_text};
 use std::alloc::{AllocError, Global};
 
 /// The form in which a reading is written.
@@ -18,6 +18,8 @@ use std::alloc::{AllocError, Global};
 pub enum Form<'a> {
     /// Its report, as CSV.
     Report,
+    /// The rows of its report alone, as CSV with a head line.
+    Rows,
     /// Its metrics in the Prometheus text format, whose names begin with `prefix`: one where `reading_texts::is_prefix` says so.
     Export { prefix: &'a str },
     /// The chosen histograms as a text for people, drawn in this style.
@@ -26,7 +28,17 @@ pub enum Form<'a> {
     Page { shows_all: bool, choice: Choice<'a> },
 }
 
-impl Form<'_> {
+impl<'a> Form<'a> {
+    /// Returns which histograms it has: all, where none is chosen.
+    pub fn choice(self) -> Choice<'a>
+        ensures { result ≡ choice_in self.entry }
+    {
+        match self {
+            Form::Report | Form::Rows | Form::Export { .. } => Choice::All,
+            Form::Show { choice, .. } | Form::Page { choice, .. } => choice,
+        }
+    }
+
     /// Returns the text of a reading in this form, byte for byte. The one error is that memory runs out.
     pub fn text_of(self, alloc: Global, reading: &Reading) -> Result<Vec<u8>, AllocError>
         requires { All IsReadable (map histogram_view reading.now.hists.items) }
@@ -34,6 +46,7 @@ impl Form<'_> {
     {
         match self {
             Form::Report => report_text(alloc, reading),
+            Form::Rows => table_text(alloc, reading),
             Form::Export { prefix } => export_text(alloc, reading, prefix.as_bytes()),
             Form::Show { style, choice } => show_text(alloc, reading, style, choice),
             Form::Page { shows_all, choice } => page_text(alloc, reading, shows_all, choice),

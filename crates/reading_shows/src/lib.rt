@@ -4,7 +4,7 @@
 //! made of. All numbers in them come from whole-number arithmetic, which `specs/Shares.antt` defines with its rounding. Each is
 //! composed whole and only then written, so that nothing is written but for a writer that fails.
 //!
-//! [`write_text`] reads an image and writes it in one of four [`Form`]s: these two, the report and the metrics.
+//! [`write_text`] reads an image and writes it in one of five [`Form`]s: these two, the report, its rows and the metrics.
 #![tactic(auto)]
 
 mod bars;
@@ -16,6 +16,7 @@ mod form;
 mod heading;
 mod heights;
 mod lines;
+mod missing;
 mod most;
 mod naming;
 mod page;
@@ -28,6 +29,7 @@ mod writing;
 
 pub use choice::Choice;
 pub use form::Form;
+pub use missing::first_missing;
 pub use page::page_text;
 pub use showing::show_text;
 pub use style::Style;

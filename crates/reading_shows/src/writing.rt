@@ -1,22 +1,25 @@
 //! An image that is read from a reader, and written in a form.
 
-ghost use Rattle.std.specs.Prelude.{◌≡◌, ◌≢◌, ◌↔◌, ℕ, List, true, false, OnOk, IfErr, IfSome, IsErrOf};
+ghost use Rattle.std.specs.Prelude.{◌≡◌, ◌≢◌, ◌↔◌, ℕ, List, true, false, OnOk, IfOk, IfErr, IfSome, IsErrOf};
 ghost use Rattle.std.specs.Io.KnownBytes.{Appends};
+ghost use Rattle.image_reader.specs.Views.{reading_view};
 ghost use Rattle.segment_image.specs.Watched.{has_failed, is_flushed, watched_inner};
-ghost use Rattle.persist_report_core.specs.Report.{IsCausedByImage};
+ghost use Rattle.persist_report_core.specs.Report.{IsCausedByImage, IsReadingOf};
 ghost use Rattle.reading_shows.specs.Writing.{IsWrittenFrom};
 
 use crate::form::Form;
+use image_reader::Reading;
 use persist_report_core::{CliFault, read_image, read_input, write_and_flush};
 use segment_image::Watched;
 use std::alloc::Global;
 use std::io::{Read, Write};
 
-/// Writes the text of the image in what the reader has left, a closed image or a mapped file, in a form. The reader and the writer have not failed
-/// before.
+/// Writes the text of the image in what the reader has left, a closed image or a mapped file, in a form, and returns the
+/// reading of which it is. The reader and the writer have not failed before.
 ///
-/// On `Ok` exactly this text of the input was written [text], and then flushed [flushed]. Records that are no valid
-/// histograms, and a list of records that is broken, are no faults: the text names them.
+/// On `Ok` exactly this text of the input was written [text], and then flushed [flushed]; the value is what the input
+/// reads as [reading]. Records that are no valid histograms, a list of records that is broken and names that no histogram
+/// has are no faults here: `damage_of` and `first_missing` report them.
 ///
 /// `TooLong` comes only where there are more than 8,388,608 bytes, or in a mapped file 80 more, `NotWords` only where
 /// their number is no multiple of eight, and `Image` only with the first fault of the image's header [cause]. `Read` comes exactly where a read
@@ -27,10 +30,11 @@ pub fn write_text<R: Read, W: Write>(
     form: Form<'_>,
     reader: &mut Watched<R>,
     writer: &mut Watched<W>,
-) -> Result<(), CliFault>
+) -> Result<Reading, CliFault>
     requires reader_sound { has_failed reader.old ≡ false }
     requires writer_sound { has_failed writer.old ≡ false }
     ensures text { OnOk result (IfSome (R.remaining (watched_inner reader.old)) (λ bytes. (text : List ℕ) × IsWrittenFrom form.entry bytes text × Appends (W.contents (watched_inner writer.old)) (W.contents (watched_inner writer.new)) text)) }
+    ensures reading { IfOk result (λ reading. IfSome (R.remaining (watched_inner reader.old)) (λ bytes. IsReadingOf bytes (reading_view reading))) }
     ensures cause { IfErr result (λ fault. IfSome (R.remaining (watched_inner reader.old)) (λ bytes. IsCausedByImage bytes fault)) }
     ensures read { IsErrOf result CliFault.Read ↔ (has_failed reader.new ≡ true) }
     ensures write { IsErrOf result CliFault.Write ↔ (has_failed writer.new ≡ true) }
@@ -40,5 +44,6 @@ pub fn write_text<R: Read, W: Write>(
     let words = read_input(alloc, reader)?;
     let reading = read_image(alloc, &words)?;
     let text = form.text_of(alloc, &reading)?;
-    write_and_flush(writer, &text)
+    write_and_flush(writer, &text)?;
+    Ok(reading)
 }

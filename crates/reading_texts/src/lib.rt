@@ -1,4 +1,4 @@
-//! The texts of a reading, each composed in memory: its report as CSV, and lines for what scrapes metrics.
+//! The texts of a reading, each composed in memory: its report as CSV, its rows alone, and lines for what scrapes metrics.
 //!
 //! Each is defined in `specs/` as lines in their order, most of them from a row of a histogram. The rows, and the order of
 //! the histograms, are the same for all texts: `specs/Rows.antt`.
@@ -10,11 +10,13 @@ mod lines;
 mod order;
 mod parts;
 mod rows;
+mod table;
 mod text;
 mod words;
 
 pub use exporting::{export_text, is_prefix};
 pub use parts::put_parts;
 pub use rows::{HistRow, rows_of, units};
+pub use table::table_text;
 pub use text::report_text;
 pub use words::{image_fault_word, is_sparse, kind_word, record_fault_word};

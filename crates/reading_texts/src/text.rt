@@ -59,7 +59,11 @@ fn put_rows(
 }
 
 // The lines of the buckets that have units.
-fn put_buckets(alloc: Global, text: &mut Vec<u8>, hist: &HistReading) -> Result<(), AllocError>
+pub(crate) fn put_buckets(
+    alloc: Global,
+    text: &mut Vec<u8>,
+    hist: &HistReading,
+) -> Result<(), AllocError>
     requires { IsReadable (histogram_view hist.now) }
     ensures { OnOk result (text.new.items ≡ text.old.items ++ flat_map (bucket_text (histogram_view hist.now)) (rows_of_histogram (histogram_view hist.now))) }
 {

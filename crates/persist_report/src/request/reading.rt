@@ -6,12 +6,28 @@ use clap::{Arg, ArgAction, ArgMatches, Command, value_parser};
 use reading_shows::Style;
 use std::alloc::{AllocError, Global};
 
+// Asks for a fault if the image is not whole.
+fn whole_flag<'a>(alloc: Global) -> Arg<'a> {
+    Arg::new(alloc, "whole")
+        .long("whole")
+        .action(ArgAction::SetTrue)
+        .help("End with a fault if the image is damaged")
+        .long_help("End with a fault, after the text, if a record is bad or the list of\nrecords stops early")
+}
+
 pub fn report_command<'a>(alloc: Global) -> Result<Command<'a>, AllocError> {
+    let rows = Arg::new(alloc, "rows")
+        .long("rows")
+        .action(ArgAction::SetTrue)
+        .help("Print the buckets alone, after a line of column names")
+        .long_help("Print the buckets alone, after a line with the names of the columns: for\nengines that read CSV");
     Command::new(alloc, "report")
         .about("Print the histograms of an image as CSV")
         .long_about(texts::REPORT)
         .after_help("Example:\n  persist_report report my.img")
         .arg(image(alloc))?
+        .arg(rows)?
+        .arg(whole_flag(alloc))?
         .arg(explain_flag(alloc))
 }
 
@@ -28,6 +44,7 @@ pub fn export_command<'a>(alloc: Global) -> Result<Command<'a>, AllocError> {
         .after_help("Example:\n  persist_report export my.img --prefix my")
         .arg(image(alloc))?
         .arg(prefix)?
+        .arg(whole_flag(alloc))?
         .arg(explain_flag(alloc))
 }
 
@@ -80,7 +97,9 @@ pub fn show_command<'a>(alloc: Global) -> Result<Command<'a>, AllocError> {
         .arg(names)?
         .arg(part)?
         .arg(html)?;
-    style_options(alloc, command)?.arg(explain_flag(alloc))
+    style_options(alloc, command)?
+        .arg(whole_flag(alloc))?
+        .arg(explain_flag(alloc))
 }
 
 pub fn explain_command<'a>(alloc: Global) -> Result<Command<'a>, AllocError> {

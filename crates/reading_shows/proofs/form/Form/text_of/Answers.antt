@@ -3,6 +3,9 @@ use Rattle.reading_shows.proofs.form.Form.text_of.Goals as goal
 pub returns-in-Report : goal.returns-in-Report
 returns-in-Report c = rw c.in-Report.is c.report_text.ensures
 
+pub returns-in-Rows : goal.returns-in-Rows
+returns-in-Rows c = rw c.in-Rows.is c.table_text.ensures
+
 pub returns-in-Export : goal.returns-in-Export
 returns-in-Export c = rw c.in-Export.is (rw c.as_bytes.ensures.value at c.export_text.ensures)
 

@@ -1,0 +1,44 @@
+//! Names that are asked for and that no histogram has.
+
+ghost use Rattle.std.specs.Prelude.{◌≡◌, ◌↔◌, IsNone};
+ghost use Rattle.image_reader.specs.Views.{reading_view};
+ghost use Rattle.reading_shows.specs.Missing.{is_there as is_there_in, names_of as names_of_choice, first_missing as first_missing_of, AreAllThere};
+
+use crate::choice::Choice;
+use image_reader::Reading;
+
+// Whether a histogram of a reading has this name.
+fn is_there(reading: &Reading, name: &str) -> bool
+    ensures { result ≡ is_there_in (reading_view reading.now) name.entry }
+{
+    for hist in &reading.hists {
+        if name.as_bytes() == hist.name.as_slice() {
+            return true;
+        }
+    }
+    false
+}
+
+// The names that a choice asks for.
+fn names_of<'a>(choice: Choice<'a>) -> &'a [&'a str]
+    ensures { result.now ≡ names_of_choice choice.entry }
+{
+    match choice {
+        Choice::Named(names) => names,
+        Choice::All | Choice::Part(_) => &[],
+    }
+}
+
+/// Returns the first name that a choice asks for and that no histogram of a reading has [first]. None exactly where a
+/// histogram has each of them; a choice of all, or by a part of a name, asks for no name [none].
+pub fn first_missing<'a>(choice: Choice<'a>, reading: &Reading) -> Option<&'a str>
+    ensures first { result ≡ first_missing_of choice.entry (reading_view reading.now) }
+    ensures none { IsNone result ↔ AreAllThere choice.entry (reading_view reading.now) }
+{
+    for name in names_of(choice) {
+        if !is_there(reading, name) {
+            return Some(*name);
+        }
+    }
+    None
+}

@@ -1,0 +1,19 @@
+use Rattle.std.proofs.Common.{◌≡◌, ◌++◌, subst}
+use Rattle.image_reader.specs.Readable.{IsReadable}
+use Rattle.image_reader.specs.Views.{histogram_view}
+use Rattle.reading_texts.specs.Table.{table_rows}
+use Rattle.reading_texts.proofs.Adding.{All-image_at, written-all, written-more}
+use Rattle.reading_texts.proofs.table.put_tables.Goals as goal
+
+pub returns : goal.returns
+returns c = written-all table_rows (λ hist. histogram_view hist.now) c.args.hists.now c.loop-hist.hist-index c.args.text.now.items c.loop-hist-test.false c.loop-hist.invariant
+
+pub put_buckets-requires : goal.put_buckets-requires
+put_buckets-requires c =
+    All-image_at IsReadable (λ hist. histogram_view hist.now) c.args.hists.now c.loop-hist.hist-index c.hist-item.result c.requires c.loop-hist-test.true c.hist-item.is
+
+pub loop-hist-preserved : goal.loop-hist-preserved
+loop-hist-preserved c =
+    written-more (λ hist. table_rows (histogram_view hist.now)) c.args.hists.now c.loop-hist.hist-index c.hist-item.result c.args.text.now.items c.loop-hist-test.true
+    c.loop-hist.invariant
+    (subst (λ one. c.put_buckets.new.text.items ≡ c.loop-hist.text.items ++ table_rows (histogram_view one.now)) c.hist-item.is c.in_ok-put_buckets.ensures)

@@ -34,7 +34,7 @@ pub use lines::{
     Origin, Source, device_lines, image_lines, remedy_lines, remedy_lines_of, script_lines,
     size_lines,
 };
-pub use nearest::{missing_lines, nearest};
+pub use nearest::{missing_lines, names_near};
 pub use records::{ScriptRecord, is_named, line_of, record_of};
 pub use script::{Finding, finding_of};
 pub use shown::{Shown, ShownSpec};

@@ -57,7 +57,7 @@ fn all_near<'a>(
 
 /// Returns the names of a reading that are nearest to a name, three at most, the nearest first. To each lead at most a third as
 /// many edits as the name has characters.
-pub fn nearest<'a>(
+pub fn names_near<'a>(
     alloc: Global,
     reading: &'a Reading,
     name: &str,
@@ -97,7 +97,7 @@ pub fn missing_lines(
     let (origin, shown) = (image.origin, Shown(name));
     match (reading_of(alloc, image.bytes), str::from_utf8(name)) {
         (Some(reading), Ok(text)) => {
-            let near = near_text(alloc, &nearest(alloc, &reading, text)?)?;
+            let near = near_text(alloc, &names_near(alloc, &reading, text)?)?;
             format!(in alloc; "  {origin} has no histogram `{shown}`; {near}\n")
         }
         _ => format!(in alloc; "  {origin} has no histogram `{shown}`\n"),

@@ -48,6 +48,7 @@ Usage: persist_report <COMMAND>
 Commands:
   report   Print the histograms of an image as CSV
   export   Print the histograms of an image in the Prometheus text format
+  info     Show what an image is: version, size, room, units, kinds and damage
   show     Show the histograms of an image: numbers, quantiles and bars
   run      Run a script: write the image to OUT and its report to standard output
   resume   Continue from image BASE: run a script and write the new image to OUT and its report to standard output
@@ -92,6 +93,22 @@ Options:
 Example:
   persist_report export examples/three_samples.img
 """
+INFO_HELP = b"""\
+Show what an image is: version, size, room, units, kinds and damage
+
+Usage: persist_report info [OPTIONS] [FILE]
+
+Arguments:
+  [FILE]  Image file; standard input if it is left out or -
+
+Options:
+      --human    Write numbers with separators: 1,234,567
+      --explain  Explain errors: file, line, reason and what to do (on by default in a terminal)
+  -h, --help     Print help
+
+Example:
+  persist_report info examples/three_samples.img
+"""
 SHOW_HELP = b"""\
 Show the histograms of an image: numbers, quantiles and bars
 
@@ -104,6 +121,9 @@ Arguments:
 Options:
       --match <PART>     Show the histograms whose name contains PART
       --html             Write one self-contained HTML page (not with --width, --ascii or --log)
+      --list             One line for each histogram (not with --ascii, --log, --all or --html)
+      --sort <ORDER>     Order of a list: by name, or by units, the most first [possible values: name, units]
+      --human            Write numbers with separators: 1,234,567 (a page always does)
       --width <COLUMNS>  Width of a line, 40 to 200 [default: COLUMNS of the environment, or 80]
       --ascii            Draw bars with # instead of blocks
       --log              Draw bars in proportion to the logarithms of units
@@ -620,7 +640,7 @@ def words(program: pathlib.Path) -> Iterator[Case]:
         ("report", "--help"): REPORT_HELP,
     }
     shown |= {("export", "--help"): EXPORT_HELP, ("show", "--help"): SHOW_HELP, ("help", "show"): SHOW_HELP}
-    shown |= {("extract", "--help"): EXTRACT_HELP}
+    shown |= {("extract", "--help"): EXTRACT_HELP, ("info", "--help"): INFO_HELP}
     shown |= {("run", "--help"): RUN_HELP, ("merge", "--help"): MERGE_HELP, ("help", "merge"): MERGE_HELP}
     shown |= {("resume", "--help"): RESUME_HELP, ("help", "resume"): RESUME_HELP}
     asked: Sequence[Word]

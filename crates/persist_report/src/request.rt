@@ -3,11 +3,14 @@
 ghost use Rattle.std.specs.Prelude.{◌≡◌, IfOk};
 ghost use Rattle.clap.specs.Words.{kind_of};
 
+mod info;
+
 use crate::nth::Nth;
+use crate::request::info::{info_command, info_task, list_options, list_style};
 use crate::workers::Workers;
 use clap::error::ErrorKind;
 use clap::{Arg, ArgAction, ArgMatches, Command, Error, value_parser};
-use reading_shows::Style;
+use reading_shows::{ListStyle, Style};
 use std::alloc::{AllocError, Global};
 use std::convert::AsStr;
 
@@ -31,13 +34,19 @@ pub enum Task<'a> {
         file: Option<&'a str>,
         prefix: &'a str,
     },
-    /// Write histograms of an image for people, as text or as a web page: those with the names, those whose name contains
-    /// the part, or all.
+    /// Write the overview of an image, with commas in numbers if they are for people.
+    Info {
+        file: Option<&'a str>,
+        is_human: bool,
+    },
+    /// Write histograms of an image for people, as text, as a list or as a web page: those with the names, those whose name
+    /// contains the part, or all.
     Show {
         file: Option<&'a str>,
         names: Vec<&'a str>,
         part: Option<&'a str>,
         style: Style,
+        list: Option<ListStyle>,
         is_page: bool,
     },
     /// Run a script by workers, and write the image to a file and its report to standard output.
@@ -157,6 +166,7 @@ fn show_command<'a>(alloc: Global) -> Result<Command<'a>, AllocError> {
         .arg(names)?
         .arg(part)?
         .arg(html)?;
+    let command = list_options(alloc, command)?;
     style_options(alloc, command)?.arg(explain_flag(alloc))
 }
 
@@ -250,6 +260,7 @@ fn command<'a>(alloc: Global) -> Result<Command<'a>, AllocError> {
         .subcommand_required(true)
         .subcommand(report_command(alloc)?)?
         .subcommand(export_command(alloc)?)?
+        .subcommand(info_command(alloc, image(alloc), explain_flag(alloc))?)?
         .subcommand(show_command(alloc)?)?
         .subcommand(run_command(alloc)?)?
         .subcommand(resume_command(alloc)?)?
@@ -299,16 +310,19 @@ fn show_task<'a>(
         Some(names) => Vec::from_slice(alloc, names)?,
         None => Vec::new(alloc),
     };
+    let style = Style {
+        width: show.get_one::<u16>("width").unwrap_or(columns),
+        is_ascii: show.get_flag("ascii"),
+        is_human: show.get_flag("human"),
+        is_log: show.get_flag("log"),
+        shows_all: show.get_flag("all"),
+    };
     Ok(Task::Show {
         file: show.get_str("FILE"),
         names,
         part: show.get_str("match"),
-        style: Style {
-            width: show.get_one::<u16>("width").unwrap_or(columns),
-            is_ascii: show.get_flag("ascii"),
-            is_log: show.get_flag("log"),
-            shows_all: show.get_flag("all"),
-        },
+        style,
+        list: list_style(show, style),
         is_page: show.get_flag("html"),
     })
 }
@@ -341,6 +355,7 @@ fn plain_task<'a>(name: &str, found: &ArgMatches<'a>) -> Option<Task<'a>> {
             file: found.get_str("FILE"),
         }),
         "export" => export_task(found),
+        "info" => Some(info_task(found)),
         "run" => run_task(found),
         "resume" => resume_task(found),
         "merge" => merge_task(found),

@@ -11,7 +11,7 @@ use crate::request::{Request, Task, no_fault, no_prefix, not_text};
 use crate::terminal::{columns, is_terminal};
 use fault_texts::{AllTexts, fault_text};
 use persist_report_core::CliFault;
-use reading_shows::{Choice, Form, Style};
+use reading_shows::{Choice, Form, ListStyle, Source, Style};
 use reading_texts::is_prefix;
 use std::fs::File;
 use std::random::RandomSource;
@@ -100,15 +100,31 @@ fn choice_of<'a>(names: &'a [&'a str], part: Option<&'a str>) -> Choice<'a> {
     }
 }
 
-// How histograms are written for people.
-fn form_of<'a>(style: Style, is_page: bool, choice: Choice<'a>) -> Form<'a> {
-    if is_page {
-        Form::Page {
+// Where an image comes from.
+fn source_of<'a>(file: Option<&'a str>) -> Source<'a> {
+    match file {
+        Some(path) if path != "-" => Source::File(path),
+        _ => Source::Input,
+    }
+}
+
+// How histograms are written for people: as a page where a source is named, as a list, or as text.
+fn form_of<'a>(
+    style: Style,
+    page: Option<Source<'a>>,
+    list: Option<ListStyle>,
+    choice: Choice<'a>,
+) -> Form<'a> {
+    match page {
+        Some(source) => Form::Page {
+            source,
             shows_all: style.shows_all,
             choice,
-        }
-    } else {
-        Form::Show { style, choice }
+        },
+        None => match list {
+            Some(style) => Form::List { style, choice },
+            None => Form::Show { style, choice },
+        },
     }
 }
 
@@ -119,16 +135,19 @@ fn meet<
 {
     match task {
         Task::Report { file } => write_file(context, Form::Report, file),
+        Task::Info { file, is_human } => write_file(context, Form::Info { is_human }, file),
         Task::Export { file, prefix } => export(context, file, prefix),
         Task::Show {
             file,
             names,
             part,
             style,
+            list,
             is_page,
         } => {
             let choice = choice_of(names.as_slice(), part);
-            write_file(context, form_of(style, is_page, choice), file)
+            let page = if is_page { Some(source_of(file)) } else { None };
+            write_file(context, form_of(style, page, list, choice), file)
         }
         Task::Run {
             script,

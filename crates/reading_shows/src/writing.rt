@@ -1,16 +1,41 @@
 //! An image that is read from a reader, and written in a form.
 
-ghost use Rattle.std.specs.Prelude.{◌≡◌, ◌≢◌, ◌↔◌, ℕ, List, true, false, OnOk, IfErr, IfSome, IsErrOf};
+ghost use Rattle.std.specs.Prelude.{◌≡◌, ◌≢◌, ◌↔◌, ℕ, List, All, map, true, false, OnOk, IfOk, IfErr, IfSome, IsErrOf};
 ghost use Rattle.std.specs.Io.KnownBytes.{Appends};
+ghost use Rattle.image_reader.specs.Readable.{IsReadable};
+ghost use Rattle.image_reader.specs.Views.{histogram_view, reading_view};
+ghost use Rattle.segment_image.specs.Words.{bytes_of_words};
 ghost use Rattle.segment_image.specs.Watched.{has_failed, is_flushed, watched_inner};
 ghost use Rattle.persist_report_core.specs.Report.{IsCausedByImage};
-ghost use Rattle.reading_shows.specs.Writing.{IsWrittenFrom};
+ghost use Rattle.reading_shows.specs.Writing.{IsHeadAndReading, IsWrittenFrom};
 
 use crate::form::Form;
-use persist_report_core::{CliFault, MAX_WORDS, read_image, write_and_flush};
-use segment_image::{Watched, read_words};
+use image_reader::{Reading, read};
+use persist_report_core::{CliFault, MAX_WORDS, write_and_flush};
+use segment_image::{SegmentHead, Watched, header, read_words};
 use std::alloc::Global;
 use std::io::{Read, Write};
+
+// What an image says: its header and its reading.
+#[derive(Drop)]
+struct WholeImage {
+    head: SegmentHead,
+    reading: Reading,
+}
+
+// What the image that the words are says; the fault is as of `read_image`.
+fn read_both(alloc: Global, words: &[u64]) -> Result<WholeImage, CliFault>
+    ensures image { IfOk result (λ image. IsHeadAndReading words.now image.head (reading_view image.reading)) }
+    ensures readable { IfOk result (λ image. All IsReadable (map histogram_view image.reading.hists.items)) }
+    ensures cause { IfErr result (λ fault. IsCausedByImage (bytes_of_words words.now) fault) }
+    ensures other { IfErr result (λ fault. (fault ≢ CliFault.Read) × (fault ≢ CliFault.Write)) }
+{
+    let reading = read(alloc, words)?;
+    match header(words) {
+        Ok(head) => Ok(WholeImage { head, reading }),
+        Err(fault) => Err(CliFault::Image(fault)),
+    }
+}
 
 /// Writes the text of the image that the reader has left, in a form. The reader and the writer have not failed
 /// before.
@@ -38,7 +63,7 @@ pub fn write_text<R: Read, W: Write>(
     ensures untouched { IfErr result (λ fault. fault ≢ CliFault.Write → writer.new ≡ writer.old) }
 {
     let words = read_words(alloc, reader, MAX_WORDS)?;
-    let reading = read_image(alloc, &words)?;
-    let text = form.text_of(alloc, &reading)?;
+    let image = read_both(alloc, &words)?;
+    let text = form.text_of(alloc, &image.head, &image.reading)?;
     write_and_flush(writer, &text)
 }

@@ -1,5 +1,5 @@
-"""`show --html`: the pages of known and forged images say what the plain renderer of `show` says, and are well formed;
-names that need escapes."""
+"""`show --html`: the pages of known and forged images say what the plain renderers of `info`, `show --list` and `show`
+say, and are well formed; names that need escapes; the file that a page names."""
 
 from __future__ import annotations
 
@@ -14,7 +14,7 @@ from collections.abc import Iterable, Iterator, Sequence
 from typing import Any
 
 from parts import known, shows
-from support import command_faults, forge, page_text, plain_show
+from support import command_faults, forge, page_text, plain_overview, plain_show
 from support.program import EXAMPLE, Answer, Case, Word, answer, difference
 
 PROGRAM = "persist_report"
@@ -31,7 +31,7 @@ HISTS = "".join(f"hist,{name},boolean\n" for name in NAMES)
 ADDS = "".join(f"add,{name},{at % 2},{at + 1}\n" for at, name in enumerate(NAMES))
 SCRIPT = f"segment,4096,64,7\n{HISTS}{ADDS}".encode()
 # What a page takes no part in: how a text is drawn.
-DRAWN = {"--ascii", "--log"}
+DRAWN = {"--ascii", "--log", "--human"}
 CHOICES: list[shows.Choice] = [
     ([], {}),
     *(choice for choice in shows.CHOICES if "--width" not in choice[0][0] and not DRAWN & set(choice[0])),
@@ -42,32 +42,37 @@ USAGES = [
 ]
 
 
-def complaint(data: bytes, page: bytes, **options: Any) -> str | None:
-    """Where a page is not well formed, or does not say what the plain renderer says of the image, in its order; None if
-    all is well."""
+def complaint(data: bytes, page: bytes, source: str = "standard input", **options: Any) -> str | None:
+    """Where a page is not well formed, or does not say where the image comes from and what the plain renderers say of
+    it, in its order; None if all is well."""
     read, wrong = page_text.read(page)
     if wrong is not None:
         return wrong
     assert read is not None
-    lines = page_text.words_of(plain_show.text_of(data, width=0, is_ascii=True, **options).decode().split("\n"))
-    wanted = [words for words in lines if words != HEADS]
+    text = plain_show.text_of(data, width=0, is_ascii=True, is_human=True, **options).decode()
+    shown = [words for words in page_text.words_of(text.split("\n")) if words != HEADS]
+    listed = {name: option for name, option in options.items() if name != "shows_all"}
+    rows = plain_overview.list_rows(data, listed.get("names", ()), listed.get("part"), True)
+    wanted = page_text.words_of([
+        source, *plain_overview.info_lines(data, is_human=True), *map(" ".join, rows), *map(" ".join, shown),
+    ])
     for number, words in enumerate(wanted):
         came = read.lines[number] if number < len(read.lines) else "no more"
         if came != words:
             return f"line {number + 1}: wanted {words}, came {came}"
     if len(read.lines) > len(wanted):
         return f"there is more behind it: {read.lines[len(wanted)]}"
-    return contents_complaint(read, wanted) or widths_complaint(read, plain_show.bars_of(data, **options))
+    return contents_complaint(read, shown) or widths_complaint(read, plain_show.bars_of(data, **options))
 
 
 def contents_complaint(read: page_text.Page, wanted: Sequence[Sequence[str]]) -> str | None:
-    """Where the table of contents does not lead to each histogram, by its name."""
+    """Where the list does not lead to each histogram, by its name."""
     places = [f"h{number}" for number in range(len(read.places))]
     names = [words[0] for words, below in zip(wanted, wanted[1:]) if len(words) == 1 and below[1:2] == ["units"]]
     if read.places != places:
         return f"the places are {read.places}"
     if len(names) != len(places) or read.links != [(f"#{place}", name) for place, name in zip(places, names)]:
-        return f"the table of contents is {read.links}, and the names are {names}"
+        return f"the list is {read.links}, and the names are {names}"
     return None
 
 
@@ -96,7 +101,16 @@ def escaped(name: str) -> str:
 def worked(program: pathlib.Path, folder: pathlib.Path) -> Iterator[Case]:
     """The example as a file and on standard input; names that need escapes; each choice of a script's histograms."""
     wanted = answer(program, ["show", "--html", EXAMPLE])
-    yield "the example", complaint(EXAMPLE.read_bytes(), wanted.output)
+    yield "the example", complaint(EXAMPLE.read_bytes(), wanted.output, source=str(EXAMPLE))
+    wanted = answer(program, ["show", "--html"], EXAMPLE.read_bytes())
+    yield "the example, on standard input", complaint(EXAMPLE.read_bytes(), wanted.output)
+    yield "the example, --human", difference(
+        wanted, answer(program, ["show", "--html", "--human"], EXAMPLE.read_bytes())
+    )
+    strange = folder / "a<b>&'\"\u00e4.img"
+    strange.write_bytes(EXAMPLE.read_bytes())
+    came = answer(program, ["show", "--html", strange])
+    yield "a file whose name needs escapes", complaint(EXAMPLE.read_bytes(), came.output, source=str(strange))
     inputs: list[list[Word]] = [["-"], []]
     for words in inputs:
         yield f"the example, {words}", difference(

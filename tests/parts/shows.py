@@ -1,5 +1,5 @@
-"""`show`: known and forged images beside a plain renderer; names, parts of names, widths and signs; many sparse
-values."""
+"""`show`: known and forged images beside a plain renderer; names, parts of names, widths, signs and separators; many
+sparse values."""
 
 from __future__ import annotations
 
@@ -41,6 +41,18 @@ rare
   [0, 10) #            1   <0.1%   <0.1%
       ...
   >= 1000 ######## 99999  >99.9%  100.0%
+
+"""
+# The same with separators, two columns wider.
+RARE_HUMAN_TEXT = b"""\
+rare
+  custom, units 100,000, sum 499,995,005, mean 4,999
+  50%: >= 1000, 90%: >= 1000, 99%: >= 1000, 99.9%: >= 1000
+  least: [0, 10), greatest: >= 1000
+   values            units percent   up to
+  [0, 10) #              1   <0.1%   <0.1%
+      ...
+  >= 1000 ######### 99,999  >99.9%  100.0%
 
 """
 # A script of each kind, with gaps between buckets, with and without a sign, and with one that nothing was recorded in.
@@ -100,6 +112,8 @@ CHOICES: list[Choice] = [
     (["--ascii", "page.size"], {"names": ["page.size"], "is_ascii": True}),
     (["--all"], {"shows_all": True}),
     (["--log"], {"is_log": True}),
+    (["--human"], {"is_human": True}),
+    (["--human", "--width", "60", "--all"], {"is_human": True, "width": 60, "shows_all": True}),
     (["--log", "--ascii", "--width", "60"], {"width": 60, "is_ascii": True, "is_log": True}),
 ]
 # A value of COLUMNS or None, further words, and the width that they ask for.
@@ -139,6 +153,8 @@ def worked(program: pathlib.Path, folder: pathlib.Path) -> Iterator[Case]:
     answer(program, ["run", script, image])
     came = answer(program, ["show", image, "--ascii", "--width", "40"])
     yield "one unit of many", difference(Answer(RARE_TEXT), came)
+    came = answer(program, ["show", image, "--ascii", "--width", "42", "--human"])
+    yield "one unit of many, with separators", difference(Answer(RARE_HUMAN_TEXT), came)
     script.write_bytes(SCRIPT)
     ran = answer(program, ["run", script, image])
     yield "the script", None if ran.status == 0 else f"came {ran}"
@@ -197,6 +213,8 @@ def cases(program: pathlib.Path, options: argparse.Namespace) -> Iterator[Case]:
         chance = random.Random(f"{options.seed} {number}")
         data = forge.image_of(chance)
         width, is_ascii, is_log = chance.randint(40, 200), chance.random() < 0.5, chance.random() < 0.5
+        is_human = chance.random() < 0.5
         words = ["--width", str(width), *(["--ascii"] if is_ascii else []), *(["--log"] if is_log else [])]
-        settings = {"width": width, "is_ascii": is_ascii, "is_log": is_log}
+        words += ["--human"] if is_human else []
+        settings = {"width": width, "is_ascii": is_ascii, "is_log": is_log, "is_human": is_human}
         yield f"image {number} of seed {options.seed}", beside(program, data, words, **settings)

@@ -17,10 +17,10 @@ FOREIGN_STYLE = re.compile(r"url\(|@import|@font-face", re.IGNORECASE)
 
 
 class Reader(html.parser.HTMLParser):
-    """Gathers the lines of a page: of each title, paragraph, row and footer; and the links, the places and the widths
-    of bars."""
+    """Gathers the lines of a page: of its head, of each title, paragraph, row and footer; and the links, the places and
+    the widths of bars."""
 
-    LINES = {"h2", "p", "tr", "footer"}
+    LINES = {"h1", "h2", "p", "tr", "footer"}
 
     def __init__(self) -> None:
         super().__init__(convert_charrefs=True)
@@ -89,7 +89,7 @@ class Reader(html.parser.HTMLParser):
 
 @dataclasses.dataclass
 class Page:
-    """What a page says: its lines, the names and places that its table of contents leads to, its places, and the widths
+    """What a page says: its lines, the names and places that its list leads to, its places, and the widths
     of its bars."""
 
     lines: list[list[str]]

@@ -32,7 +32,12 @@ def percent(part: int, whole: int) -> str:
     return tenths(share) + "%"
 
 
-def mean_of(total: int, units: int) -> str:
+def number(value: int, is_human: bool) -> str:
+    """A number, with a comma between thousands if it is for people."""
+    return f"{value:,}" if is_human else str(value)
+
+
+def mean_of(total: int, units: int, is_human: bool) -> str:
     """Cut toward 0, with three digits that count, and never fewer than the whole part has."""
     if units == 0:
         return "none"
@@ -44,7 +49,8 @@ def mean_of(total: int, units: int) -> str:
         digits += 1
     cut = str(math.floor(size * 10**digits)).rjust(digits + 1, "0")
     point = len(cut) - digits
-    return ("-" if total < 0 else "") + cut[:point] + ("." + cut[point:] if digits else "")
+    whole = number(int(cut[:point]), is_human)
+    return ("-" if total < 0 else "") + whole + ("." + cut[point:] if digits else "")
 
 
 def bar_of(units: int, most: int, width: int, is_ascii: bool) -> str:
@@ -107,12 +113,13 @@ def has_line(kind: str, row: Row) -> bool:
 
 
 def rows_text(
-    rows: Collection[Row], left_out: set[int], total: int, kind: str, width: int, is_ascii: bool, is_log: bool
+    rows: Collection[Row], left_out: set[int], total: int, kind: str, width: int, is_ascii: bool, is_log: bool,
+    is_human: bool,
 ) -> Iterator[str]:
     """The heads and a line for each row that has one; the others are gaps, of which a boolean histogram has none."""
     most, up_to, was_empty = max((units for _, _, units in rows), default=0), 0, False
     names = [values_of(kind, row[0], row[1]) for row in rows if row[0] not in left_out and has_line(kind, row)]
-    wide, digits = max(map(len, ["values", *names])), max(len("units"), len(str(most)))
+    wide, digits = max(map(len, ["values", *names])), max(len("units"), len(number(most, is_human)))
     cells = max(0, width - len(f"  {'':{wide}}  {'':{digits}}  100.0%  100.0%"))
     if rows:
         yield f"  {'values'.rjust(wide)} {' ' * cells} {'units'.rjust(digits)} percent   up to"
@@ -123,33 +130,37 @@ def rows_text(
         if has_line(kind, (low, high, units)):
             bar = bar_of(height_of(units, is_log), height_of(most, is_log), cells, is_ascii)
             line = f"  {values_of(kind, low, high).rjust(wide)} {bar}"
-            yield f"{line} {units:>{digits}}{percent(units, total):>8}{percent(up_to, total):>8}"
+            yield f"{line} {number(units, is_human):>{digits}}{percent(units, total):>8}{percent(up_to, total):>8}"
         elif not was_empty and kind != "boolean":
             yield "  " + "...".rjust(wide)
         was_empty = units == 0
 
 
-def counted(number: int, word: str) -> str:
-    return f"{number} {word}" if number == 1 else f"{number} {word}s"
+def counted(count: int, word: str, is_human: bool) -> str:
+    return number(count, is_human) + f" {word}" + ("" if count == 1 else "s")
 
 
 def histogram_text(
-    name: str, histogram: plain_reader.ReadHistogram, width: int, is_ascii: bool, shows_all: bool, is_log: bool
+    name: str, histogram: plain_reader.ReadHistogram, width: int, is_ascii: bool, shows_all: bool, is_log: bool,
+    is_human: bool,
 ) -> Iterator[str]:
     kind = plain_reader.KINDS[histogram["kind"]]
     rows: list[Row] = [(low, high, units) for low, (high, units) in sorted(histogram["buckets"].items())]
     total = sum(units for _, _, units in rows)
     yield name
-    yield f"  {kind}, units {total}, sum {histogram['sum']}, mean {mean_of(histogram['sum'], total)}"
+    numbers = f"units {number(total, is_human)}, sum {number(histogram['sum'], is_human)}"
+    yield f"  {kind}, {numbers}, mean {mean_of(histogram['sum'], total, is_human)}"
     yield from ranks_of(rows, total, kind)
     if any(histogram["marks"].values()) or histogram["sum mark"]:
         left = sum(max(0, units - histogram["marks"][low]) for low, _, units in rows)
-        yield f"  not yet taken by deltas: units {left}, sum {histogram['sum'] - histogram['sum mark']}"
+        rest = histogram["sum"] - histogram["sum mark"]
+        yield f"  not yet taken by deltas: units {number(left, is_human)}, sum {number(rest, is_human)}"
     left_out = left_out_of(rows, kind, shows_all)
-    yield from rows_text(rows, left_out, total, kind, width, is_ascii, is_log)
+    yield from rows_text(rows, left_out, total, kind, width, is_ascii, is_log, is_human)
     if left_out:
         together = sum(units for low, _, units in rows if low in left_out)
-        yield f"  {counted(len(left_out), 'more value')}, with {counted(together, 'unit')} in all (--all shows them)"
+        values, units = counted(len(left_out), "more value", is_human), counted(together, "unit", is_human)
+        yield f"  {values}, with {units} in all (--all shows them)"
     yield ""
 
 
@@ -184,25 +195,31 @@ def text_of(
     is_ascii: bool = False,
     shows_all: bool = False,
     is_log: bool = False,
+    is_human: bool = False,
 ) -> bytes:
     """The whole text; raises the image's fault."""
     by_name, bad_records, stopped, flags = plain_reader.reading_of(data, collections.Counter())
     lines: list[str] = []
     shown = shown_of(by_name, names, part)
     for name in shown:
-        lines += histogram_text(name.decode(), by_name[name], width, is_ascii, shows_all, is_log)
-    if not shown:
-        lines.append("No histogram is shown.")
-    if flags & 1:
-        lines.append("The segment is marked as corrupt.")
-    if flags & 2:
-        lines.append("The segment was full: an allocation did not fit.")
-    lines += [f"The record at word {reference} cannot be read: {fault}." for reference, fault in bad_records]
-    if stopped is not None:
-        lines.append(f"The list of records stops before its end: {stopped}.")
+        lines += histogram_text(name.decode(), by_name[name], width, is_ascii, shows_all, is_log, is_human)
+    lines += ending_of(shown, bad_records, stopped, flags)
     return "".join(f"{line}\n" for line in lines).encode()
 
 
+def ending_of(
+    shown: Collection[bytes], bad_records: Iterable[tuple[int, str]], stopped: str | None, flags: int
+) -> Iterator[str]:
+    """The sentences after these histograms."""
+    if not shown:
+        yield "No histogram is shown."
+    if flags & 1:
+        yield "The segment is marked as corrupt."
+    if flags & 2:
+        yield "The segment was full: an allocation did not fit."
+    yield from (f"The record at word {reference} cannot be read: {fault}." for reference, fault in bad_records)
+    if stopped is not None:
+        yield f"The list of records stops before its end: {stopped}."
 def missing_of(data: bytes, names: Iterable[str]) -> str | None:
     """The first of these names that no histogram has; raises the image's fault."""
     by_name = plain_reader.reading_of(data, collections.Counter())[0]

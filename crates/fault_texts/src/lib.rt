@@ -6,8 +6,8 @@
 
 mod adopting;
 mod asked;
-mod c_table;
 mod asking;
+mod c_table;
 mod complaint;
 mod damage;
 mod field;
@@ -24,8 +24,8 @@ mod world_table;
 
 pub use adopting::{adopt_lines, base_lines};
 pub use asked::{nearest_name, texts_for};
-pub use c_table::C_TEXTS;
 pub use asking::{VARIABLE, VARIABLE_HELP, is_asked, is_terminal_at};
+pub use c_table::C_TEXTS;
 pub use complaint::{Complaint, RecordForm, complaint_of};
 pub use damage::{bad_lines, stopped_lines};
 pub use field::Wanted;

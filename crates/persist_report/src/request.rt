@@ -1,12 +1,14 @@
 //! What the command line asks for.
 
 mod arguments;
+mod info;
 mod mistakes;
 mod reading;
 mod texts;
 mod writing;
 
 use crate::nth::Nth;
+use crate::request::info::{info_command, info_task};
 use crate::sizing_request::{SizeTask, size_command, size_task};
 use crate::workers::Workers;
 use arguments::explain_flag;
@@ -17,7 +19,7 @@ pub use mistakes::{no_fault, no_prefix, not_text};
 use reading::{
     explain_command, export_command, export_task, report_command, show_command, show_task,
 };
-use reading_shows::Style;
+use reading_shows::{ListStyle, Style};
 use std::alloc::{AllocError, Global};
 use std::convert::AsStr;
 use writing::{
@@ -48,13 +50,19 @@ pub enum Task<'a> {
         file: Option<&'a str>,
         prefix: &'a str,
     },
-    /// Write histograms of an image for people, as text or as a web page: those with the names, those whose name contains
-    /// the part, or all.
+    /// Write the overview of an image, with commas in numbers if they are for people.
+    Info {
+        file: Option<&'a str>,
+        is_human: bool,
+    },
+    /// Write histograms of an image for people, as text, as a list or as a web page: those with the names, those whose name
+    /// contains the part, or all.
     Show {
         file: Option<&'a str>,
         names: Vec<&'a str>,
         part: Option<&'a str>,
         style: Style,
+        list: Option<ListStyle>,
         is_page: bool,
     },
     /// Run a script by workers, and write the image to a file and its report to standard output.
@@ -102,6 +110,7 @@ pub fn command<'a>(alloc: Global) -> Result<Command<'a>, AllocError> {
         .arg(explain_flag(alloc))?
         .subcommand(show_command(alloc)?)?
         .subcommand(report_command(alloc)?)?
+        .subcommand(info_command(alloc)?)?
         .subcommand(export_command(alloc)?)?
         .subcommand(merge_command(alloc)?)?
         .subcommand(run_command(alloc)?)?
@@ -133,6 +142,7 @@ fn plain_task<'a>(name: &str, found: &ArgMatches<'a>) -> Option<Task<'a>> {
             has_rows_alone: found.get_flag("rows"),
         }),
         "export" => export_task(found),
+        "info" => Some(info_task(found)),
         "run" => run_task(found),
         "resume" => resume_task(found),
         "merge" => merge_task(found),

@@ -4,7 +4,7 @@ ghost use Rattle.std.specs.Prelude.{IfErr};
 ghost use Rattle.persist_report.specs.Failure.{UsageIsMistake};
 
 use crate::context::Context;
-use crate::dashes::check_dashes;
+use crate::dashes::{DASH, check_dashes};
 use crate::extracting::extract_file;
 use crate::failure::Failure;
 use crate::files::{merge_files_into, resume_file, run_file, write_file};
@@ -13,7 +13,7 @@ use crate::sizing::size_of_task;
 use crate::terminal::columns;
 use fault_texts::{AllTexts, is_asked, nearest_name, texts_for};
 use persist_report_core::CliFault;
-use reading_shows::{Choice, Form, Style};
+use reading_shows::{Choice, Form, ListStyle, Source, Style};
 use reading_texts::is_prefix;
 use std::fs::File;
 use std::random::RandomSource;
@@ -124,15 +124,31 @@ fn report_form<'a>(has_rows_alone: bool) -> Form<'a> {
     }
 }
 
-// How histograms are written for people.
-fn form_of<'a>(style: Style, is_page: bool, choice: Choice<'a>) -> Form<'a> {
-    if is_page {
-        Form::Page {
+// Where an image comes from.
+fn source_of<'a>(file: Option<&'a str>) -> Source<'a> {
+    match file {
+        Some(path) if path != DASH => Source::File(path),
+        _ => Source::Input,
+    }
+}
+
+// How histograms are written for people: as a page where a source is named, as a list, or as text.
+fn form_of<'a>(
+    style: Style,
+    page: Option<Source<'a>>,
+    list: Option<ListStyle>,
+    choice: Choice<'a>,
+) -> Form<'a> {
+    match page {
+        Some(source) => Form::Page {
+            source,
             shows_all: style.shows_all,
             choice,
-        }
-    } else {
-        Form::Show { style, choice }
+        },
+        None => match list {
+            Some(style) => Form::List { style, choice },
+            None => Form::Show { style, choice },
+        },
     }
 }
 
@@ -156,16 +172,19 @@ fn meet<
             file,
             has_rows_alone,
         } => write_file(context, report_form(has_rows_alone), file),
+        Task::Info { file, is_human } => write_file(context, Form::Info { is_human }, file),
         Task::Export { file, prefix } => export(context, file, prefix),
         Task::Show {
             file,
             names,
             part,
             style,
+            list,
             is_page,
         } => {
             let choice = choice_of(names.as_slice(), part);
-            write_file(context, form_of(style, is_page, choice), file)
+            let page = if is_page { Some(source_of(file)) } else { None };
+            write_file(context, form_of(style, page, list, choice), file)
         }
         Task::Run {
             script,

@@ -2,30 +2,16 @@
 use Rattle.std.proofs.Common.{◌≡◌, ◌∙◌, ℕ, zero, suc, ◌+◌, ◌<◌, Bool, true, false, ◌||◌, cond, List, [], ◌∷◌, ◌++◌, length, take, get_or, Option, Some, None, ap, sym, refl, replicate, arith}
 use Rattle.std.specs.List.{flat_map, find, list_any, range_with_len, sum_by}
 use Rattle.std.proofs.lemmas.Grind.{replicate_next}
-use Rattle.std.proofs.lemmas.List.{append-nil, map-id, take_more}
-use Rattle.std.proofs.lemmas.List.Concat.{flat_map-append}
+use Rattle.std.proofs.lemmas.List.{take_more}
 use Rattle.std.proofs.lemmas.List.Folds.{find-append, list_any-append}
-use Rattle.std.proofs.lemmas.List.FromFn.{map-range_with_len_more, get_or-range_with_len, length-range_with_len}
+use Rattle.std.proofs.lemmas.List.FromFn.{get_or-range_with_len, length-range_with_len}
 use Rattle.std.proofs.lemmas.List.Sums.{sum_by-append}
+use Rattle.reading_overviews.proofs.Texts.{flat_map-push, range-more}
 use Rattle.reading_shows.specs.Columns.{times}
-
--- the text of one element more
-flat_map-push : {X Y : Type 0} (f : X → List Y) (xs : List X) (x : X) → flat_map f (xs ++ x ∷ []) ≡ flat_map f xs ++ f x
-flat_map-push f xs x = flat_map-append f xs (x ∷ []) ∙ ap (λ s. flat_map f xs ++ s) (append-nil (f x))
 
 -- a piece once more
 pub times-more : (n : ℕ) (piece : List ℕ) → times (n + 1) piece ≡ times n piece ++ piece
 times-more n piece = ap (flat_map (λ one. one)) (replicate_next n piece) ∙ flat_map-push (λ one. one) (replicate n piece) piece
-
--- one number more
-range-more : (n : ℕ) → range_with_len 0 (n + 1) ≡ range_with_len 0 n ++ n ∷ []
-range-more n =
-    sym (map-id (range_with_len 0 (n + 1)))
-    ∙ (map-range_with_len_more (λ k. k) 0 n n (omega arith) ∙ ap (λ s. s ++ n ∷ []) (map-id (range_with_len 0 n)))
-
--- the text of one number more
-pub texts-more : (f : ℕ → List ℕ) (n : ℕ) → flat_map f (range_with_len 0 (n + 1)) ≡ flat_map f (range_with_len 0 n) ++ f n
-texts-more f n = ap (flat_map f) (range-more n) ∙ flat_map-push f (range_with_len 0 n) n
 
 -- the sum of one number more
 pub sum-more : (f : ℕ → ℕ) (n : ℕ) → sum_by f (range_with_len 0 (n + 1)) ≡ sum_by f (range_with_len 0 n) + f n

@@ -10,8 +10,11 @@ pub mod Choice
 pub mod Missing
 pub mod Most
 pub mod Showing
+pub mod Listing
+pub mod ListViews
 pub mod Escapes
 pub mod Sheet
 pub mod PageRows
+pub mod PageLists
 pub mod Page
 pub mod Writing

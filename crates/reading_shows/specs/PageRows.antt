@@ -1,9 +1,10 @@
 -- The rows of a histogram in a page.
-use Rattle.std.specs.Prelude.{if◌then◌else◌, ℕ, List, [], ◌∷◌, length, codes}
+use Rattle.std.specs.Prelude.{true, if◌then◌else◌, ℕ, List, [], ◌∷◌, length, codes}
 use Rattle.std.specs.Fmt.{decimal}
 use Rattle.std.specs.List.{flat_map, range_with_len}
 use Rattle.reading_texts.specs.declared.rows.HistRow.{HistRow}
 use Rattle.reading_texts.specs.Exporting.{joined}
+use Rattle.reading_overviews.specs.Numbers.{number}
 use Rattle.reading_shows.specs.declared.style.Frame.{Frame}
 use Rattle.reading_shows.specs.Shares.{percent}
 use Rattle.reading_shows.specs.Bars.{marks_of}
@@ -22,7 +23,7 @@ abbrev pub unit_row : Frame → HistRow → List ℕ
 unit_row frame row =
     joined (
     codes "<tr><td>" ∷ range_text frame.naming row ∷ codes "</td><td>" ∷ drawn_bar row.units frame.most ∷ codes "</td><td>"
-    ∷ decimal row.units ∷ codes "</td><td>" ∷ percent (codes "&lt;0.1%") row.units frame.total ∷ codes "</td><td>" ∷ percent (codes "&lt;0.1%") row.up_to frame.total
+    ∷ number true row.units ∷ codes "</td><td>" ∷ percent (codes "&lt;0.1%") row.units frame.total ∷ codes "</td><td>" ∷ percent (codes "&lt;0.1%") row.up_to frame.total
     ∷ codes "</td></tr>\n" ∷ [])
 
 -- row `i`; rows without one that stand side by side have the row of a gap together

@@ -1,8 +1,9 @@
 -- Shares, percents and means, in whole numbers.
-use Rattle.std.specs.Prelude.{Bool, ◌&&◌, nat_le, nat_lt, ℕ, ◌+◌, ◌-◌, ◌*◌, ◌/◌, ◌%◌, ◌^◌, ℤ, if◌then◌else◌, ◌==◌, List, ◌++◌, length, codes, unsigned_abs, int_lt, pos}
+use Rattle.std.specs.Prelude.{Bool, ◌&&◌, nat_le, nat_lt, ℕ, ◌+◌, ◌-◌, ◌*◌, ◌/◌, ◌%◌, ◌^◌, ℤ, if◌then◌else◌, ◌==◌, List, ◌++◌, length, codes, unsigned_abs}
 use Rattle.std.specs.Fmt.{decimal}
 use Rattle.std.specs.List.{find, range_with_len}
 use Rattle.std.specs.Option.{unwrap_or}
+use Rattle.reading_overviews.specs.Numbers.{number, sign}
 use Rattle.reading_shows.specs.Columns.{times}
 
 -- how many of `shares` equal shares of a whole a part is; what is added before the division says how it is rounded;
@@ -35,25 +36,21 @@ abbrev pub digits_of_mean : ℕ → ℕ → ℕ
 digits_of_mean size units = unwrap_or (find (has_three size units) (range_with_len 0 23)) 0
 
 -- digits, of which so many stand after the point
-abbrev pub with_point : ℕ → ℕ → List ℕ
-with_point digits n =
-    if digits == 0 then decimal n
+abbrev pub with_point : Bool → ℕ → ℕ → List ℕ
+with_point is_human digits n =
+    if digits == 0 then number is_human n
     else decimal (n / 10 ^ digits) ++ codes "." ++ times (digits - length (decimal (n % 10 ^ digits))) (codes "0") ++ decimal (n % 10 ^ digits)
 
 -- the size of a sum over so many units, cut to these digits
-abbrev pub size_of_mean : ℕ → ℕ → List ℕ
-size_of_mean size units =
+abbrev pub size_of_mean : Bool → ℕ → ℕ → List ℕ
+size_of_mean is_human size units =
     if size == 0 then codes "0"
-    else with_point (digits_of_mean size units) (size * 10 ^ digits_of_mean size units / units)
-
--- the sign of a sum that is below 0
-abbrev pub sign : ℤ → List ℕ
-sign sum = if int_lt sum (pos 0) then codes "-" else codes ""
+    else with_point is_human (digits_of_mean size units) (size * 10 ^ digits_of_mean size units / units)
 
 -- a sum over so many units
-abbrev pub mean_of_some : ℤ → ℕ → List ℕ
-mean_of_some sum units = sign sum ++ size_of_mean (unsigned_abs sum) units
+abbrev pub mean_of_some : Bool → ℤ → ℕ → List ℕ
+mean_of_some is_human sum units = sign sum ++ size_of_mean is_human (unsigned_abs sum) units
 
 -- a sum over so many units, with three digits that count, and never fewer than its whole part has; none of no units
-abbrev pub mean : ℤ → ℕ → List ℕ
-mean sum units = if units == 0 then codes "none" else mean_of_some sum units
+abbrev pub mean : Bool → ℤ → ℕ → List ℕ
+mean is_human sum units = if units == 0 then codes "none" else mean_of_some is_human sum units

@@ -1,7 +1,7 @@
 -- The text of a reading for people.
 use Rattle.std.specs.Prelude.{◌≡◌, Bool, ◌==◌, ◌||◌, ◌&&◌, not, nat_le, if◌then◌else◌, ℕ, ◌-◌, ◌*◌, max, ℤ, pos, ◌-ℤ◌, List, [], ◌∷◌, ◌++◌, length, get_or, sum_by, codes, Option, Some, None, IsPermutation, IsSortedByKey}
 use Rattle.std.specs.Cmp.Lexicographic.{slice_cmp}
-use Rattle.std.specs.Fmt.{decimal, signed_decimal}
+use Rattle.std.specs.Fmt.{decimal}
 use Rattle.std.specs.List.{flat_map, find, filter, fold, list_any, range_with_len}
 use Rattle.std.specs.Ordering.{int_eq, nat_cmp}
 use Rattle.segment_image.specs.declared.fault.ImageFault.{ImageFault}
@@ -11,6 +11,7 @@ use Rattle.reading_texts.specs.declared.rows.HistRow.{HistRow}
 use Rattle.reading_texts.specs.Rows.{units_of, rows_of}
 use Rattle.reading_texts.specs.Text.{kind_word, record_fault_word, image_fault_word}
 use Rattle.reading_texts.specs.Exporting.{joined, is_sparse}
+use Rattle.reading_overviews.specs.Numbers.{number, signed}
 use Rattle.reading_shows.specs.declared.style.Style.{Style}
 use Rattle.reading_shows.specs.declared.style.Frame.{Frame}
 use Rattle.reading_shows.specs.declared.style.LineColumns.{LineColumns}
@@ -27,11 +28,11 @@ use Rattle.reading_shows.specs.Heights.{height_of}
 -- ---- the head of a histogram
 
 -- the line of the kind, the units, the sum and the mean
-abbrev pub number_line : Histogram → List ℕ
-number_line hist =
+abbrev pub number_line : Bool → List ℕ → ℤ → ℕ → List ℕ
+number_line is_human kind sum units =
     joined (
-    codes "  " ∷ kind_word hist.spec ∷ codes ", units " ∷ decimal (units_of hist) ∷ codes ", sum "
-    ∷ signed_decimal hist.sum ∷ codes ", mean " ∷ mean hist.sum (units_of hist) ∷ codes "\n" ∷ [])
+    codes "  " ∷ kind ∷ codes ", units " ∷ number is_human units ∷ codes ", sum "
+    ∷ signed is_human sum ∷ codes ", mean " ∷ mean is_human sum units ∷ codes "\n" ∷ [])
 
 -- whether the units up to a row are so many thousandths of all, or more
 abbrev pub reaches : ℕ → ℕ → HistRow → Bool
@@ -80,22 +81,25 @@ abbrev pub was_taken : Histogram → Bool
 was_taken hist = list_any (λ mark. not (mark == 0)) hist.marks || not (int_eq hist.sum_mark (pos 0))
 
 -- the line of these units and this sum, which no delta has taken
-abbrev pub left_text : ℕ → ℤ → List ℕ
-left_text units sum =
-    joined (codes "  not yet taken by deltas: units " ∷ decimal units ∷ codes ", sum " ∷ signed_decimal sum ∷ codes "\n" ∷ [])
+abbrev pub left_text : Bool → ℕ → ℤ → List ℕ
+left_text is_human units sum =
+    joined (
+    codes "  not yet taken by deltas: units " ∷ number is_human units ∷ codes ", sum " ∷ signed is_human sum ∷ codes "\n" ∷ [])
 
 -- the line of what no delta has taken
-abbrev pub left_line : Histogram → List ℕ
-left_line hist = left_text (left_of hist) (hist.sum -ℤ hist.sum_mark)
+abbrev pub left_line : Bool → Histogram → List ℕ
+left_line is_human hist = left_text is_human (left_of hist) (hist.sum -ℤ hist.sum_mark)
 
 -- the same line, where a delta has taken something
-abbrev pub taken_line : Histogram → List ℕ
-taken_line hist = if was_taken hist then left_line hist else []
+abbrev pub taken_line : Bool → Histogram → List ℕ
+taken_line is_human hist = if was_taken hist then left_line is_human hist else []
 
 -- the lines of all these numbers
-abbrev pub number_lines : Histogram → List ℕ
-number_lines hist =
-    number_line hist ++ rank_lines (naming_of hist.spec) (units_of hist) (rows_of hist) ++ taken_line hist
+abbrev pub number_lines : Bool → Histogram → List ℕ
+number_lines is_human hist =
+    number_line is_human (kind_word hist.spec) hist.sum (units_of hist)
+    ++ rank_lines (naming_of hist.spec) (units_of hist) (rows_of hist)
+    ++ taken_line is_human hist
 
 -- ---- the lines of its rows
 
@@ -120,7 +124,7 @@ widened naming width row = if has_line naming row then max width (length (range_
 abbrev pub columns_of : Style → Frame → List HistRow → LineColumns
 columns_of style frame rows =
     let values = fold (widened frame.naming) 6 rows in
-    let units = max 5 (length (decimal frame.most)) in
+    let units = max 5 (length (number style.is_human frame.most)) in
     record { values = values; bars = style.width - values - units - 20; units = units }
 
 -- the heads of the columns
@@ -135,7 +139,7 @@ abbrev pub unit_line : Style → LineColumns → Frame → HistRow → List ℕ
 unit_line style columns frame row =
     joined (
     codes "  " ∷ at_right columns.values (range_text frame.naming row) ∷ codes " "
-    ∷ bar style.is_ascii columns.bars (height_of style.is_log row.units) (height_of style.is_log frame.most) ∷ codes " " ∷ at_right columns.units (decimal row.units)
+    ∷ bar style.is_ascii columns.bars (height_of style.is_log row.units) (height_of style.is_log frame.most) ∷ codes " " ∷ at_right columns.units (number style.is_human row.units)
     ∷ at_right 8 (percent (codes "<0.1%") row.units frame.total)
     ∷ at_right 8 (percent (codes "<0.1%") row.up_to frame.total) ∷ codes "\n" ∷ [])
 
@@ -162,16 +166,16 @@ abbrev pub plural : ℕ → List ℕ
 plural n = if n == 1 then codes "" else codes "s"
 
 -- the line of these rows and units, which are left out
-abbrev pub left_out_text : ℕ → ℕ → List ℕ
-left_out_text rows units =
+abbrev pub left_out_text : Bool → ℕ → ℕ → List ℕ
+left_out_text is_human rows units =
     joined (
-    codes "  " ∷ decimal rows ∷ codes " more value" ∷ plural rows ∷ codes ", with " ∷ decimal units ∷ codes " unit"
+    codes "  " ∷ number is_human rows ∷ codes " more value" ∷ plural rows ∷ codes ", with " ∷ number is_human units ∷ codes " unit"
     ∷ plural units ∷ codes " in all (--all shows them)\n" ∷ [])
 
 -- the line of the rows that are left out: how many they are, and their units together
-abbrev pub left_out_line : List HistRow → List ℕ
-left_out_line rows =
-    if length rows == 0 then [] else left_out_text (length rows) (sum_by (λ row. row.units) rows)
+abbrev pub left_out_line : Bool → List HistRow → List ℕ
+left_out_line is_human rows =
+    if length rows == 0 then [] else left_out_text is_human (length rows) (sum_by (λ row. row.units) rows)
 
 -- what the lines of a histogram have in common
 abbrev pub frame_of : Histogram → Frame
@@ -190,9 +194,9 @@ abbrev pub histogram_text : Style → Histogram → List ℕ
 histogram_text style hist =
     hist.name
     ++ codes "\n"
-    ++ number_lines hist
+    ++ number_lines style.is_human hist
     ++ row_lines style (frame_of hist) (shown_rows (shows_all_of style.shows_all hist) (rows_of hist))
-    ++ left_out_line (left_out_rows (shows_all_of style.shows_all hist) (rows_of hist))
+    ++ left_out_line style.is_human (left_out_rows (shows_all_of style.shows_all hist) (rows_of hist))
     ++ codes "\n"
 
 -- ---- the end

@@ -1,7 +1,7 @@
 //! Texts that stand in columns.
 
 ghost use Rattle.std.specs.Prelude.{◌≡◌, [], ◌∷◌, ◌++◌, OnOk};
-ghost use Rattle.reading_shows.specs.Columns.{times, at_right};
+ghost use Rattle.reading_shows.specs.Columns.{times, at_left, at_right};
 
 use std::alloc::AllocError;
 
@@ -24,6 +24,14 @@ pub(crate) fn put_bytes(text: &mut Vec<u8>, count: usize, byte: u8) -> Result<()
     };
     text.resize(len, byte)?;
     Ok(())
+}
+
+// Puts a piece at the left end of a column behind a text.
+pub(crate) fn put_at_left(text: &mut Vec<u8>, width: usize, piece: &[u8]) -> Result<(), AllocError>
+    ensures { OnOk result (text.new.items ≡ text.old.items ++ at_left width piece.now) }
+{
+    text.extend_from_slice(piece)?;
+    put_bytes(text, width.saturating_sub(piece.len()), b' ')
 }
 
 // Puts a piece at the right end of a column behind a text.

@@ -7,7 +7,7 @@ ghost use Rattle.reading_shows.specs.Escapes.{escaped_byte, escaped as escaped_o
 use std::alloc::{AllocError, Global};
 
 // Puts what stands for a byte of a name.
-fn put_byte(text: &mut Vec<u8>, byte: u8) -> Result<(), AllocError>
+pub(crate) fn put_byte(text: &mut Vec<u8>, byte: u8) -> Result<(), AllocError>
     ensures { OnOk result (text.new.items ≡ text.old.items ++ escaped_byte byte) }
 {
     match byte {

@@ -6,11 +6,15 @@ ghost use Rattle.image_reader.specs.Views.{histogram_view, reading_view};
 ghost use Rattle.reading_shows.specs.Writing.{IsTextIn, choice_in};
 
 use crate::choice::Choice;
+use crate::listing::{ListStyle, list_text};
 use crate::page::page_text;
 use crate::showing::show_text;
+use crate::source::Source;
 use crate::style::Style;
 use image_reader::Reading;
+use reading_overviews::overview_text;
 use reading_texts::{export_text, report_text, table_text};
+use segment_image::SegmentHead;
 use std::alloc::{AllocError, Global};
 
 /// The form in which a reading is written.
@@ -21,11 +25,30 @@ pub enum Form<'a> {
     /// The rows of its report alone, as CSV with a head line.
     Rows,
     /// Its metrics in the Prometheus text format, whose names begin with `prefix`: one where `reading_texts::is_prefix` says so.
-    Export { prefix: &'a str },
+    Export {
+        prefix: &'a str,
+    },
+    /// Its overview, with commas in numbers if it is for people.
+    Info {
+        is_human: bool,
+    },
     /// The chosen histograms as a text for people, drawn in this style.
-    Show { style: Style, choice: Choice<'a> },
-    /// The chosen histograms as a web page, with all values of sparse ones or those that have the most units.
-    Page { shows_all: bool, choice: Choice<'a> },
+    Show {
+        style: Style,
+        choice: Choice<'a>,
+    },
+    /// A line for each of the chosen histograms.
+    List {
+        style: ListStyle,
+        choice: Choice<'a>,
+    },
+    /// The overview and the chosen histograms as a web page, which names where the image comes from, with all values of sparse
+    /// ones or those that have the most units.
+    Page {
+        source: Source<'a>,
+        shows_all: bool,
+        choice: Choice<'a>,
+    },
 }
 
 impl<'a> Form<'a> {
@@ -34,22 +57,35 @@ impl<'a> Form<'a> {
         ensures { result ≡ choice_in self.entry }
     {
         match self {
-            Form::Report | Form::Rows | Form::Export { .. } => Choice::All,
-            Form::Show { choice, .. } | Form::Page { choice, .. } => choice,
+            Form::Report | Form::Rows | Form::Export { .. } | Form::Info { .. } => Choice::All,
+            Form::Show { choice, .. } | Form::List { choice, .. } | Form::Page { choice, .. } =>
+                choice,
         }
     }
 
-    /// Returns the text of a reading in this form, byte for byte. The one error is that memory runs out.
-    pub fn text_of(self, alloc: Global, reading: &Reading) -> Result<Vec<u8>, AllocError>
+    /// Returns the text of an image in this form, byte for byte: of what its header says and of its reading. The one error
+    /// is that memory runs out.
+    pub fn text_of(
+        self,
+        alloc: Global,
+        head: &SegmentHead,
+        reading: &Reading,
+    ) -> Result<Vec<u8>, AllocError>
         requires { All IsReadable (map histogram_view reading.now.hists.items) }
-        ensures { IfOk result (λ text. IsTextIn self.entry (reading_view reading.now) text.items) }
+        ensures { IfOk result (λ text. IsTextIn self.entry head.now (reading_view reading.now) text.items) }
     {
         match self {
             Form::Report => report_text(alloc, reading),
             Form::Rows => table_text(alloc, reading),
             Form::Export { prefix } => export_text(alloc, reading, prefix.as_bytes()),
             Form::Show { style, choice } => show_text(alloc, reading, style, choice),
-            Form::Page { shows_all, choice } => page_text(alloc, reading, shows_all, choice),
+            Form::Info { is_human } => overview_text(alloc, is_human, head, reading),
+            Form::List { style, choice } => list_text(alloc, reading, style, choice),
+            Form::Page {
+                source,
+                shows_all,
+                choice,
+            } => page_text(alloc, head, reading, source, shows_all, choice),
         }
     }
 }

@@ -5,13 +5,14 @@ ghost use Rattle.std.specs.List.{find, list_any};
 ghost use Rattle.image_reader.specs.Views.{histogram_view};
 ghost use Rattle.image_reader.specs.Readable.{IsReadable};
 ghost use Rattle.reading_texts.specs.Rows.{rows_of as rows_of_histogram};
+ghost use Rattle.reading_overviews.specs.Numbers.{signed};
 ghost use Rattle.reading_shows.specs.Showing.{reaches as reaches_of, quantile as quantile_of, has_units as has_units_of, range_of_found, quantile_line, ends_line, rank_lines, number_line, number_lines, left_of, was_taken as was_taken_of, left_text, left_line, taken_line};
 
 use crate::naming::{Naming, is_truth, naming_of, put_range};
 use crate::shares::put_mean;
 use image_reader::HistReading;
-use itoa::Buffer;
-use reading_texts::{HistRow, kind_word, put_parts, units};
+use reading_overviews::{put_number, put_signed};
+use reading_texts::{HistRow, kind_word, units};
 use std::alloc::AllocError;
 
 // Whether the units up to a row are so many thousandths of all, or more.
@@ -35,7 +36,7 @@ fn first_reaching(total: u64, rows: &[HistRow], thousandths: u32) -> Option<Hist
 }
 
 // The row that holds a quantile; none of no units.
-fn quantile(total: u64, rows: &[HistRow], thousandths: u32) -> Option<HistRow>
+pub(crate) fn quantile(total: u64, rows: &[HistRow], thousandths: u32) -> Option<HistRow>
     ensures { result ≡ quantile_of total rows.now thousandths }
 {
     if total == 0 {
@@ -64,7 +65,11 @@ fn least(rows: &[HistRow]) -> Option<HistRow>
 }
 
 // Puts the values of a row, or none.
-fn put_found(text: &mut Vec<u8>, naming: Naming, found: Option<HistRow>) -> Result<(), AllocError>
+pub(crate) fn put_found(
+    text: &mut Vec<u8>,
+    naming: Naming,
+    found: Option<HistRow>,
+) -> Result<(), AllocError>
     ensures { OnOk result (text.new.items ≡ text.old.items ++ range_of_found naming found) }
 {
     match found {
@@ -127,27 +132,31 @@ fn put_ranks(
     put_ends(text, naming, total, rows)
 }
 
-// Puts the line of the kind, the units, the sum and the mean.
-fn put_number_line(text: &mut Vec<u8>, hist: &HistReading) -> Result<(), AllocError>
-    requires { IsReadable (histogram_view hist.now) }
-    ensures { OnOk result (text.new.items ≡ text.old.items ++ number_line (histogram_view hist.now)) }
+// Puts a sum.
+fn put_sum(text: &mut Vec<u8>, is_human: bool, sum: i64) -> Result<(), AllocError>
+    ensures { OnOk result (text.new.items ≡ text.old.items ++ signed is_human sum) }
 {
-    let units = units(hist);
-    let mut unit_digits = Buffer::new();
-    let mut sum_digits = Buffer::new();
-    put_parts(
-        text,
-        &[
-            b"  ",
-            kind_word(&hist.spec),
-            b", units ",
-            unit_digits.format(units).as_bytes(),
-            b", sum ",
-            sum_digits.format(hist.sum).as_bytes(),
-            b", mean ",
-        ],
-    )?;
-    put_mean(text, hist.sum, units)?;
+    put_signed(text, is_human, i128::from(sum))
+}
+
+// Puts the line of the kind, the units, the sum and the mean.
+fn put_number_line(
+    text: &mut Vec<u8>,
+    is_human: bool,
+    kind: &[u8],
+    sum: i64,
+    units: u64,
+) -> Result<(), AllocError>
+    ensures { OnOk result (text.new.items ≡ text.old.items ++ number_line is_human kind.now sum units) }
+{
+    text.extend_from_slice(b"  ")?;
+    text.extend_from_slice(kind)?;
+    text.extend_from_slice(b", units ")?;
+    put_number(text, is_human, units)?;
+    text.extend_from_slice(b", sum ")?;
+    put_sum(text, is_human, sum)?;
+    text.extend_from_slice(b", mean ")?;
+    put_mean(text, is_human, sum, units)?;
     text.extend_from_slice(b"\n")?;
     Ok(())
 }
@@ -182,21 +191,20 @@ fn sum_left(sum: i64, mark: i64) -> i128
 }
 
 // Puts the line of these units and this sum, which no delta has taken.
-fn put_left_text(text: &mut Vec<u8>, units: u64, sum: i128) -> Result<(), AllocError>
-    ensures { OnOk result (text.new.items ≡ text.old.items ++ left_text units sum) }
+fn put_left_text(
+    text: &mut Vec<u8>,
+    is_human: bool,
+    units: u64,
+    sum: i128,
+) -> Result<(), AllocError>
+    ensures { OnOk result (text.new.items ≡ text.old.items ++ left_text is_human units sum) }
 {
-    let mut unit_digits = Buffer::new();
-    let mut sum_digits = Buffer::new();
-    put_parts(
-        text,
-        &[
-            b"  not yet taken by deltas: units ",
-            unit_digits.format(units).as_bytes(),
-            b", sum ",
-            sum_digits.format(sum).as_bytes(),
-            b"\n",
-        ],
-    )
+    text.extend_from_slice(b"  not yet taken by deltas: units ")?;
+    put_number(text, is_human, units)?;
+    text.extend_from_slice(b", sum ")?;
+    put_signed(text, is_human, sum)?;
+    text.extend_from_slice(b"\n")?;
+    Ok(())
 }
 
 // Whether a mark is not 0.
@@ -219,20 +227,25 @@ fn was_taken(hist: &HistReading) -> bool
 }
 
 // Puts the line of what no delta has taken.
-fn put_left(text: &mut Vec<u8>, hist: &HistReading) -> Result<(), AllocError>
+fn put_left(text: &mut Vec<u8>, is_human: bool, hist: &HistReading) -> Result<(), AllocError>
     requires { IsReadable (histogram_view hist.now) }
-    ensures { OnOk result (text.new.items ≡ text.old.items ++ left_line (histogram_view hist.now)) }
+    ensures { OnOk result (text.new.items ≡ text.old.items ++ left_line is_human (histogram_view hist.now)) }
 {
-    put_left_text(text, left(hist), sum_left(hist.sum, hist.sum_mark))
+    put_left_text(
+        text,
+        is_human,
+        left(hist),
+        sum_left(hist.sum, hist.sum_mark),
+    )
 }
 
 // Puts the same line, where a delta has taken something.
-fn put_taken(text: &mut Vec<u8>, hist: &HistReading) -> Result<(), AllocError>
+fn put_taken(text: &mut Vec<u8>, is_human: bool, hist: &HistReading) -> Result<(), AllocError>
     requires { IsReadable (histogram_view hist.now) }
-    ensures { OnOk result (text.new.items ≡ text.old.items ++ taken_line (histogram_view hist.now)) }
+    ensures { OnOk result (text.new.items ≡ text.old.items ++ taken_line is_human (histogram_view hist.now)) }
 {
     if was_taken(hist) {
-        put_left(text, hist)?;
+        put_left(text, is_human, hist)?;
     }
     Ok(())
 }
@@ -240,15 +253,17 @@ fn put_taken(text: &mut Vec<u8>, hist: &HistReading) -> Result<(), AllocError>
 // Puts the lines of all numbers of a histogram, which has these rows.
 pub(crate) fn put_numbers(
     text: &mut Vec<u8>,
+    is_human: bool,
     hist: &HistReading,
     rows: &[HistRow],
 ) -> Result<(), AllocError>
     requires readable { IsReadable (histogram_view hist.now) }
     requires rows { rows.now ≡ rows_of_histogram (histogram_view hist.now) }
-    ensures { OnOk result (text.new.items ≡ text.old.items ++ number_lines (histogram_view hist.now)) }
+    ensures { OnOk result (text.new.items ≡ text.old.items ++ number_lines is_human (histogram_view hist.now)) }
 {
-    put_number_line(text, hist)?;
-    put_ranks(text, naming_of(&hist.spec), units(hist), rows)?;
-    put_taken(text, hist)?;
+    let total = units(hist);
+    put_number_line(text, is_human, kind_word(&hist.spec), hist.sum, total)?;
+    put_ranks(text, naming_of(&hist.spec), total, rows)?;
+    put_taken(text, is_human, hist)?;
     Ok(())
 }

@@ -1,10 +1,11 @@
-//! The histograms of a reading for people, as a text or as a web page: numbers, quantiles and bars.
+//! The histograms of a reading for people, as a text, a list or a web page: numbers, quantiles and bars.
 //!
-//! The text is defined in `specs/Showing.antt`, and the page in `specs/Page.antt`, over the rows that every text of a reading is
+//! The text is defined in `specs/Showing.antt`, the list in `specs/Listing.antt`, and the page in `specs/Page.antt`, over the rows that every text of a reading is
 //! made of. All numbers in them come from whole-number arithmetic, which `specs/Shares.antt` defines with its rounding. Each is
 //! composed whole and only then written, so that nothing is written but for a writer that fails.
 //!
-//! [`write_text`] reads an image and writes it in one of five [`Form`]s: these two, the report, its rows and the metrics.
+//! [`write_text`] reads an image and writes it in one of seven [`Form`]s: these three, the report, its rows, the metrics and the
+//! overview.
 #![tactic(auto)]
 
 mod bars;
@@ -16,21 +17,26 @@ mod form;
 mod heading;
 mod heights;
 mod lines;
+mod listing;
 mod missing;
 mod most;
 mod naming;
 mod page;
+mod page_lists;
 mod page_rows;
 mod shares;
 mod sheet;
 mod showing;
+mod source;
 mod style;
 mod writing;
 
 pub use choice::Choice;
 pub use form::Form;
+pub use listing::{ListStyle, list_text};
 pub use missing::first_missing;
 pub use page::page_text;
 pub use showing::show_text;
+pub use source::Source;
 pub use style::Style;
 pub use writing::write_text;

@@ -1,7 +1,8 @@
 //! The lines of the rows of a histogram.
 
-ghost use Rattle.std.specs.Prelude.{◌≡◌, ◌<◌, ◌^◌, ◌++◌, length, sum_by, IfOk, OnOk};
+ghost use Rattle.std.specs.Prelude.{◌≡◌, ◌<◌, ◌^◌, ◌++◌, length, max, sum_by, IfOk, OnOk};
 ghost use Rattle.std.specs.List.{fold};
+ghost use Rattle.reading_overviews.specs.Numbers.{number};
 ghost use Rattle.reading_shows.specs.Columns.{at_right};
 ghost use Rattle.reading_shows.specs.Naming.{range_text};
 ghost use Rattle.reading_shows.specs.Showing.{most_of, begins_gap as begins_gap_of, widened, columns_of as columns_of_rows, head_line, unit_line, gap_line, line_at, lines_in, row_lines, plural as plural_of, left_out_text, left_out_line};
@@ -12,8 +13,8 @@ use crate::heights::height_of;
 use crate::naming::{Naming, has_line, is_truth, put_range};
 use crate::shares::put_percent;
 use crate::style::{Frame, LineColumns, Style};
-use itoa::Buffer;
-use reading_texts::{HistRow, put_parts};
+use reading_overviews::put_number;
+use reading_texts::HistRow;
 use std::alloc::{AllocError, Global};
 
 // The most units that a row has.
@@ -50,6 +51,15 @@ fn values_width(room: &mut Vec<u8>, naming: Naming, rows: &[HistRow]) -> Result<
     Ok(width)
 }
 
+// How wide the units of rows are, of which these are the most, and their head.
+fn units_width(room: &mut Vec<u8>, is_human: bool, most: u64) -> Result<usize, AllocError>
+    ensures { IfOk result (λ width. width ≡ max 5 (length (number is_human most))) }
+{
+    room.clear();
+    put_number(room, is_human, most)?;
+    Ok(room.len().max(5))
+}
+
 // How wide the columns of a histogram are.
 fn columns_of(
     room: &mut Vec<u8>,
@@ -60,8 +70,7 @@ fn columns_of(
     ensures { IfOk result (λ columns. columns ≡ columns_of_rows style frame rows.now) }
 {
     let values = values_width(room, frame.naming, rows)?;
-    let mut most = Buffer::new();
-    let units = most.format(frame.most).len().max(5);
+    let units = units_width(room, style.is_human, frame.most)?;
     let width = usize::from(style.width);
     let bars = width
         .saturating_sub(values)
@@ -102,6 +111,21 @@ fn put_values(
     put_at_right(text, width, room.as_slice())
 }
 
+// Puts units at the right end of a column. They are written to `room` first, to see how long they are.
+fn put_units_of(
+    text: &mut Vec<u8>,
+    room: &mut Vec<u8>,
+    width: usize,
+    is_human: bool,
+    units: u64,
+) -> Result<(), AllocError>
+    ensures { OnOk result (text.new.items ≡ text.old.items ++ at_right width (number is_human units)) }
+{
+    room.clear();
+    put_number(room, is_human, units)?;
+    put_at_right(text, width, room.as_slice())
+}
+
 // Puts the line of a row.
 fn put_units(
     text: &mut Vec<u8>,
@@ -120,8 +144,7 @@ fn put_units(
     let most = height_of(style.is_log, frame.most);
     put_bar(text, style.is_ascii, columns.bars, height, most)?;
     text.push(b' ')?;
-    let mut units = Buffer::new();
-    put_at_right(text, columns.units, units.format(row.units).as_bytes())?;
+    put_units_of(text, room, columns.units, style.is_human, row.units)?;
     put_percent(text, b"<0.1%", 8, row.units, frame.total)?;
     put_percent(text, b"<0.1%", 8, row.up_to, frame.total)?;
     text.push(b'\n')?;
@@ -212,34 +235,37 @@ fn plural(n: u64) -> &'static [u8]
 }
 
 // Puts the line of these rows and units, which are left out.
-fn put_left_out_text(text: &mut Vec<u8>, rows: u64, units: u64) -> Result<(), AllocError>
-    ensures { OnOk result (text.new.items ≡ text.old.items ++ left_out_text rows units) }
+fn put_left_out_text(
+    text: &mut Vec<u8>,
+    is_human: bool,
+    rows: u64,
+    units: u64,
+) -> Result<(), AllocError>
+    ensures { OnOk result (text.new.items ≡ text.old.items ++ left_out_text is_human rows units) }
 {
-    let mut row_digits = Buffer::new();
-    let mut unit_digits = Buffer::new();
-    put_parts(
-        text,
-        &[
-            b"  ",
-            row_digits.format(rows).as_bytes(),
-            b" more value",
-            plural(rows),
-            b", with ",
-            unit_digits.format(units).as_bytes(),
-            b" unit",
-            plural(units),
-            b" in all (--all shows them)\n",
-        ],
-    )
+    text.extend_from_slice(b"  ")?;
+    put_number(text, is_human, rows)?;
+    text.extend_from_slice(b" more value")?;
+    text.extend_from_slice(plural(rows))?;
+    text.extend_from_slice(b", with ")?;
+    put_number(text, is_human, units)?;
+    text.extend_from_slice(b" unit")?;
+    text.extend_from_slice(plural(units))?;
+    text.extend_from_slice(b" in all (--all shows them)\n")?;
+    Ok(())
 }
 
 // Puts the line of the rows that are left out.
-pub(crate) fn put_left_out(text: &mut Vec<u8>, rows: &[HistRow]) -> Result<(), AllocError>
+pub(crate) fn put_left_out(
+    text: &mut Vec<u8>,
+    is_human: bool,
+    rows: &[HistRow],
+) -> Result<(), AllocError>
     requires { sum_by (λ row. row.units) rows.now < 2 ^ 64 }
-    ensures { OnOk result (text.new.items ≡ text.old.items ++ left_out_line rows.now) }
+    ensures { OnOk result (text.new.items ≡ text.old.items ++ left_out_line is_human rows.now) }
 {
     if rows.is_empty() {
         return Ok(());
     }
-    put_left_out_text(text, rows.len() as u64, units_together(rows))
+    put_left_out_text(text, is_human, rows.len() as u64, units_together(rows))
 }

@@ -1,10 +1,10 @@
-//! The web page of a reading.
+//! The web page of an image.
 
 ghost use Rattle.std.specs.Prelude.{◌≡◌, ◌++◌, All, IfOk, OnOk, map};
 ghost use Rattle.std.specs.List.{flat_map, enumerate_from};
 ghost use Rattle.image_reader.specs.Views.{histogram_view, reading_view};
 ghost use Rattle.image_reader.specs.Readable.{IsReadable};
-ghost use Rattle.reading_shows.specs.Page.{contents_line, table, title, section, IsPageOf};
+ghost use Rattle.reading_shows.specs.Page.{table, title, section, IsPageOf};
 ghost use Rattle.reading_texts.specs.Rows.{rows_of as rows_of_histogram};
 
 use crate::choice::{Choice, chosen};
@@ -13,45 +13,15 @@ use crate::escapes::escaped;
 use crate::heading::put_numbers;
 use crate::lines::put_left_out;
 use crate::most::pick;
+use crate::page_lists::{put_page_list, put_page_overview};
 use crate::page_rows::put_page_rows;
 use crate::sheet::put_head;
+use crate::source::{Source, source_text};
 use crate::style::{frame_of, shows_all_of};
 use image_reader::{HistReading, Reading};
 use reading_texts::{HistRow, put_parts, rows_of};
+use segment_image::SegmentHead;
 use std::alloc::{AllocError, Global};
-
-// Puts the line of a numbered histogram in the table of contents.
-fn put_contents_line(
-    alloc: Global,
-    text: &mut Vec<u8>,
-    number: usize,
-    hist: &HistReading,
-) -> Result<(), AllocError>
-    ensures { OnOk result (text.new.items ≡ text.old.items ++ contents_line (number, histogram_view hist.now)) }
-{
-    let number = number.to_string(alloc)?;
-    let name = escaped(alloc, hist.name.as_slice())?;
-    put_parts(
-        text,
-        &[
-            b"<li><a href=\"#h",
-            number.as_bytes(),
-            b"\">",
-            name.as_slice(),
-            b"</a></li>\n",
-        ],
-    )
-}
-
-// Puts the table of contents.
-fn put_contents(alloc: Global, text: &mut Vec<u8>, hists: &[&HistReading]) -> Result<(), AllocError>
-    ensures { OnOk result (text.new.items ≡ text.old.items ++ flat_map contents_line (enumerate_from 0 (map (λ hist. histogram_view hist.now) hists.now))) }
-{
-    for (i, hist) in hists.iter().enumerate() {
-        put_contents_line(alloc, text, i, hist)?;
-    }
-    Ok(())
-}
 
 // Puts the table of a histogram, which has these rows, and how many others there are.
 fn put_table(
@@ -71,12 +41,12 @@ fn put_table(
     )?;
     put_page_rows(text, frame_of(hist, rows), picked.shown.as_slice())?;
     text.extend_from_slice(b"</table>\n<p>")?;
-    put_left_out(text, picked.left_out.as_slice())?;
+    put_left_out(text, true, picked.left_out.as_slice())?;
     text.extend_from_slice(b"</p>\n</section>\n")?;
     Ok(())
 }
 
-// Puts the name of a numbered histogram, to which the table of contents leads.
+// Puts the name of a numbered histogram, to which the list leads.
 fn put_title(
     alloc: Global,
     text: &mut Vec<u8>,
@@ -113,7 +83,7 @@ fn put_section(
     let rows = rows_of(alloc, hist)?;
     let rows = rows.as_slice();
     put_title(alloc, text, number, hist)?;
-    put_numbers(text, hist, rows)?;
+    put_numbers(text, true, hist, rows)?;
     text.extend_from_slice(b"</p>\n")?;
     put_table(alloc, text, shows_all, hist, rows)?;
     Ok(())
@@ -135,26 +105,30 @@ fn put_sections(
     Ok(())
 }
 
-/// Returns the web page of a reading, byte for byte: HTML that needs nothing else, with the numbers and sentences of
-/// [`show_text`](crate::show_text), of the same histograms in the same order. It begins with a table of contents,
-/// bars are SVG, and names are escaped. All values of sparse histograms have rows, or the 20 with the most units. The
-/// one error is that memory runs out.
+/// Returns the web page of an image, byte for byte: HTML that needs nothing else. It names where the image comes from, and
+/// begins with the overview of `reading_overviews` and the list of [`list_text`](crate::list_text), whose names lead to
+/// the histograms. Then come the numbers and sentences of [`show_text`](crate::show_text), of the same histograms in the
+/// same order. Numbers have commas, bars are SVG, and names are escaped. All values of sparse histograms have rows, or the
+/// 20 with the most units. The one error is that memory runs out.
 pub fn page_text(
     alloc: Global,
+    head: &SegmentHead,
     reading: &Reading,
+    source: Source<'_>,
     shows_all: bool,
     choice: Choice<'_>,
 ) -> Result<Vec<u8>, AllocError>
     requires { All IsReadable (map histogram_view reading.now.hists.items) }
-    ensures { IfOk result (λ page. IsPageOf shows_all choice.entry (reading_view reading.now) page.items) }
+    ensures { IfOk result (λ page. IsPageOf source.entry shows_all choice.entry head.now (reading_view reading.now) page.items) }
 {
     let hists = chosen(alloc, reading, choice)?;
     let hists = hists.as_slice();
     let mut text = Vec::new(alloc);
-    put_head(&mut text)?;
-    text.extend_from_slice(b"<nav>\n<ol>\n")?;
-    put_contents(alloc, &mut text, hists)?;
-    text.extend_from_slice(b"</ol>\n</nav>\n<main>\n")?;
+    let named = source_text(alloc, source)?;
+    put_head(&mut text, named.as_slice())?;
+    put_page_overview(&mut text, head, reading)?;
+    put_page_list(alloc, &mut text, hists)?;
+    text.extend_from_slice(b"<main>\n")?;
     put_sections(alloc, &mut text, shows_all, hists)?;
     text.extend_from_slice(b"</main>\n<footer>")?;
     put_ending(alloc, &mut text, hists, reading)?;

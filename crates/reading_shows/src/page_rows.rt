@@ -9,6 +9,7 @@ use crate::naming::{has_line, put_range};
 use crate::shares::put_percent;
 use crate::style::Frame;
 use itoa::Buffer;
+use reading_overviews::put_number;
 use reading_texts::{HistRow, put_parts};
 use std::alloc::AllocError;
 
@@ -35,15 +36,9 @@ fn put_units(text: &mut Vec<u8>, frame: Frame, row: &HistRow) -> Result<(), Allo
     put_range(text, frame.naming, row)?;
     text.extend_from_slice(b"</td><td>")?;
     put_drawn_bar(text, row.units, frame.most)?;
-    let mut units = Buffer::new();
-    put_parts(
-        text,
-        &[
-            b"</td><td>",
-            units.format(row.units).as_bytes(),
-            b"</td><td>",
-        ],
-    )?;
+    text.extend_from_slice(b"</td><td>")?;
+    put_number(text, true, row.units)?;
+    text.extend_from_slice(b"</td><td>")?;
     put_percent(text, b"&lt;0.1%", 0, row.units, frame.total)?;
     text.extend_from_slice(b"</td><td>")?;
     put_percent(text, b"&lt;0.1%", 0, row.up_to, frame.total)?;

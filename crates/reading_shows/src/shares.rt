@@ -1,11 +1,13 @@
 //! Shares, percents and means, in whole numbers.
 
 ghost use Rattle.std.specs.Prelude.{◌≡◌, ◌<◌, ◌+◌, ◌*◌, ◌^◌, ◌++◌, codes, IfSome, OnOk};
+ghost use Rattle.reading_overviews.specs.Numbers.{sign};
 ghost use Rattle.reading_shows.specs.Columns.{at_right};
-ghost use Rattle.reading_shows.specs.Shares.{share_of, tenths as tenths_of, digits_of_mean, with_point, size_of_mean, sign, mean_of_some, mean, percent};
+ghost use Rattle.reading_shows.specs.Shares.{share_of, tenths as tenths_of, digits_of_mean, with_point, size_of_mean, mean_of_some, mean, percent};
 
 use crate::columns::{put_at_right, put_bytes};
 use itoa::Buffer;
+use reading_overviews::{put_digits, put_sign};
 use reading_texts::put_parts;
 use std::alloc::AllocError;
 
@@ -100,13 +102,19 @@ fn scale(size: u64, units: u64) -> Scaled
 }
 
 // Puts digits, of which so many stand after the point; `power` is ten to the power of that number.
-fn put_with_point(text: &mut Vec<u8>, digits: usize, power: u128, n: u128) -> Result<(), AllocError>
+fn put_with_point(
+    text: &mut Vec<u8>,
+    is_human: bool,
+    digits: usize,
+    power: u128,
+    n: u128,
+) -> Result<(), AllocError>
     requires { power ≡ 10 ^ digits }
-    ensures { OnOk result (text.new.items ≡ text.old.items ++ with_point digits n) }
+    ensures { OnOk result (text.new.items ≡ text.old.items ++ with_point is_human digits n) }
 {
     let mut before = Buffer::new();
     if digits == 0 {
-        return text.extend_from_slice(before.format(n).as_bytes());
+        return put_digits(text, is_human, before.format(n).as_bytes());
     }
     let mut behind = Buffer::new();
     let behind = behind.format(n % power).as_bytes();
@@ -116,43 +124,61 @@ fn put_with_point(text: &mut Vec<u8>, digits: usize, power: u128, n: u128) -> Re
 }
 
 // Puts the size of a sum over so many units, with three digits that count.
-fn put_size_of_mean(text: &mut Vec<u8>, size: u64, units: u64) -> Result<(), AllocError>
+fn put_size_of_mean(
+    text: &mut Vec<u8>,
+    is_human: bool,
+    size: u64,
+    units: u64,
+) -> Result<(), AllocError>
     requires { 0 < units }
-    ensures { OnOk result (text.new.items ≡ text.old.items ++ size_of_mean size units) }
+    ensures { OnOk result (text.new.items ≡ text.old.items ++ size_of_mean is_human size units) }
 {
     if size == 0 {
         return text.extend_from_slice(b"0");
     }
     let mean = scale(size, units);
-    put_with_point(text, mean.digits, mean.power, mean.size / u128::from(units))
+    put_with_point(
+        text,
+        is_human,
+        mean.digits,
+        mean.power,
+        mean.size / u128::from(units),
+    )
 }
 
 // Puts the sign of a sum that is below 0.
-fn put_sign(text: &mut Vec<u8>, sum: i64) -> Result<(), AllocError>
+fn put_sign_of(text: &mut Vec<u8>, sum: i64) -> Result<(), AllocError>
     ensures { OnOk result (text.new.items ≡ text.old.items ++ sign sum) }
 {
-    if sum < 0 {
-        text.push(b'-')?;
-    }
-    Ok(())
+    put_sign(text, i128::from(sum))
 }
 
 // Puts a sum over so many units.
-fn put_mean_of_some(text: &mut Vec<u8>, sum: i64, units: u64) -> Result<(), AllocError>
+fn put_mean_of_some(
+    text: &mut Vec<u8>,
+    is_human: bool,
+    sum: i64,
+    units: u64,
+) -> Result<(), AllocError>
     requires { 0 < units }
-    ensures { OnOk result (text.new.items ≡ text.old.items ++ mean_of_some sum units) }
+    ensures { OnOk result (text.new.items ≡ text.old.items ++ mean_of_some is_human sum units) }
 {
-    put_sign(text, sum)?;
-    put_size_of_mean(text, sum.unsigned_abs(), units)?;
+    put_sign_of(text, sum)?;
+    put_size_of_mean(text, is_human, sum.unsigned_abs(), units)?;
     Ok(())
 }
 
 // Puts a sum over so many units; none of no units.
-pub(crate) fn put_mean(text: &mut Vec<u8>, sum: i64, units: u64) -> Result<(), AllocError>
-    ensures { OnOk result (text.new.items ≡ text.old.items ++ mean sum units) }
+pub(crate) fn put_mean(
+    text: &mut Vec<u8>,
+    is_human: bool,
+    sum: i64,
+    units: u64,
+) -> Result<(), AllocError>
+    ensures { OnOk result (text.new.items ≡ text.old.items ++ mean is_human sum units) }
 {
     if units == 0 {
         return text.extend_from_slice(b"none");
     }
-    put_mean_of_some(text, sum, units)
+    put_mean_of_some(text, is_human, sum, units)
 }

@@ -30,7 +30,7 @@ fn put_histogram(
     let rows = rows.as_slice();
     text.extend_from_slice(hist.name.as_slice())?;
     text.extend_from_slice(b"\n")?;
-    put_numbers(text, hist, rows)?;
+    put_numbers(text, style.is_human, hist, rows)?;
     let picked = pick(alloc, shows_all_of(style.shows_all, hist), rows)?;
     put_rows(
         alloc,
@@ -39,7 +39,7 @@ fn put_histogram(
         frame_of(hist, rows),
         picked.shown.as_slice(),
     )?;
-    put_left_out(text, picked.left_out.as_slice())?;
+    put_left_out(text, style.is_human, picked.left_out.as_slice())?;
     text.extend_from_slice(b"\n")?;
     Ok(())
 }

@@ -18,6 +18,8 @@ pub struct Style {
     pub width: u16,
     /// Whether bars are made of `#`, and not of blocks in eighths of a cell.
     pub is_ascii: bool,
+    /// Whether numbers have a comma between thousands.
+    pub is_human: bool,
     /// Whether bars are in proportion to the logarithms of units, and not to the units.
     pub is_log: bool,
     /// Whether a line may stand for each value of a sparse histogram, and not only for the 20 with the most units.

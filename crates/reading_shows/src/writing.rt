@@ -1,18 +1,43 @@
 //! An image that is read from a reader, and written in a form.
 
-ghost use Rattle.std.specs.Prelude.{◌≡◌, ◌≢◌, ◌↔◌, ℕ, List, true, false, OnOk, IfOk, IfErr, IfSome, IsErrOf};
+ghost use Rattle.std.specs.Prelude.{◌≡◌, ◌≢◌, ◌↔◌, ℕ, List, All, map, true, false, OnOk, IfOk, IfErr, IfSome, IsErrOf};
 ghost use Rattle.std.specs.Io.KnownBytes.{Appends};
-ghost use Rattle.image_reader.specs.Views.{reading_view};
+ghost use Rattle.image_reader.specs.Readable.{IsReadable};
+ghost use Rattle.image_reader.specs.Views.{histogram_view, reading_view};
+ghost use Rattle.segment_image.specs.Words.{bytes_of_words};
 ghost use Rattle.segment_image.specs.Watched.{has_failed, is_flushed, watched_inner};
+ghost use Rattle.persist_report_core.specs.Input.{image_in};
 ghost use Rattle.persist_report_core.specs.Report.{IsCausedByImage, IsReadingOf};
-ghost use Rattle.reading_shows.specs.Writing.{IsWrittenFrom};
+ghost use Rattle.reading_shows.specs.Writing.{IsHeadAndReading, IsWrittenFrom};
 
 use crate::form::Form;
-use image_reader::Reading;
-use persist_report_core::{CliFault, read_image, read_input, write_and_flush};
-use segment_image::Watched;
+use image_reader::{Reading, read};
+use persist_report_core::{CliFault, image_in, read_input, write_and_flush};
+use segment_image::{SegmentHead, Watched, header};
 use std::alloc::Global;
 use std::io::{Read, Write};
+
+// What an image says: its header and its reading.
+#[derive(Drop)]
+struct WholeImage {
+    head: SegmentHead,
+    reading: Reading,
+}
+
+// What the image in the words says; the fault is as of `read_image`.
+fn read_both(alloc: Global, words: &[u64]) -> Result<WholeImage, CliFault>
+    ensures image { IfOk result (λ image. IsHeadAndReading (image_in words.now) image.head (reading_view image.reading)) }
+    ensures readable { IfOk result (λ image. All IsReadable (map histogram_view image.reading.hists.items)) }
+    ensures cause { IfErr result (λ fault. IsCausedByImage (bytes_of_words words.now) fault) }
+    ensures other { IfErr result (λ fault. (fault ≢ CliFault.Read) × (fault ≢ CliFault.Write)) }
+{
+    let image = image_in(words);
+    let reading = read(alloc, image)?;
+    match header(image) {
+        Ok(head) => Ok(WholeImage { head, reading }),
+        Err(fault) => Err(CliFault::Image(fault)),
+    }
+}
 
 /// Writes the text of the image in what the reader has left, a closed image or a mapped file, in a form, and returns the
 /// reading of which it is. The reader and the writer have not failed before.
@@ -22,9 +47,9 @@ use std::io::{Read, Write};
 /// has are no faults here: `damage_of` and `first_missing` report them.
 ///
 /// `TooLong` comes only where there are more than 8,388,608 bytes, or in a mapped file 80 more, `NotWords` only where
-/// their number is no multiple of eight, and `Image` only with the first fault of the image's header [cause]. `Read` comes exactly where a read
-/// failed [read], and `Write` exactly where the write or the flush failed [write]. `NoMemory` comes where memory runs
-/// out. After every fault but `Write` nothing was written [untouched].
+/// their number is no multiple of eight, and `Image` only with the first fault of the image's header [cause]. `Read`
+/// comes exactly where a read failed [read], and `Write` exactly where the write or the flush failed [write].
+/// `NoMemory` comes where memory runs out. After every fault but `Write` nothing was written [untouched].
 pub fn write_text<R: Read, W: Write>(
     alloc: Global,
     form: Form<'_>,
@@ -42,8 +67,8 @@ pub fn write_text<R: Read, W: Write>(
     ensures untouched { IfErr result (λ fault. fault ≢ CliFault.Write → writer.new ≡ writer.old) }
 {
     let words = read_input(alloc, reader)?;
-    let reading = read_image(alloc, &words)?;
-    let text = form.text_of(alloc, &reading)?;
+    let WholeImage { head, reading } = read_both(alloc, &words)?;
+    let text = form.text_of(alloc, &head, &reading)?;
     write_and_flush(writer, &text)?;
     Ok(reading)
 }

@@ -114,16 +114,14 @@ fn command<'a>(alloc: Global) -> Result<Command<'a>, AllocError> {
         .arg(stop_argument(alloc))?
         .arg(report.conflicts_with("image")?)?
         .arg(image)?
-        .arg(
-            flag(
-                alloc,
-                "explain",
-                "Explain errors (on by default in a terminal)",
-            )
-            .long_help(
-                "Explain errors: file, line, reason and what to do (on by default in a\nterminal)",
-            ),
+        .arg(flag(
+            alloc,
+            "explain",
+            "Explain errors (on by default in a terminal)",
         )
+        .long_help(
+            "Explain errors: file, line, reason and what to do (on by default in a\nterminal)",
+        ))
 }
 
 fn show_of(matches: &ArgMatches<'_>) -> Show {

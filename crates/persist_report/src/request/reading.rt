@@ -1,6 +1,7 @@
 //! The commands that read an image, and `explain`: their arguments, and what these ask for.
 
 use crate::request::arguments::{explain_flag, image};
+use crate::request::info::{list_options, list_style};
 use crate::request::{Task, texts};
 use clap::{Arg, ArgAction, ArgMatches, Command, value_parser};
 use reading_shows::Style;
@@ -12,7 +13,9 @@ fn whole_flag<'a>(alloc: Global) -> Arg<'a> {
         .long("whole")
         .action(ArgAction::SetTrue)
         .help("End with a fault if the image is damaged")
-        .long_help("End with a fault, after the text, if a record is bad or the list of\nrecords stops early")
+        .long_help(
+            "End with a fault, after the text, if a record is bad or the list of\nrecords stops early",
+        )
 }
 
 pub fn report_command<'a>(alloc: Global) -> Result<Command<'a>, AllocError> {
@@ -20,7 +23,9 @@ pub fn report_command<'a>(alloc: Global) -> Result<Command<'a>, AllocError> {
         .long("rows")
         .action(ArgAction::SetTrue)
         .help("Print the buckets alone, after a line of column names")
-        .long_help("Print the buckets alone, after a line with the names of the columns: for\nengines that read CSV");
+        .long_help(
+            "Print the buckets alone, after a line with the names of the columns: for\nengines that read CSV",
+        );
     Command::new(alloc, "report")
         .about("Print the histograms of an image as CSV")
         .long_about(texts::REPORT)
@@ -97,6 +102,7 @@ pub fn show_command<'a>(alloc: Global) -> Result<Command<'a>, AllocError> {
         .arg(names)?
         .arg(part)?
         .arg(html)?;
+    let command = list_options(alloc, command)?;
     style_options(alloc, command)?
         .arg(whole_flag(alloc))?
         .arg(explain_flag(alloc))
@@ -127,16 +133,19 @@ pub fn show_task<'a>(
         Some(names) => Vec::from_slice(alloc, names)?,
         None => Vec::new(alloc),
     };
+    let style = Style {
+        width: show.get_one::<u16>("width").unwrap_or(columns),
+        is_ascii: show.get_flag("ascii"),
+        is_human: show.get_flag("human"),
+        is_log: show.get_flag("log"),
+        shows_all: show.get_flag("all"),
+    };
     Ok(Task::Show {
         file: show.get_str("FILE"),
         names,
         part: show.get_str("match"),
-        style: Style {
-            width: show.get_one::<u16>("width").unwrap_or(columns),
-            is_ascii: show.get_flag("ascii"),
-            is_log: show.get_flag("log"),
-            shows_all: show.get_flag("all"),
-        },
+        style,
+        list: list_style(show, style),
         is_page: show.get_flag("html"),
     })
 }

@@ -3,29 +3,28 @@ use mir.Syntax.{w64}
 use mir.Val.{SFits}
 use Rattle.std.proofs.lemmas.Int.{to_z-of_z}
 use Rattle.std.specs.Prelude.{codes}
-use Rattle.std.specs.Fmt.{decimal, signed_decimal}
-use Rattle.image_reader.specs.Views.{histogram_view}
 use Rattle.reading_texts.proofs.Adding.{joined-more}
-use Rattle.reading_texts.specs.Rows.{units_of}
-use Rattle.reading_texts.specs.Text.{kind_word}
+use Rattle.reading_overviews.specs.Numbers.{number, signed}
+use Rattle.reading_overviews.proofs.Texts.{joined-none, joined-two}
 use Rattle.reading_shows.specs.Shares.{mean}
 use Rattle.reading_shows.proofs.heading.put_number_line.Goals as goal
 
 pub returns : goal.returns
 returns c =
     let first = c.args.text.now.items in
-    let hist = histogram_view c.args.hist.now in
-    let parts = codes "  " ∷ kind_word hist.spec ∷ codes ", units " ∷ decimal (units_of hist) ∷ codes ", sum " ∷ signed_decimal hist.sum ∷ codes ", mean " ∷ [] in
-    let fits : SFits w64 c.args.hist.now.sum = search rules in
-    let numbers = rw (
-      c.kind_word.ensures,
-      c.as_bytes.ensures.value,
-      c.format.ensures.text,
-      c.units-units.ensures,
-      c.as_bytes-2.ensures.value,
-      c.format-2.ensures.text,
-      to_z-of_z w64 c.args.hist.now.sum fits,
-    ) at c.in_ok-put_parts.ensures in
-    let means = rw (c.units-units.ensures, to_z-of_z w64 c.args.hist.now.sum fits) at c.in_ok-put_mean.ensures in
-    joined-more first (parts ++ mean hist.sum (units_of hist) ∷ []) (codes "\n") (joined-more first parts (mean hist.sum (units_of hist)) numbers means)
-    c.in_ok-extend_from_slice.ensures.items
+    let fits : SFits w64 c.args.sum = search rules in
+    let kind = c.args.kind.now in
+    let units = number c.args.is_human c.args.units in
+    let sum = signed c.args.is_human c.args.sum in
+    let average = mean c.args.is_human c.args.sum c.args.units in
+    let summed = rw (to_z-of_z w64 c.args.sum fits) at c.in_ok-put_sum.ensures in
+    let averaged = rw (to_z-of_z w64 c.args.sum fits) at c.in_ok-put_mean.ensures in
+    let p1 = codes "  " ∷ kind ∷ [] in
+    let p2 = p1 ++ codes ", units " ∷ units ∷ [] in
+    let p3 = p2 ++ codes ", sum " ∷ sum ∷ [] in
+    let p4 = p3 ++ codes ", mean " ∷ average ∷ [] in
+    let a1 = joined-two first [] (codes "  ") kind (joined-none first) c.in_ok-extend_from_slice.ensures.items c.in_ok-extend_from_slice-2.ensures.items in
+    let a2 = joined-two first p1 (codes ", units ") units a1 c.in_ok-extend_from_slice-3.ensures.items c.in_ok-put_number.ensures in
+    let a3 = joined-two first p2 (codes ", sum ") sum a2 c.in_ok-extend_from_slice-4.ensures.items summed in
+    let a4 = joined-two first p3 (codes ", mean ") average a3 c.in_ok-extend_from_slice-5.ensures.items averaged in
+    joined-more first p4 (codes "\n") a4 c.in_ok-extend_from_slice-6.ensures.items

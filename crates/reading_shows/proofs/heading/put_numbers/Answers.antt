@@ -3,6 +3,7 @@ use Rattle.image_reader.specs.Views.{histogram_view}
 use Rattle.reading_texts.proofs.Adding.{written-both}
 use Rattle.reading_texts.specs.Rows.{rows_of, units_of}
 use Rattle.reading_shows.specs.Naming.{naming_of}
+use Rattle.reading_texts.specs.Text.{kind_word}
 use Rattle.reading_shows.specs.Showing.{number_line, rank_lines, taken_line}
 use Rattle.reading_shows.proofs.heading.put_numbers.Goals as goal
 
@@ -15,5 +16,5 @@ returns c =
     ap (λ naming. rank_lines naming c.units.result c.args.rows.now) c.naming_of.ensures
     ∙ (ap (λ units. rank_lines (naming_of hist.spec) units c.args.rows.now) c.units.ensures
     ∙ ap (rank_lines (naming_of hist.spec) (units_of hist)) c.requires.rows) in
-    let numbered = written-both first (number_line hist) ranks c.in_ok-put_number_line.ensures (c.in_ok-put_ranks.ensures ∙ ap (λ s. c.put_number_line.new.text.items ++ s) same) in
-    written-both first (number_line hist ++ ranks) (taken_line hist) numbered c.in_ok-put_taken.ensures
+    let numbered = written-both first (number_line c.args.is_human (kind_word hist.spec) hist.sum (units_of hist)) ranks c.in_ok-put_number_line.ensures (c.in_ok-put_ranks.ensures ∙ ap (λ s. c.put_number_line.new.text.items ++ s) same) in
+    written-both first (number_line c.args.is_human (kind_word hist.spec) hist.sum (units_of hist) ++ ranks) (taken_line c.args.is_human hist) numbered c.in_ok-put_taken.ensures

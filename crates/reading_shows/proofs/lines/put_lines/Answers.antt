@@ -2,7 +2,7 @@ use Rattle.std.proofs.Common.{◌≡◌, ◌∙◌, ◌++◌, length, ap, sym, a
 use Rattle.std.specs.List.{flat_map, range_with_len}
 use Rattle.reading_texts.proofs.Adding.{written-both}
 use Rattle.reading_shows.specs.Showing.{head_line, line_at}
-use Rattle.reading_shows.proofs.Steps.{texts-more}
+use Rattle.reading_overviews.proofs.Texts.{texts-more}
 use Rattle.reading_shows.proofs.lines.put_lines.Goals as goal
 
 pub loop-i-preserved : goal.loop-i-preserved

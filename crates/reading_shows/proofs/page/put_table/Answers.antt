@@ -1,4 +1,4 @@
-use Rattle.std.proofs.Common.{◌^◌, ◌++◌, codes}
+use Rattle.std.proofs.Common.{true, ◌^◌, ◌++◌, codes}
 use Rattle.image_reader.specs.Views.{histogram_view}
 use Rattle.reading_texts.proofs.Adding.{written-both}
 use Rattle.reading_texts.specs.Rows.{rows_of}
@@ -24,7 +24,7 @@ returns c =
     let first = c.args.text.now.items in
     let hist = histogram_view c.args.hist.now in
     let inner = rows_in_page (frame_of hist) (shown_rows (shows_all_of c.args.shows_all hist) (rows_of hist)) in
-    let others_line = left_out_line (left_out_rows (shows_all_of c.args.shows_all hist) (rows_of hist)) in
+    let others_line = left_out_line true (left_out_rows (shows_all_of c.args.shows_all hist) (rows_of hist)) in
     let begun = written-both first columns inner c.in_ok-extend_from_slice.ensures.items rows in
     let ended = written-both first (columns ++ inner) (codes "</table>\n<p>") begun c.in_ok-extend_from_slice-2.ensures.items in
     let told = written-both first (columns ++ inner ++ codes "</table>\n<p>") others_line ended others in

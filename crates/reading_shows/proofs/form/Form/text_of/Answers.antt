@@ -14,3 +14,9 @@ returns-in-Show c = rw c.in-Show.is c.show_text.ensures
 
 pub returns-in-Page : goal.returns-in-Page
 returns-in-Page c = rw c.in-Page.is c.page_text.ensures
+
+pub returns-in-Info : goal.returns-in-Info
+returns-in-Info c = rw c.in-Info.is c.overview_text.ensures
+
+pub returns-in-List : goal.returns-in-List
+returns-in-List c = rw c.in-List.is c.list_text.ensures

@@ -1,0 +1,44 @@
+-- What a page begins with: the file that it is of, the overview of its image, and the list of its histograms.
+use Rattle.std.specs.Prelude.{true, nat_lt, if◌then◌else◌, ℕ, List, [], ◌∷◌, ◌++◌, codes}
+use Rattle.std.specs.Fmt.{decimal}
+use Rattle.std.specs.List.{flat_map, enumerate_from}
+use Rattle.segment_image.specs.declared.head.SegmentHead.{SegmentHead}
+use Rattle.bucket_ranges.specs.Reading.{Histogram, Reading}
+use Rattle.reading_texts.specs.Exporting.{joined}
+use Rattle.reading_overviews.specs.Overview.{overview}
+use Rattle.reading_shows.specs.declared.source.Source.{Source}
+use Rattle.reading_shows.specs.declared.source.Source.TheVariants.{Input, File}
+use Rattle.reading_shows.specs.Escapes.{escaped, escaped_byte}
+use Rattle.reading_shows.specs.Listing.{ListLine, line_of}
+
+-- what stands for a byte of a path, which is UTF-8 already
+abbrev pub path_byte : ℕ → List ℕ
+path_byte byte = if nat_lt 127 byte then byte ∷ [] else escaped_byte byte
+
+-- where an image comes from, as it stands in a page
+abbrev pub source_text : Source → List ℕ
+source_text Input = codes "standard input"
+source_text (File path) = flat_map path_byte path.now
+
+-- the overview of an image
+abbrev pub page_overview : SegmentHead → Reading → List ℕ
+page_overview head reading = codes "<header>\n<p>" ++ overview true head reading ++ codes "</p>\n</header>\n"
+
+-- the row of a numbered histogram in the list: its name, which leads to it, and its numbers
+abbrev pub list_row : ℕ → ListLine → List ℕ
+list_row number line =
+    joined (
+    codes "<tr><td><a href=\"#h" ∷ decimal number ∷ codes "\">" ∷ escaped line.name ∷ codes "</a></td><td>" ∷ line.kind
+    ∷ codes "</td><td>" ∷ line.units ∷ codes "</td><td>" ∷ line.mean ∷ codes "</td><td>" ∷ line.median
+    ∷ codes "</td><td>" ∷ line.high ∷ codes "</td><td>" ∷ line.greatest ∷ codes "</td></tr>\n" ∷ [])
+
+-- the same of a histogram
+abbrev pub row_of_numbered : ℕ × Histogram → List ℕ
+row_of_numbered numbered = list_row numbered.0 (line_of true numbered.1)
+
+-- the list of histograms, numbered from 0
+abbrev pub page_list : List Histogram → List ℕ
+page_list hists =
+    codes "<nav>\n<table>\n<tr><th>name</th><th>kind</th><th>units</th><th>mean</th><th>50%</th><th>99%</th><th>greatest</th></tr>\n"
+    ++ flat_map row_of_numbered (enumerate_from 0 hists)
+    ++ codes "</table>\n</nav>\n"

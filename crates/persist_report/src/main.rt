@@ -16,6 +16,8 @@ mod place;
 mod request;
 mod run;
 mod terminal;
+mod text_options;
+mod texts;
 mod workers;
 
 use std::process::ExitCode;

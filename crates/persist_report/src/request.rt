@@ -4,6 +4,7 @@ ghost use Rattle.std.specs.Prelude.{◌≡◌, IfOk};
 ghost use Rattle.clap.specs.Words.{kind_of};
 
 use crate::nth::Nth;
+use crate::text_options::{label_option, labels_found, to_found, to_option};
 use crate::workers::Workers;
 use clap::error::ErrorKind;
 use clap::{Arg, ArgAction, ArgMatches, Command, Error, value_parser};
@@ -19,17 +20,21 @@ pub struct Request<'a> {
     pub explains: bool,
 }
 
-/// What a command does. The image in `file` is that on standard input if there is no file.
+/// What a command does. The image in `file` is that on standard input if there is no file. A text goes to the file `to`, or to
+/// standard output if there is none.
 #[derive(Drop)]
 pub enum Task<'a> {
     /// Write the report of an image.
     Report {
         file: Option<&'a str>,
+        to: Option<&'a str>,
     },
-    /// Write the metrics of an image, whose names begin with the prefix.
+    /// Write the metrics of an image, whose names begin with the prefix, with these labels on all lines, each as KEY=VALUE.
     Export {
         file: Option<&'a str>,
         prefix: &'a str,
+        labels: Vec<&'a str>,
+        to: Option<&'a str>,
     },
     /// Write histograms of an image for people, as text or as a web page: those with the names, those whose name contains
     /// the part, or all.
@@ -39,6 +44,7 @@ pub enum Task<'a> {
         part: Option<&'a str>,
         style: Style,
         is_page: bool,
+        to: Option<&'a str>,
     },
     /// Run a script by workers, and write the image to a file and its report to standard output.
     Run {
@@ -95,6 +101,7 @@ fn report_command<'a>(alloc: Global) -> Result<Command<'a>, AllocError> {
         .about("Print the histograms of an image as CSV")
         .after_help("Example:\n  persist_report report examples/three_samples.img")
         .arg(image(alloc))?
+        .arg(to_option(alloc))?
         .arg(explain_flag(alloc))
 }
 
@@ -103,12 +110,14 @@ fn export_command<'a>(alloc: Global) -> Result<Command<'a>, AllocError> {
         .long("prefix")
         .value_name("PREFIX")
         .default_value("povundiri")
-        .help("Prefix of all metric names: letters, digits, _ and :, no digit first");
+        .help("Prefix of all metric names: letters, digits and _, no digit first");
     Command::new(alloc, "export")
         .about("Print the histograms of an image in the Prometheus text format")
         .after_help("Example:\n  persist_report export examples/three_samples.img")
         .arg(image(alloc))?
         .arg(prefix)?
+        .arg(label_option(alloc))?
+        .arg(to_option(alloc))?
         .arg(explain_flag(alloc))
 }
 
@@ -157,7 +166,9 @@ fn show_command<'a>(alloc: Global) -> Result<Command<'a>, AllocError> {
         .arg(names)?
         .arg(part)?
         .arg(html)?;
-    style_options(alloc, command)?.arg(explain_flag(alloc))
+    style_options(alloc, command)?
+        .arg(to_option(alloc))?
+        .arg(explain_flag(alloc))
 }
 
 // How many workers record.
@@ -283,11 +294,16 @@ fn merge_task<'a>(merge: &ArgMatches<'a>) -> Option<Task<'a>> {
     })
 }
 
-fn export_task<'a>(export: &ArgMatches<'a>) -> Option<Task<'a>> {
-    Some(Task::Export {
+fn export_task<'a>(alloc: Global, export: &ArgMatches<'a>) -> Result<Option<Task<'a>>, AllocError> {
+    let Some(prefix) = export.get_str("prefix") else {
+        return Ok(None);
+    };
+    Ok(Some(Task::Export {
         file: export.get_str("FILE"),
-        prefix: export.get_str("prefix")?,
-    })
+        prefix,
+        labels: labels_found(alloc, export)?,
+        to: to_found(export),
+    }))
 }
 
 fn show_task<'a>(
@@ -310,6 +326,7 @@ fn show_task<'a>(
             shows_all: show.get_flag("all"),
         },
         is_page: show.get_flag("html"),
+        to: to_found(show),
     })
 }
 
@@ -328,19 +345,20 @@ fn task_of<'a>(
     found: &ArgMatches<'a>,
     columns: u16,
 ) -> Result<Option<Task<'a>>, AllocError> {
-    if name == "show" {
-        return Ok(Some(show_task(alloc, found, columns)?));
+    match name {
+        "show" => Ok(Some(show_task(alloc, found, columns)?)),
+        "export" => export_task(alloc, found),
+        _ => Ok(plain_task(name, found)),
     }
-    Ok(plain_task(name, found))
 }
 
-// The same, of each command but `show`.
+// The same, of each command but `show` and `export`.
 fn plain_task<'a>(name: &str, found: &ArgMatches<'a>) -> Option<Task<'a>> {
     match name {
         "report" => Some(Task::Report {
             file: found.get_str("FILE"),
+            to: to_found(found),
         }),
-        "export" => export_task(found),
         "run" => run_task(found),
         "resume" => resume_task(found),
         "merge" => merge_task(found),
@@ -396,6 +414,17 @@ pub fn no_prefix(alloc: Global) -> Result<Error, AllocError>
 {
     command(alloc)?.error(
         ErrorKind::ValueValidation,
-        "a prefix has letters, digits, _ and : alone, and no digit first",
+        "a prefix has letters, digits and _ alone, and no digit first",
+    )
+}
+
+/// Returns what is wrong with a command line whose labels no line may have: a mistake in a value. The one error is that
+/// memory runs out.
+pub fn no_labels(alloc: Global) -> Result<Error, AllocError>
+    ensures { IfOk result (λ error. kind_of error ≡ ErrorKind.ValueValidation) }
+{
+    command(alloc)?.error(
+        ErrorKind::ValueValidation,
+        "a label is KEY=VALUE: KEY has letters, digits and _ alone, no digit first, no __, is none of le, name, value, kind, histogram and flag, and comes once; VALUE is not empty",
     )
 }

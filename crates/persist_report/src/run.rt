@@ -6,13 +6,13 @@ ghost use Rattle.persist_report.specs.Failure.{UsageIsMistake};
 use crate::context::Context;
 use crate::extracting::extract_file;
 use crate::failure::Failure;
-use crate::files::{merge_files_into, resume_file, run_file, write_file};
-use crate::request::{Request, Task, no_fault, no_prefix, not_text};
+use crate::files::{merge_files_into, resume_file, run_file};
+use crate::request::{Request, Task, no_fault, not_text};
 use crate::terminal::{columns, is_terminal};
+use crate::texts::{write_export, write_form};
 use fault_texts::{AllTexts, fault_text};
 use persist_report_core::CliFault;
 use reading_shows::{Choice, Form, Style};
-use reading_texts::is_prefix;
 use std::fs::File;
 use std::random::RandomSource;
 use std::rt::{Env, Files};
@@ -77,20 +77,6 @@ fn explain<R: Print + AllocGlobal>(rt: &R, name: Option<&str>) -> Result<(), Fai
     Ok(())
 }
 
-// Writes the metrics of an image, if names may begin with the prefix.
-fn export<R: Files + Input + Print + AllocGlobal>(
-    context: &Context<'_, R>,
-    file: Option<&str>,
-    prefix: &str,
-) -> Result<(), Failure>
-    ensures { IfErr result UsageIsMistake }
-{
-    if !is_prefix(prefix.as_bytes()) {
-        return Err(Failure::Usage(no_prefix(context.alloc())?));
-    }
-    write_file(context, Form::Export { prefix }, file)
-}
-
 // Which histograms are meant: those with the names, those whose name contains the part, or all.
 fn choice_of<'a>(names: &'a [&'a str], part: Option<&'a str>) -> Choice<'a> {
     match part {
@@ -118,17 +104,23 @@ fn meet<
     ensures { IfErr result UsageIsMistake }
 {
     match task {
-        Task::Report { file } => write_file(context, Form::Report, file),
-        Task::Export { file, prefix } => export(context, file, prefix),
+        Task::Report { file, to } => write_form(context, Form::Report, file, to),
+        Task::Export {
+            file,
+            prefix,
+            labels,
+            to,
+        } => write_export(context, file, prefix, &labels, to),
         Task::Show {
             file,
             names,
             part,
             style,
             is_page,
+            to,
         } => {
             let choice = choice_of(names.as_slice(), part);
-            write_file(context, form_of(style, is_page, choice), file)
+            write_form(context, form_of(style, is_page, choice), file, to)
         }
         Task::Run {
             script,

@@ -1,7 +1,8 @@
 -- What is written of the bytes of an image, in each form.
-use Rattle.std.specs.Prelude.{ℕ, List}
+use Rattle.std.specs.Prelude.{ℕ, List, map}
 use Rattle.bucket_ranges.specs.Reading.{Reading}
 use Rattle.reading_texts.specs.Text.{IsTextOf}
+use Rattle.reading_texts.specs.Labels.{label_view}
 use Rattle.reading_texts.specs.Exporting.{IsExportOf}
 use Rattle.persist_report_core.specs.Report.{IsOfBytes}
 use Rattle.reading_shows.specs.declared.form.Form.{Form}
@@ -12,7 +13,7 @@ use Rattle.reading_shows.specs.Page.{IsPageOf}
 -- the text of a reading in a form: its report, its metrics, the text for people or the web page
 abbrev pub IsTextIn : Form → Reading → List ℕ → Type 0
 IsTextIn Report reading text = IsTextOf reading text
-IsTextIn (Export prefix) reading text = IsExportOf prefix.now reading text
+IsTextIn (Export prefix labels) reading text = IsExportOf prefix.now (map label_view labels.now) reading text
 IsTextIn (Show style choice) reading text = IsShowOf style choice reading text
 IsTextIn (Page all choice) reading text = IsPageOf all choice reading text
 

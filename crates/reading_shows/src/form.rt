@@ -10,7 +10,7 @@ use crate::page::page_text;
 use crate::showing::show_text;
 use crate::style::Style;
 use image_reader::Reading;
-use reading_texts::{export_text, report_text};
+use reading_texts::{Label, export_text, report_text};
 use std::alloc::{AllocError, Global};
 
 /// The form in which a reading is written.
@@ -18,12 +18,22 @@ use std::alloc::{AllocError, Global};
 pub enum Form<'a> {
     /// Its report, as CSV.
     Report,
-    /// Its metrics in the Prometheus text format, whose names begin with `prefix`: one where `reading_texts::is_prefix` says so.
-    Export { prefix: &'a str },
+    /// Its metrics in the Prometheus text format: their names begin with `prefix`, one where `reading_texts::is_prefix` says so, and
+    /// all lines have these labels, those where `reading_texts::are_line_labels` says so.
+    Export {
+        prefix: &'a str,
+        labels: &'a [Label<'a>],
+    },
     /// The chosen histograms as a text for people, drawn in this style.
-    Show { style: Style, choice: Choice<'a> },
+    Show {
+        style: Style,
+        choice: Choice<'a>,
+    },
     /// The chosen histograms as a web page, with all values of sparse ones or those that have the most units.
-    Page { shows_all: bool, choice: Choice<'a> },
+    Page {
+        shows_all: bool,
+        choice: Choice<'a>,
+    },
 }
 
 impl Form<'_> {
@@ -34,7 +44,9 @@ impl Form<'_> {
     {
         match self {
             Form::Report => report_text(alloc, reading),
-            Form::Export { prefix } => export_text(alloc, reading, prefix.as_bytes()),
+            Form::Export { prefix, labels } => {
+                export_text(alloc, reading, prefix.as_bytes(), labels)
+            }
             Form::Show { style, choice } => show_text(alloc, reading, style, choice),
             Form::Page { shows_all, choice } => page_text(alloc, reading, shows_all, choice),
         }

@@ -226,19 +226,20 @@ def labeled(program: pathlib.Path, parse: Parse | None) -> Iterator[Case]:
         if wrong is None and parse is not None:
             wrong = complaint(parse, came.output, plain_export.families_of(EXAMPLE.read_bytes(), labels))
         yield f"the labels {given}", wrong
-    for given in NO_LINE_LABELS:
-        came = answer(program, ["export", *(f"--label={label}" for label in given), EXAMPLE])
+    for refused in NO_LINE_LABELS:
+        came = answer(program, ["export", *(f"--label={label}" for label in refused), EXAMPLE])
         right = came.status == 2 and came.output == b"" and b"label" in came.error
-        yield f"no labels {given}", None if right else f"wanted a usage fault, came {came}"
+        yield f"no labels {refused}", None if right else f"wanted a usage fault, came {came}"
 
 
 def replaced(program: pathlib.Path, folder: pathlib.Path) -> Iterator[Case]:
     """`--to` of each command that writes a text: the same bytes, in a file that is replaced at the end or not."""
     out, damaged = folder / "out", folder / "damaged"
     damaged.write_bytes(EXAMPLE.read_bytes()[:100])
+    inputs: list[tuple[str, Word, bytes]] = [("a file", EXAMPLE, b""), ("standard input", "-", EXAMPLE.read_bytes())]
     for words in (["report"], ["export"], ["show"], ["show", "--html"]):
         written = answer(program, [*words, EXAMPLE])
-        for name, given, data in (("a file", EXAMPLE, b""), ("standard input", "-", EXAMPLE.read_bytes())):
+        for name, given, data in inputs:
             for old in (None, b"old\n"):
                 out.unlink(missing_ok=True)
                 if old is not None:

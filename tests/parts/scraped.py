@@ -1,8 +1,8 @@
-"""`export` read by what people run: promtool, the textfile collector of the node exporter, and a Prometheus that scrapes
-it and is asked for its buckets and quantiles.
+"""`export` read by what people run: promtool, the textfile collector of the node exporter, and a Prometheus that
+scrapes it and is asked for its buckets and quantiles.
 
-The programs are those of Debian's packages `prometheus` and `prometheus-node-exporter`: installed, or fetched by apt-get
-and unpacked into a folder of the part. All serve on the loopback alone.
+The programs are those of Debian's packages `prometheus` and `prometheus-node-exporter`: installed, or fetched by
+apt-get and unpacked into a folder of the part. All serve on the loopback alone.
 """
 
 from __future__ import annotations

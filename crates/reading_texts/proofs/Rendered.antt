@@ -1,5 +1,5 @@
 -- Samples as lines, and labels whose values need no escapes.
-use Rattle.std.proofs.Common.{◌≡◌, ◌∙◌, ℕ, ◌+◌, ◌-◌, ◌<◌, ◌≤◌, List, [], ◌∷◌, ◌++◌, length, map, refl, ap, sym, append_assoc, arith, cond, ltb, true, false}
+use Rattle.std.proofs.Common.{◌≡◌, ◌∙◌, ℕ, ◌+◌, ◌-◌, ◌^◌, ◌<◌, ◌≤◌, List, [], ◌∷◌, ◌++◌, length, map, refl, ap, sym, append_assoc, arith, cond, ltb, true, false}
 use Rattle.std.specs.Prelude.{codes, ℤ, pos, negsuc, ◌-ℤ◌}
 use Rattle.std.specs.Char.{digit_value}
 use Rattle.std.specs.Fmt.{decimal, signed_decimal}

@@ -1,12 +1,13 @@
 //! The text of a reading for what scrapes metrics: the Prometheus text format, version 0.0.4.
 
 ghost use Rattle.std.specs.Prelude.{◌≡◌, ◌++◌, ◌≤ℤ◌, ◌-ℤ◌, All, IfOk, OnOk, pos, map};
+ghost use Rattle.std.specs.Fmt.{decimal};
 ghost use Rattle.std.specs.List.{flat_map};
 ghost use Rattle.image_reader.specs.Views.{histogram_view, reading_view};
 ghost use Rattle.image_reader.specs.Readable.{IsReadable};
 ghost use Rattle.reading_texts.specs.Labels.{label_view};
 ghost use Rattle.reading_texts.specs.Lines.{row_line, bucket_line, value_line, total_line, total_lines};
-ghost use Rattle.reading_texts.specs.Exporting.{heading_text, family_text, sample_text, inner_text, labels_text, labels_of, ranged_samples, sparse_samples, flag_sample, units_family, sparse_family, bad_family, flag_family, flag_value as value_of_flag, IsExportOf};
+ghost use Rattle.reading_texts.specs.Exporting.{heading_text, family_text, sample_text, inner_text, labels_text, labels_of, ranged_samples, sparse_samples, flag_sample, units_family, sparse_family, bad_family, flag_family, bad_records as bad_records_of, total_sample, flag_value as value_of_flag, IsExportOf};
 
 use crate::labels::{Label, put_label, put_labels, read_name, text_of_name};
 use crate::order::in_order;
@@ -254,7 +255,32 @@ fn put_line_labels(text: &mut Vec<u8>, labels: &[Label<'_>]) -> Result<(), Alloc
     Ok(())
 }
 
-// The family of how many records are bad; a list that stops counts as one more.
+// How many records are bad; a list that stops counts as one more.
+fn bad_records(reading: &Reading) -> usize
+    ensures { result ≡ bad_records_of (reading_view reading.now) }
+{
+    let stops = if reading.stopped.is_some() { 1 } else { 0 };
+    stops + reading.bad.len()
+}
+
+// The line of a number of the whole segment.
+fn put_number(
+    alloc: Global,
+    text: &mut Vec<u8>,
+    name: &[u8],
+    line_labels: &[Label<'_>],
+    number: usize,
+) -> Result<(), AllocError>
+    ensures { OnOk result (text.new.items ≡ text.old.items ++ sample_text (total_sample name.now (map label_view line_labels.now) (decimal number))) }
+{
+    let digits = number.to_string(alloc)?;
+    text.extend_from_slice(name)?;
+    put_line_labels(text, line_labels)?;
+    put_parts(text, &[b" ", digits.as_bytes(), b"\n"])?;
+    Ok(())
+}
+
+// The family of how many records are bad.
 fn put_bad(
     alloc: Global,
     text: &mut Vec<u8>,
@@ -266,17 +292,13 @@ fn put_bad(
 {
     let mut name = Vec::new(alloc);
     put_parts(&mut name, &[prefix, b"_bad_records"])?;
-    let stops = if reading.stopped.is_some() { 1 } else { 0 };
-    let bad = (stops + reading.bad.len()).to_string(alloc)?;
     put_heading(
         text,
         &name,
         b"Records that could not be read, and one more where their list stops early.",
         b"gauge",
     )?;
-    text.extend_from_slice(&name)?;
-    put_line_labels(text, line_labels)?;
-    put_parts(text, &[b" ", bad.as_bytes(), b"\n"])?;
+    put_number(alloc, text, &name, line_labels, bad_records(reading))?;
     Ok(())
 }
 

@@ -99,10 +99,12 @@ fn is_label_key(key: &[u8]) -> bool
 fn has_key(labels: &[Label<'_>], key: &[u8]) -> bool
     ensures { result ≡ has_key_of (map label_view labels.now) key.now }
 {
-    for label in labels {
+    let mut rest = labels;
+    while let [label, more @ ..] = rest {
         if label.key == key {
             return true;
         }
+        rest = more;
     }
     false
 }
@@ -139,7 +141,7 @@ fn cut(bytes: &[u8], at: u8) -> (&[u8], &[u8])
             return (&bytes[..i], &bytes[i + 1..]);
         }
     }
-    (bytes, &bytes[bytes.len()..])
+    (bytes, &[])
 }
 
 // A label as it stands in a name.
@@ -168,14 +170,23 @@ fn labels_of<'a>(alloc: Global, parts: &[&'a [u8]]) -> Result<Vec<Label<'a>>, Al
     Ok(labels)
 }
 
+// Whether a label of a name may be one of the export.
+fn is_own(taken: &[Label<'_>], label: &Label<'_>) -> bool
+    ensures { result ≡ is_own_label_of (map label_view taken.now) (label_view label.now) }
+{
+    is_label_key(label.key) && !has_key(taken, label.key) && !label.value.is_empty()
+}
+
 // Whether each label of a name may be one of the export.
 fn are_own(taken: &[Label<'_>], labels: &[Label<'_>]) -> bool
     ensures { result ≡ list_all (is_own_label_of (map label_view taken.now)) (map label_view labels.now) }
 {
-    for label in labels {
-        if !is_label_key(label.key) || has_key(taken, label.key) || label.value.is_empty() {
+    let mut rest = labels;
+    while let [label, more @ ..] = rest {
+        if !is_own(taken, label) {
             return false;
         }
+        rest = more;
     }
     true
 }

@@ -4,7 +4,7 @@ use Rattle.std.proofs.lemmas.List.Sorted.{All-permutation, IsPermutation-sym}
 use Rattle.image_reader.specs.Views.{histogram_view, reading_view}
 use Rattle.image_reader.specs.Readable.{IsReadable}
 use Rattle.reading_texts.specs.Labels.{label_view}
-use Rattle.reading_texts.specs.Exporting.{family_text, units_family, families_of}
+use Rattle.reading_texts.specs.Exporting.{family_text, units_family, sparse_family, bad_family, flag_family, families_of}
 use Rattle.reading_texts.proofs.Adding.{written-behind}
 use Rattle.reading_texts.proofs.exporting.export_text.Goals as goal
 
@@ -32,5 +32,10 @@ returns c =
     let begun = units ∙ ap (λ s. s ++ family_text (units_family c.args.prefix.now line_labels hists)) c.new-text.ensures.items in
     let values = written-behind _ _ begun sparse in
     let bad = written-behind _ _ values c.in_ok-put_bad.ensures in
-    let flags = written-behind _ _ bad c.in_ok-put_flags.ensures in
-    (families_of c.args.prefix.now line_labels hists (reading_view c.args.reading.now), (hists, c.in_ok-hists.ensures, refl), flags ∙ four _ _ _ _)
+    let flags = written-behind _ _ bad c.in_ok-put_flags.ensures in (
+      families_of c.args.prefix.now line_labels hists (reading_view c.args.reading.now),
+      (hists, c.in_ok-hists.ensures, refl),
+      flags
+          ∙ four (family_text (units_family c.args.prefix.now line_labels hists)) (family_text (sparse_family c.args.prefix.now line_labels hists))
+          (family_text (bad_family c.args.prefix.now line_labels (reading_view c.args.reading.now))) (family_text (flag_family c.args.prefix.now line_labels (reading_view c.args.reading.now))),
+    )

@@ -1,4 +1,4 @@
-use Rattle.std.proofs.Common.{◌≡◌, ◌∙◌, ◌++◌, ap, sym, true, map}
+use Rattle.std.proofs.Common.{◌≡◌, ◌∙◌, ◌++◌, ap, rules, true, map}
 use Rattle.std.specs.Prelude.{codes}
 use Rattle.image_reader.specs.Views.{histogram_view}
 use Rattle.reading_texts.specs.Labels.{label_view, named_by, own_labels, text_of_name}
@@ -12,7 +12,7 @@ returns c =
     let hist = histogram_view c.args.hist.now in
     let line_labels = map label_view c.args.line_labels.now in
     let text_name = text_of_name hist.name in
-    let sparse : is_sparse hist.spec ≡ true = sym c.is_sparse.ensures ∙ c.if-is_sparse.true in
+    let sparse : is_sparse hist.spec ≡ true = search rules in
     let values = rw (c.deref.ensures.value, c.deref-2.ensures.value, c.in_ok-labels.ensures, c.in_ok-rows.ensures) at c.in_ok-put_values.ensures in
     rw sparse
     (values

@@ -1,5 +1,5 @@
 -- Samples as lines, and labels whose values need no escapes.
-use Rattle.std.proofs.Common.{◌≡◌, ◌∙◌, ℕ, ◌+◌, ◌-◌, ◌^◌, ◌<◌, ◌≤◌, List, [], ◌∷◌, ◌++◌, length, map, refl, ap, sym, append_assoc, arith, cond, ltb, true, false}
+use Rattle.std.proofs.Common.{◌≡◌, ◌∙◌, ℕ, suc, ◌+◌, ◌-◌, ◌^◌, ◌<◌, ◌≤◌, List, [], ◌∷◌, ◌++◌, length, map, refl, ap, sym, append_assoc, arith, cond, ltb, true, false}
 use Rattle.std.specs.Prelude.{codes, ℤ, pos, negsuc, ◌-ℤ◌}
 use Rattle.std.specs.Char.{digit_value}
 use Rattle.std.specs.Fmt.{decimal, signed_decimal}
@@ -40,7 +40,7 @@ digits-of n small = (decimal_is_IsNumeral n small).0.1
 -- a whole number needs no escapes
 pub quoted-number : (z : ℤ) → mag z < 2 ^ 63 → quoted (signed_decimal z) ≡ signed_decimal z
 quoted-number (pos n) small = quoted-digits (decimal n) (digits-of n (omega (arith, small)))
-quoted-number (negsuc n) small = ap (λ s. 45 ∷ s) (quoted-digits (decimal (n + 1)) (digits-of (n + 1) (omega (arith, small))))
+quoted-number (negsuc n) small = ap (λ s. 45 ∷ s) (quoted-digits (decimal (suc n)) (digits-of (suc n) (omega (arith, small))))
 
 -- ---- lists
 

@@ -18,7 +18,10 @@ returns c =
     let first = rw (c.deref-2.ensures.value, name) at c.in_ok-put_flag.ensures in
     let second = rw (c.deref-3.ensures.value, name) at c.in_ok-put_flag-2.ensures in
     let flag = flag_sample (prefix ++ codes "_segment_flag") line_labels in
-    written-both _ _ _ (written-both _ _ _ heading first) second
+    let before : List ℕ = c.args.text.now.items in
+    let head : List ℕ = heading_text (prefix ++ codes "_segment_flag") (codes "Whether a flag of the segment is set.") (codes "gauge") in
+    let corrupt : List ℕ = sample_text (flag (codes "corrupt") c.args.reading.now.corrupt) in
+    let full : List ℕ = sample_text (flag (codes "full") c.args.reading.now.full) in
+    written-both before (head ++ corrupt) full (written-both before head corrupt heading first) second
     ∙ ap (λ s. c.args.text.now.items ++ s)
-    (three (heading_text (prefix ++ codes "_segment_flag") (codes "Whether a flag of the segment is set.") (codes "gauge"))
-    (sample_text (flag (codes "corrupt") c.args.reading.now.corrupt)) (sample_text (flag (codes "full") c.args.reading.now.full)))
+    (three head corrupt full)

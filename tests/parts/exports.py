@@ -25,14 +25,14 @@ MOST_IMAGES = 1000
 
 # The text of the example in the format's own words.
 EXAMPLE_TEXT = b"""\
-# HELP povundiri_histogram Units of a histogram up to the greatest value of each bucket.
-# TYPE povundiri_histogram histogram
-povundiri_histogram_bucket{histogram="A",le="0"} 1
-povundiri_histogram_bucket{histogram="A",le="1"} 3
-povundiri_histogram_bucket{histogram="A",le="2147483646"} 3
-povundiri_histogram_bucket{histogram="A",le="+Inf"} 3
-povundiri_histogram_sum{histogram="A"} 2
-povundiri_histogram_count{histogram="A"} 3
+# HELP povundiri_units Units of a histogram up to the greatest value of each bucket.
+# TYPE povundiri_units histogram
+povundiri_units_bucket{histogram="A",le="0"} 1
+povundiri_units_bucket{histogram="A",le="1"} 3
+povundiri_units_bucket{histogram="A",le="2147483646"} 3
+povundiri_units_bucket{histogram="A",le="+Inf"} 3
+povundiri_units_sum{histogram="A"} 2
+povundiri_units_count{histogram="A"} 3
 # HELP povundiri_sparse_total Units of each value of a sparse histogram.
 # TYPE povundiri_sparse_total counter
 # HELP povundiri_bad_records Records that could not be read, and one more where their list stops early.
@@ -53,17 +53,80 @@ add,~s,-2147483648,1
 add,~s,2147483647,2
 """
 SCRIPT_LINES = rb"""
-x_histogram_bucket{histogram="a\\b{c=d}",le="0"} 0
-x_histogram_bucket{histogram="a\\b{c=d}",le="+Inf"} 4294967290
-x_histogram_sum{histogram="a\\b{c=d}"} 4294967290
+x_units_bucket{histogram="a\\b",c="d",le="0"} 0
+x_units_bucket{histogram="a\\b",c="d",le="+Inf"} 4294967290
+x_units_sum{histogram="a\\b",c="d"} 4294967290
 x_sparse_total{histogram="~s",value="-2147483648"} 1
 x_sparse_total{histogram="~s",value="2147483647"} 2
 """.split(b"\n")[1:-1]
 # The parser of a text, which gives its families.
 Parse = Callable[[str], Iterable[Any]]
 
-PREFIXES = ["x", "_", ":a:b", "Zz_09"]
-NO_PREFIXES = ["", "9a", "a-b", "a b", "a.b", "\u00e9", "a{"]
+PREFIXES = ["x", "_", "Zz_09"]
+NO_PREFIXES = ["", "9a", "a-b", "a b", "a.b", "\u00e9", "a{", "a:b", ":"]
+
+# Names that have labels, and what their lines say of them.
+LABELED_NAMES = {
+    "http.latency{code=200;method=GET}": '{histogram="http.latency",code="200",method="GET"}',
+    "a{A=1;B_9=2;_=3;a=4}": '{histogram="a",A="1",B_9="2",_="3",a="4"}',
+    "a{flag=1;job=shop}": '{histogram="a",flag="1",job="shop"}',
+    "a{b=c=d}": '{histogram="a",b="c=d"}',
+    "a{b={c}}": '{histogram="a",b="{c}"}',
+}
+# Names that go out whole.
+WHOLE_NAMES = [
+    "a{method=GET;code=200}",
+    "a{code=200;code=201}",
+    "a{code=200;code=200}",
+    "a{9=x}",
+    "a{b-c=x}",
+    "a{b:c=x}",
+    "a{=x}",
+    "a{a__b=1}",
+    "a{__=1}",
+    "a{le=1}",
+    "a{name=1}",
+    "a{value=1}",
+    "a{kind=1}",
+    "a{histogram=1}",
+    "a{code=}",
+    "a{code}",
+    "a{}",
+    "a{",
+    "a}",
+    "{code=1}",
+    "a{code=1}b",
+    "a{code=1",
+    "a{code=1;}",
+    "a{;code=1}",
+    "a{code=1;le=2}",
+]
+# Labels that all lines get, and what their lines then say.
+LINE_LABELS = {
+    ("job=shop",): ',job="shop"',
+    ("job=shop", "zone=a=b"): ',job="shop",zone="a=b"',
+    ("zone=b", "job=shop"): ',zone="b",job="shop"',
+    ('city=Z\u00fcrich "x" \\',): ',city="Z\u00fcrich \\"x\\" \\\\"',
+    ("_=1", "a_b=2"): ',_="1",a_b="2"',
+}
+NO_LINE_LABELS = [
+    ["job"],
+    ["=x"],
+    ["job="],
+    ["9a=x"],
+    ["a-b=x"],
+    ["a:b=x"],
+    ["a__b=x"],
+    ["__name__=x"],
+    ["le=1"],
+    ["name=1"],
+    ["value=1"],
+    ["kind=1"],
+    ["histogram=1"],
+    ["flag=1"],
+    ["job=a", "job=b"],
+    ["job=a", "zone=b", "job=a"],
+]
 
 
 def parser() -> Parse | None:
@@ -132,6 +195,70 @@ def worked(program: pathlib.Path, parse: Parse | None, folder: pathlib.Path) -> 
     yield "escapes and signs", wrong
 
 
+def named(program: pathlib.Path, parse: Parse | None, folder: pathlib.Path) -> Iterator[Case]:
+    """Names with labels, and names that only look so."""
+    script, image = folder / "names", folder / "names.img"
+    names = [*LABELED_NAMES, *WHOLE_NAMES]
+    script.write_text("segment,8192,1024,7\n" + "".join(f"hist,{name},boolean\n" for name in names))
+    answer(program, ["run", script, image])
+    lines = answer(program, ["export", image]).output.decode().splitlines()
+    wanted = {**LABELED_NAMES, **{name: f'{{histogram="{name}"}}' for name in WHOLE_NAMES}}
+    for name, labels in wanted.items():
+        line = f"povundiri_units_count{labels} 0"
+        yield f"the name {name}", None if line in lines else f"no line {line}"
+    yield "all names", beside(program, parse, image.read_bytes())
+    taken = answer(program, ["export", "--label", "code=9", image]).output.decode().splitlines()
+    line = 'povundiri_units_count{histogram="http.latency{code=200;method=GET}",code="9"} 0'
+    yield "a name with a key of all lines", None if line in taken else f"no line {line}"
+
+
+def labeled(program: pathlib.Path, parse: Parse | None) -> Iterator[Case]:
+    """Labels on all lines, and labels that none may have."""
+    for given, text in LINE_LABELS.items():
+        words = [word for label in given for word in ("--label", label)]
+        labels = {key: value for key, _, value in (label.partition("=") for label in given)}
+        came = answer(program, ["export", *words, EXAMPLE])
+        wanted = Answer(*plain_export.answer(EXAMPLE.read_bytes(), line_labels=labels))
+        wrong = difference(wanted, came)
+        lines = [line for line in came.output.decode().splitlines() if not line.startswith("#")]
+        if wrong is None and not all(text in line or f"{{{text[1:]}}}" in line for line in lines):
+            wrong = f"not all lines have {text}"
+        if wrong is None and parse is not None:
+            wrong = complaint(parse, came.output, plain_export.families_of(EXAMPLE.read_bytes(), labels))
+        yield f"the labels {given}", wrong
+    for refused in NO_LINE_LABELS:
+        came = answer(program, ["export", *(f"--label={label}" for label in refused), EXAMPLE])
+        right = came.status == 2 and came.output == b"" and b"label" in came.error
+        yield f"no labels {refused}", None if right else f"wanted a usage fault, came {came}"
+
+
+def replaced(program: pathlib.Path, folder: pathlib.Path) -> Iterator[Case]:
+    """`--to` of each command that writes a text: the same bytes, in a file that is replaced at the end or not."""
+    out, damaged = folder / "out", folder / "damaged"
+    damaged.write_bytes(EXAMPLE.read_bytes()[:100])
+    inputs: list[tuple[str, Word, bytes]] = [("a file", EXAMPLE, b""), ("standard input", "-", EXAMPLE.read_bytes())]
+    for words in (["report"], ["export"], ["show"], ["show", "--html"]):
+        written = answer(program, [*words, EXAMPLE])
+        for name, given, data in inputs:
+            for old in (None, b"old\n"):
+                out.unlink(missing_ok=True)
+                if old is not None:
+                    out.write_bytes(old)
+                came = answer(program, [*words, given, "--to", out], data)
+                wrong = difference(Answer(), came)
+                if wrong is None and out.read_bytes() != written.output:
+                    wrong = "the file has another text"
+                yield f"{words} --to, {name}, {'new' if old is None else 'old'}", wrong
+        out.write_bytes(b"old\n")
+        came = answer(program, [*words, damaged, "--to", out])
+        left = sorted(path.name for path in folder.iterdir() if path.name.startswith("."))
+        right = came.status == 3 and came.output == b"" and out.read_bytes() == b"old\n" and not left
+        yield f"{words} --to, a damaged image", None if right else f"came {came}, left {left}"
+        came = answer(program, [*words, EXAMPLE, "--to", folder / "none" / "out"])
+        right = came.status != 0 and came.output == b"" and b"Write" in came.error
+        yield f"{words} --to, no folder", None if right else f"came {came}"
+
+
 def cases(program: pathlib.Path, options: argparse.Namespace) -> Iterator[Case]:
     """Worked examples; the known images; and forged ones, a thousand at most."""
     parse = parser()
@@ -139,6 +266,9 @@ def cases(program: pathlib.Path, options: argparse.Namespace) -> Iterator[Case]:
         print("exports: nothing is read back, since python3-prometheus-client is not installed", flush=True)
     with tempfile.TemporaryDirectory() as folder:
         yield from worked(program, parse, pathlib.Path(folder))
+        yield from named(program, parse, pathlib.Path(folder))
+        yield from replaced(program, pathlib.Path(folder))
+    yield from labeled(program, parse)
     yield from command_faults.cases(program, ["export"])
     for image in sorted(known.FOLDER.glob("*.img")):
         yield image.name, beside(program, parse, image.read_bytes())

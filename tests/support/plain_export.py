@@ -7,7 +7,8 @@ ones.
 from __future__ import annotations
 
 import collections
-from collections.abc import Iterator
+import re
+from collections.abc import Collection, Iterator, Mapping
 from typing import Any
 
 from support import plain_reader
@@ -17,7 +18,7 @@ Sample = tuple[str, dict[str, str], int]
 Families = dict[str, list[Sample]]
 PREFIX = "povundiri"
 FAMILIES = {
-    "histogram": ("histogram", "Units of a histogram up to the greatest value of each bucket."),
+    "units": ("histogram", "Units of a histogram up to the greatest value of each bucket."),
     "sparse_total": ("counter", "Units of each value of a sparse histogram."),
     "bad_records": ("gauge", "Records that could not be read, and one more where their list stops early."),
     "segment_flag": ("gauge", "Whether a flag of the segment is set."),
@@ -25,34 +26,69 @@ FAMILIES = {
 ESCAPES = {"\\": "\\\\", '"': '\\"', "\n": "\\n"}
 
 
-def histogram_samples(name: str, histogram: dict[str, Any]) -> Iterator[Sample]:
+KEY = re.compile(r"[a-zA-Z_][a-zA-Z0-9_]*", re.ASCII)
+# The keys that a name cannot have.
+KEPT = {"le", "name", "value", "kind", "histogram"}
+NO_LABELS: Mapping[str, str] = {}
+
+
+def is_own(key: str, value: str, taken: Collection[str]) -> bool:
+    """Whether a label may come from a name, where lines have labels of these keys."""
+    return (
+        KEY.fullmatch(key) is not None
+        and "__" not in key
+        and key not in KEPT
+        and key not in taken
+        and value != ""
+    )
+
+
+def split(name: str, taken: Collection[str]) -> tuple[str, dict[str, str]]:
+    """What the lines of a histogram name it, and the labels that its name gives it."""
+    base, _, behind = name.partition("{")
+    if base == "" or not behind.endswith("}"):
+        return name, {}
+    labels = [part.partition("=") for part in behind[:-1].split(";")]
+    keys = [key for key, _, _ in labels]
+    if not all(is_own(key, value, taken) for key, _, value in labels) or keys != sorted(set(keys)):
+        return name, {}
+    return base, {key: value for key, _, value in labels}
+
+
+def labels_of(name: str, line_labels: Mapping[str, str]) -> dict[str, str]:
+    """The labels of a histogram: what it is named, those of its name, and those of all lines."""
+    base, own = split(name, line_labels)
+    return {"histogram": base, **own, **line_labels}
+
+
+def histogram_samples(labels: dict[str, str], histogram: dict[str, Any]) -> Iterator[Sample]:
     """A histogram that has ranges: the units up to each bucket's greatest value."""
     units = 0
     for low in sorted(histogram["buckets"]):
         high, count = histogram["buckets"][low]
         units += count
-        yield "histogram_bucket", {"histogram": name, "le": str(high - 1)}, units
-    yield "histogram_bucket", {"histogram": name, "le": "+Inf"}, units
-    yield "histogram_sum", {"histogram": name}, histogram["sum"]
-    yield "histogram_count", {"histogram": name}, units
+        yield "units_bucket", {**labels, "le": str(high - 1)}, units
+    yield "units_bucket", {**labels, "le": "+Inf"}, units
+    yield "units_sum", labels, histogram["sum"]
+    yield "units_count", labels, units
 
 
-def families_of(data: bytes) -> Families:
+def families_of(data: bytes, line_labels: Mapping[str, str] = NO_LABELS) -> Families:
     """The samples of each family, each a name without the prefix, labels and a whole number; raises the image's
     fault."""
     by_name, bad_records, stopped, flags = plain_reader.reading_of(data, collections.Counter())
     families: Families = {family: [] for family in FAMILIES}
     for name in sorted(by_name):
-        histogram, text = by_name[name], name.decode()
+        histogram, labels = by_name[name], labels_of(name.decode(), line_labels)
         if plain_reader.KINDS[histogram["kind"]] != "sparse":
-            families["histogram"] += histogram_samples(text, histogram)
+            families["units"] += histogram_samples(labels, histogram)
         else:
             for value in sorted(histogram["buckets"]):
-                labels = {"histogram": text, "value": str(value)}
-                families["sparse_total"].append(("sparse_total", labels, histogram["buckets"][value][1]))
-    families["bad_records"].append(("bad_records", {}, len(bad_records) + (stopped is not None)))
+                units = histogram["buckets"][value][1]
+                families["sparse_total"].append(("sparse_total", {**labels, "value": str(value)}, units))
+    families["bad_records"].append(("bad_records", {**line_labels}, len(bad_records) + (stopped is not None)))
     for bit, flag in ((1, "corrupt"), (2, "full")):
-        families["segment_flag"].append(("segment_flag", {"flag": flag}, int(flags & bit != 0)))
+        families["segment_flag"].append(("segment_flag", {"flag": flag, **line_labels}, int(flags & bit != 0)))
     return families
 
 
@@ -72,9 +108,11 @@ def text_of(families: Families, prefix: str = PREFIX) -> bytes:
     return "".join(lines).encode()
 
 
-def answer(data: bytes, prefix: str = PREFIX) -> tuple[bytes, bytes, int]:
+def answer(
+    data: bytes, prefix: str = PREFIX, line_labels: Mapping[str, str] = NO_LABELS
+) -> tuple[bytes, bytes, int]:
     """What a program writes to its two streams, and its status."""
     try:
-        return text_of(families_of(data), prefix), b"", 0
+        return text_of(families_of(data, line_labels), prefix), b"", 0
     except plain_reader.ImageFault as fault:
         return b"", f"persist_report: {fault}\n".encode(), 3

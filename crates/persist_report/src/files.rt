@@ -120,9 +120,9 @@ pub fn end<'a, R: Files<File = File> + AllocGlobal, I, P: Drop>(
     Err(failed(context, cause.fault, base, input, output))
 }
 
-// What is wrong with a reading of which the text is written: it is not whole, where that is wanted; or it lacks a histogram
-// that is asked for by its name.
-fn check(
+/// Says what is wrong with a reading of which the text is written: it is not whole, where that is wanted; or it lacks a
+/// histogram that is asked for by its name.
+pub fn check(
     alloc: Global,
     form: Form<'_>,
     wants_whole: bool,
@@ -168,6 +168,21 @@ fn say_what_is_read<R: Files + Eprint>(rt: &R) {
     }
 }
 
+/// Opens the file of an image, or standard input if no file is named, or `-`. If no file is named and standard input is a
+/// terminal, this is said. On `Ok` it has not failed [file]; `Usage` comes only for a mistake on the command line [fault].
+pub fn open_image<'a, R: Files + Input + Eprint + AllocGlobal>(
+    context: &Context<'_, R>,
+    file: Option<&'a str>,
+) -> Result<Stream<'a, Incoming<R::File, R::Reader>>, Failure>
+    ensures file { IfOk result (λ file. has_failed file ≡ false) }
+    ensures fault { IfErr result UsageIsMistake }
+{
+    if file.is_none() {
+        say_what_is_read(context.rt);
+    }
+    open(context, file.unwrap_or(DASH), context.copy())
+}
+
 /// Writes a form of the image in a file to standard output; of that on standard input if no file is named, or `-`. If no file
 /// is named and standard input is a terminal, this is said. If what was read is not whole and has to be, or lacks a histogram
 /// of a name, that is a fault, which comes after the text. `Usage` comes only for a mistake on the command line.
@@ -178,10 +193,7 @@ pub fn write_file<R: Files + Input + Print + Eprint + AllocGlobal>(
 ) -> Result<(), Failure>
     ensures { IfErr result UsageIsMistake }
 {
-    if file.is_none() {
-        say_what_is_read(context.rt);
-    }
-    let reader = open(context, file.unwrap_or(DASH), context.copy())?;
+    let reader = open_image(context, file)?;
     write_from(context, form, reader)
 }
 

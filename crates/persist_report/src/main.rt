@@ -21,6 +21,8 @@ mod run;
 mod sizing;
 mod sizing_request;
 mod terminal;
+mod text_options;
+mod texts;
 mod workers;
 
 use std::process::ExitCode;

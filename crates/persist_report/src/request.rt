@@ -15,7 +15,7 @@ use arguments::explain_flag;
 use clap::error::ErrorKind;
 use clap::{ArgMatches, Command, Error};
 use fault_texts::VARIABLE_HELP;
-pub use mistakes::{no_fault, no_prefix, not_text};
+pub use mistakes::{no_fault, no_labels, no_prefix, not_text};
 use reading::{
     explain_command, export_command, export_task, report_command, show_command, show_task,
 };
@@ -37,18 +37,22 @@ pub struct Request<'a> {
     pub wants_whole: bool,
 }
 
-/// What a command does. The image in `file` is that on standard input if there is no file.
+/// What a command does. The image in `file` is that on standard input if there is no file. A text goes to the file `to`, or to
+/// standard output if there is none.
 #[derive(Drop)]
 pub enum Task<'a> {
     /// Write the report of an image, or the rows of that alone.
     Report {
         file: Option<&'a str>,
         has_rows_alone: bool,
+        to: Option<&'a str>,
     },
-    /// Write the metrics of an image, whose names begin with the prefix.
+    /// Write the metrics of an image, whose names begin with the prefix, with these labels on all lines, each as KEY=VALUE.
     Export {
         file: Option<&'a str>,
         prefix: &'a str,
+        labels: Vec<&'a str>,
+        to: Option<&'a str>,
     },
     /// Write the overview of an image, with commas in numbers if they are for people.
     Info {
@@ -64,6 +68,7 @@ pub enum Task<'a> {
         style: Style,
         list: Option<ListStyle>,
         is_page: bool,
+        to: Option<&'a str>,
     },
     /// Run a script by workers, and write the image to a file and its report to standard output.
     Run {
@@ -130,18 +135,19 @@ fn task_of<'a>(
     match name {
         "show" => Ok(Some(show_task(alloc, found, columns)?)),
         "size" => Ok(Some(Task::Size(size_task(alloc, found)?))),
+        "export" => export_task(alloc, found),
         _ => Ok(plain_task(name, found)),
     }
 }
 
-// The same, of each command but `show` and `size`.
+// The same, of each command but `show`, `size` and `export`.
 fn plain_task<'a>(name: &str, found: &ArgMatches<'a>) -> Option<Task<'a>> {
     match name {
         "report" => Some(Task::Report {
             file: found.get_str("FILE"),
             has_rows_alone: found.get_flag("rows"),
+            to: to_found(found),
         }),
-        "export" => export_task(found),
         "info" => Some(info_task(found)),
         "run" => run_task(found),
         "resume" => resume_task(found),

@@ -8,13 +8,13 @@ use crate::dashes::{DASH, check_dashes};
 use crate::extracting::extract_file;
 use crate::failure::Failure;
 use crate::files::{merge_files_into, resume_file, run_file, write_file};
-use crate::request::{Request, Task, no_fault, no_prefix, not_text};
+use crate::request::{Request, Task, no_fault, not_text};
 use crate::sizing::size_of_task;
 use crate::terminal::columns;
+use crate::texts::{write_export, write_form};
 use fault_texts::{AllTexts, is_asked, nearest_name, texts_for};
 use persist_report_core::CliFault;
 use reading_shows::{Choice, Form, ListStyle, Source, Style};
-use reading_texts::is_prefix;
 use std::fs::File;
 use std::random::RandomSource;
 use std::rt::{Env, Files};
@@ -92,20 +92,6 @@ fn explain<R: Print + AllocGlobal>(rt: &R, name: Option<&str>) -> Result<(), Fai
     Ok(())
 }
 
-// Writes the metrics of an image, if names may begin with the prefix.
-fn export<R: Files + Input + Print + Eprint + AllocGlobal>(
-    context: &Context<'_, R>,
-    file: Option<&str>,
-    prefix: &str,
-) -> Result<(), Failure>
-    ensures { IfErr result UsageIsMistake }
-{
-    if !is_prefix(prefix.as_bytes()) {
-        return Err(Failure::Usage(no_prefix(context.alloc())?));
-    }
-    write_file(context, Form::Export { prefix }, file)
-}
-
 // Which histograms are meant: those with the names, those whose name contains the part, or all.
 fn choice_of<'a>(names: &'a [&'a str], part: Option<&'a str>) -> Choice<'a> {
     match part {
@@ -171,9 +157,15 @@ fn meet<
         Task::Report {
             file,
             has_rows_alone,
-        } => write_file(context, report_form(has_rows_alone), file),
+            to,
+        } => write_form(context, report_form(has_rows_alone), file, to),
         Task::Info { file, is_human } => write_file(context, Form::Info { is_human }, file),
-        Task::Export { file, prefix } => export(context, file, prefix),
+        Task::Export {
+            file,
+            prefix,
+            labels,
+            to,
+        } => write_export(context, file, prefix, &labels, to),
         Task::Show {
             file,
             names,
@@ -181,10 +173,11 @@ fn meet<
             style,
             list,
             is_page,
+            to,
         } => {
             let choice = choice_of(names.as_slice(), part);
             let page = if is_page { Some(source_of(file)) } else { None };
-            write_file(context, form_of(style, page, list, choice), file)
+            write_form(context, form_of(style, page, list, choice), file, to)
         }
         Task::Run {
             script,

@@ -1,10 +1,11 @@
 -- What is written of the bytes of an image, in each form.
-use Rattle.std.specs.Prelude.{◌≡◌, ℕ, List, Ok}
+use Rattle.std.specs.Prelude.{◌≡◌, ℕ, List, Ok, map}
 use Rattle.segment_image.specs.Head.{header_of}
 use Rattle.segment_image.specs.declared.head.SegmentHead.{SegmentHead}
 use Rattle.bucket_ranges.specs.Reading.{Reading, IsReading}
 use Rattle.reading_texts.specs.Text.{IsTextOf}
 use Rattle.reading_texts.specs.Table.{IsTableOf}
+use Rattle.reading_texts.specs.Labels.{label_view}
 use Rattle.reading_texts.specs.Exporting.{IsExportOf}
 use Rattle.persist_report_core.specs.Report.{AreWordsOf}
 use Rattle.reading_overviews.specs.Overview.{overview}
@@ -20,7 +21,7 @@ use Rattle.reading_shows.specs.Page.{IsPageOf}
 abbrev pub choice_in : Form → Choice
 choice_in Report = All
 choice_in Rows = All
-choice_in (Export prefix) = All
+choice_in (Export prefix labels) = All
 choice_in (Info is_human) = All
 choice_in (Show style choice) = choice
 choice_in (Listing style choice) = choice
@@ -30,7 +31,7 @@ choice_in (Page source all choice) = choice
 abbrev pub IsTextIn : Form → SegmentHead → Reading → List ℕ → Type 0
 IsTextIn Report head reading text = IsTextOf reading text
 IsTextIn Rows head reading text = IsTableOf reading text
-IsTextIn (Export prefix) head reading text = IsExportOf prefix.now reading text
+IsTextIn (Export prefix labels) head reading text = IsExportOf prefix.now (map label_view labels.now) reading text
 IsTextIn (Info is_human) head reading text = text ≡ overview is_human head reading
 IsTextIn (Show style choice) head reading text = IsShowOf style choice reading text
 IsTextIn (Listing style choice) head reading text = IsListOf style choice reading text

@@ -13,7 +13,7 @@ use crate::source::Source;
 use crate::style::Style;
 use image_reader::Reading;
 use reading_overviews::overview_text;
-use reading_texts::{export_text, report_text, table_text};
+use reading_texts::{Label, export_text, report_text, table_text};
 use segment_image::SegmentHead;
 use std::alloc::{AllocError, Global};
 
@@ -24,9 +24,11 @@ pub enum Form<'a> {
     Report,
     /// The rows of its report alone, as CSV with a head line.
     Rows,
-    /// Its metrics in the Prometheus text format, whose names begin with `prefix`: one where `reading_texts::is_prefix` says so.
+    /// Its metrics in the Prometheus text format: their names begin with `prefix`, one where `reading_texts::is_prefix` says so, and
+    /// all lines have these labels, those where `reading_texts::are_line_labels` says so.
     Export {
         prefix: &'a str,
+        labels: &'a [Label<'a>],
     },
     /// Its overview, with commas in numbers if it is for people.
     Info {
@@ -77,7 +79,9 @@ impl<'a> Form<'a> {
         match self {
             Form::Report => report_text(alloc, reading),
             Form::Rows => table_text(alloc, reading),
-            Form::Export { prefix } => export_text(alloc, reading, prefix.as_bytes()),
+            Form::Export { prefix, labels } => {
+                export_text(alloc, reading, prefix.as_bytes(), labels)
+            }
             Form::Show { style, choice } => show_text(alloc, reading, style, choice),
             Form::Info { is_human } => overview_text(alloc, is_human, head, reading),
             Form::List { style, choice } => list_text(alloc, reading, style, choice),

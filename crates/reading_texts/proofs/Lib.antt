@@ -1,3 +1,4 @@
 pub mod Adding
 pub mod Ascending
 pub mod Buckets
+pub mod Rendered

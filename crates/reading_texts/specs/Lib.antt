@@ -4,4 +4,6 @@ pub use Rattle.bucket_ranges.specs.Reading
 pub mod Rows
 pub mod Text
 pub mod Table
+pub mod Labels
 pub mod Exporting
+pub mod Lines

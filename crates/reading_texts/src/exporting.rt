@@ -1,13 +1,15 @@
 //! The text of a reading for what scrapes metrics: the Prometheus text format, version 0.0.4.
 
-ghost use Rattle.std.specs.Prelude.{◌≡◌, ◌++◌, ◌≤ℤ◌, ◌-ℤ◌, All, IfOk, OnOk, true, false, pos, map};
-ghost use Rattle.std.specs.List.{flat_map, list_all};
+ghost use Rattle.std.specs.Prelude.{◌≡◌, ◌++◌, ◌≤ℤ◌, ◌-ℤ◌, All, IfOk, OnOk, pos, map};
+ghost use Rattle.std.specs.Fmt.{decimal};
+ghost use Rattle.std.specs.List.{flat_map};
 ghost use Rattle.image_reader.specs.Views.{histogram_view, reading_view};
 ghost use Rattle.image_reader.specs.Readable.{IsReadable};
-ghost use Rattle.reading_texts.specs.Rows.{rows_of as rows_of_histogram};
-ghost use Rattle.reading_texts.specs.Exporting.{family, bucket_line, value_line, row_line, ranged_lines, sparse_lines, flag_line, bad_line, is_metric_prefix, is_first_byte, is_later_byte, total_line, total_lines, flag_value as value_of_flag, label_value as label_value_of, IsExportOf};
+ghost use Rattle.reading_texts.specs.Labels.{label_view};
+ghost use Rattle.reading_texts.specs.Lines.{row_line, bucket_line, value_line, total_line, total_lines};
+ghost use Rattle.reading_texts.specs.Exporting.{heading_text, family_text, sample_text, inner_text, labels_text, labels_of, ranged_samples, sparse_samples, flag_sample, units_family, sparse_family, bad_family, flag_family, bad_records as bad_records_of, total_sample, flag_value as value_of_flag, IsExportOf};
 
-use crate::labels::label_value;
+use crate::labels::{Label, put_label, put_labels, read_name, text_of_name};
 use crate::order::in_order;
 use crate::parts::put_parts;
 use crate::rows::{HistRow, rows_of, units};
@@ -16,62 +18,18 @@ use image_reader::{HistReading, Reading};
 use itoa::Buffer;
 use std::alloc::{AllocError, Global};
 
-// Whether a metric's name may begin with a byte.
-fn is_first(byte: u8) -> bool
-    ensures { result ≡ is_first_byte byte }
-{
-    byte.is_ascii_alphabetic() || byte == b'_' || byte == b':'
-}
-
-// Whether a byte may stand behind the first of a metric's name.
-fn is_later(byte: u8) -> bool
-    ensures { result ≡ is_later_byte byte }
-{
-    is_first(byte) || byte.is_ascii_digit()
-}
-
-// Whether all bytes may stand there.
-fn are_later(bytes: &[u8]) -> bool
-    ensures { result ≡ list_all is_later_byte bytes.now }
-{
-    for byte in bytes {
-        if !is_later(*byte) {
-            return false;
-        }
-    }
-    true
-}
-
-/// Whether the names of metrics may begin with these bytes: a letter of ASCII, `_` or `:`, and then such ones and digits.
-pub fn is_prefix(text: &[u8]) -> bool
-    ensures { result ≡ is_metric_prefix text.now }
-{
-    match text {
-        [first, more @ ..] => is_first(*first) && are_later(more),
-        [] => false,
-    }
-}
-
-// The lines that stand before those of a family.
-fn put_family(
-    text: &mut Vec<u8>,
-    prefix: &[u8],
-    name: &[u8],
-    help: &[u8],
-    kind: &[u8],
-) -> Result<(), AllocError>
-    ensures { OnOk result (text.new.items ≡ text.old.items ++ family prefix.now name.now help.now kind.now) }
+// What stands before the lines of a family.
+fn put_heading(text: &mut Vec<u8>, name: &[u8], help: &[u8], kind: &[u8]) -> Result<(), AllocError>
+    ensures { OnOk result (text.new.items ≡ text.old.items ++ heading_text name.now help.now kind.now) }
 {
     put_parts(
         text,
         &[
             b"# HELP ",
-            prefix,
             name,
             b" ",
             help,
             b"\n# TYPE ",
-            prefix,
             name,
             b" ",
             kind,
@@ -114,53 +72,36 @@ fn put_bucket(text: &mut Vec<u8>, start: &[u8], row: &HistRow) -> Result<(), All
 fn put_buckets(
     alloc: Global,
     text: &mut Vec<u8>,
-    prefix: &[u8],
-    label: &[u8],
+    name: &[u8],
+    labels: &[u8],
     rows: &[HistRow],
 ) -> Result<(), AllocError>
     requires { All (λ row. pos 0 ≤ℤ row.high) rows.now }
-    ensures { OnOk result (text.new.items ≡ text.old.items ++ flat_map (bucket_line prefix.now label.now) rows.now) }
+    ensures { OnOk result (text.new.items ≡ text.old.items ++ flat_map (bucket_line name.now labels.now) rows.now) }
 {
     let mut start = Vec::new(alloc);
-    put_parts(
-        &mut start,
-        &[
-            prefix,
-            b"_histogram_bucket{histogram=\"",
-            label,
-            b"\",le=\"",
-        ],
-    )?;
+    put_parts(&mut start, &[name, b"_bucket{", labels, b",le=\""])?;
     for row in rows {
         put_bucket(text, &start, row)?;
     }
     Ok(())
 }
 
-// Puts a line of a histogram as a whole: the name of the metric, the label, what stands behind it, and the number.
+// Puts a line of a histogram as a whole: the name of its metrics and what stands behind it, the labels and what stands behind
+// them, and the number.
 fn put_total(
     text: &mut Vec<u8>,
-    prefix: &[u8],
     name: &[u8],
-    label: &[u8],
+    suffix: &[u8],
+    labels: &[u8],
     end: &[u8],
     number: &[u8],
 ) -> Result<(), AllocError>
-    ensures { OnOk result (text.new.items ≡ text.old.items ++ total_line prefix.now name.now label.now end.now number.now) }
+    ensures { OnOk result (text.new.items ≡ text.old.items ++ total_line name.now suffix.now labels.now end.now number.now) }
 {
     put_parts(
         text,
-        &[
-            prefix,
-            name,
-            b"{histogram=\"",
-            label,
-            b"\"",
-            end,
-            b"} ",
-            number,
-            b"\n",
-        ],
+        &[name, suffix, b"{", labels, end, b"} ", number, b"\n"],
     )
 }
 
@@ -168,46 +109,57 @@ fn put_total(
 fn put_totals(
     alloc: Global,
     text: &mut Vec<u8>,
-    prefix: &[u8],
-    label: &[u8],
+    name: &[u8],
+    labels: &[u8],
     hist: &HistReading,
 ) -> Result<(), AllocError>
     requires { IsReadable (histogram_view hist.now) }
-    ensures { OnOk result (text.new.items ≡ text.old.items ++ total_lines prefix.now label.now (histogram_view hist.now)) }
+    ensures { OnOk result (text.new.items ≡ text.old.items ++ total_lines name.now labels.now (histogram_view hist.now)) }
 {
     let units = units(hist).to_string(alloc)?;
     let sum = hist.sum.to_string(alloc)?;
     let units = units.as_bytes();
-    put_total(
-        text,
-        prefix,
-        b"_histogram_bucket",
-        label,
-        b",le=\"+Inf\"",
-        units,
-    )?;
-    put_total(text, prefix, b"_histogram_sum", label, b"", sum.as_bytes())?;
-    put_total(text, prefix, b"_histogram_count", label, b"", units)?;
+    put_total(text, name, b"_bucket", labels, b",le=\"+Inf\"", units)?;
+    put_total(text, name, b"_sum", labels, b"", sum.as_bytes())?;
+    put_total(text, name, b"_count", labels, b"", units)?;
     Ok(())
+}
+
+// The labels of a histogram, without braces: what it is named, its own labels, and those of all lines.
+fn labels_text_of(
+    alloc: Global,
+    hist: &HistReading,
+    line_labels: &[Label<'_>],
+) -> Result<Vec<u8>, AllocError>
+    ensures { IfOk result (λ text. text.items ≡ inner_text (labels_of (map label_view line_labels.now) (histogram_view hist.now))) }
+{
+    let name = text_of_name(alloc, &hist.name)?;
+    let named = read_name(alloc, &name, line_labels)?;
+    let mut text = Vec::new(alloc);
+    put_label(&mut text, b"histogram", named.base)?;
+    put_labels(&mut text, &named.own)?;
+    put_labels(&mut text, line_labels)?;
+    Ok(text)
 }
 
 // The lines of a histogram that has ranges; none of a sparse one.
 fn put_ranged(
     alloc: Global,
     text: &mut Vec<u8>,
-    prefix: &[u8],
+    name: &[u8],
+    line_labels: &[Label<'_>],
     hist: &HistReading,
 ) -> Result<(), AllocError>
     requires { IsReadable (histogram_view hist.now) }
-    ensures { OnOk result (text.new.items ≡ text.old.items ++ ranged_lines prefix.now (histogram_view hist.now)) }
+    ensures { OnOk result (text.new.items ≡ text.old.items ++ flat_map sample_text (ranged_samples name.now (map label_view line_labels.now) (histogram_view hist.now))) }
 {
     if is_sparse(&hist.spec) {
         return Ok(());
     }
-    let label = label_value(alloc, &hist.name)?;
+    let labels = labels_text_of(alloc, hist, line_labels)?;
     let rows = rows_of(alloc, hist)?;
-    put_buckets(alloc, text, prefix, &label, &rows)?;
-    put_totals(alloc, text, prefix, &label, hist)?;
+    put_buckets(alloc, text, name, &labels, &rows)?;
+    put_totals(alloc, text, name, &labels, hist)?;
     Ok(())
 }
 
@@ -215,14 +167,15 @@ fn put_ranged(
 fn put_all_ranged(
     alloc: Global,
     text: &mut Vec<u8>,
-    prefix: &[u8],
+    name: &[u8],
+    line_labels: &[Label<'_>],
     hists: &[&HistReading],
 ) -> Result<(), AllocError>
     requires { All IsReadable (map (λ hist. histogram_view hist.now) hists.now) }
-    ensures { OnOk result (text.new.items ≡ text.old.items ++ flat_map (ranged_lines prefix.now) (map (λ hist. histogram_view hist.now) hists.now)) }
+    ensures { OnOk result (text.new.items ≡ text.old.items ++ flat_map (λ hist. flat_map sample_text (ranged_samples name.now (map label_view line_labels.now) hist)) (map (λ hist. histogram_view hist.now) hists.now)) }
 {
     for hist in hists {
-        put_ranged(alloc, text, prefix, hist)?;
+        put_ranged(alloc, text, name, line_labels, hist)?;
     }
     Ok(())
 }
@@ -238,17 +191,14 @@ fn put_value(text: &mut Vec<u8>, start: &[u8], row: &HistRow) -> Result<(), Allo
 fn put_values(
     alloc: Global,
     text: &mut Vec<u8>,
-    prefix: &[u8],
-    label: &[u8],
+    name: &[u8],
+    labels: &[u8],
     rows: &[HistRow],
 ) -> Result<(), AllocError>
-    ensures { OnOk result (text.new.items ≡ text.old.items ++ flat_map (value_line prefix.now label.now) rows.now) }
+    ensures { OnOk result (text.new.items ≡ text.old.items ++ flat_map (value_line name.now labels.now) rows.now) }
 {
     let mut start = Vec::new(alloc);
-    put_parts(
-        &mut start,
-        &[prefix, b"_sparse_total{histogram=\"", label, b"\",value=\""],
-    )?;
+    put_parts(&mut start, &[name, b"{", labels, b",value=\""])?;
     for row in rows {
         put_value(text, &start, row)?;
     }
@@ -259,48 +209,97 @@ fn put_values(
 fn put_sparse(
     alloc: Global,
     text: &mut Vec<u8>,
-    prefix: &[u8],
+    name: &[u8],
+    line_labels: &[Label<'_>],
     hist: &HistReading,
 ) -> Result<(), AllocError>
     requires { IsReadable (histogram_view hist.now) }
-    ensures { OnOk result (text.new.items ≡ text.old.items ++ sparse_lines prefix.now (histogram_view hist.now)) }
+    ensures { OnOk result (text.new.items ≡ text.old.items ++ flat_map sample_text (sparse_samples name.now (map label_view line_labels.now) (histogram_view hist.now))) }
 {
     if !is_sparse(&hist.spec) {
         return Ok(());
     }
-    let label = label_value(alloc, &hist.name)?;
+    let labels = labels_text_of(alloc, hist, line_labels)?;
     let rows = rows_of(alloc, hist)?;
-    put_values(alloc, text, prefix, &label, &rows)
+    put_values(alloc, text, name, &labels, &rows)?;
+    Ok(())
 }
 
 // The lines of all sparse histograms.
 fn put_all_sparse(
     alloc: Global,
     text: &mut Vec<u8>,
-    prefix: &[u8],
+    name: &[u8],
+    line_labels: &[Label<'_>],
     hists: &[&HistReading],
 ) -> Result<(), AllocError>
     requires { All IsReadable (map (λ hist. histogram_view hist.now) hists.now) }
-    ensures { OnOk result (text.new.items ≡ text.old.items ++ flat_map (sparse_lines prefix.now) (map (λ hist. histogram_view hist.now) hists.now)) }
+    ensures { OnOk result (text.new.items ≡ text.old.items ++ flat_map (λ hist. flat_map sample_text (sparse_samples name.now (map label_view line_labels.now) hist)) (map (λ hist. histogram_view hist.now) hists.now)) }
 {
     for hist in hists {
-        put_sparse(alloc, text, prefix, hist)?;
+        put_sparse(alloc, text, name, line_labels, hist)?;
     }
     Ok(())
 }
 
-// The line of how many records are bad; a list that stops counts as one more.
+// Puts the labels of all lines in braces; nothing if there are none.
+fn put_line_labels(text: &mut Vec<u8>, labels: &[Label<'_>]) -> Result<(), AllocError>
+    ensures { OnOk result (text.new.items ≡ text.old.items ++ labels_text (map label_view labels.now)) }
+{
+    if let [first, more @ ..] = labels {
+        text.push(b'{')?;
+        put_label(text, first.key, first.value)?;
+        put_labels(text, more)?;
+        text.push(b'}')?;
+    }
+    Ok(())
+}
+
+// How many records are bad; a list that stops counts as one more.
+fn bad_records(reading: &Reading) -> usize
+    ensures { result ≡ bad_records_of (reading_view reading.now) }
+{
+    let stops = if reading.stopped.is_some() { 1 } else { 0 };
+    stops + reading.bad.len()
+}
+
+// The line of a number of the whole segment.
+fn put_number(
+    alloc: Global,
+    text: &mut Vec<u8>,
+    name: &[u8],
+    line_labels: &[Label<'_>],
+    number: usize,
+) -> Result<(), AllocError>
+    ensures { OnOk result (text.new.items ≡ text.old.items ++ sample_text (total_sample name.now (map label_view line_labels.now) (decimal number))) }
+{
+    let digits = number.to_string(alloc)?;
+    text.extend_from_slice(name)?;
+    put_line_labels(text, line_labels)?;
+    put_parts(text, &[b" ", digits.as_bytes(), b"\n"])?;
+    Ok(())
+}
+
+// The family of how many records are bad.
 fn put_bad(
     alloc: Global,
     text: &mut Vec<u8>,
     prefix: &[u8],
+    line_labels: &[Label<'_>],
     reading: &Reading,
 ) -> Result<(), AllocError>
-    ensures { OnOk result (text.new.items ≡ text.old.items ++ bad_line prefix.now (reading_view reading.now)) }
+    ensures { OnOk result (text.new.items ≡ text.old.items ++ family_text (bad_family prefix.now (map label_view line_labels.now) (reading_view reading.now))) }
 {
-    let stops = if reading.stopped.is_some() { 1 } else { 0 };
-    let bad = (stops + reading.bad.len()).to_string(alloc)?;
-    put_parts(text, &[prefix, b"_bad_records ", bad.as_bytes(), b"\n"])
+    let mut name = Vec::new(alloc);
+    put_parts(&mut name, &[prefix, b"_bad_records"])?;
+    put_heading(
+        text,
+        &name,
+        b"Records that could not be read, and one more where their list stops early.",
+        b"gauge",
+    )?;
+    put_number(alloc, text, &name, line_labels, bad_records(reading))?;
+    Ok(())
 }
 
 // The value of a flag.
@@ -311,63 +310,111 @@ fn flag_value(flag: bool) -> &'static [u8]
 }
 
 // The line of a flag.
-fn put_flag(text: &mut Vec<u8>, prefix: &[u8], word: &[u8], value: &[u8]) -> Result<(), AllocError>
-    ensures { OnOk result (text.new.items ≡ text.old.items ++ flag_line prefix.now word.now value.now) }
+fn put_flag(
+    text: &mut Vec<u8>,
+    name: &[u8],
+    line_labels: &[Label<'_>],
+    word: &[u8],
+    flag: bool,
+) -> Result<(), AllocError>
+    ensures { OnOk result (text.new.items ≡ text.old.items ++ sample_text (flag_sample name.now (map label_view line_labels.now) word.now flag)) }
 {
-    put_parts(
-        text,
-        &[
-            prefix,
-            b"_segment_flag{flag=\"",
-            word,
-            b"\"} ",
-            value,
-            b"\n",
-        ],
-    )
+    put_parts(text, &[name, b"{"])?;
+    put_label(text, b"flag", word)?;
+    put_labels(text, line_labels)?;
+    put_parts(text, &[b"} ", flag_value(flag), b"\n"])?;
+    Ok(())
 }
 
-/// The text of a reading in the Prometheus text format, version 0.0.4: the buckets of the histograms by name, the values of
-/// the sparse ones, how many records are bad, and the flags. The names of all metrics begin with `prefix`, which is one where
-/// [`is_prefix`] says so. It fails for want of memory alone.
-pub fn export_text(alloc: Global, reading: &Reading, prefix: &[u8]) -> Result<Vec<u8>, AllocError>
-    requires { All IsReadable (map histogram_view reading.now.hists.items) }
-    ensures { IfOk result (λ text. IsExportOf prefix.now (reading_view reading.now) text.items) }
+// The family of the flags.
+fn put_flags(
+    alloc: Global,
+    text: &mut Vec<u8>,
+    prefix: &[u8],
+    line_labels: &[Label<'_>],
+    reading: &Reading,
+) -> Result<(), AllocError>
+    ensures { OnOk result (text.new.items ≡ text.old.items ++ family_text (flag_family prefix.now (map label_view line_labels.now) (reading_view reading.now))) }
 {
-    let hists = in_order(alloc, reading)?;
-    let mut text = Vec::new(alloc);
-    put_family(
-        &mut text,
-        prefix,
-        b"_histogram",
-        b"Units of a histogram up to the greatest value of each bucket.",
-        b"histogram",
-    )?;
-    put_all_ranged(alloc, &mut text, prefix, &hists)?;
-    put_family(
-        &mut text,
-        prefix,
-        b"_sparse_total",
-        b"Units of each value of a sparse histogram.",
-        b"counter",
-    )?;
-    put_all_sparse(alloc, &mut text, prefix, &hists)?;
-    put_family(
-        &mut text,
-        prefix,
-        b"_bad_records",
-        b"Records that could not be read, and one more where their list stops early.",
-        b"gauge",
-    )?;
-    put_bad(alloc, &mut text, prefix, reading)?;
-    put_family(
-        &mut text,
-        prefix,
-        b"_segment_flag",
+    let mut name = Vec::new(alloc);
+    put_parts(&mut name, &[prefix, b"_segment_flag"])?;
+    put_heading(
+        text,
+        &name,
         b"Whether a flag of the segment is set.",
         b"gauge",
     )?;
-    put_flag(&mut text, prefix, b"corrupt", flag_value(reading.corrupt))?;
-    put_flag(&mut text, prefix, b"full", flag_value(reading.full))?;
+    put_flag(text, &name, line_labels, b"corrupt", reading.corrupt)?;
+    put_flag(text, &name, line_labels, b"full", reading.full)?;
+    Ok(())
+}
+
+// The family of the histograms that have ranges.
+fn put_units(
+    alloc: Global,
+    text: &mut Vec<u8>,
+    prefix: &[u8],
+    line_labels: &[Label<'_>],
+    hists: &[&HistReading],
+) -> Result<(), AllocError>
+    requires { All IsReadable (map (λ hist. histogram_view hist.now) hists.now) }
+    ensures { OnOk result (text.new.items ≡ text.old.items ++ family_text (units_family prefix.now (map label_view line_labels.now) (map (λ hist. histogram_view hist.now) hists.now))) }
+{
+    let mut name = Vec::new(alloc);
+    put_parts(&mut name, &[prefix, b"_units"])?;
+    put_heading(
+        text,
+        &name,
+        b"Units of a histogram up to the greatest value of each bucket.",
+        b"histogram",
+    )?;
+    put_all_ranged(alloc, text, &name, line_labels, hists)?;
+    Ok(())
+}
+
+// The family of the sparse histograms.
+fn put_sparse_total(
+    alloc: Global,
+    text: &mut Vec<u8>,
+    prefix: &[u8],
+    line_labels: &[Label<'_>],
+    hists: &[&HistReading],
+) -> Result<(), AllocError>
+    requires { All IsReadable (map (λ hist. histogram_view hist.now) hists.now) }
+    ensures { OnOk result (text.new.items ≡ text.old.items ++ family_text (sparse_family prefix.now (map label_view line_labels.now) (map (λ hist. histogram_view hist.now) hists.now))) }
+{
+    let mut name = Vec::new(alloc);
+    put_parts(&mut name, &[prefix, b"_sparse_total"])?;
+    put_heading(
+        text,
+        &name,
+        b"Units of each value of a sparse histogram.",
+        b"counter",
+    )?;
+    put_all_sparse(alloc, text, &name, line_labels, hists)?;
+    Ok(())
+}
+
+/// Returns the text of a reading in the Prometheus text format, version 0.0.4: the buckets of the histograms by name, the
+/// values of the sparse ones, how many records are bad, and the flags. The names of all metrics begin with `prefix`, which is
+/// one if [`is_prefix`](crate::is_prefix) says so, and all lines get these labels, which they may have if
+/// [`are_line_labels`](crate::are_line_labels) says so.
+///
+/// The text is exactly the one that is defined. The one error is that memory runs out.
+pub fn export_text(
+    alloc: Global,
+    reading: &Reading,
+    prefix: &[u8],
+    line_labels: &[Label<'_>],
+) -> Result<Vec<u8>, AllocError>
+    requires { All IsReadable (map histogram_view reading.now.hists.items) }
+    ensures { IfOk result (λ text. IsExportOf prefix.now (map label_view line_labels.now) (reading_view reading.now) text.items) }
+{
+    let hists = in_order(alloc, reading)?;
+    let mut text = Vec::new(alloc);
+    put_units(alloc, &mut text, prefix, line_labels, &hists)?;
+    put_sparse_total(alloc, &mut text, prefix, line_labels, &hists)?;
+    put_bad(alloc, &mut text, prefix, line_labels, reading)?;
+    put_flags(alloc, &mut text, prefix, line_labels, reading)?;
     Ok(text)
 }

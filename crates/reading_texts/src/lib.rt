@@ -14,7 +14,8 @@ mod table;
 mod text;
 mod words;
 
-pub use exporting::{export_text, is_prefix};
+pub use exporting::export_text;
+pub use labels::{Label, are_line_labels, is_prefix};
 pub use parts::put_parts;
 pub use rows::{HistRow, rows_of, units};
 pub use table::table_text;

@@ -40,6 +40,17 @@ pub fn no_prefix(alloc: Global) -> Result<Error, AllocError>
 {
     command(alloc)?.error(
         ErrorKind::ValueValidation,
-        "a prefix has letters, digits, _ and : alone, and no digit first",
+        "a prefix has letters, digits and _ alone, and no digit first",
+    )
+}
+
+/// Returns what is wrong with a command line whose labels no line may have: a mistake in a value. The one error is that
+/// memory runs out.
+pub fn no_labels(alloc: Global) -> Result<Error, AllocError>
+    ensures { IfOk result (λ error. kind_of error ≡ ErrorKind.ValueValidation) }
+{
+    command(alloc)?.error(
+        ErrorKind::ValueValidation,
+        "a label is KEY=VALUE: KEY has letters, digits and _ alone, no digit first, no __, is none of le, name, value, kind, histogram and flag, and comes once; VALUE is not empty",
     )
 }

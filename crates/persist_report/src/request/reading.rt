@@ -3,6 +3,7 @@
 use crate::request::arguments::{explain_flag, image};
 use crate::request::info::{list_options, list_style};
 use crate::request::{Task, texts};
+use crate::text_options::{label_option, labels_found, to_found, to_option};
 use clap::{Arg, ArgAction, ArgMatches, Command, value_parser};
 use reading_shows::Style;
 use std::alloc::{AllocError, Global};
@@ -32,6 +33,7 @@ pub fn report_command<'a>(alloc: Global) -> Result<Command<'a>, AllocError> {
         .after_help("Example:\n  persist_report report my.img")
         .arg(image(alloc))?
         .arg(rows)?
+        .arg(to_option(alloc))?
         .arg(whole_flag(alloc))?
         .arg(explain_flag(alloc))
 }
@@ -42,13 +44,15 @@ pub fn export_command<'a>(alloc: Global) -> Result<Command<'a>, AllocError> {
         .value_name("PREFIX")
         .default_value("povundiri")
         .help("Prefix of all metric names")
-        .long_help("Prefix of all metric names: letters, digits, _ and :, no digit first");
+        .long_help("Prefix of all metric names: letters, digits and _, no digit first");
     Command::new(alloc, "export")
         .about("Print the histograms of an image in the Prometheus text format")
         .long_about(texts::EXPORT)
         .after_help("Example:\n  persist_report export my.img --prefix my")
         .arg(image(alloc))?
         .arg(prefix)?
+        .arg(label_option(alloc))?
+        .arg(to_option(alloc))?
         .arg(whole_flag(alloc))?
         .arg(explain_flag(alloc))
 }
@@ -104,6 +108,7 @@ pub fn show_command<'a>(alloc: Global) -> Result<Command<'a>, AllocError> {
         .arg(html)?;
     let command = list_options(alloc, command)?;
     style_options(alloc, command)?
+        .arg(to_option(alloc))?
         .arg(whole_flag(alloc))?
         .arg(explain_flag(alloc))
 }
@@ -117,11 +122,17 @@ pub fn explain_command<'a>(alloc: Global) -> Result<Command<'a>, AllocError> {
         .arg(name)
 }
 
-pub fn export_task<'a>(export: &ArgMatches<'a>) -> Option<Task<'a>> {
-    Some(Task::Export {
+pub fn export_task<'a>(
+    alloc: Global,
+    export: &ArgMatches<'a>,
+) -> Result<Option<Task<'a>>, AllocError> {
+    let labels = labels_found(alloc, export)?;
+    Ok(export.get_str("prefix").map(|prefix| Task::Export {
         file: export.get_str("FILE"),
-        prefix: export.get_str("prefix")?,
-    })
+        prefix,
+        labels,
+        to: to_found(export),
+    }))
 }
 
 pub fn show_task<'a>(
@@ -147,5 +158,6 @@ pub fn show_task<'a>(
         style,
         list: list_style(show, style),
         is_page: show.get_flag("html"),
+        to: to_found(show),
     })
 }

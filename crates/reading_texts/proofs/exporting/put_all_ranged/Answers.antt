@@ -1,12 +1,17 @@
-use Rattle.std.proofs.Common.{◌≡◌, ◌++◌, subst}
+use Rattle.std.proofs.Common.{◌≡◌, ◌++◌, List, ℕ, map, subst}
+use Rattle.std.specs.List.{flat_map}
+use Rattle.bucket_ranges.specs.Reading.{Histogram}
 use Rattle.image_reader.specs.Readable.{IsReadable}
 use Rattle.image_reader.specs.Views.{histogram_view}
-use Rattle.reading_texts.specs.Exporting.{ranged_lines}
+use Rattle.reading_texts.specs.Labels.{label_view}
+use Rattle.reading_texts.specs.Exporting.{sample_text, ranged_samples}
 use Rattle.reading_texts.proofs.Adding.{All-image_at, written-all, written-more}
 use Rattle.reading_texts.proofs.exporting.put_all_ranged.Goals as goal
 
 pub returns : goal.returns
-returns c = written-all (ranged_lines c.args.prefix.now) (λ hist. histogram_view hist.now) c.args.hists.now c.loop-hist.hist-index c.args.text.now.items c.loop-hist-test.false c.loop-hist.invariant
+returns c =
+    let lines : Histogram → List ℕ = λ hist. flat_map sample_text (ranged_samples c.args.name.now (map label_view c.args.line_labels.now) hist) in
+    written-all lines (λ hist. histogram_view hist.now) c.args.hists.now c.loop-hist.hist-index c.args.text.now.items c.loop-hist-test.false c.loop-hist.invariant
 
 pub put_ranged-requires : goal.put_ranged-requires
 put_ranged-requires c =
@@ -14,6 +19,7 @@ put_ranged-requires c =
 
 pub loop-hist-preserved : goal.loop-hist-preserved
 loop-hist-preserved c =
-    written-more (λ hist. ranged_lines c.args.prefix.now (histogram_view hist.now)) c.args.hists.now c.loop-hist.hist-index c.hist-item.result c.args.text.now.items c.loop-hist-test.true
+    let lines : Histogram → List ℕ = λ hist. flat_map sample_text (ranged_samples c.args.name.now (map label_view c.args.line_labels.now) hist) in
+    written-more (λ hist. lines (histogram_view hist.now)) c.args.hists.now c.loop-hist.hist-index c.hist-item.result c.args.text.now.items c.loop-hist-test.true
     c.loop-hist.invariant
-    (subst (λ one. c.put_ranged.new.text.items ≡ c.loop-hist.text.items ++ ranged_lines c.args.prefix.now (histogram_view one.now)) c.hist-item.is c.in_ok-put_ranged.ensures)
+    (subst (λ one. c.put_ranged.new.text.items ≡ c.loop-hist.text.items ++ lines (histogram_view one.now)) c.hist-item.is c.in_ok-put_ranged.ensures)

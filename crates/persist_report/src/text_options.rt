@@ -1,0 +1,35 @@
+//! The options of the commands that write a text.
+
+use clap::{Arg, ArgAction, ArgMatches};
+use std::alloc::{AllocError, Global};
+
+/// The file that a text is written to.
+pub fn to_option<'a>(alloc: Global) -> Arg<'a> {
+    Arg::new(alloc, "to")
+        .long("to")
+        .value_name("OUT")
+        .help("Write to the file OUT")
+        .long_help("Write to the file OUT, which is replaced when the text is complete")
+}
+
+/// The labels that all lines of an export get.
+pub fn label_option<'a>(alloc: Global) -> Arg<'a> {
+    Arg::new(alloc, "label")
+        .long("label")
+        .value_name("KEY=VALUE")
+        .action(ArgAction::Append)
+        .help("Label that all lines get; may be given more than once")
+}
+
+/// The file that a text is to be written to, if one is named.
+pub fn to_found<'a>(found: &ArgMatches<'a>) -> Option<&'a str> {
+    found.get_str("to")
+}
+
+/// The labels that were given, each as KEY=VALUE. The one error is that memory runs out.
+pub fn labels_found<'a>(alloc: Global, found: &ArgMatches<'a>) -> Result<Vec<&'a str>, AllocError> {
+    match found.get_strs("label") {
+        Some(labels) => Vec::from_slice(alloc, labels),
+        None => Ok(Vec::new(alloc)),
+    }
+}

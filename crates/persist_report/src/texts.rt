@@ -1,0 +1,122 @@
+//! The commands that write a text of an image: to standard output, or to a file that is replaced when the text is complete.
+
+ghost use Rattle.std.specs.Prelude.{◌≡◌, false, IfErr};
+ghost use Rattle.persist_report.specs.Failure.{UsageIsMistake};
+ghost use Rattle.segment_image.specs.Watched.{has_failed};
+
+use crate::cause::Cause;
+use crate::context::Context;
+use crate::explaining::{FaultContext, failure_of};
+use crate::failure::Failure;
+use crate::files::{check, open_image, open_out, write_file};
+use crate::noted::Stream;
+use crate::request::{no_labels, no_prefix};
+use persist_report_core::CliFault;
+use reading_shows::{Form, write_text};
+use reading_texts::{Label, are_line_labels, is_prefix};
+use std::alloc::{AllocError, Global};
+use std::fs::File;
+use std::io::Read;
+use std::random::RandomSource;
+use std::rt::Files;
+use std::time::Clock;
+
+// Writes a form of what a reader has left to a file, which is replaced when the text is complete, and then sees what is wrong
+// with what was read.
+fn write_to<R: Files<File = File> + Clock + Print + RandomSource + AllocGlobal, I: Read + Drop>(
+    context: &Context<'_, R>,
+    form: Form<'_>,
+    mut reader: Stream<'_, I>,
+    to: &str,
+) -> Result<(), Failure>
+    requires { has_failed reader ≡ false }
+    ensures { IfErr result UsageIsMistake }
+{
+    let mut writer = open_out(context, to)?;
+    let (written, found) = match write_text(context.alloc(), form, &mut reader, &mut writer) {
+        Ok(reading) => (Ok(()), check(context.alloc(), form, context.wants_whole, &reading)),
+        Err(fault) => (Err(fault), Ok(())),
+    };
+    let (input, output) = (reader.into_inner(), writer.into_inner());
+    let (place, reason) = (output.origin(), output.reason());
+    let cause = match (output.into_inner().end(context.rt, written), found) {
+        (Err(cause), _) => cause,
+        (Ok(()), Err(fault)) => Cause::from(fault),
+        (Ok(()), Ok(())) => return Ok(()),
+    };
+    let (device, reason) = match &cause.fault {
+        CliFault::Read => (input.origin(), input.reason()),
+        _ => (place, cause.reason.or(reason)),
+    };
+    let known = FaultContext {
+        input: input.source(),
+        base: None,
+        device,
+        reason,
+    };
+    Err(failure_of(context, cause.fault, known))
+}
+
+/// Writes a form of the image in a file, or of that on standard input if no file is named, or `-`: to the file `to`, or to
+/// standard output if there is none. If no file is named and standard input is a terminal, this is said. If what was read is not
+/// whole and has to be, or lacks a histogram of a name, that is a fault, which comes after the text. `Usage` comes only for a
+/// mistake on the command line.
+pub fn write_form<
+    R: Files<File = File> + Clock + Input + Print + Eprint + RandomSource + AllocGlobal,
+>(
+    context: &Context<'_, R>,
+    form: Form<'_>,
+    file: Option<&str>,
+    to: Option<&str>,
+) -> Result<(), Failure>
+    ensures { IfErr result UsageIsMistake }
+{
+    let Some(to) = to else {
+        return write_file(context, form, file);
+    };
+    let reader = open_image(context, file)?;
+    write_to(context, form, reader, to)
+}
+
+// The labels that these words name, each as KEY=VALUE; none if one has no equals sign.
+fn labels_of<'a>(alloc: Global, words: &[&'a str]) -> Result<Option<Vec<Label<'a>>>, AllocError> {
+    let mut labels = Vec::new(alloc);
+    for word in words {
+        let Some((key, value)) = word.split_once('=') else {
+            return Ok(None);
+        };
+        labels.push(Label {
+            key: key.as_bytes(),
+            value: value.as_bytes(),
+        })?;
+    }
+    Ok(Some(labels))
+}
+
+/// Writes the metrics of an image, if their names may begin with the prefix, and all lines may have these labels, each given as
+/// KEY=VALUE. `Usage` comes only for a mistake on the command line.
+pub fn write_export<
+    R: Files<File = File> + Clock + Input + Print + Eprint + RandomSource + AllocGlobal,
+>(
+    context: &Context<'_, R>,
+    file: Option<&str>,
+    prefix: &str,
+    words: &[&str],
+    to: Option<&str>,
+) -> Result<(), Failure>
+    ensures { IfErr result UsageIsMistake }
+{
+    if !is_prefix(prefix.as_bytes()) {
+        return Err(Failure::Usage(no_prefix(context.alloc())?));
+    }
+    match labels_of(context.alloc(), words)? {
+        Some(labels) if are_line_labels(&labels) => {
+            let form = Form::Export {
+                prefix,
+                labels: &labels,
+            };
+            write_form(context, form, file, to)
+        }
+        _ => Err(Failure::Usage(no_labels(context.alloc())?)),
+    }
+}

@@ -1,5 +1,5 @@
 -- The list of the histograms of a reading: a line for each, with its numbers in columns.
-use Rattle.std.specs.Prelude.{◌≡◌, Bool, ◌==◌, nat_lt, if◌then◌else◌, ℕ, ◌-◌, max, min, List, [], ◌∷◌, ◌++◌, length, map, codes, IsPermutation, IsSortedByKey}
+use Rattle.std.specs.Prelude.{◌≡◌, Bool, true, false, ◌==◌, nat_lt, if◌then◌else◌, ℕ, ◌-◌, max, min, List, [], ◌∷◌, ◌++◌, length, map, codes, IsPermutation, IsSortedByKey}
 use Rattle.std.specs.Cmp.Lexicographic.{slice_cmp}
 use Rattle.std.specs.List.{flat_map, fold}
 use Rattle.std.specs.Ordering.{nat_cmp}
@@ -121,7 +121,8 @@ pub record AreRanked (found lines : List ListLine) : Type 0 where
 
 -- the lines in the order that is asked for; they are given by name
 abbrev pub AreOrdered : Bool → List ListLine → List ListLine → Type 0
-AreOrdered by_units found lines = if by_units then AreRanked found lines else (lines ≡ found)
+AreOrdered true found lines = AreRanked found lines
+AreOrdered false found lines = lines ≡ found
 
 -- the list of a reading: lines of the chosen histograms, and the sentences after them
 pub record IsListOf (style : ListStyle) (choice : Choice) (reading : Reading) (text : List ℕ) : Type 0 where

@@ -34,7 +34,10 @@ fn write_to<R: Files<File = File> + Clock + Print + RandomSource + AllocGlobal, 
 {
     let mut writer = open_out(context, to)?;
     let (written, found) = match write_text(context.alloc(), form, &mut reader, &mut writer) {
-        Ok(reading) => (Ok(()), check(context.alloc(), form, context.wants_whole, &reading)),
+        Ok(reading) => (
+            Ok(()),
+            check(context.alloc(), form, context.wants_whole, &reading),
+        ),
         Err(fault) => (Err(fault), Ok(())),
     };
     let (input, output) = (reader.into_inner(), writer.into_inner());

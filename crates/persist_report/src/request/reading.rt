@@ -127,12 +127,14 @@ pub fn export_task<'a>(
     export: &ArgMatches<'a>,
 ) -> Result<Option<Task<'a>>, AllocError> {
     let labels = labels_found(alloc, export)?;
-    Ok(export.get_str("prefix").map(|prefix| Task::Export {
-        file: export.get_str("FILE"),
-        prefix,
-        labels,
-        to: to_found(export),
-    }))
+    Ok(
+        export.get_str("prefix").map(|prefix| Task::Export {
+            file: export.get_str("FILE"),
+            prefix,
+            labels,
+            to: to_found(export),
+        }),
+    )
 }
 
 pub fn show_task<'a>(

@@ -1,5 +1,5 @@
 //! The program `persist_report`: writes the histograms of an image as a report, as metrics or for people, runs scripts in
-//! new segments and in those of images, merges images, extracts them from any file, and explains faults.
+//! new segments and in those of images, merges images, extracts them from any file, prints scales, and explains faults.
 #![tactic(auto)]
 
 mod cause;
@@ -15,6 +15,8 @@ mod output;
 mod place;
 mod request;
 mod run;
+mod scales;
+mod scaling;
 mod terminal;
 mod workers;
 

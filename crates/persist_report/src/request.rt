@@ -4,6 +4,7 @@ ghost use Rattle.std.specs.Prelude.{◌≡◌, IfOk};
 ghost use Rattle.clap.specs.Words.{kind_of};
 
 use crate::nth::Nth;
+use crate::scales::Scale;
 use crate::workers::Workers;
 use clap::error::ErrorKind;
 use clap::{Arg, ArgAction, ArgMatches, Command, Error, value_parser};
@@ -65,6 +66,11 @@ pub enum Task<'a> {
         file: &'a str,
         out: &'a str,
         nth: Nth,
+    },
+    /// Write the record of a script for a histogram of a name, whose values are those of a scale.
+    Scale {
+        name: &'a str,
+        scale: Scale,
     },
     /// Write what the fault of a name means, or what each means if there is no name.
     Explain {
@@ -235,6 +241,33 @@ fn extract_command<'a>(alloc: Global) -> Result<Command<'a>, AllocError> {
         .arg(explain_flag(alloc))
 }
 
+// A number of a scale.
+fn scale_number<'a>(alloc: Global, name: &'a str, help: &'a str) -> Arg<'a> {
+    Arg::new(alloc, name)
+        .required(true)
+        .value_parser(value_parser!(u32))
+        .help(help)
+}
+
+fn scale_command<'a>(alloc: Global) -> Result<Command<'a>, AllocError> {
+    Command::new(alloc, "scale")
+        .about("Print the script record of a histogram whose buckets grow with the values")
+        .after_help("Example:\n  persist_report scale latency.us 1 1000000 3")
+        .arg(file(alloc, "NAME", "Name of the histogram"))?
+        .arg(scale_number(alloc, "MIN", "Least value, 1 or more"))?
+        .arg(scale_number(
+            alloc,
+            "MAX",
+            "Value that the buckets reach, at most 2147483646",
+        ))?
+        .arg(scale_number(
+            alloc,
+            "BITS",
+            "1 to 8: a bucket's values differ by at most 1 part in 2^BITS",
+        ))?
+        .arg(explain_flag(alloc))
+}
+
 fn explain_command<'a>(alloc: Global) -> Result<Command<'a>, AllocError> {
     let name = Arg::new(alloc, "NAME").help("Name of a fault; all if it is left out");
     Command::new(alloc, "explain")
@@ -255,6 +288,7 @@ fn command<'a>(alloc: Global) -> Result<Command<'a>, AllocError> {
         .subcommand(resume_command(alloc)?)?
         .subcommand(merge_command(alloc)?)?
         .subcommand(extract_command(alloc)?)?
+        .subcommand(scale_command(alloc)?)?
         .subcommand(explain_command(alloc)?)
 }
 
@@ -321,6 +355,17 @@ fn extract_task<'a>(extract: &ArgMatches<'a>) -> Option<Task<'a>> {
     })
 }
 
+fn scale_task<'a>(scale: &ArgMatches<'a>) -> Option<Task<'a>> {
+    Some(Task::Scale {
+        name: scale.get_str("NAME")?,
+        scale: Scale {
+            min: scale.get_one::<u32>("MIN")?,
+            max: scale.get_one::<u32>("MAX")?,
+            bits: scale.get_one::<u32>("BITS")?,
+        },
+    })
+}
+
 // What a command of this name does; none if something is missing, which the parser refuses.
 fn task_of<'a>(
     alloc: Global,
@@ -345,6 +390,7 @@ fn plain_task<'a>(name: &str, found: &ArgMatches<'a>) -> Option<Task<'a>> {
         "resume" => resume_task(found),
         "merge" => merge_task(found),
         "extract" => extract_task(found),
+        "scale" => scale_task(found),
         "explain" => Some(Task::Explain {
             name: found.get_str("NAME"),
         }),

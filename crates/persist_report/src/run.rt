@@ -8,6 +8,7 @@ use crate::extracting::extract_file;
 use crate::failure::Failure;
 use crate::files::{merge_files_into, resume_file, run_file, write_file};
 use crate::request::{Request, Task, no_fault, no_prefix, not_text};
+use crate::scales::print_scale;
 use crate::terminal::{columns, is_terminal};
 use fault_texts::{AllTexts, fault_text};
 use persist_report_core::CliFault;
@@ -143,6 +144,7 @@ fn meet<
         } => resume_file(context, base, script, out, workers),
         Task::Merge { base, dead, out } => merge_files_into(context, base, dead, out),
         Task::Extract { file, out, nth } => extract_file(context, file, out, nth),
+        Task::Scale { name, scale } => print_scale(context, name, scale),
         Task::Explain { name } => explain(context.rt, name),
     }
 }

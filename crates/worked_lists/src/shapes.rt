@@ -25,6 +25,10 @@ fn fitted_shapes(rt: HostRuntime) -> Result<(), Fail> {
 #[test]
 fn refused_shapes(rt: HostRuntime) {
     for words in [0, 63, 1_048_577, u64::MAX] {
-        assert_eq!(rt; Shape::fit(words).err(), Some(ImageFault::BadSize), "{words}");
+        assert_eq!(rt;
+            Shape::fit(words).err(),
+            Some(ImageFault::BadSize),
+            "{words}"
+        );
     }
 }

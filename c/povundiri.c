@@ -24,6 +24,8 @@ extern inline uint32_t povundiri_hist_linear(struct povundiri_handle *recorder, 
 extern inline uint32_t povundiri_hist_boolean(struct povundiri_handle *recorder, const char *name, size_t *hist);
 extern inline uint32_t povundiri_hist_custom(struct povundiri_handle *recorder, const char *name, const uint32_t *values, size_t length,
                                              size_t *hist);
+extern inline uint32_t povundiri_hist_scale(struct povundiri_handle *recorder, const char *name, uint32_t minimum, uint32_t maximum,
+                                            uint32_t bits, size_t *hist);
 extern inline uint32_t povundiri_hist_sparse(struct povundiri_handle *recorder, const char *name, size_t *hist);
 extern inline uint32_t povundiri_add(struct povundiri_handle *recorder, size_t hist, int32_t value, uint32_t count);
 extern inline uint32_t povundiri_batch(struct povundiri_handle *recorder, size_t hist, const struct povundiri_item *items, size_t length,

@@ -89,11 +89,12 @@ enum povundiri_kind {
     POVUNDIRI_LINEAR = 1,
     POVUNDIRI_BOOLEAN = 2,
     POVUNDIRI_CUSTOM = 3,
-    POVUNDIRI_SPARSE = 4
+    POVUNDIRI_SPARSE = 4,
+    POVUNDIRI_SCALE = 5 /* a custom one: its values are those of a scale (povundiri_hist_scale) */
 };
 
 /* How a histogram splits the values. The last three are for a linear one: the number of buckets counts the one below the minimum and the
- * one from the maximum on. The other kinds ignore them. */
+ * one from the maximum on. Of a scale the last is its number of bits. The other kinds ignore them. */
 struct povundiri_spec {
     uint32_t kind;
     uint32_t minimum;
@@ -389,6 +390,23 @@ inline uint32_t povundiri_hist_custom(struct povundiri_handle *recorder, const c
                                       size_t *hist) {
     struct povundiri_spec spec = {POVUNDIRI_CUSTOM, 0, 0, 0};
     return name == NULL ? (uint32_t)POVUNDIRI_NULL : povundiri_hist(recorder, name, strlen(name), spec, values, length, hist);
+}
+
+/* A custom histogram of a scale, for values of any size: its buckets begin at the numbers m * 2^e with m below 2^(bits + 1), from `minimum`
+ * up to the first at or above `maximum`. So each begins at most 1 + 2^-bits times as far up as the one before it, or 1 above that: with 3
+ * bits, a value is at most an eighth above the least of its bucket. From 1 on, that is 2^bits values for each doubling.
+ * Memory: with n values there are n + 1 buckets, 1,000 at most. The record takes 15 words, one for each 8 bytes of the name, begun or full,
+ * and n; once there are samples in two buckets, the counts take 4 + 2 * (n + 1) words more. Each of both has to fit in a page: one of 2,016
+ * words is enough for every scale. From 1 to the greatest value, 2,147,483,646, 3 bits have 232 values, 4 bits 448 and 5 bits 864: 470,
+ * 902 and 1,734 words for the counts.
+ * Statuses: as above, and before any that is about the segment: SPEC_BAD_MIN: the minimum is 0; SPEC_BAD_MAX: the maximum is not above the
+ * minimum, or above 2,147,483,646; SPEC_TOO_FEW: 0 bits; SPEC_TOO_MANY: more than 8 bits, or more than 999 values.
+ * What to keep: as above. */
+POVUNDIRI_CHECKED
+inline uint32_t povundiri_hist_scale(struct povundiri_handle *recorder, const char *name, uint32_t minimum, uint32_t maximum,
+                                     uint32_t bits, size_t *hist) {
+    struct povundiri_spec spec = {POVUNDIRI_SCALE, minimum, maximum, bits};
+    return name == NULL ? (uint32_t)POVUNDIRI_NULL : povundiri_hist(recorder, name, strlen(name), spec, NULL, 0, hist);
 }
 
 POVUNDIRI_CHECKED

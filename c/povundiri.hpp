@@ -364,6 +364,12 @@ public:
     [[nodiscard]] Status try_custom(std::string_view name, Span<const std::uint32_t> values, Hist& hist) noexcept {
         return try_hist(name, {POVUNDIRI_CUSTOM, 0, 0, 0}, values, hist);
     }
+    // Of a scale: for values of any size, each bucket at most 1 + 2^-bits times as far up as the one before it. povundiri_hist_scale says
+    // which numbers these are, how many words its histogram takes, and that it needs a page of 2,016 words at most.
+    [[nodiscard]] Status try_scale(std::string_view name, std::uint32_t minimum, std::uint32_t maximum, std::uint32_t bits,
+                                   Hist& hist) noexcept {
+        return try_hist(name, {POVUNDIRI_SCALE, minimum, maximum, bits}, {}, hist);
+    }
     // Of the values from 0 to n - 1, each with a bucket of its own, and one more for n and above: linear from 1 to n with n + 1 buckets. n is
     // from 2 to 999. Below that it is SpecBadMax, above it SpecTooMany or SpecBadMax.
     [[nodiscard]] Status try_enumeration(std::string_view name, std::uint32_t n, Hist& hist) noexcept {
@@ -385,6 +391,11 @@ public:
     Hist custom(std::string_view name, Span<const std::uint32_t> values) {
         Hist hist;
         detail::need(try_custom(name, values, hist), "hist", name);
+        return hist;
+    }
+    Hist scale(std::string_view name, std::uint32_t minimum, std::uint32_t maximum, std::uint32_t bits) {
+        Hist hist;
+        detail::need(try_scale(name, minimum, maximum, bits, hist), "hist", name);
         return hist;
     }
     Hist enumeration(std::string_view name, std::uint32_t n) {

@@ -88,6 +88,7 @@ static void nulls_of_histograms(void) {
     ANSWERS(NULL, povundiri_hist_linear(&recorder, NULL, 1, 10, 3, &hist));
     ANSWERS(NULL, povundiri_hist_boolean(&recorder, NULL, &hist));
     ANSWERS(NULL, povundiri_hist_custom(&recorder, NULL, NULL, 0, &hist));
+    ANSWERS(NULL, povundiri_hist_scale(&recorder, NULL, 1, 10, 3, &hist));
     ANSWERS(NULL, povundiri_hist_sparse(&recorder, NULL, &hist));
     let_go(&segment, &recorder);
 }
@@ -129,6 +130,7 @@ static void asks_for_a_recorder(struct povundiri_handle *it, uint32_t status) {
     HOLDS(povundiri_hist_linear(it, "a", 1, 10, 3, &hist) == status);
     HOLDS(povundiri_hist_boolean(it, "a", &hist) == status);
     HOLDS(povundiri_hist_custom(it, "a", NULL, 0, &hist) == status);
+    HOLDS(povundiri_hist_scale(it, "a", 1, 10, 3, &hist) == status);
     HOLDS(povundiri_hist_sparse(it, "a", &hist) == status);
     HOLDS(povundiri_add(it, 0, 1, 1) == status);
     HOLDS(povundiri_batch(it, 0, NULL, 0, 0, NULL) == status);
@@ -408,9 +410,32 @@ static void specs(void) {
     ANSWERS(SPEC_TOO_FEW, povundiri_hist_linear(&recorder, "k", 1, 10, 2, &hist));
     ANSWERS(SPEC_TOO_MANY, povundiri_hist_linear(&recorder, "k", 1, 10, 12, &hist));
     ANSWERS(SPEC_BAD_RANGE, povundiri_hist_custom(&recorder, "k", high, 1, &hist));
+    ANSWERS(SPEC_BAD_MIN, povundiri_hist_scale(&recorder, "k", 0, 0, 0, &hist));
+    ANSWERS(SPEC_BAD_MAX, povundiri_hist_scale(&recorder, "k", 10, 10, 0, &hist));
+    ANSWERS(SPEC_BAD_MAX, povundiri_hist_scale(&recorder, "k", 1, 2147483647u, 3, &hist));
+    ANSWERS(SPEC_TOO_FEW, povundiri_hist_scale(&recorder, "k", 1, 10, 0, &hist));
+    ANSWERS(SPEC_TOO_MANY, povundiri_hist_scale(&recorder, "k", 1, 10, 9, &hist));
+    ANSWERS(SPEC_TOO_MANY, povundiri_hist_scale(&recorder, "k", 1, 1949, 8, &hist));
+    ANSWERS(REFUSED_TOO_LARGE, povundiri_hist_scale(&recorder, "k", 1, 1948, 8, &hist));
     ANSWERS(SPEC_EMPTY, povundiri_hist_custom(&recorder, "k", zero, 1, &hist));
     ANSWERS(SPEC_EMPTY, povundiri_hist_custom(&recorder, "k", NULL, 0, &hist));
     ANSWERS(REFUSED_TOO_LARGE, povundiri_hist_linear(&recorder, "k", 1, 1000, 500, &hist));
+    let_go(&segment, &recorder);
+}
+
+/* A scale is a custom histogram of its values. */
+static void scales(void) {
+    static const uint32_t values[] = {1, 2, 3, 4, 6, 8, 12, 16, 24}, one[] = {2147483646u};
+    struct povundiri_handle segment, recorder;
+    size_t hist = 0, again = 0;
+    made(&segment, &recorder);
+    DONE(povundiri_hist_scale(&recorder, "s", 1, 20, 1, &hist));
+    DONE(povundiri_hist_custom(&recorder, "s", values, 9, &again));
+    HOLDS(hist == 1 && again == 1);
+    ANSWERS(REFUSED_OTHER_SPEC, povundiri_hist_scale(&recorder, "s", 1, 20, 2, &hist));
+    DONE(povundiri_hist_scale(&recorder, "t", 2147483645u, 2147483646u, 8, &hist));
+    DONE(povundiri_hist_custom(&recorder, "t", one, 1, &again));
+    HOLDS(hist == 2 && again == 2);
     let_go(&segment, &recorder);
 }
 
@@ -738,6 +763,7 @@ static const struct test TESTS[] = {
     {"lends_to_many", lends_to_many},
     {"histograms", histograms},
     {"specs", specs},
+    {"scales", scales},
     {"names", names},
     {"refused_samples", refused_samples},
     {"samples", samples},

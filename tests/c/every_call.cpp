@@ -204,6 +204,21 @@ void enumerations() {
     RETURNS(SpecBadMax, recorder.try_enumeration("k", UINT32_MAX, hist));
 }
 
+// A scale is a custom histogram of its values.
+void scales() {
+    Segment segment;
+    Recorder recorder;
+    Hist hist, again;
+    DONE(Segment::try_create(povundiri::shape_for(65'536, 7), segment));
+    DONE(segment.try_recorder(recorder, 10));
+    DONE(recorder.try_scale("s", 1, 20, 1, hist));
+    DONE(recorder.try_custom("s", {1, 2, 3, 4, 6, 8, 12, 16, 24}, again));
+    RETURNS(RefusedOtherSpec, recorder.try_scale("s", 1, 20, 2, hist));
+    DONE(recorder.try_scale("most", 1, 1948, 8, hist));
+    RETURNS(SpecTooMany, recorder.try_scale("k", 1, 1949, 8, hist));
+    RETURNS(SpecBadMin, recorder.try_scale("k", 0, 20, 1, hist));
+}
+
 #if defined(__cpp_exceptions)
 
 // What was thrown, and its status.
@@ -239,6 +254,7 @@ void exceptions() {
     THROWS(RefusedZeroCount, "add, value 1, count 0: ZeroCount", recorder.add_or_throw(linear, 1, 0));
     THROWS(Unknown, "batch, items 1: UnknownHistogram", recorder.batch_or_throw(Hist(), {{1, 91}}, 0));
     THROWS(SpecBadMin, "hist \"k\": BadMin", recorder.linear("k", 0, 1, 3));
+    THROWS(SpecTooFew, "hist \"k\": TooFew", recorder.scale("k", 1, 2, 0));
     THROWS(SpecBadMax, "hist \"k\": BadMax", recorder.enumeration("k", 1));
     THROWS(RefusedOtherSpec, "hist \"l\": OtherSpec", recorder.sparse("l"));
     THROWS(RefusedBadName, "hist \"a b\": BadName", recorder.boolean("a b"));
@@ -302,6 +318,7 @@ int main() {
     failed += group("names", names);
     failed += group("shapes", shapes);
     failed += group("enumerations", enumerations);
+    failed += group("scales", scales);
 #if defined(__cpp_exceptions)
     failed += group("exceptions", exceptions);
 #endif

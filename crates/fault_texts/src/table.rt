@@ -246,8 +246,8 @@ pub const TEXTS: [(&str, &str, &str); 52] = [
     ),
     (
         "TooMany",
-        "The segment has 256 recorders that are not joined, and no more at once. Of a spec: a linear one has more than 1,000 buckets or more than MAX - MIN + 2, or a custom one more than 999 values.",
-        "Join a recorder before you ask for the next one. Of a spec: use fewer buckets or values.",
+        "The segment has 256 recorders that are not joined, and no more at once. Of a spec: a linear one has more than 1,000 buckets or more than MAX - MIN + 2, or a custom one more than 999 values, or a scale more than 999 values or 8 bits.",
+        "Join a recorder before you ask for the next one. Of a spec: use fewer buckets, values or bits.",
     ),
     (
         "TooLarge",
@@ -271,18 +271,18 @@ pub const TEXTS: [(&str, &str, &str); 52] = [
     ),
     (
         "BadMin",
-        "The minimum of a linear spec is 0.",
+        "The minimum of a linear spec or of a scale is 0.",
         "Use 1 or more: lower values have a bucket of their own.",
     ),
     (
         "BadMax",
-        "The maximum of a linear spec is not above its minimum, or it is above 2,147,483,646.",
+        "The maximum of a linear spec or of a scale is not above its minimum, or it is above 2,147,483,646.",
         "Use a maximum between these.",
     ),
     (
         "TooFew",
-        "A linear spec has fewer than 3 buckets.",
-        "Use 3 or more: one below the minimum, one from the maximum on, and one between.",
+        "A linear spec has fewer than 3 buckets; or a scale has 0 bits.",
+        "Use 3 buckets or more: one below the minimum, one from the maximum on, and one between. For a scale use 1 to 8 bits.",
     ),
     (
         "BadRange",

@@ -5,6 +5,7 @@ ghost use Rattle.persist_report.specs.Failure.{IsFailureOf, failure_status, faul
 ghost use Rattle.persist_report.specs.declared.failure.Failure.TheVariants.{Fault};
 ghost use Rattle.persist_report_core.specs.declared.fault.CliFault.TheVariants.{NoMemory};
 
+use bucket_ranges::SpecFault;
 use clap::error::ErrorKind;
 use persist_report_core::CliFault;
 use std::alloc::AllocError;
@@ -21,10 +22,12 @@ pub enum Failure {
     Explained(CliFault, String),
     /// Another process has the lock of the file that it writes. These lines follow, if there are any.
     Busy(String),
+    /// The scale that it asks for has this fault. These lines follow, if there are any.
+    Scale(SpecFault, String),
 }
 
 impl Failure {
-    /// Returns the exit status: 2 for `Usage`, 4 for `Busy`, else that of the fault.
+    /// Returns the exit status: 2 for `Usage`, 4 for `Busy`, 3 for `Scale`, else that of the fault.
     pub fn status(&self) -> u8
         ensures { result ≡ failure_status self.now }
     {
@@ -32,6 +35,7 @@ impl Failure {
             Failure::Usage(_) => 2,
             Failure::Fault(fault) | Failure::Explained(fault, _) => fault_status(fault),
             Failure::Busy(_) => 4,
+            Failure::Scale(_, _) => 3,
         }
     }
 }
@@ -87,6 +91,10 @@ impl fmt::Display for Failure {
             Failure::Usage(error) => write!(f, "{error}"),
             Failure::Fault(fault) => writeln!(f, "persist_report: {fault}"),
             Failure::Explained(fault, lines) => {
+                writeln!(f, "persist_report: {fault}")?;
+                f.write_str(lines.as_str())
+            }
+            Failure::Scale(fault, lines) => {
                 writeln!(f, "persist_report: {fault}")?;
                 f.write_str(lines.as_str())
             }

@@ -1,5 +1,5 @@
 //! The program `persist_report`: writes the histograms of an image as a report, as metrics or for people, runs scripts in
-//! new segments and in those of images, merges images, extracts them from any file, and explains faults.
+//! new segments and in those of images, merges images, extracts them from any file, prints scales, and explains faults.
 #![tactic(auto)]
 
 mod cause;
@@ -18,6 +18,8 @@ mod output;
 mod place;
 mod request;
 mod run;
+mod scales;
+mod scaling;
 mod sizing;
 mod sizing_request;
 mod terminal;

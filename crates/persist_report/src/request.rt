@@ -4,11 +4,14 @@ mod arguments;
 mod info;
 mod mistakes;
 mod reading;
+mod scale;
 mod texts;
 mod writing;
 
 use crate::nth::Nth;
 use crate::request::info::{info_command, info_task};
+use crate::request::scale::{scale_command, scale_task};
+use crate::scales::Scale;
 use crate::sizing_request::{SizeTask, size_command, size_task};
 use crate::workers::Workers;
 use arguments::explain_flag;
@@ -98,6 +101,11 @@ pub enum Task<'a> {
     },
     /// Say how large a segment has to be for histograms.
     Size(SizeTask<'a>),
+    /// Write the record of a script for a histogram of a name, whose values are those of a scale.
+    Scale {
+        name: &'a str,
+        scale: Scale,
+    },
     /// Write what the fault of a name means, or what each means if there is no name.
     Explain {
         name: Option<&'a str>,
@@ -122,6 +130,7 @@ pub fn command<'a>(alloc: Global) -> Result<Command<'a>, AllocError> {
         .subcommand(resume_command(alloc)?)?
         .subcommand(extract_command(alloc)?)?
         .subcommand(size_command(alloc)?.arg(explain_flag(alloc))?)?
+        .subcommand(scale_command(alloc)?)?
         .subcommand(explain_command(alloc)?)
 }
 
@@ -153,6 +162,7 @@ fn plain_task<'a>(name: &str, found: &ArgMatches<'a>) -> Option<Task<'a>> {
         "resume" => resume_task(found),
         "merge" => merge_task(found),
         "extract" => extract_task(found),
+        "scale" => scale_task(found),
         "explain" => Some(Task::Explain {
             name: found.get_str("NAME"),
         }),

@@ -9,6 +9,7 @@ use crate::extracting::extract_file;
 use crate::failure::Failure;
 use crate::files::{merge_files_into, resume_file, run_file, write_file};
 use crate::request::{Request, Task, no_fault, not_text};
+use crate::scales::print_scale;
 use crate::sizing::size_of_task;
 use crate::terminal::columns;
 use crate::texts::{write_export, write_form};
@@ -193,6 +194,7 @@ fn meet<
         Task::Merge { base, dead, out } => merge_files_into(context, base, dead, out),
         Task::Extract { file, out, nth } => extract_file(context, file, out, nth),
         Task::Size(size) => size_of_task(context, &size),
+        Task::Scale { name, scale } => print_scale(context, name, scale),
         Task::Explain { name } => explain(context.rt, name),
     }
 }

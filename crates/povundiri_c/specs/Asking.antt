@@ -1,9 +1,12 @@
 -- What C passes beside a handle, and what a call returns.
-use Rattle.std.specs.Prelude.{◌≡◌, ◌≢◌, ◌<◌, ◌≤◌, ◌⊎◌, ◌==◌, ◌++◌, if◌then◌else◌, ℕ, ℤ, List, length, map, drop, Option, Some, None, Result, Ok, Err}
+use Rattle.std.specs.Prelude.{◌≡◌, ◌≢◌, ◌+◌, ◌<◌, ◌≤◌, ◌⊎◌, ◌==◌, ◌++◌, if◌then◌else◌, ℕ, ℤ, List, length, map, drop, Option, Some, None, is_none, Result, Ok, Err}
 use Rattle.std.specs.declared.vec.Vec.{Vec}
 use Rattle.std.specs.declared.alloc.Global.{Global}
 use Rattle.bucket_ranges.specs.declared.spec.Spec.{Spec}
 use Rattle.bucket_ranges.specs.declared.spec.Spec.TheVariants.{Linear, Boolean, Custom, Sparse}
+use Rattle.bucket_ranges.specs.declared.spec.SpecFault.{SpecFault}
+use Rattle.bucket_ranges.specs.Fault.{spec_fault_number}
+use Rattle.bucket_ranges.specs.Scale.{scale_fault, scale_values}
 use Rattle.segment_calls.specs.declared.answer.Delta.{Delta}
 use Rattle.segment_calls.specs.declared.answer.Snapshot.{Snapshot}
 use Rattle.povundiri_c.specs.declared.contents.Contents.{Contents}
@@ -17,21 +20,40 @@ use Rattle.povundiri_c.specs.Recorders.{AtPlace, AtPlaceInRoom, Batches, FindsHi
 
 -- ---- `hist`
 
--- the spec that C asks for, if its kind is one
+-- the custom spec of a scale that has no fault
+abbrev pub scale_asked : ℕ → ℕ → ℕ → Option Spec
+scale_asked minimum maximum bits =
+    if is_none (scale_fault minimum maximum bits) then Some (Custom (scale_values minimum maximum bits)) else None
+
+-- the status of a fault of a scale
+abbrev pub status_of_scale_fault : Option SpecFault → ℕ
+status_of_scale_fault (Some fault) = 400 + spec_fault_number fault
+status_of_scale_fault None = 10
+
+-- the status of a scale that has a fault
+abbrev pub scale_status : ℕ → ℕ → ℕ → ℕ
+scale_status minimum maximum bits = status_of_scale_fault (scale_fault minimum maximum bits)
+
+-- the spec that C asks for, if its kind is one, and it is no scale with a fault
 abbrev pub spec_asked : HistSpec → List ℕ → Option Spec
 spec_asked asked values =
     if asked.kind == 1 then Some (Linear asked.minimum asked.maximum asked.buckets)
-    else (if asked.kind == 2 then Some Boolean else (if asked.kind == 3 then Some (Custom values) else (if asked.kind == 4 then Some Sparse else None)))
+    else (if asked.kind == 2 then Some Boolean else (if asked.kind == 3 then Some (Custom values) else (if asked.kind == 4 then Some Sparse
+    else (if asked.kind == 5 then scale_asked asked.minimum asked.maximum asked.buckets else None))))
 
--- The handle is empty, there is no such kind, or there was no memory for the values.
-abbrev pub IsNoHist : Option Contents → Option Spec → ℕ → Type 0
-IsNoHist held spec status = ((held ≡ None) × (status ≡ 3)) ⊎ (((spec ≡ None) × (status ≡ 10)) ⊎ (status ≡ 13))
+-- the status where there is no such spec: that of the fault of a scale, or that there is no such kind
+abbrev pub no_spec_status : HistSpec → ℕ
+no_spec_status asked = if asked.kind == 5 then scale_status asked.minimum asked.maximum asked.buckets else 10
+
+-- The handle is empty, there is no such spec, or there was no memory for the values.
+abbrev pub IsNoHist : Option Contents → Option Spec → ℕ → ℕ → Type 0
+IsNoHist held spec none status = ((held ≡ None) × (status ≡ 3)) ⊎ (((spec ≡ None) × (status ≡ none)) ⊎ (status ≡ 13))
 
 -- The place of a histogram of that spec is returned, or the status says why not. Or nothing was called, and all is unchanged.
-abbrev pub AnswersHistCall : List ℕ → Option Spec → Option Contents → ℕ → ℕ → ℕ → Option Contents → Type 0
-AnswersHistCall name asked held status place place' held' =
+abbrev pub AnswersHistCall : List ℕ → Option Spec → ℕ → Option Contents → ℕ → ℕ → ℕ → Option Contents → Type 0
+AnswersHistCall name asked none held status place place' held' =
     ((spec : Spec) × (asked ≡ Some spec) × (answer : Result ℕ ℕ) × GivesOfRecorder (FindsHist name spec) held answer held' × IsWritten answer status place place')
-    ⊎ ((held' ≡ held) × (place' ≡ place) × IsNoHist held asked status)
+    ⊎ ((held' ≡ held) × (place' ≡ place) × IsNoHist held asked none status)
 
 -- ---- `batch`
 

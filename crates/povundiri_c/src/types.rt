@@ -20,13 +20,13 @@ pub struct SegmentShape {
 #[repr(C)]
 #[derive(Clone, Copy)]
 pub struct HistSpec {
-    /// 1 linear, 2 boolean, 3 custom, 4 sparse.
+    /// 1 linear, 2 boolean, 3 custom, 4 sparse, 5 custom with the values of a scale.
     pub kind: u32,
-    /// Of a linear one.
+    /// Of a linear one and of a scale.
     pub minimum: u32,
-    /// Of a linear one.
+    /// Of a linear one and of a scale.
     pub maximum: u32,
-    /// Of a linear one.
+    /// Of a linear one; of a scale its bits.
     pub buckets: u32,
 }
 

@@ -1,19 +1,31 @@
 //! What a recorder counts.
 
 ghost use Rattle.std.specs.Prelude.{◌≡◌, ◌⊎◌, Err, Some, None, IfOk, MatchResult, map};
-ghost use Rattle.povundiri_c.specs.Asking.{AnswersBatchCall, AnswersHistCall, pair_of, spec_asked};
+ghost use Rattle.povundiri_c.specs.Asking.{AnswersBatchCall, AnswersHistCall, no_spec_status, pair_of, scale_asked, scale_status, spec_asked};
 ghost use Rattle.povundiri_c.specs.Calls.{OfRecorder};
 ghost use Rattle.povundiri_c.specs.Recorders.{Adds, AtPlace, Batches, Limits, Marks, refused_with};
 
 use crate::handle::Handle;
 use crate::status::{BAD_KIND, DONE, EMPTY, NO_MEMORY, OTHER_KIND, Refused};
 use crate::types::{HistSpec, Item};
-use live_segment::{CustomValues, Spec};
+use bucket_ranges::log_linear;
+use live_segment::{CustomValues, Spec, SpecFault};
 use std::alloc::{AllocError, Global};
+
+// The spec of a scale, or the status of its fault.
+fn scale_of(alloc: Global, minimum: u32, maximum: u32, bits: u32) -> Result<Spec, u32>
+    ensures { MatchResult result (λ made. scale_asked minimum maximum bits ≡ Some made) (λ status. ((scale_asked minimum maximum bits ≡ None) × (status ≡ scale_status minimum maximum bits)) ⊎ (status ≡ 13)) }
+{
+    match log_linear(alloc, minimum, maximum, bits) {
+        Ok(made) => Ok(made),
+        Err(SpecFault::NoMemory) => Err(NO_MEMORY),
+        Err(fault) => Err(400 + fault.number()),
+    }
+}
 
 // The spec that C asks for.
 fn spec_of(alloc: Global, spec: HistSpec, values: &[u32]) -> Result<Spec, u32>
-    ensures { MatchResult result (λ made. spec_asked spec values.now ≡ Some made) (λ status. ((spec_asked spec values.now ≡ None) × (status ≡ 10)) ⊎ (status ≡ 13)) }
+    ensures { MatchResult result (λ made. spec_asked spec values.now ≡ Some made) (λ status. ((spec_asked spec values.now ≡ None) × (status ≡ no_spec_status spec)) ⊎ (status ≡ 13)) }
 {
     match spec.kind {
         1 => Ok(Spec::Linear {
@@ -27,6 +39,7 @@ fn spec_of(alloc: Global, spec: HistSpec, values: &[u32]) -> Result<Spec, u32>
             Err(_) => Err(NO_MEMORY),
         },
         4 => Ok(Spec::Sparse),
+        5 => scale_of(alloc, spec.minimum, spec.maximum, spec.buckets),
         _ => Err(BAD_KIND),
     }
 }
@@ -46,7 +59,8 @@ fn pairs_of(alloc: Global, items: &[Item]) -> Result<Vec<(i32, u32)>, AllocError
 /// with the spec that C asks for.
 ///
 /// 0 and the place; or the number of the refusal. 3 where the handle holds nothing, 5 where it holds no recorder, 10
-/// where there is no such kind, or 13 where memory runs out before the library is asked: then all is unchanged.
+/// where there is no such kind, that of the fault of a scale, or 13 where memory runs out before the library is asked:
+/// then all is unchanged.
 #[unsafe(no_mangle)]
 pub extern "C" fn povundiri_proved_hist(
     alloc: Global,
@@ -56,7 +70,7 @@ pub extern "C" fn povundiri_proved_hist(
     values: &[u32],
     hist: &mut usize,
 ) -> u32
-    ensures { AnswersHistCall name.now (spec_asked spec values.now) recorder.old.boxed.held result hist.old hist.new recorder.new.boxed.held }
+    ensures { AnswersHistCall name.now (spec_asked spec values.now) (no_spec_status spec) recorder.old.boxed.held result hist.old hist.new recorder.new.boxed.held }
 {
     if !recorder.is_full() {
         return EMPTY;

@@ -1,0 +1,47 @@
+//! The command `scale`.
+
+use crate::request::Task;
+use crate::request::arguments::{explain_flag, file};
+use crate::scales::Scale;
+use clap::{Arg, ArgMatches, Command, value_parser};
+use std::alloc::{AllocError, Global};
+
+// A number of a scale.
+fn number<'a>(alloc: Global, name: &'a str, help: &'a str) -> Arg<'a> {
+    file(alloc, name, help).value_parser(value_parser!(u32))
+}
+
+/// The command that prints the record of a script for a histogram of a scale.
+pub fn scale_command<'a>(alloc: Global) -> Result<Command<'a>, AllocError> {
+    Command::new(alloc, "scale")
+        .about("Print the script record of a histogram whose buckets grow")
+        .long_about(
+            "Print the script record of a histogram whose buckets grow with the values: each\nis at most 1 part in 2^BITS wide.",
+        )
+        .after_help("Example:\n  persist_report scale latency.us 1 1000000 3")
+        .arg(file(alloc, "NAME", "Name of the histogram"))?
+        .arg(number(alloc, "MIN", "Least value, 1 or more"))?
+        .arg(number(
+            alloc,
+            "MAX",
+            "Value that the buckets reach, at most 2147483646",
+        ))?
+        .arg(number(
+            alloc,
+            "BITS",
+            "1 to 8: values of a bucket differ by at most 1 part in 2^BITS",
+        ))?
+        .arg(explain_flag(alloc))
+}
+
+/// What `scale` is asked for; none if something is missing, which the parser refuses.
+pub fn scale_task<'a>(scale: &ArgMatches<'a>) -> Option<Task<'a>> {
+    Some(Task::Scale {
+        name: scale.get_str("NAME")?,
+        scale: Scale {
+            min: scale.get_one::<u32>("MIN")?,
+            max: scale.get_one::<u32>("MAX")?,
+            bits: scale.get_one::<u32>("BITS")?,
+        },
+    })
+}

@@ -1,0 +1,83 @@
+//! The command that prints the record of a histogram of a scale.
+
+ghost use Rattle.std.specs.Prelude.{IfErr};
+ghost use Rattle.persist_report.specs.Failure.{UsageIsMistake};
+
+use crate::context::Context;
+use crate::explaining::{FaultContext, failure_of};
+use crate::failure::Failure;
+use crate::scaling::custom_record_of;
+use bucket_ranges::{Spec, SpecFault, log_linear};
+use fault_texts::{Origin, Source, remedy_lines_of};
+use persist_report_core::{CliFault, write_and_flush};
+use std::alloc::{AllocError, Global};
+
+/// The scale that is asked for.
+#[derive(Clone, Copy)]
+pub struct Scale {
+    pub min: u32,
+    pub max: u32,
+    pub bits: u32,
+}
+
+// What the fault of a scale means, and what to do.
+fn lines_of(alloc: Global, fault: SpecFault) -> Result<String, AllocError> {
+    let word: String = format!(in alloc; "{fault}")?;
+    remedy_lines_of(alloc, word.as_str())
+}
+
+// The failure of a fault of a scale. If memory runs out for the lines that explain it, there are none.
+fn refused<R: AllocGlobal>(context: &Context<'_, R>, fault: SpecFault) -> Failure
+    ensures { UsageIsMistake result }
+{
+    let alloc = context.alloc();
+    match fault {
+        SpecFault::NoMemory => Failure::Fault(CliFault::NoMemory),
+        fault if context.explains => match lines_of(alloc, fault) {
+            Ok(lines) => Failure::Scale(fault, lines),
+            Err(_) => Failure::Scale(fault, String::new(alloc)),
+        },
+        fault => Failure::Scale(fault, String::new(alloc)),
+    }
+}
+
+// Writes a text to standard output.
+fn write_text<R: Print + AllocGlobal>(context: &Context<'_, R>, text: &[u8]) -> Result<(), Failure>
+    ensures { IfErr result UsageIsMistake }
+{
+    let mut output = context.output();
+    let Err(fault) = write_and_flush(&mut output, text) else {
+        return Ok(());
+    };
+    let known = FaultContext {
+        input: Source {
+            origin: Origin::Output,
+            bytes: &[],
+        },
+        base: None,
+        device: Origin::Output,
+        reason: output.into_inner().reason(),
+    };
+    Err(failure_of(context, fault, known))
+}
+
+/// Writes the record of a script that asks for a custom histogram of a name, whose values are those of a scale.
+///
+/// `Scale` comes where the scale has a fault; `Usage` comes only for a mistake on the command line.
+pub fn print_scale<R: Print + AllocGlobal>(
+    context: &Context<'_, R>,
+    name: &str,
+    scale: Scale,
+) -> Result<(), Failure>
+    ensures { IfErr result UsageIsMistake }
+{
+    let Scale { min, max, bits } = scale;
+    match log_linear(context.alloc(), min, max, bits) {
+        Ok(Spec::Custom(values)) => {
+            let text = custom_record_of(context.alloc(), name, values.as_slice())?;
+            write_text(context, text.as_slice())
+        }
+        Ok(_) => Ok(()),
+        Err(fault) => Err(refused(context, fault)),
+    }
+}

@@ -11,13 +11,18 @@ import pathlib
 import random
 import struct
 import tempfile
-from collections.abc import Iterator
+from collections.abc import Callable, Iterator
 
 from support import forge, forge_adoption, layout, plain_export, plain_reader, plain_show
 from support.program import Answer, Case, Word, answer, content, difference, fault
 
 PROGRAM = "persist_report"
-COMMANDS = {"report": plain_reader.answer, "show": plain_show.answer, "export": plain_export.answer}
+# What each command writes to its two streams of an image, and its status.
+COMMANDS: dict[str, Callable[[bytes], tuple[bytes, bytes, int]]] = {
+    "report": plain_reader.answer,
+    "show": plain_show.answer,
+    "export": plain_export.answer,
+}
 MOST_BYTES = 8 * layout.MOST_WORDS
 MOST_CURSORS = 8
 MOST_IMAGES = 200
@@ -81,7 +86,9 @@ def limits(program: pathlib.Path) -> Iterator[Case]:
         yield name, difference(wanted, answer(program, ["report"], data))
 
 
-def outputs(program: pathlib.Path, folder: pathlib.Path, data: bytes, other: bytes) -> list[tuple[Answer, bytes | None]]:
+def outputs(
+    program: pathlib.Path, folder: pathlib.Path, data: bytes, other: bytes
+) -> list[tuple[Answer, bytes | None]]:
     """What `merge` and `resume` return of two inputs, and what they write."""
     first, second, script, out = (folder / name for name in ("first", "second", "script", "out"))
     first.write_bytes(data)

@@ -220,6 +220,8 @@ def ending_of(
     yield from (f"The record at word {reference} cannot be read: {fault}." for reference, fault in bad_records)
     if stopped is not None:
         yield f"The list of records stops before its end: {stopped}."
+
+
 def missing_of(data: bytes, names: Iterable[str]) -> str | None:
     """The first of these names that no histogram has; raises the image's fault."""
     by_name = plain_reader.reading_of(data, collections.Counter())[0]

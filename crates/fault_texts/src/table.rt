@@ -78,7 +78,7 @@ pub fn fault_text(name: &str) -> Option<FaultText<'static>>
 
 /// Each fault by its name, with what it means and what to do: those of the program, of the header of an image, of what is
 /// refused, of specs, and of the lines of a report that begin with `!`.
-pub const TEXTS: [(&str, &str, &str); 52] = [
+pub const TEXTS: [(&str, &str, &str); 54] = [
     (
         "Read",
         "An input cannot be opened, or a read of it failed.",
@@ -178,6 +178,16 @@ pub const TEXTS: [(&str, &str, &str); 52] = [
         "BadVersion",
         "Word 1 of an image is neither 1 nor 2, the versions of the format.",
         "Use a program that reads this version, if there is one.",
+    ),
+    (
+        "TooSmall",
+        "Of `segment_sizes`: a block has fewer than five words, which no block has.",
+        "Ask for the words that a record or its counts have.",
+    ),
+    (
+        "NoSize",
+        "Of `segment_sizes`: the blocks may take more words than a segment can have, 1,048,576.",
+        "Record into two segments, and add up the reports.",
     ),
     (
         "BadPage",

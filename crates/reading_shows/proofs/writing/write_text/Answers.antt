@@ -1,4 +1,5 @@
 use Rattle.std.proofs.Common.{◌≡◌}
+use Rattle.std.proofs.lemmas.Result.{err_from_is_err_and}
 use Rattle.image_reader.specs.Views.{reading_view}
 use Rattle.segment_image.specs.Words.{bytes_of_words}
 use Rattle.persist_report_core.specs.Input.{image_in}
@@ -41,6 +42,8 @@ returns-clause-reading g c =
 
 pub returns-in_err-image-clause-cause : goal.returns-in_err-image-clause-cause
 returns-in_err-image-clause-cause g c =
+    let p = err_from_is_err_and c.from_residual.result c.from_residual.ensures.1 in
     let all = c.in_ok-words.words.items in
+    let fault = c.in_err-image.field-0.0 in
     let cause = rw c.deref.ensures.value at c.in_err-image.ensures.cause in
-    ?
+    rw (p.1, p.2) (known_of_bytes all (λ bytes. IsCausedByImage bytes fault) cause _ c.in_ok-words.ensures.words)

@@ -5,6 +5,7 @@ ghost use Rattle.std.specs.List.{find, list_any};
 ghost use Rattle.image_reader.specs.Views.{histogram_view};
 ghost use Rattle.image_reader.specs.Readable.{IsReadable};
 ghost use Rattle.reading_texts.specs.Rows.{rows_of as rows_of_histogram};
+ghost use Rattle.reading_texts.specs.Text.{kind_word as kind_word_of};
 ghost use Rattle.reading_overviews.specs.Numbers.{signed};
 ghost use Rattle.reading_shows.specs.Showing.{reaches as reaches_of, quantile as quantile_of, has_units as has_units_of, range_of_found, quantile_line, ends_line, rank_lines, number_line, number_lines, left_of, was_taken as was_taken_of, left_text, left_line, taken_line};
 
@@ -250,6 +251,18 @@ fn put_taken(text: &mut Vec<u8>, is_human: bool, hist: &HistReading) -> Result<(
     Ok(())
 }
 
+// Puts the line of the kind, the units, the sum and the mean of a histogram, which has so many units.
+fn put_summary(
+    text: &mut Vec<u8>,
+    is_human: bool,
+    hist: &HistReading,
+    total: u64,
+) -> Result<(), AllocError>
+    ensures { OnOk result (text.new.items ≡ text.old.items ++ number_line is_human (kind_word_of (histogram_view hist.now).spec) (histogram_view hist.now).sum total) }
+{
+    put_number_line(text, is_human, kind_word(&hist.spec), hist.sum, total)
+}
+
 // Puts the lines of all numbers of a histogram, which has these rows.
 pub(crate) fn put_numbers(
     text: &mut Vec<u8>,
@@ -262,7 +275,7 @@ pub(crate) fn put_numbers(
     ensures { OnOk result (text.new.items ≡ text.old.items ++ number_lines is_human (histogram_view hist.now)) }
 {
     let total = units(hist);
-    put_number_line(text, is_human, kind_word(&hist.spec), hist.sum, total)?;
+    put_summary(text, is_human, hist, total)?;
     put_ranks(text, naming_of(&hist.spec), total, rows)?;
     put_taken(text, is_human, hist)?;
     Ok(())

@@ -7,7 +7,7 @@ ghost use Rattle.image_reader.specs.Views.{histogram_view, reading_view};
 ghost use Rattle.segment_image.specs.Words.{bytes_of_words};
 ghost use Rattle.segment_image.specs.Watched.{has_failed, is_flushed, watched_inner};
 ghost use Rattle.persist_report_core.specs.Input.{image_in};
-ghost use Rattle.persist_report_core.specs.Report.{IsCausedByImage, IsReadingOf};
+ghost use Rattle.persist_report_core.specs.Report.{AreWordsOf, IsCausedByImage, IsReadingOf};
 ghost use Rattle.reading_shows.specs.Writing.{IsHeadAndReading, IsWrittenFrom};
 
 use crate::form::Form;
@@ -26,6 +26,7 @@ struct WholeImage {
 
 // What the image in the words says; the fault is as of `read_image`.
 fn read_both(alloc: Global, words: &[u64]) -> Result<WholeImage, CliFault>
+    ensures words { IfOk result (λ image. AreWordsOf (bytes_of_words words.now) (image_in words.now)) }
     ensures image { IfOk result (λ image. IsHeadAndReading (image_in words.now) image.head (reading_view image.reading)) }
     ensures readable { IfOk result (λ image. All IsReadable (map histogram_view image.reading.hists.items)) }
     ensures cause { IfErr result (λ fault. IsCausedByImage (bytes_of_words words.now) fault) }
@@ -67,7 +68,8 @@ pub fn write_text<R: Read, W: Write>(
     ensures untouched { IfErr result (λ fault. fault ≢ CliFault.Write → writer.new ≡ writer.old) }
 {
     let words = read_input(alloc, reader)?;
-    let WholeImage { head, reading } = read_both(alloc, &words)?;
+    let image = read_both(alloc, &words)?;
+    let WholeImage { head, reading } = image;
     let text = form.text_of(alloc, &head, &reading)?;
     write_and_flush(writer, &text)?;
     Ok(reading)

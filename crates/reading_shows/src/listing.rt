@@ -5,7 +5,7 @@ ghost use Rattle.std.specs.List.{flat_map, fold};
 ghost use Rattle.image_reader.specs.Readable.{IsReadable};
 ghost use Rattle.image_reader.specs.Views.{histogram_view, reading_view};
 ghost use Rattle.reading_overviews.specs.Numbers.{number};
-ghost use Rattle.reading_shows.specs.Listing.{AreOrdered, IsListOf, fitted as fitted_of, heads as heads_of, line_of, list_line, list_lines, list_of_some, name_text, no_columns, room_for_names as room_for_names_of, widened_by as widened_by_of};
+ghost use Rattle.reading_shows.specs.Listing.{AreOrdered, AreRanked, IsListOf, fitted as fitted_of, heads as heads_of, line_of, list_line, list_lines, list_of_some, name_text, no_columns, room_for_names as room_for_names_of, widened_by as widened_by_of};
 ghost use Rattle.reading_shows.specs.ListViews.{entry_view};
 ghost use Rattle.reading_shows.specs.Shares.{mean};
 ghost use Rattle.reading_shows.specs.Showing.{quantile as quantile_of, range_of_found};
@@ -263,12 +263,20 @@ fn put_entries(text: &mut Vec<u8>, width: u16, entries: &[ListEntry]) -> Result<
     Ok(())
 }
 
+// Puts lines in order by units; they are given by name.
+fn sort_by_rank(entries: &mut Vec<ListEntry>) -> Result<(), AllocError>
+    ensures { OnOk result (AreRanked (map entry_view entries.old.items) (map entry_view entries.new.items)) }
+{
+    entries.sort_by(|a, b| a.rank.as_slice().cmp(b.rank.as_slice()))?;
+    Ok(())
+}
+
 // Puts lines in the order that is asked for; they are given by name.
 fn order(entries: &mut Vec<ListEntry>, is_by_units: bool) -> Result<(), AllocError>
     ensures { OnOk result (AreOrdered is_by_units (map entry_view entries.old.items) (map entry_view entries.new.items)) }
 {
     if is_by_units {
-        entries.sort_by(|a, b| a.rank.as_slice().cmp(b.rank.as_slice()))?;
+        return sort_by_rank(entries);
     }
     Ok(())
 }

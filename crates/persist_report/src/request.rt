@@ -13,6 +13,7 @@ use crate::request::info::{info_command, info_task};
 use crate::request::scale::{scale_command, scale_task};
 use crate::scales::Scale;
 use crate::sizing_request::{SizeTask, size_command, size_task};
+use crate::text_options::to_found;
 use crate::workers::Workers;
 use arguments::explain_flag;
 use clap::error::ErrorKind;

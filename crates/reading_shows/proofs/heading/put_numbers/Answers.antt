@@ -1,4 +1,4 @@
-use Rattle.std.proofs.Common.{◌++◌}
+use Rattle.std.proofs.Common.{◌≡◌, ◌∙◌, ◌++◌, ap}
 use Rattle.image_reader.specs.Views.{histogram_view}
 use Rattle.reading_texts.proofs.Adding.{written-both}
 use Rattle.reading_texts.specs.Rows.{rows_of, units_of}
@@ -14,6 +14,10 @@ returns c =
     let ranks = rank_lines (naming_of hist.spec) (units_of hist) (rows_of hist) in
     let line = number_line c.args.is_human (kind_word hist.spec) hist.sum (units_of hist) in
     let begun = rw c.units-total.ensures at c.in_ok-put_summary.ensures in
-    let ranked = rw (c.naming_of.ensures, c.units-total.ensures, c.requires.rows) at c.in_ok-put_ranks.ensures in
+    let same : rank_lines c.naming_of.result c.units-total.result c.args.rows.now ≡ ranks =
+    ap (λ naming. rank_lines naming c.units-total.result c.args.rows.now) c.naming_of.ensures
+    ∙ (ap (λ units. rank_lines (naming_of hist.spec) units c.args.rows.now) c.units-total.ensures
+    ∙ ap (rank_lines (naming_of hist.spec) (units_of hist)) c.requires.rows) in
+    let ranked = c.in_ok-put_ranks.ensures ∙ ap (λ s. c.put_summary.new.text.items ++ s) same in
     let numbered = written-both first line ranks begun ranked in
     written-both first (line ++ ranks) (taken_line c.args.is_human hist) numbered c.in_ok-put_taken.ensures

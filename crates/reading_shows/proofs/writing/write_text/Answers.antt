@@ -42,7 +42,7 @@ returns-clause-reading g c =
 
 pub returns-in_err-image-clause-cause : goal.returns-in_err-image-clause-cause
 returns-in_err-image-clause-cause g c =
-    let p = err_from_is_err_and c.from_residual.result c.from_residual.ensures.1 in
+    let p = err_from_is_err_and c.from_residual-in_err-image.result c.from_residual-in_err-image.ensures.1 in
     let all = c.in_ok-words.words.items in
     let fault = c.in_err-image.field-0.0 in
     let cause = rw c.deref.ensures.value at c.in_err-image.ensures.cause in

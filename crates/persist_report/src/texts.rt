@@ -23,11 +23,7 @@ use std::time::Clock;
 
 // Writes a form of what a reader has left to a file, which is replaced when the text is complete, and then sees what is wrong
 // with what was read.
-fn write_to<
-    'a,
-    R: Files<File = File> + Clock + Print + RandomSource + AllocGlobal,
-    I: Read + Drop,
->(
+fn write_to<'a, R: Files<File = File> + Clock + Print + RandomSource + AllocGlobal, I: Read + Drop>(
     context: &Context<'_, R>,
     form: Form<'_>,
     mut reader: Stream<'a, I>,

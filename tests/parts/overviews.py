@@ -33,7 +33,7 @@ bad records  0
 list         whole
 """
 EXAMPLE_LIST = b"""\
-name  kind     units   mean  50%   99%   greatest
+name  kind     units   mean   50%   99%  greatest
 A     boolean      3  0.666  true  true      true
 """
 # The longest name is wider than what 60 columns leave to it, so it has a line of its own.

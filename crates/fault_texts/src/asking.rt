@@ -8,9 +8,8 @@ use std::{env, fs};
 pub const VARIABLE: &str = "PERSIST_REPORT_EXPLAIN";
 
 /// What the help of a program says of it.
-pub const VARIABLE_HELP: &str = "\
-With PERSIST_REPORT_EXPLAIN=1 in the environment every error is explained, as by
---explain: for cron, systemd, containers and CI.";
+pub const VARIABLE_HELP: &str =
+    "With PERSIST_REPORT_EXPLAIN=1 in the environment every error is explained.";
 
 // The first part of the number of a device, as Linux has it.
 fn major(device: u64) -> u64 {

@@ -27,7 +27,7 @@ fn edits_within(
     to: &str,
     most: usize,
 ) -> Result<Option<usize>, AllocError> {
-    if from.len().abs_diff(to.len()) > 4 * most {
+    if from.len().abs_diff(to.len()) > most.saturating_mul(4) {
         return Ok(None);
     }
     let edits = osa_distance(alloc, from, to)?;

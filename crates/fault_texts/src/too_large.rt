@@ -37,8 +37,13 @@ fn size_text(alloc: Global, page: u64, name: &[u8], spec: &Spec) -> Result<Strin
 
 // The words of a page in the segment of a script.
 fn page_of(alloc: Global, script: &[u8]) -> Result<Option<u32>, AllocError> {
-    let first = record_of(alloc, script, 1)?;
-    Ok(first.and_then(|record| record.fields.get(2).and_then(unsigned_number)))
+    let Some(first) = record_of(alloc, script, 1)? else {
+        return Ok(None);
+    };
+    match first.fields.get(2) {
+        Some(page) => Ok(unsigned_number(page)),
+        None => Ok(None),
+    }
 }
 
 /// How many words the histogram of a script's record needs, after a colon, where these are more than a page has.

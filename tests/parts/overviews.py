@@ -47,9 +47,9 @@ add,b,-7,2
 """
 WIDE_LIST = f"""\
 name    kind        units   mean      50%      99%  greatest
-b       sparse          2  -7.00       -7       -7        -7
 {LONG_NAME}
         custom  1,234,567  5,000  >= 1000  >= 1000   >= 1000
+b       sparse          2  -7.00       -7       -7        -7
 """
 LIST_CHOICES: list[shows.Choice] = [
     ([], {}),

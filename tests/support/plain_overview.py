@@ -95,8 +95,11 @@ def list_lines(
 
 
 def answer(lines: Callable[..., Iterator[str]], data: bytes, **options: Any) -> tuple[bytes, bytes, int]:
-    """What a program writes to its two streams, and its status, where it writes these lines."""
+    """What a program writes to its two streams, and its status, where it writes these lines: a name that no histogram has
+    is a fault after them."""
     try:
-        return "".join(f"{line}\n" for line in lines(data, **options)).encode(), b"", 0
+        text = "".join(f"{line}\n" for line in lines(data, **options)).encode()
+        missing = plain_show.missing_of(data, options.get("names", ()))
     except plain_reader.ImageFault as fault:
         return b"", f"persist_report: {fault}\n".encode(), 3
+    return (text, b"", 0) if missing is None else (text, f"persist_report: NoHistogram {missing}\n".encode(), 3)

@@ -23,11 +23,15 @@ use std::time::Clock;
 
 // Writes a form of what a reader has left to a file, which is replaced when the text is complete, and then sees what is wrong
 // with what was read.
-fn write_to<R: Files<File = File> + Clock + Print + RandomSource + AllocGlobal, I: Read + Drop>(
+fn write_to<
+    'a,
+    R: Files<File = File> + Clock + Print + RandomSource + AllocGlobal,
+    I: Read + Drop,
+>(
     context: &Context<'_, R>,
     form: Form<'_>,
-    mut reader: Stream<'_, I>,
-    to: &str,
+    mut reader: Stream<'a, I>,
+    to: &'a str,
 ) -> Result<(), Failure>
     requires { has_failed reader ≡ false }
     ensures { IfErr result UsageIsMistake }
@@ -65,12 +69,13 @@ fn write_to<R: Files<File = File> + Clock + Print + RandomSource + AllocGlobal, 
 /// whole and has to be, or lacks a histogram of a name, that is a fault, which comes after the text. `Usage` comes only for a
 /// mistake on the command line.
 pub fn write_form<
+    'a,
     R: Files<File = File> + Clock + Input + Print + Eprint + RandomSource + AllocGlobal,
 >(
     context: &Context<'_, R>,
     form: Form<'_>,
-    file: Option<&str>,
-    to: Option<&str>,
+    file: Option<&'a str>,
+    to: Option<&'a str>,
 ) -> Result<(), Failure>
     ensures { IfErr result UsageIsMistake }
 {
@@ -99,13 +104,14 @@ fn labels_of<'a>(alloc: Global, words: &[&'a str]) -> Result<Option<Vec<Label<'a
 /// Writes the metrics of an image, if their names may begin with the prefix, and all lines may have these labels, each given as
 /// KEY=VALUE. `Usage` comes only for a mistake on the command line.
 pub fn write_export<
+    'a,
     R: Files<File = File> + Clock + Input + Print + Eprint + RandomSource + AllocGlobal,
 >(
     context: &Context<'_, R>,
-    file: Option<&str>,
+    file: Option<&'a str>,
     prefix: &str,
     words: &[&str],
-    to: Option<&str>,
+    to: Option<&'a str>,
 ) -> Result<(), Failure>
     ensures { IfErr result UsageIsMistake }
 {

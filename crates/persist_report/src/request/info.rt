@@ -68,6 +68,11 @@ pub fn list_options<'a>(alloc: Global, command: Command<'a>) -> Result<Command<'
         .value_name("ORDER")
         .value_parser(ORDERS.as_slice())
         .requires_arg("list")?
+        // What excludes a list excludes its order too: `clap` asks for no list where one is excluded.
+        .conflicts_with("ascii")?
+        .conflicts_with("log")?
+        .conflicts_with("all")?
+        .conflicts_with("html")?
         .help("Order of a list")
         .long_help("Order of a list: by name, or by units, the most first");
     command.arg(list)?.arg(sort)?.arg(human_flag(alloc))

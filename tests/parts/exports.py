@@ -238,8 +238,9 @@ def replaced(program: pathlib.Path, folder: pathlib.Path) -> Iterator[Case]:
     damaged.write_bytes(EXAMPLE.read_bytes()[:100])
     inputs: list[tuple[str, Word, bytes]] = [("a file", EXAMPLE, b""), ("standard input", "-", EXAMPLE.read_bytes())]
     for words in (["report"], ["export"], ["show"], ["show", "--html"]):
-        written = answer(program, [*words, EXAMPLE])
         for name, given, data in inputs:
+            # A page names where its image comes from.
+            written = answer(program, [*words, given], data)
             for old in (None, b"old\n"):
                 out.unlink(missing_ok=True)
                 if old is not None:

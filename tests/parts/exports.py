@@ -239,6 +239,7 @@ def replaced(program: pathlib.Path, folder: pathlib.Path) -> Iterator[Case]:
     inputs: list[tuple[str, Word, bytes]] = [("a file", EXAMPLE, b""), ("standard input", "-", EXAMPLE.read_bytes())]
     for words in (["report"], ["export"], ["show"], ["show", "--html"]):
         for name, given, data in inputs:
+            # A page names where its image comes from.
             written = answer(program, [*words, given], data)
             for old in (None, b"old\n"):
                 out.unlink(missing_ok=True)

@@ -68,7 +68,6 @@ pub fn list_options<'a>(alloc: Global, command: Command<'a>) -> Result<Command<'
         .value_name("ORDER")
         .value_parser(ORDERS.as_slice())
         .requires_arg("list")?
-        .conflicts_with("html")?
         // What excludes a list excludes its order too: `clap` asks for no list where one is excluded.
         .conflicts_with("ascii")?
         .conflicts_with("log")?

@@ -8,6 +8,6 @@ pub returns-clause-base : goal.returns-clause-base
 returns-clause-base c =
     let all = c.args.words.now in
     let fit : All (λ word. word < 2 ^ 64) all = λ k d h. rw (get_or_default_zero all k d h) (omega (arith, c.type_inv.words k)) in
-    let adopted = rw c.image_in.ensures at c.in-Ok.ensures.answer in
-    let both : Ok c.in-Ok-header.head ≡ Ok (head_of (image_in all)) = (rw c.image_in.ensures at c.in-Ok-header.ensures) ∙ adopted.adoptable.header in
+    let adopted = rw c.image_in-image.ensures at c.in-Ok.ensures.answer in
+    let both : Ok c.in-Ok-header.head ≡ Ok (head_of (image_in all)) = (rw c.image_in-image.ensures at c.in-Ok-header.ensures) ∙ adopted.adoptable.header in
     (adopted, cc both, record { all = all; fit = fit; bytes_are = refl; image_is = refl })

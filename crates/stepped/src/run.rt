@@ -143,7 +143,10 @@ fn meet<R: Files + Print + AllocGlobal>(
         copy: None,
     });
     match request.show {
-        Show::Lines | Show::Picture => write_texts(alloc, writer, &mut replay, &orders).map(|_| ()),
+        Show::Lines | Show::Picture => match write_texts(alloc, writer, &mut replay, &orders) {
+            Ok(_) => Ok(()),
+            Err(fault) => Err(fault),
+        },
         Show::Report => show_report(alloc, &mut writer, &mut replay, &orders),
         Show::Image => show_image(&mut writer, &mut replay, &orders),
     }

@@ -112,6 +112,13 @@ IsFaultOfBase bytes (cli.Image fault) = ⊥
 IsFaultOfBase bytes cli.Write = ⊥
 IsFaultOfBase bytes fault = IsCausedByImage bytes fault
 
+-- the fault of an input that was not read: a device that fails, or one that its bytes cause; else want of memory
+abbrev pub fault_of_input : CliFault → CliFault
+fault_of_input cli.Read = cli.Read
+fault_of_input cli.TooLong = cli.TooLong
+fault_of_input cli.NotWords = cli.NotWords
+fault_of_input fault = cli.NoMemory
+
 -- A fault of a resume is one of BASE; or BASE is an image that may be adopted, and it is one of the script or of its run, as a script for
 -- the segment of that and with its units.
 abbrev pub IsFaultOfResume : List ℕ → List ℕ → CliFault → Type 0

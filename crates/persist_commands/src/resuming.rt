@@ -8,7 +8,7 @@ ghost use Rattle.segment_image.specs.Watched.{has_failed, is_flushed, watched_in
 ghost use Rattle.live_segment.specs.Adopted.{IsAdopted};
 ghost use Rattle.persist_report_core.specs.Input.{image_in};
 ghost use Rattle.persist_report_core.specs.Report.{AreWordsOf};
-ghost use Rattle.persist_commands.specs.Resume.{IsBase, IsFaultOfBase, IsFaultOfResume, IsResumeOf};
+ghost use Rattle.persist_commands.specs.Resume.{IsBase, IsFaultOfBase, IsFaultOfResume, IsResumeOf, fault_of_input};
 ghost use Rattle.persist_commands.specs.Stop.{TellsWant};
 
 use crate::gate::Gate;
@@ -52,6 +52,18 @@ fn adopt_words(alloc: Global, words: &[u64]) -> Result<Base, CliFault>
     })
 }
 
+// The fault of an input that was not read. An input has no fault but these.
+fn fault_of_input(fault: CliFault) -> CliFault
+    ensures { result ≡ fault_of_input fault }
+{
+    match fault {
+        CliFault::Read => CliFault::Read,
+        CliFault::TooLong => CliFault::TooLong,
+        CliFault::NotWords => CliFault::NotWords,
+        _ => CliFault::NoMemory,
+    }
+}
+
 // The segment that continues from the image that the reader has left.
 fn read_base<B: Read>(alloc: Global, reader: &mut Watched<B>) -> Result<Base, CliFault>
     requires { has_failed reader.old ≡ false }
@@ -61,7 +73,10 @@ fn read_base<B: Read>(alloc: Global, reader: &mut Watched<B>) -> Result<Base, Cl
     ensures other { IfErr result (λ fault. fault ≢ CliFault.Write) }
     ensures tells { IfErr result TellsWant }
 {
-    let words = read_input(alloc, reader)?;
+    let words = match read_input(alloc, reader) {
+        Ok(words) => words,
+        Err(fault) => return Err(fault_of_input(fault)),
+    };
     adopt_words(alloc, &words)
 }
 

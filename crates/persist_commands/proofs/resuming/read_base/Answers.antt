@@ -7,5 +7,5 @@ use Rattle.persist_commands.proofs.resuming.read_base.Goals as goal
 
 pub returns-clause-base : goal.returns-clause-base
 returns-clause-base g c =
-    based_so c.adopt_words.result (g.B.Read.remaining (watched_inner c.args.reader.now)) c.in_ok-words.words.items (λ words base. IsAdopted words 0 base.segment base.opener)
-    (λ words base. base.head ≡ head_of words) c.in_ok-words.ensures.words (rw c.deref.ensures.value at c.adopt_words.ensures.base)
+    based_so c.adopt_words.result (g.B.Read.remaining (watched_inner c.args.reader.now)) c.in-Ok.words.items (λ words base. IsAdopted words 0 base.segment base.opener)
+    (λ words base. base.head ≡ head_of words) c.in-Ok.ensures.words (rw c.deref.ensures.value at c.adopt_words.ensures.base)

@@ -25,7 +25,7 @@ pub fn report_command<'a>(alloc: Global) -> Result<Command<'a>, AllocError> {
         .action(ArgAction::SetTrue)
         .help("Print the buckets alone, after a line of column names")
         .long_help(
-            "Print the buckets alone, after a line with the names of the columns: for\nengines that read CSV",
+            "Print the buckets alone, after a line with the names of the columns:\nfor engines that read CSV",
         );
     Command::new(alloc, "report")
         .about("Print the histograms of an image as CSV")

@@ -403,7 +403,7 @@ static void specs(void) {
     size_t hist = 0;
     made(&segment, &recorder);
     ANSWERS(BAD_KIND, povundiri_hist(&recorder, "k", 1, kind, NULL, 0, &hist));
-    kind.kind = 5;
+    kind.kind = 6;
     ANSWERS(BAD_KIND, povundiri_hist(&recorder, "k", 1, kind, NULL, 0, &hist));
     ANSWERS(SPEC_BAD_MIN, povundiri_hist_linear(&recorder, "k", 0, 10, 3, &hist));
     ANSWERS(SPEC_BAD_MAX, povundiri_hist_linear(&recorder, "k", 10, 10, 3, &hist));

@@ -68,7 +68,7 @@ static void *count(void *argument) {
 static void hand_on(void (*wait)(int), void (*pass)(int)) {
     struct hand one = {wait, pass, 0}, other = {wait, pass, 1};
     const struct povundiri_shape shape = {1024, 256, 7, 0, 2};
-    struct povundiri_count counts[128];
+    struct povundiri_count counts[1024];
     struct povundiri_totals totals;
     pthread_t thread;
     DONE(povundiri_create(shape, &segment));
@@ -77,7 +77,7 @@ static void hand_on(void (*wait)(int), void (*pass)(int)) {
     HOLDS(pthread_create(&thread, NULL, count, &other) == 0);
     count(&one);
     HOLDS(pthread_join(thread, NULL) == 0);
-    DONE(povundiri_snapshot(&recorder, hist, counts, 128, &totals));
+    DONE(povundiri_snapshot(&recorder, hist, counts, 1024, &totals));
     HOLDS(totals.length == 1 && counts[0].key == 1 && counts[0].count == 2 * ROUNDS);
     DONE(povundiri_join(&segment, &recorder));
     DONE(povundiri_drop(&segment));

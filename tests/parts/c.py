@@ -160,7 +160,7 @@ def wrong_after_program(
     came = answer("bash", ["-e", "-c", commands], cwd=home, env=setting)
     if came.error or came.status != 0:
         return f"status {came.status}: {came.error[-1500:]!r}"
-    return difference(Answer(RECORDED.encode()), answer(program, ["report", home / "latency.img"]))
+    return difference(Answer(RECORDED.encode()), answer(program, ["report", home / "latency.seg"]))
 
 
 def wrong_of(test: Test) -> str | None:

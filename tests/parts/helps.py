@@ -86,7 +86,8 @@ def wrong_texts(short: str, long: str, words: Sequence[str]) -> str | None:
     """What is wrong with the short and the long help of a command, or None."""
     if options_in(short) != options_in(long):
         return f"the options of -h are {options_in(short)}, those of --help {options_in(long)}"
-    if "--explain" in options_in(short) and options_in(short)[-2:] != ["--explain", "--help"] and words:
+    options = [option for option in options_in(short) if option != "--version"]
+    if "--explain" in options and options[-2:] != ["--explain", "--help"] and words:
         return f"--explain and --help are not last: {options_in(short)}"
     for sentences, text in ((SENTENCES, long), (SHORT_SENTENCES, short)):
         for sentence in sentences.get(tuple(words), []):

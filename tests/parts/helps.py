@@ -106,10 +106,11 @@ def helps(program: pathlib.Path, commands: Sequence[str], names: Sequence[str]) 
 
 
 def wrong_example(command: str, folder: pathlib.Path, programs: pathlib.Path) -> str | None:
-    """What is wrong with an example that is run in a folder, or None."""
+    """What is wrong with an example that is run in a folder, or None. Only `extract` writes to the error stream."""
     setting = {**os.environ, "PATH": f"{programs}:{os.environ['PATH']}"}
     came = subprocess.run(["bash", "-c", command], cwd=folder, env=setting, capture_output=True, timeout=SECONDS)
-    return None if (came.returncode, came.stderr) == (0, b"") else f"{came}"
+    said = b"0\n" if " extract " in command else b""
+    return None if (came.returncode, came.stderr) == (0, said) else f"{came}"
 
 
 def examples(programs: pathlib.Path, texts: Sequence[str]) -> Iterator[Case]:

@@ -144,7 +144,7 @@ pub(crate) fn clamp(value: i32) -> u32
     ensures value { result ≡ clamped value }
     ensures small { result ≤ MAX_VALUE }
 {
-    u32::try_from(value).unwrap_or(0).min(MAX_VALUE)
+    value.max(0).min(MAX_VALUE as i32) as u32
 }
 
 // The first fault of a linear spec.

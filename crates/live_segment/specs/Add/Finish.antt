@@ -21,6 +21,10 @@ counted_entry entry summed = record { entry = entry; counted = true; summed = su
 abbrev pub item_of : Known → ℤ → ℕ → Entry
 item_of known value units = item_entry known.name (boundaries_of known.spec) (value, units)
 
+-- units of a value that add this amount to the sum
+abbrev pub item_with : Known → ℤ → ℕ → ℤ → Entry
+item_with known value units amount = record (item_of known value units) { amount = amount }
+
 -- a sample, whose amount is known
 abbrev pub sample_of : Known → ℤ → ℕ → Entry
 sample_of known value units = sample_entry known.name (boundaries_of known.spec) (value, units)

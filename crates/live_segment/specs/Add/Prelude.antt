@@ -6,7 +6,7 @@ pub use Rattle.bucket_ranges.specs.declared.spec.Spec.TheVariants.{Sparse}
 pub use Rattle.list_index.specs.Firsts.{first_of}
 pub use Rattle.live_segment.specs.Add.Batch.{HasItems, HasNoted, IsBatched, IsCutShort, StopsAtItem, batch_checks}
 pub use Rattle.live_segment.specs.Add.Counts.{HasBlank, HasDisabled, HasMounted, HasNotMounted, LooksAtCounts, MayMount, MountsAt, MountsAtMostOne}
-pub use Rattle.live_segment.specs.Add.Finish.{HasEnded, HasCountedSample, IsSummed, item_of, sample_of}
+pub use Rattle.live_segment.specs.Add.Finish.{HasEnded, HasCountedSample, IsSummed, item_of, item_with, sample_of}
 pub use Rattle.live_segment.specs.Add.Progress.{CountsAlone, CountsWithin, HasCounted, MayCountInBucket, Tries}
 pub use Rattle.live_segment.specs.Add.Refusal.{IsNotCounted, IsTurnedAway, MayGiveUp}
 pub use Rattle.live_segment.specs.Add.Sample.{AnswersSample, add_checks, block_words}

@@ -6,6 +6,7 @@ use crate::list::index::RecordIndex;
 use crate::recorder::KnownHistogram;
 use crate::rule::Pass;
 use crate::segment::Segment;
+use bucket_ranges::amount_of;
 use segment_calls::Refusal;
 
 impl Segment {
@@ -35,8 +36,9 @@ impl Segment {
         ensures outcome { AnswersSample (known_view histogram.now) value units seat.old.me.0 result seat.new.me.0 }
         ensures claims { IfOk result (λ _. ClaimsFor (known_view histogram.now) value seat.old.me.0 seat.new.me.0) }
     {
+        let amount = amount_of(&histogram.ranges, value, units);
         self.count_value(seat, samples, histogram, value, units)?;
-        self.finish_sample(seat, histogram, value, units);
+        self.finish_sample(seat, histogram, units, amount);
         Ok(())
     }
 

@@ -1,8 +1,10 @@
-use Rattle.std.proofs.Common.{ℤ, ◌∷◌, [], refl, sym, subst, w32}
+use Rattle.std.proofs.Common.{◌≡◌, ℤ, ◌∷◌, [], refl, rules, sym, ◌∙◌, subst, w32, w64, of_z, to_z}
 use Rattle.std.proofs.lemmas.Int.{to_z-of_z}
 use Rattle.std.proofs.lemmas.Result.{err_from_is_err_and}
 use Rattle.live_segment.specs.Alloc.Claims.{ClaimsFor}
-use Rattle.live_segment.specs.Add.Finish.{HasEnded, HasCountedSample, item_of, sample_of}
+use Rattle.bucket_ranges.specs.Ranges.{boundaries_of}
+use Rattle.bucket_ranges.specs.Tally.{amount_of}
+use Rattle.live_segment.specs.Add.Finish.{HasEnded, item_of, item_with}
 use Rattle.live_segment.specs.Known.{known_view}
 use Rattle.live_segment.specs.Add.Refusal.{IsNotCounted}
 use Rattle.live_segment.specs.Add.Progress.{CountsAlone, HasCounted}
@@ -42,18 +44,24 @@ pub finish_sample-requires-clause-counted : goal.finish_sample-requires-clause-c
 finish_sample-requires-clause-counted c =
     let known = known_view c.args.histogram.now in
     let has = subst (λ (v : ℤ). HasCounted (item_of known v c.args.units) c.args.seat.now.me.0 c.count_value.new.seat.me.0)
-    (to_z-of_z w32 c.args.value c.ranges.value) c.in_ok-count_value.ensures.outcome in
-    subst (λ (v : ℤ). HasCountedSample known v c.args.units c.count_value.new.seat.me.0) (sym (to_z-of_z w32 c.args.value c.ranges.value))
-    (has_sample known c.args.value c.args.units c.args.seat.now.me.0 c.count_value.new.seat.me.0 c.requires.rests c.requires.right.alone
-    c.requires.units.0 c.requires.units.1 has)
+    (to_z-of_z w32 c.args.value c.ranges.value) c.in_ok-count_value.ensures.outcome in (
+      c.args.value,
+      has_sample known c.args.value c.args.units c.args.seat.now.me.0 c.count_value.new.seat.me.0 c.requires.rests c.requires.right.alone
+          c.requires.units.0 c.requires.units.1 has,
+    )
 
 pub returns-clause-rests : goal.returns-clause-rests
 returns-clause-rests c =
     let known = known_view c.args.histogram.now in
     let has = subst (λ (v : ℤ). HasCounted (item_of known v c.args.units) c.args.seat.now.me.0 c.count_value.new.seat.me.0)
     (to_z-of_z w32 c.args.value c.ranges.value) c.in_ok-count_value.ensures.outcome in
-    let ended = subst (λ (v : ℤ). HasEnded (sample_of known v c.args.units ∷ []) c.count_value.new.seat.me.0 c.finish_sample.new.seat.me.0)
-    (to_z-of_z w32 c.args.value c.ranges.value) c.finish_sample.ensures.ended in
+    let counted = has_sample known c.args.value c.args.units c.args.seat.now.me.0 c.count_value.new.seat.me.0 c.requires.rests
+    c.requires.right.alone c.requires.units.0 c.requires.units.1 has in
+    let amount : to_z w64 (of_z w64 c.amount_of-amount.result) ≡ amount_of (boundaries_of c.args.histogram.now.spec) (c.args.value, c.args.units) =
+    to_z-of_z w64 c.amount_of-amount.result (search rules) ∙ (c.amount_of-amount.ensures.amount
+    ∙ (λ i. amount_of (c.requires.right.ranges i) (to_z-of_z w32 c.args.value c.ranges.value i, c.args.units))) in
+    let ended = subst (λ (n : ℤ). HasEnded (item_with known c.args.value c.args.units n ∷ []) c.count_value.new.seat.me.0 c.finish_sample.new.seat.me.0)
+    amount (c.finish_sample.ensures.ended c.args.value counted) in
     added_rests known c.args.value c.args.units c.args.seat.now.me.0 c.count_value.new.seat.me.0 c.requires.rests c.requires.right.alone
     c.requires.units.0 c.requires.units.1 has c.finish_sample.new.seat.me.0 ended
 
@@ -62,21 +70,35 @@ returns-clause-outcome c =
     let known = known_view c.args.histogram.now in
     let has = subst (λ (v : ℤ). HasCounted (item_of known v c.args.units) c.args.seat.now.me.0 c.count_value.new.seat.me.0)
     (to_z-of_z w32 c.args.value c.ranges.value) c.in_ok-count_value.ensures.outcome in
-    let ended = subst (λ (v : ℤ). HasEnded (sample_of known v c.args.units ∷ []) c.count_value.new.seat.me.0 c.finish_sample.new.seat.me.0)
-    (to_z-of_z w32 c.args.value c.ranges.value) c.finish_sample.ensures.ended in
+    let counted = has_sample known c.args.value c.args.units c.args.seat.now.me.0 c.count_value.new.seat.me.0 c.requires.rests
+    c.requires.right.alone c.requires.units.0 c.requires.units.1 has in
+    let amount : to_z w64 (of_z w64 c.amount_of-amount.result) ≡ amount_of (boundaries_of c.args.histogram.now.spec) (c.args.value, c.args.units) =
+    to_z-of_z w64 c.amount_of-amount.result (search rules) ∙ (c.amount_of-amount.ensures.amount
+    ∙ (λ i. amount_of (c.requires.right.ranges i) (to_z-of_z w32 c.args.value c.ranges.value i, c.args.units))) in
+    let ended = subst (λ (n : ℤ). HasEnded (item_with known c.args.value c.args.units n ∷ []) c.count_value.new.seat.me.0 c.finish_sample.new.seat.me.0)
+    amount (c.finish_sample.ensures.ended c.args.value counted) in
     added known c.args.value c.args.units c.args.seat.now.me.0 c.count_value.new.seat.me.0 c.requires.rests c.requires.right.alone
     c.requires.units.0 c.requires.units.1 has c.finish_sample.new.seat.me.0 ended
 
 pub returns-clause-claims : goal.returns-clause-claims
 returns-clause-claims c =
     let known = known_view c.args.histogram.now in
+    let has = subst (λ (v : ℤ). HasCounted (item_of known v c.args.units) c.args.seat.now.me.0 c.count_value.new.seat.me.0)
+    (to_z-of_z w32 c.args.value c.ranges.value) c.in_ok-count_value.ensures.outcome in
+    let counted = has_sample known c.args.value c.args.units c.args.seat.now.me.0 c.count_value.new.seat.me.0 c.requires.rests
+    c.requires.right.alone c.requires.units.0 c.requires.units.1 has in
     let claims = subst (λ (v : ℤ). ClaimsFor known v c.args.seat.now.me.0 c.count_value.new.seat.me.0)
     (to_z-of_z w32 c.args.value c.ranges.value) c.in_ok-count_value.ensures.claims in
     claims_kept known c.args.value c.args.seat.now.me.0 c.count_value.new.seat.me.0 c.finish_sample.new.seat.me.0 claims
-    (keeps_ended _ c.count_value.new.seat.me.0 c.finish_sample.new.seat.me.0 c.finish_sample.ensures.ended)
+    (keeps_ended _ c.count_value.new.seat.me.0 c.finish_sample.new.seat.me.0 (c.finish_sample.ensures.ended c.args.value counted))
 
 pub returns-clause-indexed : goal.returns-clause-indexed
 returns-clause-indexed c =
+    let known = known_view c.args.histogram.now in
+    let has = subst (λ (v : ℤ). HasCounted (item_of known v c.args.units) c.args.seat.now.me.0 c.count_value.new.seat.me.0)
+    (to_z-of_z w32 c.args.value c.ranges.value) c.in_ok-count_value.ensures.outcome in
+    let counted = has_sample known c.args.value c.args.units c.args.seat.now.me.0 c.count_value.new.seat.me.0 c.requires.rests
+    c.requires.right.alone c.requires.units.0 c.requires.units.1 has in
     kept_on c.args.self.now.setting.shape.size c.count_value.new.samples c.count_value.new.seat.me.0 c.finish_sample.new.seat.me.0
-    (keeps_ended _ c.count_value.new.seat.me.0 c.finish_sample.new.seat.me.0 c.finish_sample.ensures.ended)
+    (keeps_ended _ c.count_value.new.seat.me.0 c.finish_sample.new.seat.me.0 (c.finish_sample.ensures.ended c.args.value counted))
     c.in_ok-count_value.ensures.indexed

@@ -1,5 +1,5 @@
 -- The header of a look: what it says of its words, and that it stays lawful.
-use Rattle.std.proofs.Common.{◌≡◌, Bool, true, false, not, ◌&&◌, ◌||◌, ◌==◌, if◌then◌else◌, ℕ, zero, suc, ◌+◌, ◌<◌, ◌≤◌, List, [], ◌∷◌, ◌++◌, length, All, Result, Ok, Err, refl, arith, ap, sym, ◌∙◌}
+use Rattle.std.proofs.Common.{◌≡◌, Bool, true, false, not, ◌&&◌, ◌||◌, ◌==◌, if◌then◌else◌, ℕ, suc, ◌+◌, ◌<◌, ◌≤◌, List, [], ◌∷◌, ◌++◌, length, All, Ok, refl, arith, ap, ◌∙◌}
 use Rattle.std.specs.Prelude.{nat_lt, nat_le, is_ok}
 use Rattle.std.specs.List.{AllByRecursion}
 use Rattle.std.proofs.lemmas.Bool.{not-false, or_parts, and_parts, leb-true, ltb-false, eqb-true}
@@ -10,8 +10,8 @@ use Rattle.segment_image.specs.Head.{header_of, header_checks, head_of}
 use Rattle.segment_image.specs.Blocks.{is_placed}
 use Rattle.segment_image.specs.declared.head.SegmentHead.{SegmentHead}
 use Rattle.segment_image.specs.declared.fault.ImageFault.{ImageFault}
-use Rattle.segment_looks.specs.Pieces.{Piece, IsLaid, has_word, word_of}
-use Rattle.segment_looks.specs.Looks.{AreCopies, counts_pieces, counts_reference, has_room, histogram_pieces, list_pieces, record_pieces, records_pieces, sample_pieces}
+use Rattle.segment_looks.specs.Patches.{Patch, IsPatched, has_word, patched_word}
+use Rattle.segment_looks.specs.Looks.{AreCopies, counts_patches, counts_reference, has_room, histogram_patches, list_patches, record_patches, records_patches}
 
 -- ---- what a lawful header says
 
@@ -44,34 +44,34 @@ AreCopies-from_header head one two three e same_one same_two =
       free_most = omega (arith, most, same, size);
     }
 
--- ---- pieces behind the header
+-- ---- patches behind the header
 
-abbrev IsBehind : List Piece → Type 0
-IsBehind pieces = AllByRecursion (λ piece. 16 ≤ piece.from) pieces
+abbrev IsBehind : List Patch → Type 0
+IsBehind patches = AllByRecursion (λ patch. 16 ≤ patch.from) patches
 
 none-before : (from many k : ℕ) → k < from → (nat_le from k && nat_lt k (from + many)) ≡ false
 none-before from many k lt = grind arith
 
 -- they have no word of it
-word_of-behind : (pieces : List Piece) (k other : ℕ) → IsBehind pieces → k < 16 → word_of pieces k other ≡ other
-word_of-behind [] k other behind lt = refl
-word_of-behind (piece ∷ rest) k other behind lt =
-    let none : has_word piece k ≡ false = none-before piece.from (length piece.words) k (omega (arith, lt, behind.0)) in
-    rw none (word_of-behind rest k other behind.1 lt)
+patched_word-behind : (patches : List Patch) (k other : ℕ) → IsBehind patches → k < 16 → patched_word patches k other ≡ other
+patched_word-behind [] k other behind lt = refl
+patched_word-behind (patch ∷ rest) k other behind lt =
+    let none : has_word patch k ≡ false = none-before patch.from (length patch.words) k (omega (arith, lt, behind.0)) in
+    rw none (patched_word-behind rest k other behind.1 lt)
 
-IsBehind-append : (ps qs : List Piece) → IsBehind ps → IsBehind qs → IsBehind (ps ++ qs)
+IsBehind-append : (ps qs : List Patch) → IsBehind ps → IsBehind qs → IsBehind (ps ++ qs)
 IsBehind-append [] qs p q = q
-IsBehind-append (piece ∷ ps) qs p q = (p.0, IsBehind-append ps qs p.1 q)
+IsBehind-append (patch ∷ ps) qs p q = (p.0, IsBehind-append ps qs p.1 q)
 
-IsBehind-if : (b : Bool) (ps : List Piece) → (b ≡ true → IsBehind ps) → IsBehind (if b then ps else [])
+IsBehind-if : (b : Bool) (ps : List Patch) → (b ≡ true → IsBehind ps) → IsBehind (if b then ps else [])
 IsBehind-if true ps p = p refl
 IsBehind-if false ps p = tt
 
-IsBehind-unless : (b : Bool) (ps : List Piece) → (b ≡ false → IsBehind ps) → IsBehind (if b then [] else ps)
+IsBehind-unless : (b : Bool) (ps : List Patch) → (b ≡ false → IsBehind ps) → IsBehind (if b then [] else ps)
 IsBehind-unless true ps p = tt
 IsBehind-unless false ps p = p refl
 
-IsBehind-either : (b : Bool) (ps qs : List Piece) → IsBehind ps → IsBehind qs → IsBehind (if b then ps else qs)
+IsBehind-either : (b : Bool) (ps qs : List Patch) → IsBehind ps → IsBehind qs → IsBehind (if b then ps else qs)
 IsBehind-either true ps qs p q = p
 IsBehind-either false ps qs p q = q
 
@@ -79,12 +79,12 @@ room-behind : (few none behind below : Bool) → (few && (none || (behind && bel
 room-behind few none behind below e f = grind arith
 
 IsBehind-counts : (head : SegmentHead) (one two : List ℕ) (at counts n : ℕ) → has_room head counts n ≡ true
-    → IsBehind (counts_pieces one two at counts n)
+    → IsBehind (counts_patches one two at counts n)
 IsBehind-counts head one two at counts n room = IsBehind-unless (counts == 0) _ (λ some.
     let behind : 16 ≤ counts = leb-true 16 counts (room-behind _ (counts == 0) (nat_le 16 counts) _ room some) in
     (omega (arith, behind), (omega (arith, behind), tt)))
 
-IsBehind-histogram : (head : SegmentHead) (one two three : List ℕ) (at : ℕ) → 16 ≤ at → IsBehind (histogram_pieces head one two three at)
+IsBehind-histogram : (head : SegmentHead) (one two three : List ℕ) (at : ℕ) → 16 ≤ at → IsBehind (histogram_patches head one two three at)
 IsBehind-histogram head one two three at behind = IsBehind-if
     (nat_le (at + 16) head.free && has_room head (counts_reference two three at) (word_at three (at + 7))) _ (λ room. (
       omega (arith, behind),
@@ -92,19 +92,19 @@ IsBehind-histogram head one two three at behind = IsBehind-if
           (and_parts (nat_le (at + 16) head.free) (has_room head (counts_reference two three at) (word_at three (at + 7))) room).1,
     ))
 
-IsBehind-record : (head : SegmentHead) (one two three : List ℕ) (at : ℕ) → 16 ≤ at → IsBehind (record_pieces head one two three at)
+IsBehind-record : (head : SegmentHead) (one two three : List ℕ) (at : ℕ) → 16 ≤ at → IsBehind (record_patches head one two three at)
 IsBehind-record head one two three at behind = IsBehind-either (word_at three (at + 2) == 1) _ _
     (IsBehind-histogram head one two three at behind)
     (IsBehind-if (word_at three (at + 2) == 3) _ (λ _. IsBehind-if (nat_le (at + 8) head.free) _ (λ _. (omega (arith, behind), tt))))
 
 IsBehind-records : (head : SegmentHead) (one two three records : List ℕ) → All (λ at. is_placed head at ≡ true) records
-    → IsBehind (records_pieces head one two three records)
+    → IsBehind (records_patches head one two three records)
 IsBehind-records head one two three [] placed = tt
 IsBehind-records head one two three (at ∷ rest) placed =
     let here : is_placed head at ≡ true = placed 0 at (omega arith) in
     let behind : 16 ≤ at = leb-true 16 at (and_parts (nat_le 16 at) (nat_le (at + 5) head.free) here).0 in (
       omega (arith, behind),
-      IsBehind-append (record_pieces head one two three at) (records_pieces head one two three rest)
+      IsBehind-append (record_patches head one two three at) (records_patches head one two three rest)
           (IsBehind-record head one two three at behind)
           (IsBehind-records head one two three rest (λ k d lt. placed (suc k) d (omega (arith, lt)))),
     )
@@ -116,28 +116,28 @@ none-beside from k other = grind arith
 
 -- each word of it but the tail and the start of the list
 stays : (head : SegmentHead) (one two three records words : List ℕ) → 16 ≤ head.free → All (λ at. is_placed head at ≡ true) records
-    → IsLaid (list_pieces head one two three records) three words → (k : ℕ) → k < 16 → (k ≡ 15 → ⊥) → (k ≡ 8 → ⊥)
+    → IsPatched (list_patches head one two three records) three words → (k : ℕ) → k < 16 → (k ≡ 15 → ⊥) → (k ≡ 8 → ⊥)
     → word_at words k ≡ word_at three k
-stays head one two three records words free placed laid k lt no_start no_tail =
+stays head one two three records words free placed patched k lt no_start no_tail =
     let start = none-beside 15 k no_start in
     let tail = none-beside 8 k no_tail in
-    let behind = IsBehind-append (records_pieces head one two three records) _ (IsBehind-records head one two three records placed) (free, tt) in
-    laid.each k ∙ rw (start, tail) (word_of-behind _ k (word_at three k) behind lt)
+    let behind = IsBehind-append (records_patches head one two three records) _ (IsBehind-records head one two three records placed) (free, tt) in
+    patched.each k ∙ rw (start, tail) (patched_word-behind _ k (word_at three k) behind lt)
 
 is_ok-checked : {F X : Type 0} (checks : List (Bool × F)) (x y : X) → is_ok (checked checks x) ≡ is_ok (checked checks y)
 is_ok-checked [] x y = refl
 is_ok-checked ((true, fault) ∷ rest) x y = refl
 is_ok-checked ((false, fault) ∷ rest) x y = is_ok-checked rest x y
 
-pub header-laid : (head : SegmentHead) (one two three records words : List ℕ) → AreCopies head one two three
+pub header-patched : (head : SegmentHead) (one two three records words : List ℕ) → AreCopies head one two three
     → All (λ at. is_placed head at ≡ true) records
-    → IsLaid (list_pieces head one two three records) three words → is_ok (header_of words) ≡ true
-header-laid head one two three records words copies placed laid =
+    → IsPatched (list_patches head one two three records) three words → is_ok (header_of words) ≡ true
+header-patched head one two three records words copies placed patched =
     let s : (k : ℕ) → k < 16 → (k ≡ 15 → ⊥) → (k ≡ 8 → ⊥) → word_at words k ≡ word_at three k =
-    stays head one two three records words copies.free_least placed laid in
+    stays head one two three records words copies.free_least placed patched in
     let same : header_checks words ≡ header_checks three =
     rw (
-      laid.long,
+      patched.long,
       s 0 (omega arith) (omega arith) (omega arith),
       s 1 (omega arith) (omega arith) (omega arith),
       s 2 (omega arith) (omega arith) (omega arith),

@@ -1,3 +1,3 @@
 pub mod Followed
-pub mod Laid
+pub mod Patched
 pub mod Headed

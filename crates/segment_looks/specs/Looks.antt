@@ -8,14 +8,14 @@ use Rattle.segment_image.specs.Blocks.{field_at, is_placed}
 use Rattle.segment_image.specs.declared.fault.ImageFault.{ImageFault}
 use Rattle.segment_image.specs.declared.fault.ImageFault.TheVariants.{BadSize}
 use Rattle.segment_image.specs.declared.head.SegmentHead.{SegmentHead}
-use Rattle.segment_image.specs.declared.layout.TheConstants.{HEADER_WORDS, TAIL_WORD, QUEUE, VERSION_FROZEN, BLOCK_TYPE, BLOCK_NEXT, BLOCK_HEADER, BLOCK_LEAST, TYPE_HISTOGRAM, TYPE_SAMPLE, HISTOGRAM_BUCKETS, HISTOGRAM_COUNTS, HISTOGRAM_SINGLE, HISTOGRAM_SINGLE_MARK, HISTOGRAM_SUM, HISTOGRAM_SUM_MARK, HISTOGRAM_REDUNDANT, HISTOGRAM_LEAST, DISABLED_BIT, SAMPLE_COUNT, SAMPLE_MARK, SAMPLE_LEAST}
+use Rattle.segment_image.specs.declared.layout.TheConstants.{HEADER_WORDS, TAIL_WORD, QUEUE, VERSION_FROZEN, BLOCK_NEXT, BLOCK_HEADER, BLOCK_LEAST, TYPE_HISTOGRAM, TYPE_SAMPLE, HISTOGRAM_BUCKETS, HISTOGRAM_COUNTS, HISTOGRAM_SINGLE, HISTOGRAM_SINGLE_MARK, HISTOGRAM_SUM, HISTOGRAM_SUM_MARK, HISTOGRAM_REDUNDANT, HISTOGRAM_LEAST, DISABLED_BIT, SAMPLE_COUNT, SAMPLE_MARK, SAMPLE_LEAST}
 use Rattle.bucket_ranges.specs.declared.limits.TheConstants.{MAX_BUCKETS}
 use Rattle.bucket_ranges.specs.Listed.{before, next_of}
 use Rattle.bucket_ranges.specs.Record.{is_of_type}
 use Rattle.bucket_ranges.specs.Units.{counts_words}
 use Rattle.segment_looks.specs.declared.fault.LookFault.{LookFault}
 use Rattle.segment_looks.specs.declared.fault.LookFault.TheVariants.{Image, OldVersion}
-use Rattle.segment_looks.specs.Pieces.{Piece, IsLaid}
+use Rattle.segment_looks.specs.Patches.{Patch, IsPatched}
 
 -- ---- which records are followed
 
@@ -53,8 +53,8 @@ abbrev pub counts_looked : List ℕ → ℕ → ℕ → ℕ → List ℕ
 counts_looked two at from n = if is_frozen two at then slice_range two from (from + n) else replicate n 0
 
 -- the counts and the marks of a record with n buckets whose counts reference is this
-abbrev pub counts_pieces : List ℕ → List ℕ → ℕ → ℕ → ℕ → List Piece
-counts_pieces one two at counts n =
+abbrev pub counts_patches : List ℕ → List ℕ → ℕ → ℕ → ℕ → List Patch
+counts_patches one two at counts n =
     if counts == 0 then []
     else record { from = counts + BLOCK_HEADER; words = counts_looked two at (counts + BLOCK_HEADER) n }
     ∷ record { from = counts + BLOCK_HEADER + n; words = slice_range one (counts + BLOCK_HEADER + n) (counts + BLOCK_HEADER + n + n) } ∷ []
@@ -65,59 +65,59 @@ has_room head counts n =
     nat_le n MAX_BUCKETS && ((counts == 0) || (nat_le HEADER_WORDS counts && nat_le (counts + counts_words n) head.free))
 
 -- a histogram's record: none of its words, where it or its counts do not lie below the free pointer, or it has too many buckets
-abbrev pub histogram_pieces : SegmentHead → List ℕ → List ℕ → List ℕ → ℕ → List Piece
-histogram_pieces head one two three at =
+abbrev pub histogram_patches : SegmentHead → List ℕ → List ℕ → List ℕ → ℕ → List Patch
+histogram_patches head one two three at =
     if nat_le (at + HISTOGRAM_LEAST) head.free && has_room head (counts_reference two three at) (field_at three at HISTOGRAM_BUCKETS)
     then record { from = at + HISTOGRAM_COUNTS; words = histogram_words one two three at }
-    ∷ counts_pieces one two at (counts_reference two three at) (field_at three at HISTOGRAM_BUCKETS)
+    ∷ counts_patches one two at (counts_reference two three at) (field_at three at HISTOGRAM_BUCKETS)
     else []
 
 -- a sample's record: its count from the second copy, and its mark from the first
-abbrev pub sample_pieces : SegmentHead → List ℕ → List ℕ → ℕ → List Piece
-sample_pieces head one two at =
+abbrev pub sample_patches : SegmentHead → List ℕ → List ℕ → ℕ → List Patch
+sample_patches head one two at =
     if nat_le (at + SAMPLE_LEAST) head.free
     then record { from = at + SAMPLE_COUNT; words = field_at two at SAMPLE_COUNT ∷ field_at one at SAMPLE_MARK ∷ [] } ∷ []
     else []
 
 -- a record, whose type is that of the third copy
-abbrev pub record_pieces : SegmentHead → List ℕ → List ℕ → List ℕ → ℕ → List Piece
-record_pieces head one two three at =
-    if is_of_type three TYPE_HISTOGRAM at then histogram_pieces head one two three at
-    else if is_of_type three TYPE_SAMPLE at then sample_pieces head one two at
+abbrev pub record_patches : SegmentHead → List ℕ → List ℕ → List ℕ → ℕ → List Patch
+record_patches head one two three at =
+    if is_of_type three TYPE_HISTOGRAM at then histogram_patches head one two three at
+    else if is_of_type three TYPE_SAMPLE at then sample_patches head one two at
     else []
 
 -- ---- the look
 
 -- the next of a block
-abbrev pub link : ℕ → ℕ → Piece
+abbrev pub link : ℕ → ℕ → Patch
 link at next = record { from = at + BLOCK_NEXT; words = next ∷ [] }
 
 -- the first of the records, or the queue block, which ends the list
-abbrev pub first_of : List ℕ → ℕ
-first_of [] = QUEUE
-first_of (at ∷ rest) = at
+abbrev pub list_start : List ℕ → ℕ
+list_start [] = QUEUE
+list_start (at ∷ rest) = at
 
 -- the records, each linked to the one behind it
-abbrev pub records_pieces : SegmentHead → List ℕ → List ℕ → List ℕ → List ℕ → List Piece
-records_pieces head one two three [] = []
-records_pieces head one two three (at ∷ rest) =
-    link at (first_of rest) ∷ (record_pieces head one two three at ++ records_pieces head one two three rest)
+abbrev pub records_patches : SegmentHead → List ℕ → List ℕ → List ℕ → List ℕ → List Patch
+records_patches head one two three [] = []
+records_patches head one two three (at ∷ rest) =
+    link at (list_start rest) ∷ (record_patches head one two three at ++ records_patches head one two three rest)
 
 -- zeros from the free pointer on: what was claimed after its load
-abbrev pub unclaimed : SegmentHead → ℕ → Piece
+abbrev pub unclaimed : SegmentHead → ℕ → Patch
 unclaimed head size = record { from = head.free; words = replicate (size - head.free) 0 }
 
 -- the start of a list of records, the tail, the records, and what was never claimed
-abbrev pub list_pieces : SegmentHead → List ℕ → List ℕ → List ℕ → List ℕ → List Piece
-list_pieces head one two three records =
-    link QUEUE (first_of records)
+abbrev pub list_patches : SegmentHead → List ℕ → List ℕ → List ℕ → List ℕ → List Patch
+list_patches head one two three records =
+    link QUEUE (list_start records)
     ∷ record { from = TAIL_WORD; words = before records (length records) ∷ [] }
-    ∷ (records_pieces head one two three records ++ unclaimed head (length three) ∷ [])
+    ∷ (records_patches head one two three records ++ unclaimed head (length three) ∷ [])
 
--- These words are the look: heads of blocks, what was published, free pointer and flags of the third copy, and the pieces laid on
--- them. Where pieces overlap, as they may in forged copies, the first decides; so it does of records that name one block.
+-- These words are the look: heads of blocks, what was published, free pointer and flags of the third copy, and the patches put on
+-- them. Where patches overlap, as they may in forged copies, the first decides; so it does of records that name one block.
 abbrev pub IsLook : SegmentHead → List ℕ → List ℕ → List ℕ → List ℕ → Type 0
-IsLook head one two three image = IsLaid (list_pieces head one two three (followed_records head two)) three image
+IsLook head one two three image = IsPatched (list_patches head one two three (followed_records head two)) three image
 
 -- ---- which copies give a look
 
@@ -127,12 +127,12 @@ copies_checks head one two three =
     (not (length one == length three) || not (length two == length three), Image BadSize)
     ∷ (not (head.version == VERSION_FROZEN), OldVersion) ∷ []
 
--- the header of the third copy, or the first fault
+-- what was read of the header of the third copy, if the copies have no other fault
 abbrev pub checked_copies : Result SegmentHead ImageFault → List ℕ → List ℕ → List ℕ → Result SegmentHead LookFault
 checked_copies (Err fault) one two three = Err (Image fault)
 checked_copies (Ok head) one two three = checked (copies_checks head one two three) head
 
--- the same of the words of the copies
+-- the header of the third copy; or the first fault: of that header, of the lengths of the copies, of the version
 abbrev pub head_of_copies : List ℕ → List ℕ → List ℕ → Result SegmentHead LookFault
 head_of_copies one two three = checked_copies (header_of three) one two three
 

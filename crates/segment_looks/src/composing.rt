@@ -2,14 +2,14 @@
 
 ghost use Rattle.std.specs.Prelude.{◌≡◌, true, length, All, IfOk, MatchResult, Err};
 ghost use Rattle.segment_image.specs.Blocks.{is_placed};
-ghost use Rattle.segment_looks.specs.Pieces.{IsLaid};
+ghost use Rattle.segment_looks.specs.Patches.{IsPatched};
 ghost use Rattle.bucket_ranges.specs.Listed.{before};
-ghost use Rattle.segment_looks.specs.Looks.{AreCopies, IsLook, first_of, head_of_copies, list_pieces, records_pieces};
+ghost use Rattle.segment_looks.specs.Looks.{AreCopies, IsLook, list_start, head_of_copies, list_patches, records_patches};
 
 use crate::fault::LookFault;
 use crate::following::followed_records;
-use crate::laying::{lay, lay_zeros};
-use crate::record::lay_record;
+use crate::patching::{put, put_zeros};
+use crate::record::put_record;
 use segment_image::layout::{BLOCK_NEXT, QUEUE, TAIL_WORD, VERSION_FROZEN};
 use segment_image::{Image, ImageFault, SegmentHead, header};
 use std::alloc::{AllocError, Global};
@@ -60,15 +60,15 @@ fn words_of(
 ) -> Result<Vec<u64>, AllocError>
     requires copies { AreCopies head.now one.now two.now three.now }
     requires placed { All (λ at. is_placed head.now at ≡ true) records.now }
-    ensures { IfOk result (λ words. IsLaid (list_pieces head.now one.now two.now three.now records.now) three.now words.items) }
+    ensures { IfOk result (λ words. IsPatched (list_patches head.now one.now two.now three.now records.now) three.now words.items) }
 {
     let mut words = Vec::from_slice(alloc, three)?;
-    lay_list(&mut words, one, two, three, head, records);
+    put_list(&mut words, one, two, three, head, records);
     Ok(words)
 }
 
-// Lays the pieces of a list of records on the words of a look.
-fn lay_list(
+// Puts the patches of a list of records on the words of a look.
+fn put_list(
     words: &mut [u64],
     one: &[u64],
     two: &[u64],
@@ -79,13 +79,13 @@ fn lay_list(
     requires long { length words.old ≡ length three.now }
     requires copies { AreCopies head.now one.now two.now three.now }
     requires placed { All (λ at. is_placed head.now at ≡ true) records.now }
-    ensures { IsLaid (list_pieces head.now one.now two.now three.now records.now) words.old words.new }
+    ensures { IsPatched (list_patches head.now one.now two.now three.now records.now) words.old words.new }
 {
     let free = head.free as usize;
-    lay_zeros(words, free, three.len() - free);
-    let first = lay_records(words, one, two, three, head, records);
-    lay(words, TAIL_WORD, &[last_of(records)]);
-    lay(words, QUEUE as usize + BLOCK_NEXT, &[first]);
+    put_zeros(words, free, three.len() - free);
+    let first = put_records(words, one, two, three, head, records);
+    put(words, TAIL_WORD, &[last_of(records)]);
+    put(words, QUEUE as usize + BLOCK_NEXT, &[first]);
 }
 
 // The last of the records, or the queue block, which is the tail where there is none.
@@ -95,9 +95,9 @@ fn last_of(records: &[u64]) -> u64
     records.last().copied().unwrap_or(QUEUE)
 }
 
-// Lays the pieces of records on the words of a look, from the last record to the first, and returns the first of them
-// [first]. So where pieces overlap, the first one stays [laid].
-fn lay_records(
+// Puts the patches of records on the words of a look, from the last record to the first, and returns the first of them
+// [first]. So where patches overlap, the first one stays [patched].
+fn put_records(
     words: &mut [u64],
     one: &[u64],
     two: &[u64],
@@ -108,16 +108,16 @@ fn lay_records(
     requires long { length words.old ≡ length three.now }
     requires copies { AreCopies head.now one.now two.now three.now }
     requires placed { All (λ at. is_placed head.now at ≡ true) records.now }
-    ensures first { result ≡ first_of records.now }
-    ensures laid { IsLaid (records_pieces head.now one.now two.now three.now records.now) words.old words.new }
+    ensures first { result ≡ list_start records.now }
+    ensures patched { IsPatched (records_patches head.now one.now two.now three.now records.now) words.old words.new }
 {
     let mut next = QUEUE;
     let mut left = records.len();
     while left > 0 {
         left -= 1;
         let at = records[left];
-        lay_record(words, one, two, three, head, at as usize);
-        lay(words, at as usize + BLOCK_NEXT, &[next]);
+        put_record(words, one, two, three, head, at as usize);
+        put(words, at as usize + BLOCK_NEXT, &[next]);
         next = at;
     }
     next

@@ -9,8 +9,10 @@
 mod composing;
 mod fault;
 mod following;
-mod laying;
+mod patching;
 mod record;
+#[cfg(test)]
+mod tests;
 
 pub use composing::compose;
 pub use fault::LookFault;

@@ -2,10 +2,10 @@
 
 ghost use Rattle.std.specs.Prelude.{◌≡◌, ◌≢◌, ◌≤◌, ◌+◌, true, length};
 ghost use Rattle.segment_image.specs.Blocks.{field_at, is_placed};
-ghost use Rattle.segment_looks.specs.Pieces.{IsLaid};
-ghost use Rattle.segment_looks.specs.Looks.{is_frozen as is_frozen_at, counts_reference as counts_reference_of, histogram_words as histogram_words_of, counts_pieces, has_room as has_room_for, histogram_pieces, sample_pieces, record_pieces};
+ghost use Rattle.segment_looks.specs.Patches.{IsPatched};
+ghost use Rattle.segment_looks.specs.Looks.{is_frozen as is_frozen_at, counts_reference as counts_reference_of, histogram_words as histogram_words_of, counts_patches, has_room as has_room_for, histogram_patches, sample_patches, record_patches};
 
-use crate::laying::{lay, lay_zeros};
+use crate::patching::{put, put_zeros};
 use bucket_ranges::limits::MAX_BUCKETS;
 use segment_image::SegmentHead;
 use segment_image::layout::{
@@ -14,8 +14,8 @@ use segment_image::layout::{
     HISTOGRAM_SUM_MARK, SAMPLE_COUNT, SAMPLE_LEAST, SAMPLE_MARK, TYPE_HISTOGRAM, TYPE_SAMPLE,
 };
 
-/// Lays the pieces of the record at a reference on the words of a look.
-pub(crate) fn lay_record(
+/// Puts the patches of the record at a reference on the words of a look.
+pub(crate) fn put_record(
     words: &mut [u64],
     one: &[u64],
     two: &[u64],
@@ -28,17 +28,17 @@ pub(crate) fn lay_record(
     requires long_two { length two.now ≡ length three.now }
     requires free { head.now.free ≤ length three.now }
     requires placed { is_placed head.now at ≡ true }
-    ensures { IsLaid (record_pieces head.now one.now two.now three.now at) words.old words.new }
+    ensures { IsPatched (record_patches head.now one.now two.now three.now at) words.old words.new }
 {
     match three[at + BLOCK_TYPE] {
-        TYPE_HISTOGRAM => lay_histogram(words, one, two, three, head, at),
-        TYPE_SAMPLE => lay_sample(words, one, two, head, at),
+        TYPE_HISTOGRAM => put_histogram(words, one, two, three, head, at),
+        TYPE_SAMPLE => put_sample(words, one, two, head, at),
         _ => {}
     }
 }
 
-// Lays the pieces of a histogram's record.
-fn lay_histogram(
+// Puts the patches of a histogram's record.
+fn put_histogram(
     words: &mut [u64],
     one: &[u64],
     two: &[u64],
@@ -51,7 +51,7 @@ fn lay_histogram(
     requires long_two { length two.now ≡ length three.now }
     requires free { head.now.free ≤ length three.now }
     requires placed { is_placed head.now at ≡ true }
-    ensures { IsLaid (histogram_pieces head.now one.now two.now three.now at) words.old words.new }
+    ensures { IsPatched (histogram_patches head.now one.now two.now three.now at) words.old words.new }
 {
     if head.free - (at as u64) < HISTOGRAM_LEAST as u64 {
         return;
@@ -59,46 +59,46 @@ fn lay_histogram(
     let counts = counts_reference(two, three, at);
     let buckets = three[at + HISTOGRAM_BUCKETS];
     if has_room(head, counts, buckets) {
-        lay_counts(words, one, two, at, counts as usize, buckets as usize);
+        put_counts(words, one, two, at, counts as usize, buckets as usize);
         let fields = histogram_words(one, two, three, at);
-        lay(words, at + HISTOGRAM_COUNTS, &fields);
+        put(words, at + HISTOGRAM_COUNTS, &fields);
     }
 }
 
-// Lays the counts and the marks of so many buckets, where there is a block of them.
-fn lay_counts(words: &mut [u64], one: &[u64], two: &[u64], at: usize, counts: usize, n: usize)
+// Puts the counts and the marks of so many buckets, where there is a block of them.
+fn put_counts(words: &mut [u64], one: &[u64], two: &[u64], at: usize, counts: usize, n: usize)
     requires long_one { length one.now ≡ length words.old }
     requires long_two { length two.now ≡ length words.old }
     requires within { at + HISTOGRAM_LEAST ≤ length words.old }
     requires counts_within { counts ≢ 0 → counts + BLOCK_HEADER + n + n ≤ length words.old }
-    ensures { IsLaid (counts_pieces one.now two.now at counts n) words.old words.new }
+    ensures { IsPatched (counts_patches one.now two.now at counts n) words.old words.new }
 {
     if counts == 0 {
         return;
     }
     let from = counts + BLOCK_HEADER;
     let behind = from + n;
-    lay(words, behind, &one[behind..behind + n]);
+    put(words, behind, &one[behind..behind + n]);
     if is_frozen(two, at) {
-        lay(words, from, &two[from..behind]);
+        put(words, from, &two[from..behind]);
     } else {
-        lay_zeros(words, from, n);
+        put_zeros(words, from, n);
     }
 }
 
-// Lays the pieces of a sample's record.
-fn lay_sample(words: &mut [u64], one: &[u64], two: &[u64], head: &SegmentHead, at: usize)
+// Puts the patches of a sample's record.
+fn put_sample(words: &mut [u64], one: &[u64], two: &[u64], head: &SegmentHead, at: usize)
     requires long_one { length one.now ≡ length words.old }
     requires long_two { length two.now ≡ length words.old }
     requires free { head.now.free ≤ length words.old }
     requires placed { is_placed head.now at ≡ true }
-    ensures { IsLaid (sample_pieces head.now one.now two.now at) words.old words.new }
+    ensures { IsPatched (sample_patches head.now one.now two.now at) words.old words.new }
 {
     if head.free - (at as u64) < SAMPLE_LEAST as u64 {
         return;
     }
     let fields = [two[at + SAMPLE_COUNT], one[at + SAMPLE_MARK]];
-    lay(words, at + SAMPLE_COUNT, &fields);
+    put(words, at + SAMPLE_COUNT, &fields);
 }
 
 // Whether the counts of a record are in use.

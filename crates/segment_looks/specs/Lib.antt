@@ -1,0 +1,2 @@
+pub mod Patches
+pub mod Looks

@@ -1,4 +1,6 @@
 pub mod Adding
 pub mod Ascending
 pub mod Buckets
+pub mod FamilyTexts
+pub mod Filtered
 pub mod Rendered

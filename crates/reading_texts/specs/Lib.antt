@@ -7,3 +7,6 @@ pub mod Table
 pub mod Labels
 pub mod Exporting
 pub mod Lines
+pub mod Families
+pub mod FamilyLines
+pub mod Members

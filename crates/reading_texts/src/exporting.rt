@@ -18,8 +18,13 @@ use image_reader::{HistReading, Reading};
 use itoa::Buffer;
 use std::alloc::{AllocError, Global};
 
-// What stands before the lines of a family.
-fn put_heading(text: &mut Vec<u8>, name: &[u8], help: &[u8], kind: &[u8]) -> Result<(), AllocError>
+/// What stands before the lines of a family.
+pub(crate) fn put_heading(
+    text: &mut Vec<u8>,
+    name: &[u8],
+    help: &[u8],
+    kind: &[u8],
+) -> Result<(), AllocError>
     ensures { OnOk result (text.new.items ≡ text.old.items ++ heading_text name.now help.now kind.now) }
 {
     put_parts(
@@ -60,8 +65,8 @@ fn put_row(text: &mut Vec<u8>, start: &[u8], number: i64, units: u64) -> Result<
     Ok(())
 }
 
-// Puts the line of a bucket, which begins so: the units up to its greatest value.
-fn put_bucket(text: &mut Vec<u8>, start: &[u8], row: &HistRow) -> Result<(), AllocError>
+/// Puts the line of a bucket, which begins so: the units up to its greatest value.
+pub(crate) fn put_bucket(text: &mut Vec<u8>, start: &[u8], row: &HistRow) -> Result<(), AllocError>
     requires { pos 0 ≤ℤ row.now.high }
     ensures { OnOk result (text.new.items ≡ text.old.items ++ row_line start.now (row.now.high -ℤ pos 1) row.now.up_to) }
 {
@@ -180,8 +185,8 @@ fn put_all_ranged(
     Ok(())
 }
 
-// Puts the line of a value of a sparse histogram, which begins so: its units.
-fn put_value(text: &mut Vec<u8>, start: &[u8], row: &HistRow) -> Result<(), AllocError>
+/// Puts the line of a value of a sparse histogram, which begins so: its units.
+pub(crate) fn put_value(text: &mut Vec<u8>, start: &[u8], row: &HistRow) -> Result<(), AllocError>
     ensures { OnOk result (text.new.items ≡ text.old.items ++ row_line start.now row.now.low row.now.units) }
 {
     put_row(text, start, i64::from(row.low), row.units)
@@ -280,8 +285,8 @@ fn put_number(
     Ok(())
 }
 
-// The family of how many records are bad.
-fn put_bad(
+/// The family of how many records are bad.
+pub(crate) fn put_bad(
     alloc: Global,
     text: &mut Vec<u8>,
     prefix: &[u8],
@@ -326,8 +331,8 @@ fn put_flag(
     Ok(())
 }
 
-// The family of the flags.
-fn put_flags(
+/// The family of the flags.
+pub(crate) fn put_flags(
     alloc: Global,
     text: &mut Vec<u8>,
     prefix: &[u8],

@@ -24,8 +24,8 @@ fn is_first(byte: u8) -> bool
     byte.is_ascii_alphabetic() || byte == b'_'
 }
 
-// Whether a byte may stand behind the first of a word.
-fn is_later(byte: u8) -> bool
+/// Whether a byte may stand behind the first of a word.
+pub(crate) fn is_later(byte: u8) -> bool
     ensures { result ≡ is_later_byte byte }
 {
     is_first(byte) || byte.is_ascii_digit()

@@ -5,8 +5,11 @@
 #![tactic(auto)]
 
 mod exporting;
+mod families;
+mod family_lines;
 mod labels;
 mod lines;
+mod members;
 mod order;
 mod parts;
 mod rows;
@@ -15,6 +18,7 @@ mod text;
 mod words;
 
 pub use exporting::export_text;
+pub use families::{FamilyFault, families_text};
 pub use labels::{Label, are_line_labels, is_prefix};
 pub use parts::put_parts;
 pub use rows::{HistRow, rows_of, units};

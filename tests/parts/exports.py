@@ -128,6 +128,52 @@ NO_LINE_LABELS = [
     ["job=a", "zone=b", "job=a"],
 ]
 
+# Histograms of families side by side, what is counted in them, and lines of their export.
+FAMILY_HISTS = [
+    "http.latency{code=200},linear,1,100,5",
+    "http.latency{code=500},linear,1,100,5",
+    "http/latency{code=404},linear,1,100,5",
+    "9lives,boolean",
+    "a:b,custom,3,9",
+    "delta{zone=a},sparse",
+    "delta{zone=b},sparse",
+    "delta,sparse",
+    "load_ms,boolean",
+]
+FAMILY_COUNTS = "add,http.latency{code=200},7,3\nadd,delta{zone=a},-5,2\nadd,delta,4,1\nadd,a:b,3,1\n"
+FAMILY_LINES = [
+    "# TYPE povundiri_http_latency histogram",
+    'povundiri_http_latency_bucket{code="200",le="+Inf"} 3',
+    'povundiri_http_latency_sum{code="200"} 21',
+    'povundiri_http_latency_count{code="404"} 0',
+    "povundiri_9lives_count 0",
+    'povundiri_a_b_bucket{le="+Inf"} 1',
+    "# TYPE povundiri_delta untyped",
+    'povundiri_delta{zone="a",value="-5"} 2',
+    'povundiri_delta{value="4"} 1',
+    "# TYPE povundiri_delta_sum untyped",
+    'povundiri_delta_sum{zone="a"} -10',
+    "povundiri_delta_sum 4",
+    "povundiri_load_ms_sum 0",
+    "povundiri_bad_records 0",
+    'povundiri_segment_flag{flag="full"} 0',
+]
+# Labels of all lines; a name with a key of them goes out whole.
+FAMILY_LABELS: list[dict[str, str]] = [{}, {"job": "shop"}, {"code": "9", "zone": "a"}]
+# Histograms that clash, by the bytes of their names.
+CLASHES = [
+    ("x.y,boolean", "x_y,boolean"),
+    ("x.y,boolean", "x_y{a=1},linear,1,9,4"),
+    ("x.y{a=1},boolean", "x_y{a=1},boolean"),
+    ("x,sparse", "x{a=1},boolean"),
+    ("x,boolean", "x_bucket,boolean"),
+    ("x,boolean", "x_count{a=1},sparse"),
+    ("x,sparse", "x_sum,boolean"),
+    ("x.sum,sparse", "x{a=1},sparse"),
+]
+# Histograms that clash with a family of the segment, and which.
+OF_SEGMENT = {"bad.records": "bad_records", "segment_flag": "segment_flag", "bad_records{a=1}": "bad_records"}
+
 
 def parser() -> Parse | None:
     """The parser, or None if it is not installed."""
@@ -167,6 +213,9 @@ def beside(program: pathlib.Path, parse: Parse | None, data: bytes, words: Seque
     """Where the export of an image is not what the plain renderer says, or is not read back."""
     wanted = Answer(*plain_export.answer(data))
     wrong = difference(wanted, answer(program, ["export", *words], data))
+    if wrong is None:
+        named = Answer(*plain_export.named_answer(data))
+        wrong = difference(named, answer(program, ["export", "--families", *words], data))
     if wrong is None and parse is not None and wanted.status == 0:
         wrong = complaint(parse, wanted.output, plain_export.families_of(data))
     return wrong
@@ -232,6 +281,47 @@ def labeled(program: pathlib.Path, parse: Parse | None) -> Iterator[Case]:
         yield f"no labels {refused}", None if right else f"wanted a usage fault, came {came}"
 
 
+def by_name(program: pathlib.Path, parse: Parse | None, folder: pathlib.Path) -> Iterator[Case]:
+    """`--families`: names made lawful, labels, and names that clash."""
+    script, image = folder / "families", folder / "families.img"
+
+    def made(hists: Iterable[str]) -> bytes:
+        """The image of histograms, each as its fields in a script."""
+        script.write_text("segment,8192,1024,7\n" + "".join(f"hist,{hist}\n" for hist in hists) + FAMILY_COUNTS)
+        answer(program, ["run", script, image])
+        return image.read_bytes()
+
+    lines = answer(program, ["export", "--families", "-"], made(FAMILY_HISTS)).output.decode().splitlines()
+    missing = [line for line in FAMILY_LINES if line not in lines]
+    yield "families, lines", f"no lines {missing}" if missing else None
+    heads = [line.split()[2:] for line in lines if line.startswith("# TYPE")]
+    names = [name for name, _ in heads]
+    yield "families, one head each", None if len(names) == len(set(names)) else f"heads {heads}"
+    data = made(FAMILY_HISTS)
+    for labels in FAMILY_LABELS:
+        words = [word for key, value in labels.items() for word in ("--label", f"{key}={value}")]
+        wanted = Answer(*plain_export.named_answer(data, "x", labels))
+        came = answer(program, ["export", "--families", "--prefix", "x", *words], data)
+        wrong = difference(wanted, came)
+        if wrong is None and parse is not None and len(list(parse(came.output.decode()))) == 0:
+            wrong = "the parser reads nothing"
+        yield f"families with the labels {labels}", wrong
+    for first, second in CLASHES:
+        data, fault = made([*FAMILY_HISTS, first, second]), f"Clash {first.split(',')[0]} {second.split(',')[0]}"
+        came = answer(program, ["export", "--families"], data)
+        yield fault, difference(Answer(b"", f"persist_report: {fault}\n".encode(), 3), came)
+        yield f"{fault}, plain", difference(Answer(*plain_export.named_answer(data)), came)
+        out = folder / "families.out"
+        out.write_bytes(b"old\n")
+        came = answer(program, ["export", "--families", "--to", out, image])
+        left = sorted(path.name for path in folder.iterdir() if path.name.startswith("."))
+        right = came.status == 3 and out.read_bytes() == b"old\n" and not left
+        yield f"{fault}, --to", None if right else f"came {came}, left {left}"
+    for name, other in OF_SEGMENT.items():
+        came = answer(program, ["export", "--families"], made([f"{name},boolean"]))
+        yield f"Clash {name}", difference(Answer(b"", f"persist_report: Clash {name} {other}\n".encode(), 3), came)
+
+
 def replaced(program: pathlib.Path, folder: pathlib.Path) -> Iterator[Case]:
     """`--to` of each command that writes a text: the same bytes, in a file that is replaced at the end or not."""
     out, damaged = folder / "out", folder / "damaged"
@@ -268,6 +358,7 @@ def cases(program: pathlib.Path, options: argparse.Namespace) -> Iterator[Case]:
     with tempfile.TemporaryDirectory() as folder:
         yield from worked(program, parse, pathlib.Path(folder))
         yield from named(program, parse, pathlib.Path(folder))
+        yield from by_name(program, parse, pathlib.Path(folder))
         yield from replaced(program, pathlib.Path(folder))
     yield from labeled(program, parse)
     yield from command_faults.cases(program, ["export"])

@@ -35,6 +35,7 @@ not edit it, but these, and then run `tests/support/faults.py --write`.
 The line of a fault is its name. Some have more on it: `Image FAULT`, `Adopt FAULT`, `BadLine NUMBER`, `Refused NUMBER
 WHY` and `Merge NAME WHY`, where WHY is `BadName`, `BadSpec` and what is wrong with the spec, `TooLarge`, `ZeroCount`,
 `NoUnits`, `Corrupt`, `Full` or `OtherSpec`, as in `Refused 2 BadSpec TooFew`. NUMBER is that of a record of the script.
+`Clash NAME OTHER` has two names of histograms, or of one and a family.
 After the text of an image come `NoHistogram NAME`, and with `--whole` `Bad REFERENCE FAULT` and `Stopped FAULT`;
 REFERENCE is the index of the record's first word. `stepped` writes `World NUMBER FAULT`.
 

@@ -9,7 +9,7 @@ from __future__ import annotations
 import collections
 import re
 from collections.abc import Collection, Iterator, Mapping
-from typing import Any
+from typing import Any, NamedTuple
 
 from support import plain_reader
 
@@ -116,3 +116,104 @@ def answer(
         return text_of(families_of(data, line_labels), prefix), b"", 0
     except plain_reader.ImageFault as fault:
         return b"", f"persist_report: {fault}\n".encode(), 3
+
+
+# ---- a family for each histogram
+
+# What a family for a histogram is: its type, its meaning and the sample of a number.
+UNITS, VALUES = FAMILIES["units"], ("untyped", "Units of each value of a sparse histogram.")
+SUMS = ("untyped", "Sum of the values of a sparse histogram, which may fall.")
+ENDS = ("_bucket", "_sum", "_count")
+OF_SEGMENT = ("bad_records", "segment_flag")
+
+
+class Clash(Exception):
+    """Two names that are no families side by side."""
+
+
+class Member(NamedTuple):
+    """A histogram of a family: its name, the family, its own labels, its kind, and what was read of it."""
+
+    name: str
+    family: str
+    own: dict[str, str]
+    kind: str
+    histogram: dict[str, Any]
+
+
+def member_of(name: str, histogram: dict[str, Any], taken: Collection[str]) -> Member:
+    """A histogram as a member of its family, where lines have labels of these keys."""
+    base, own = split(name, taken)
+    family = re.sub("[^a-zA-Z0-9_]", "_", base)
+    return Member(name, family, own, plain_reader.KINDS[histogram["kind"]], histogram)
+
+
+def clash(one: Member, other: Member) -> bool:
+    """Whether two histograms are no families side by side."""
+    if one.family == other.family:
+        return one.kind != other.kind or one.own == other.own
+    ends = {f"{family}{end}" for family in (one.family, other.family) for end in ENDS}
+    return one.family in ends or other.family in ends
+
+
+def first_clash(members: list[Member]) -> tuple[str, str] | None:
+    """The first histogram that clashes with a family of the segment or a later one, and with which."""
+    for i, one in enumerate(members):
+        if one.family in OF_SEGMENT:
+            return one.name, one.family
+        for other in members[i + 1 :]:
+            if clash(one, other):
+                return one.name, other.name
+    return None
+
+
+def named_lines(prefix: str, members: list[Member], line_labels: Mapping[str, str]) -> Iterator[str]:
+    """The lines of the histograms of one family."""
+    name = members[0].family
+    units: list[Sample] = []
+    values: list[Sample] = []
+    sums: list[Sample] = []
+    for member in members:
+        labels = {**member.own, **line_labels}
+        if member.kind != "sparse":
+            of_one = histogram_samples(labels, member.histogram)
+            units += [(sample.replace("units", name, 1), of_it, value) for sample, of_it, value in of_one]
+        else:
+            buckets = member.histogram["buckets"]
+            values += [(name, {**labels, "value": str(value)}, buckets[value][1]) for value in sorted(buckets)]
+            sums.append((f"{name}_sum", labels, member.histogram["sum"]))
+    if members[0].kind != "sparse":
+        families = [(name, UNITS, units)]
+    else:
+        families = [(name, VALUES, values), (f"{name}_sum", SUMS, sums)]
+    for family, (kind, meaning), samples in families:
+        yield f"# HELP {prefix}_{family} {meaning}\n# TYPE {prefix}_{family} {kind}\n"
+        yield from (line_of(prefix, sample) for sample in samples)
+
+
+def named_text(data: bytes, prefix: str = PREFIX, line_labels: Mapping[str, str] = NO_LABELS) -> bytes:
+    """The text with a family for each histogram; raises the image's fault, or the clash."""
+    by_name = plain_reader.reading_of(data, collections.Counter())[0]
+    members = [member_of(name.decode(), by_name[name], line_labels) for name in sorted(by_name)]
+    names = first_clash(members)
+    if names is not None:
+        raise Clash(*names)
+    families: dict[str, list[Member]] = {}
+    for member in members:
+        families.setdefault(member.family, []).append(member)
+    lines = [line for of_one in families.values() for line in named_lines(prefix, of_one, line_labels)]
+    of_segment = families_of(data, line_labels)
+    rest = {family: of_segment[family] for family in OF_SEGMENT}
+    return "".join(lines).encode() + text_of(rest, prefix)
+
+
+def named_answer(
+    data: bytes, prefix: str = PREFIX, line_labels: Mapping[str, str] = NO_LABELS
+) -> tuple[bytes, bytes, int]:
+    """What a program writes to its two streams with a family for each histogram, and its status."""
+    try:
+        return named_text(data, prefix, line_labels), b"", 0
+    except plain_reader.ImageFault as fault:
+        return b"", f"persist_report: {fault}\n".encode(), 3
+    except Clash as names:
+        return b"", f"persist_report: Clash {names.args[0]} {names.args[1]}\n".encode(), 3

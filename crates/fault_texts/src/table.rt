@@ -78,7 +78,7 @@ pub fn fault_text(name: &str) -> Option<FaultText<'static>>
 
 /// Each fault by its name, with what it means and what to do: those of the program, of the header of an image, of what is
 /// refused, of specs, and of the lines of a report that begin with `!`.
-pub const TEXTS: [(&str, &str, &str); 54] = [
+pub const TEXTS: [(&str, &str, &str); 55] = [
     (
         "Read",
         "An input cannot be opened, or a read of it failed.",
@@ -153,6 +153,11 @@ pub const TEXTS: [(&str, &str, &str); 54] = [
         "NoHistogram",
         "No histogram of the image has the name that follows. Those of the other names are shown.",
         "Look at the name. `--match PART` shows the histograms whose name contains PART.",
+    ),
+    (
+        "Clash",
+        "With --families: the two that are named would have metrics of one name. Two histograms are of one family, and of two kinds or with the same labels; or the family of one is that of the other with _bucket, _sum or _count; or it is bad_records or segment_flag, which every export has.",
+        "Give one of them another name, or export without --families.",
     ),
     (
         "Bad",

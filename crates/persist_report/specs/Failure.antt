@@ -7,7 +7,7 @@ use Rattle.clap.specs.declared.error.kind.ErrorKind.TheVariants.{DisplayHelp, Di
 use Rattle.persist_report_core.specs.declared.fault.CliFault.{CliFault}
 use Rattle.persist_report_core.specs.declared.fault.CliFault.TheVariants.{Read, Write, TooLong, NotWords, Image, BadLine, Refused, Gate, Merge, NoThread, NoMemory, Adopt, NoSegment, NoHistogram, Bad, Stopped}
 use Rattle.persist_report.specs.declared.failure.Failure.{Failure}
-use Rattle.persist_report.specs.declared.failure.Failure.TheVariants.{Usage, Fault, Explained, Busy, Scale}
+use Rattle.persist_report.specs.declared.failure.Failure.TheVariants.{Usage, Fault, Explained, Busy, Scale, Clash}
 use Rattle.persist_report.specs.declared.lock.Unopened.{Unopened}
 use Rattle.persist_report.specs.declared.lock.Unopened.TheVariants as unopened
 
@@ -32,13 +32,14 @@ fault_status (Bad reference fault) = 3
 fault_status (Stopped fault) = 3
 
 -- the status of a failure: 2 for a command line that the program does not support, 4 for a file that another process has
--- locked, and 3 for a scale that has a fault
+-- locked, and 3 for a scale that has a fault and for families that clash
 abbrev pub failure_status : Failure → ℕ
 failure_status (Usage error) = 2
 failure_status (Fault fault) = fault_status fault
 failure_status (Explained fault lines) = fault_status fault
 failure_status (Busy lines) = 4
 failure_status (Scale fault lines) = 3
+failure_status (Clash first second lines) = 3
 
 -- what the failure is if the command line is not parsed: out of memory is no mistake in the words
 abbrev pub IsFailureOf : Error → Failure → Type 0
@@ -59,6 +60,7 @@ UsageIsMistake (Fault fault) = ⊤
 UsageIsMistake (Explained fault lines) = ⊤
 UsageIsMistake (Busy lines) = ⊤
 UsageIsMistake (Scale fault lines) = ⊤
+UsageIsMistake (Clash first second lines) = ⊤
 
 -- why a file is not locked: another process has its lock, or the system cannot lock it
 abbrev pub IsBusyOrWrite : Unopened → Type 0

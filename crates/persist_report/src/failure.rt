@@ -7,6 +7,7 @@ ghost use Rattle.persist_report_core.specs.declared.fault.CliFault.TheVariants.{
 
 use bucket_ranges::SpecFault;
 use clap::error::ErrorKind;
+use fault_texts::Shown;
 use persist_report_core::CliFault;
 use std::alloc::AllocError;
 use std::fmt;
@@ -24,10 +25,16 @@ pub enum Failure {
     Busy(String),
     /// The scale that it asks for has this fault. These lines follow, if there are any.
     Scale(SpecFault, String),
+    /// With `--families` these two would have metrics of one name. These lines follow, if there are any.
+    Clash {
+        first: Vec<u8>,
+        second: Vec<u8>,
+        lines: String,
+    },
 }
 
 impl Failure {
-    /// Returns the exit status: 2 for `Usage`, 4 for `Busy`, 3 for `Scale`, else that of the fault.
+    /// Returns the exit status: 2 for `Usage`, 4 for `Busy`, 3 for `Scale` and `Clash`, else that of the fault.
     pub fn status(&self) -> u8
         ensures { result ≡ failure_status self.now }
     {
@@ -36,6 +43,7 @@ impl Failure {
             Failure::Fault(fault) | Failure::Explained(fault, _) => fault_status(fault),
             Failure::Busy(_) => 4,
             Failure::Scale(_, _) => 3,
+            Failure::Clash { .. } => 3,
         }
     }
 }
@@ -96,6 +104,19 @@ impl fmt::Display for Failure {
             }
             Failure::Scale(fault, lines) => {
                 writeln!(f, "persist_report: {fault}")?;
+                f.write_str(lines.as_str())
+            }
+            Failure::Clash {
+                first,
+                second,
+                lines,
+            } => {
+                writeln!(
+                    f,
+                    "persist_report: Clash {} {}",
+                    Shown(first),
+                    Shown(second)
+                )?;
                 f.write_str(lines.as_str())
             }
             Failure::Busy(lines) => {

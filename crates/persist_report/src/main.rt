@@ -8,6 +8,7 @@ mod dashes;
 mod explaining;
 mod extracting;
 mod failure;
+mod families;
 mod files;
 mod incoming;
 mod leftover;

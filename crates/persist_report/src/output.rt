@@ -104,6 +104,13 @@ impl<F: Drop, P: Drop> Output<F, P> {
     }
 }
 
+impl<F: Drop, P: Drop> Output<F, P> {
+    /// Removes the new file, so that OUT is unchanged: of a command that failed before it wrote anything.
+    pub fn discard<R: Files>(self, rt: &R) {
+        let _ = self.end(rt, Err(CliFault::Write));
+    }
+}
+
 // Gives a new file OUT's name. If OUT was not there at first, a file that appeared meanwhile is not replaced.
 fn rename<R: Files>(rt: &R, new: &PathBuf, out: &PathBuf, stood: bool) -> Result<(), Cause>
     ensures { IfErr result (λ cause. cause.fault ≡ CliFault.Write) }

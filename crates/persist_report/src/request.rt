@@ -51,11 +51,13 @@ pub enum Task<'a> {
         has_rows_alone: bool,
         to: Option<&'a str>,
     },
-    /// Write the metrics of an image, whose names begin with the prefix, with these labels on all lines, each as KEY=VALUE.
+    /// Write the metrics of an image, whose names begin with the prefix, with these labels on all lines, each as KEY=VALUE; with
+    /// a family for each histogram where that is asked for.
     Export {
         file: Option<&'a str>,
         prefix: &'a str,
         labels: Vec<&'a str>,
+        has_families: bool,
         to: Option<&'a str>,
     },
     /// Write the overview of an image, with commas in numbers if they are for people.

@@ -165,8 +165,9 @@ fn meet<
             file,
             prefix,
             labels,
+            has_families,
             to,
-        } => write_export(context, file, prefix, &labels, to),
+        } => write_export(context, file, prefix, &labels, has_families, to),
         Task::Show {
             file,
             names,

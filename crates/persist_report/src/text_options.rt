@@ -21,6 +21,17 @@ pub fn label_option<'a>(alloc: Global) -> Arg<'a> {
         .help("Label that all lines get; may be given more than once")
 }
 
+/// Asks for a family for each histogram.
+pub fn families_flag<'a>(alloc: Global) -> Arg<'a> {
+    Arg::new(alloc, "families")
+        .long("families")
+        .action(ArgAction::SetTrue)
+        .help("Name metrics after the histograms: PREFIX_NAME")
+        .long_help(
+            "Name metrics after the histograms: PREFIX_NAME, with _ for each byte of\nNAME but letters and digits",
+        )
+}
+
 /// The file that a text is to be written to, if one is named.
 pub fn to_found<'a>(found: &ArgMatches<'a>) -> Option<&'a str> {
     found.get_str("to")

@@ -8,8 +8,10 @@ use crate::cause::Cause;
 use crate::context::Context;
 use crate::explaining::{FaultContext, failure_of};
 use crate::failure::Failure;
+use crate::families::write_families;
 use crate::files::{check, open_image, open_out, write_file};
 use crate::noted::Stream;
+use crate::output::Output;
 use crate::request::{no_labels, no_prefix};
 use persist_report_core::CliFault;
 use reading_shows::{Form, write_text};
@@ -20,6 +22,37 @@ use std::io::Read;
 use std::random::RandomSource;
 use std::rt::Files;
 use std::time::Clock;
+
+/// Ends the output of a text with how its writing ended, and what is wrong with what was read: a file is replaced if the text is
+/// complete. `Usage` comes only for a mistake on the command line.
+pub fn end_text<'a, R: Files<File = File> + AllocGlobal, I: Drop, P: Drop>(
+    context: &Context<'_, R>,
+    reader: Stream<'a, I>,
+    writer: Stream<'a, Output<File, P>>,
+    written: Result<(), CliFault>,
+    found: Result<(), CliFault>,
+) -> Result<(), Failure>
+    ensures { IfErr result UsageIsMistake }
+{
+    let (input, output) = (reader.into_inner(), writer.into_inner());
+    let (place, reason) = (output.origin(), output.reason());
+    let cause = match (output.into_inner().end(context.rt, written), found) {
+        (Err(cause), _) => cause,
+        (Ok(()), Err(fault)) => Cause::from(fault),
+        (Ok(()), Ok(())) => return Ok(()),
+    };
+    let (device, reason) = match &cause.fault {
+        CliFault::Read => (input.origin(), input.reason()),
+        _ => (place, cause.reason.or(reason)),
+    };
+    let known = FaultContext {
+        input: input.source(),
+        base: None,
+        device,
+        reason,
+    };
+    Err(failure_of(context, cause.fault, known))
+}
 
 // Writes a form of what a reader has left to a file, which is replaced when the text is complete, and then sees what is wrong
 // with what was read.
@@ -40,24 +73,7 @@ fn write_to<'a, R: Files<File = File> + Clock + Print + RandomSource + AllocGlob
         ),
         Err(fault) => (Err(fault), Ok(())),
     };
-    let (input, output) = (reader.into_inner(), writer.into_inner());
-    let (place, reason) = (output.origin(), output.reason());
-    let cause = match (output.into_inner().end(context.rt, written), found) {
-        (Err(cause), _) => cause,
-        (Ok(()), Err(fault)) => Cause::from(fault),
-        (Ok(()), Ok(())) => return Ok(()),
-    };
-    let (device, reason) = match &cause.fault {
-        CliFault::Read => (input.origin(), input.reason()),
-        _ => (place, cause.reason.or(reason)),
-    };
-    let known = FaultContext {
-        input: input.source(),
-        base: None,
-        device,
-        reason,
-    };
-    Err(failure_of(context, cause.fault, known))
+    end_text(context, reader, writer, written, found)
 }
 
 /// Writes a form of the image in a file, or of that on standard input if no file is named, or `-`: to the file `to`, or to
@@ -98,7 +114,7 @@ fn labels_of<'a>(alloc: Global, words: &[&'a str]) -> Result<Option<Vec<Label<'a
 }
 
 /// Writes the metrics of an image, if their names may begin with the prefix, and all lines may have these labels, each given as
-/// KEY=VALUE. `Usage` comes only for a mistake on the command line.
+/// KEY=VALUE; with a family for each histogram where that is asked for. `Usage` comes only for a mistake on the command line.
 pub fn write_export<
     'a,
     R: Files<File = File> + Clock + Input + Print + Eprint + RandomSource + AllocGlobal,
@@ -107,6 +123,7 @@ pub fn write_export<
     file: Option<&'a str>,
     prefix: &str,
     words: &[&str],
+    has_families: bool,
     to: Option<&'a str>,
 ) -> Result<(), Failure>
     ensures { IfErr result UsageIsMistake }
@@ -115,6 +132,9 @@ pub fn write_export<
         return Err(Failure::Usage(no_prefix(context.alloc())?));
     }
     match labels_of(context.alloc(), words)? {
+        Some(labels) if are_line_labels(&labels) && has_families => {
+            write_families(context, file, prefix, &labels, to)
+        }
         Some(labels) if are_line_labels(&labels) => {
             let form = Form::Export {
                 prefix,

@@ -3,7 +3,7 @@
 use crate::request::arguments::{explain_flag, image};
 use crate::request::info::{list_options, list_style};
 use crate::request::{Task, texts};
-use crate::text_options::{label_option, labels_found, to_found, to_option};
+use crate::text_options::{families_flag, label_option, labels_found, to_found, to_option};
 use clap::{Arg, ArgAction, ArgMatches, Command, value_parser};
 use reading_shows::Style;
 use std::alloc::{AllocError, Global};
@@ -52,6 +52,7 @@ pub fn export_command<'a>(alloc: Global) -> Result<Command<'a>, AllocError> {
         .arg(image(alloc))?
         .arg(prefix)?
         .arg(label_option(alloc))?
+        .arg(families_flag(alloc))?
         .arg(to_option(alloc))?
         .arg(whole_flag(alloc))?
         .arg(explain_flag(alloc))
@@ -132,6 +133,7 @@ pub fn export_task<'a>(
             file: export.get_str("FILE"),
             prefix,
             labels,
+            has_families: export.get_flag("families"),
             to: to_found(export),
         }),
     )

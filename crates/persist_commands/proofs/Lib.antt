@@ -9,5 +9,6 @@ mod MergeClosed
 mod MergeFilled
 mod MergeFaults
 mod MergeOutcomes
+mod Looks
 mod TakenScripts
 mod Outcomes

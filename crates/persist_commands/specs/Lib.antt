@@ -6,3 +6,4 @@ pub mod Recorded
 pub mod Run
 pub mod Resume
 pub mod MergeFiles
+pub mod LookFile

@@ -41,6 +41,9 @@ extern inline uint32_t povundiri_next_shared(struct povundiri_handle *recorder, 
 extern inline uint32_t povundiri_report(const uint64_t *words, size_t length, char *text, size_t text_length, size_t *needed);
 extern inline uint32_t povundiri_report_bounded(const uint64_t *words, size_t length, char *text, size_t text_length, size_t *needed,
                                                 uint64_t most_keys);
+extern inline uint32_t povundiri_export(const uint64_t *words, size_t length, const char *prefix, char *text, size_t text_length,
+                                        size_t *needed);
+extern inline uint32_t povundiri_show(const uint64_t *words, size_t length, uint16_t width, char *text, size_t text_length, size_t *needed);
 
 struct named {
     uint32_t status;
@@ -68,6 +71,7 @@ static const struct named NAMES[] = {
     {POVUNDIRI_BUSY, "Busy"},
     {POVUNDIRI_SYSTEM, "System"},
     {POVUNDIRI_TOO_MANY_KEYS, "TooManyKeys"},
+    {POVUNDIRI_BAD_PREFIX, "BadPrefix"},
     {POVUNDIRI_REFUSED_BAD_NAME, "BadName"},
     {POVUNDIRI_REFUSED_BAD_SPEC, "BadSpec"},
     {POVUNDIRI_REFUSED_ZERO_COUNT, "ZeroCount"},

@@ -141,6 +141,7 @@ enum povundiri_status {
     POVUNDIRI_BUSY = 15,         /* another thread passes a recorder of the same segment at this moment: nothing has happened, try again */
     POVUNDIRI_SYSTEM = 16,       /* of povundiri_file.h: the system's fault, whose number (errno.h) is returned beside it */
     POVUNDIRI_TOO_MANY_KEYS = 17, /* the image has more keys than the caller allows, and is not reported */
+    POVUNDIRI_BAD_PREFIX = 18,    /* no name of a metric may begin with the prefix */
 
     /* Why a call is refused. */
     POVUNDIRI_REFUSED_BAD_NAME = 101,
@@ -186,7 +187,7 @@ enum povundiri_status {
     POVUNDIRI_IMAGE_DELETED = 507,
     POVUNDIRI_IMAGE_BAD_FREE = 508,
     POVUNDIRI_IMAGE_BAD_QUEUE = 509,
-    POVUNDIRI_IMAGE_NO_MEMORY = 513 /* of a report: out of memory while the image was read */
+    POVUNDIRI_IMAGE_NO_MEMORY = 513 /* of a text of an image: out of memory while the image was read */
 };
 
 /* The proved functions. They test no pointer: not even an empty array may be null. `none` is a handle of zeros, which replaces a handle
@@ -221,6 +222,10 @@ uint32_t povundiri_proved_next_shared(struct povundiri_handle *recorder, size_t 
 uint32_t povundiri_proved_report(const uint64_t *words, size_t words_length, uint8_t *text, size_t text_length, size_t *needed);
 uint32_t povundiri_proved_report_bounded(const uint64_t *words, size_t words_length, uint8_t *text, size_t text_length, size_t *needed,
                                          uint64_t most_keys);
+uint32_t povundiri_proved_export(const uint64_t *words, size_t words_length, const uint8_t *prefix, size_t prefix_length, uint8_t *text,
+                                 size_t text_length, size_t *needed);
+uint32_t povundiri_proved_show(const uint64_t *words, size_t words_length, uint16_t width, uint8_t *text, size_t text_length,
+                               size_t *needed);
 
 /* Whether an array is valid: only an empty one may be null. */
 inline bool povundiri_is_array(const void *at, size_t length) {
@@ -526,6 +531,33 @@ inline uint32_t povundiri_report_bounded(const uint64_t *words, size_t length, c
     if (!povundiri_is_array(words, length) || !povundiri_is_array(text, text_length)) return POVUNDIRI_NULL;
     return povundiri_proved_report_bounded((const uint64_t *)povundiri_address(words), length, (uint8_t *)povundiri_address(text),
                                            text_length, needed != NULL ? needed : &own, most_keys);
+}
+
+/* The metrics of an image in the Prometheus text format, as `persist_report export` writes them. Their names begin with `prefix`, a letter
+ * of ASCII or '_' and then such characters and digits, and with `povundiri` where it is null. Labels of all lines cannot be given here.
+ * All else is as for povundiri_report; of words that you do not trust, ask povundiri_report_bounded first.
+ * Statuses: NULL; BAD_PREFIX; IMAGE_..: its header has this fault; IMAGE_NO_MEMORY, NO_MEMORY; SHORT.
+ * Keep: pointers; process. */
+POVUNDIRI_CHECKED
+inline uint32_t povundiri_export(const uint64_t *words, size_t length, const char *prefix, char *text, size_t text_length, size_t *needed) {
+    size_t own = 0;
+    const char *const begun = prefix != NULL ? prefix : "povundiri";
+    if (!povundiri_is_array(words, length) || !povundiri_is_array(text, text_length)) return POVUNDIRI_NULL;
+    return povundiri_proved_export((const uint64_t *)povundiri_address(words), length, (const uint8_t *)begun, strlen(begun),
+                                   (uint8_t *)povundiri_address(text), text_length, needed != NULL ? needed : &own);
+}
+
+/* The text of an image for people, of all its histograms, as `persist_report show` writes it: UTF-8 with a bar for each bucket that has
+ * units. A line has `width` cells, and 80 where it is 0; what does not fit makes a longer line. All else is as for povundiri_report; of
+ * words that you do not trust, ask povundiri_report_bounded first. The bars take three bytes for each cell.
+ * Statuses: NULL; IMAGE_..: its header has this fault; IMAGE_NO_MEMORY, NO_MEMORY; SHORT.
+ * Keep: pointers; process. */
+POVUNDIRI_CHECKED
+inline uint32_t povundiri_show(const uint64_t *words, size_t length, uint16_t width, char *text, size_t text_length, size_t *needed) {
+    size_t own = 0;
+    if (!povundiri_is_array(words, length) || !povundiri_is_array(text, text_length)) return POVUNDIRI_NULL;
+    return povundiri_proved_show((const uint64_t *)povundiri_address(words), length, width, (uint8_t *)povundiri_address(text),
+                                 text_length, needed != NULL ? needed : &own);
 }
 
 /* The name of a status; any number may be passed. `persist_report explain NAME` says what each name means. */

@@ -802,6 +802,34 @@ inline std::string report(Span<const std::uint64_t> words, std::uint64_t most_ke
     return text;
 }
 
+// The metrics of an image in the Prometheus text format, whose names begin with 'prefix' (povundiri_export).
+[[nodiscard]] inline Status try_export_text(Span<const std::uint64_t> words, std::string& text, const char* prefix = nullptr) {
+    text.resize(kUsualReport);
+    return detail::filled(text, [&](char* data, std::size_t size, std::size_t* needed) {
+        return povundiri_export(words.data(), words.size(), prefix, data, size, needed);
+    });
+}
+
+inline std::string export_text(Span<const std::uint64_t> words, const char* prefix = nullptr) {
+    std::string text;
+    detail::need(try_export_text(words, text, prefix), "export_text, words", words.size());
+    return text;
+}
+
+// The text of an image for people, with 'width' cells in a line, 80 where it is 0 (povundiri_show).
+[[nodiscard]] inline Status try_show_text(Span<const std::uint64_t> words, std::string& text, std::uint16_t width = 0) {
+    text.resize(kUsualReport);
+    return detail::filled(text, [&](char* data, std::size_t size, std::size_t* needed) {
+        return povundiri_show(words.data(), words.size(), width, data, size, needed);
+    });
+}
+
+inline std::string show_text(Span<const std::uint64_t> words, std::uint16_t width = 0) {
+    std::string text;
+    detail::need(try_show_text(words, text, width), "show_text, words", words.size());
+    return text;
+}
+
 }  // namespace povundiri
 
 #endif

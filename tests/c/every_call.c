@@ -72,6 +72,10 @@ static void nulls_of_segments(void) {
     ANSWERS(NULL, povundiri_report(words, 16, NULL, 1, NULL));
     ANSWERS(NULL, povundiri_report_bounded(NULL, 1, NULL, 0, NULL, 1));
     ANSWERS(NULL, povundiri_report_bounded(words, 16, NULL, 1, NULL, 1));
+    ANSWERS(NULL, povundiri_export(NULL, 1, NULL, NULL, 0, NULL));
+    ANSWERS(NULL, povundiri_export(words, 16, NULL, NULL, 1, NULL));
+    ANSWERS(NULL, povundiri_show(NULL, 1, 0, NULL, 0, NULL));
+    ANSWERS(NULL, povundiri_show(words, 16, 0, NULL, 1, NULL));
     let_go(&segment, &recorder);
 }
 
@@ -665,6 +669,91 @@ static void bounded_reports(void) {
     ANSWERS(IMAGE_BAD_SIZE, povundiri_report_bounded(words, WORDS - 1, text, REPORT, &needed, 0));
 }
 
+/* The metrics of the same image, by hand; their names begin with PREFIX. */
+#define METRICS(PREFIX)                                                                                          \
+    "# HELP " PREFIX "_units Units of a histogram up to the greatest value of each bucket.\n"                    \
+    "# TYPE " PREFIX "_units histogram\n"                                                                        \
+    PREFIX "_units_bucket{histogram=\"b\",le=\"0\"} 0\n"                                                         \
+    PREFIX "_units_bucket{histogram=\"b\",le=\"1\"} 5\n"                                                         \
+    PREFIX "_units_bucket{histogram=\"b\",le=\"2147483646\"} 5\n"                                                \
+    PREFIX "_units_bucket{histogram=\"b\",le=\"+Inf\"} 5\n"                                                      \
+    PREFIX "_units_sum{histogram=\"b\"} 5\n"                                                                     \
+    PREFIX "_units_count{histogram=\"b\"} 5\n"                                                                   \
+    "# HELP " PREFIX "_sparse_total Units of each value of a sparse histogram.\n"                                \
+    "# TYPE " PREFIX "_sparse_total counter\n"                                                                   \
+    PREFIX "_sparse_total{histogram=\"s\",value=\"-3\"} 2\n"                                                     \
+    "# HELP " PREFIX "_bad_records Records that could not be read, and one more where their list stops early.\n" \
+    "# TYPE " PREFIX "_bad_records gauge\n"                                                                      \
+    PREFIX "_bad_records 0\n"                                                                                    \
+    "# HELP " PREFIX "_segment_flag Whether a flag of the segment is set.\n"                                     \
+    "# TYPE " PREFIX "_segment_flag gauge\n"                                                                     \
+    PREFIX "_segment_flag{flag=\"corrupt\"} 0\n"                                                                 \
+    PREFIX "_segment_flag{flag=\"full\"} 0\n"
+
+static void exports(void) {
+    static const char usual[] = METRICS("povundiri"), own[] = METRICS("_my9");
+    static const char *const BAD[] = {"", "9a", "a-b", "a b", "a:b", "\303\244", "a\n"};
+    uint64_t words[WORDS];
+    char text[REPORT];
+    size_t needed = 1, length = sizeof usual - 1, i;
+    image_of(words, 2);
+    memset(text, '?', sizeof text);
+    for (i = 0; i < sizeof BAD / sizeof BAD[0]; i += 1) {
+        ANSWERS(BAD_PREFIX, povundiri_export(words, WORDS, BAD[i], text, REPORT, &needed));
+        ANSWERS(BAD_PREFIX, povundiri_export(words, 15, BAD[i], text, REPORT, &needed));
+    }
+    HOLDS(needed == 1 && text[0] == '?');
+    ANSWERS(SHORT, povundiri_export(words, WORDS, NULL, text, length - 1, &needed));
+    HOLDS(needed == length && text[0] == '?');
+    DONE(povundiri_export(words, WORDS, NULL, text, length, NULL));
+    HOLDS(memcmp(text, usual, length) == 0 && text[length] == '?');
+    DONE(povundiri_export(words, WORDS, "_my9", text, REPORT, &needed));
+    HOLDS(needed == sizeof own - 1 && memcmp(text, own, needed) == 0);
+    ANSWERS(IMAGE_BAD_SIZE, povundiri_export(words, WORDS - 1, NULL, text, REPORT, &needed));
+    ANSWERS(IMAGE_TOO_SHORT, povundiri_export(words, 15, NULL, text, REPORT, &needed));
+}
+
+/* The text of the same image for people, by hand, with 40 and with 80 cells in a line: the bars are 9 and 49 cells wide. */
+#define BLOCKS_9 "\342\226\210\342\226\210\342\226\210\342\226\210\342\226\210\342\226\210\342\226\210\342\226\210\342\226\210"
+#define BLOCKS_10 BLOCKS_9 "\342\226\210"
+#define BLOCKS_49 BLOCKS_10 BLOCKS_10 BLOCKS_10 BLOCKS_10 BLOCKS_9
+#define BLANKS_9 "         "
+#define BLANKS_10 BLANKS_9 " "
+#define BLANKS_49 BLANKS_10 BLANKS_10 BLANKS_10 BLANKS_10 BLANKS_9
+#define SHOWN(BLANKS, BLOCKS)                                    \
+    "b\n"                                                        \
+    "  boolean, units 5, sum 5, mean 1.00\n"                     \
+    "  values  " BLANKS "units percent   up to\n"                \
+    "   false " BLANKS "     0    0.0%    0.0%\n"                \
+    "    true " BLOCKS "     5  100.0%  100.0%\n"                \
+    "\n"                                                         \
+    "s\n"                                                        \
+    "  sparse, units 2, sum -6, mean -3.00\n"                    \
+    "  50%: -3, 90%: -3, 99%: -3, 99.9%: -3\n"                   \
+    "  least: -3, greatest: -3\n"                                \
+    "  values  " BLANKS "units percent   up to\n"                \
+    "      -3 " BLOCKS "     2  100.0%  100.0%\n"                \
+    "\n"
+
+static void shows(void) {
+    static const char usual[] = SHOWN(BLANKS_49, BLOCKS_49), narrow[] = SHOWN(BLANKS_9, BLOCKS_9);
+    uint64_t words[WORDS];
+    char text[REPORT];
+    size_t needed = 1, length = sizeof usual - 1;
+    image_of(words, 2);
+    memset(text, '?', sizeof text);
+    ANSWERS(SHORT, povundiri_show(words, WORDS, 0, text, length - 1, &needed));
+    HOLDS(needed == length && text[0] == '?');
+    DONE(povundiri_show(words, WORDS, 0, text, length, NULL));
+    HOLDS(memcmp(text, usual, length) == 0 && text[length] == '?');
+    DONE(povundiri_show(words, WORDS, 80, text, REPORT, &needed));
+    HOLDS(needed == length && memcmp(text, usual, length) == 0);
+    DONE(povundiri_show(words, WORDS, 40, text, REPORT, &needed));
+    HOLDS(needed == sizeof narrow - 1 && memcmp(text, narrow, needed) == 0);
+    ANSWERS(IMAGE_BAD_SIZE, povundiri_show(words, WORDS - 1, 0, text, REPORT, &needed));
+    ANSWERS(IMAGE_TOO_SHORT, povundiri_show(words, 15, 0, text, REPORT, &needed));
+}
+
 /* A header, a word that is stored in it, and the fault that it has then. */
 struct header_fault {
     size_t at;
@@ -774,6 +863,8 @@ static const struct test TESTS[] = {
     {"records", records},
     {"reports", reports},
     {"bounded_reports", bounded_reports},
+    {"exports", exports},
+    {"shows", shows},
     {"adopted", adopted},
     {"threads", threads},
     {"texts", texts},

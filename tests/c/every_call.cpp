@@ -94,6 +94,18 @@ void statuses() {
     HOLDS(text == kReport);
     RETURNS(TooManyKeys, povundiri::try_report(image, text, 17));
     RETURNS(ImageTooShort, povundiri::try_report({image.data(), 15}, text));
+    DONE(povundiri::try_export_text(image, text));
+    HOLDS(text.find("\npovundiri_units_bucket{histogram=\"l\",le=\"125\"} 3\n") != std::string::npos);
+    DONE(povundiri::try_export_text(image, text, "my"));
+    HOLDS(text.find("\nmy_sparse_total{histogram=\"s\",value=\"-3\"} 1\n") != std::string::npos);
+    HOLDS(text.find("povundiri") == std::string::npos);
+    RETURNS(BadPrefix, povundiri::try_export_text(image, text, "a:b"));
+    RETURNS(ImageTooShort, povundiri::try_export_text({image.data(), 15}, text));
+    DONE(povundiri::try_show_text(image, text));
+    HOLDS(text.find("b\n  boolean, units 1, sum 1, mean 1.00\n  values  " + std::string(49, ' ') + "units percent   up to\n") == 0);
+    DONE(povundiri::try_show_text(image, text, 40));
+    HOLDS(text.find("b\n  boolean, units 1, sum 1, mean 1.00\n  values  " + std::string(9, ' ') + "units percent   up to\n") == 0);
+    RETURNS(ImageTooShort, povundiri::try_show_text({image.data(), 15}, text));
     RETURNS(Empty, segment.try_close(image));
 }
 
@@ -269,6 +281,11 @@ void exceptions() {
     HOLDS(povundiri::report(image) == kReport);
     THROWS(ImageTooShort, "report, words 0: TooShort", povundiri::report({}));
     THROWS(TooManyKeys, "report, most keys 3: TooManyKeys", povundiri::report(image, 3));
+    HOLDS(povundiri::export_text(image).size() > povundiri::export_text(image, "my").size());
+    THROWS(BadPrefix, "export_text, words 1024: BadPrefix", povundiri::export_text(image, ""));
+    THROWS(ImageTooShort, "export_text, words 0: TooShort", povundiri::export_text({}));
+    HOLDS(povundiri::show_text(image) == povundiri::show_text(image, 80));
+    THROWS(ImageTooShort, "show_text, words 0: TooShort", povundiri::show_text({}));
     THROWS(ImageTooShort, "adopt, words 0: TooShort", Segment::adopt({}));
     Segment again = Segment::adopt(image, memory.room(), 1), heap = Segment::adopt(image);
     HOLDS(again.units() == heap.units() && heap.units() == UINT32_MAX - 10);

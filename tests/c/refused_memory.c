@@ -88,7 +88,7 @@ static void each_allocation(void) {
     struct povundiri_room room = {NULL, (WORDS + 2) * 8};
     uint64_t words[WORDS];
     size_t needed = 0;
-    char text[256];
+    char text[4096];
     void *memory = malloc(room.bytes + 16);
     room.at = (char *)memory + (16 - (uintptr_t)memory % 16) % 16;
     REFUSE_EACH(povundiri_create(shape, &segment));
@@ -103,6 +103,8 @@ static void each_allocation(void) {
     ASKS_FOR_NONE(povundiri_drop(&segment));
     REFUSE_EACH(povundiri_adopt(words, WORDS, 1, &segment));
     ASKS_FOR_NONE(povundiri_close(&segment, words, WORDS, NULL));
+    REFUSE_EACH(povundiri_export(words, WORDS, NULL, text, sizeof text, &needed));
+    REFUSE_EACH(povundiri_show(words, WORDS, 0, text, sizeof text, &needed));
     REFUSE_EACH(povundiri_report_bounded(words, WORDS, text, sizeof text, &needed, 1000));
     REFUSE_EACH(povundiri_report(words, WORDS, text, sizeof text, &needed));
     HOLDS(needed == sizeof expected - 1 && memcmp(text, expected, needed) == 0);

@@ -210,4 +210,15 @@ std::uint32_t povundiri_proved_report_bounded(const std::uint64_t*, std::size_t,
     *needed = 0;
     return POVUNDIRI_DONE;
 }
+
+std::uint32_t povundiri_proved_export(const std::uint64_t*, std::size_t, const std::uint8_t*, std::size_t, std::uint8_t*, std::size_t,
+                                      std::size_t* needed) {
+    *needed = 0;
+    return POVUNDIRI_DONE;
+}
+
+std::uint32_t povundiri_proved_show(const std::uint64_t*, std::size_t, std::uint16_t, std::uint8_t*, std::size_t, std::size_t* needed) {
+    *needed = 0;
+    return POVUNDIRI_DONE;
+}
 }

@@ -1,5 +1,6 @@
 """The interface for C and C++: every call of the headers, and each of its statuses, under the sanitizers; forks, and
-threads that come and go; the examples, whatever they find; and the programs that the pages show.
+threads that come and go; the texts of known images beside plain renderers; the examples, whatever they find; and the
+programs that the pages show.
 
 The programs are in `tests/c`. Each prints a line for each group of its checks.
 """
@@ -15,7 +16,8 @@ import tempfile
 from collections.abc import Callable, Iterator, Sequence
 from typing import Optional
 
-from support import compiling, native, services
+from parts import known
+from support import compiling, native, plain_export, plain_show, services
 from support.program import ROOT, Answer, Case, Path, answer, difference
 
 PROGRAM = "persist_report"
@@ -38,6 +40,10 @@ CHECKS: tuple[tuple[str, list[str], bool], ...] = (
 )
 
 
+# Every so many of the known images has its texts compared.
+STRIDE = 8
+PREFIX = "my_1"
+WIDTH = 61
 EXAMPLES = ROOT / "examples"
 PAGES = ("README.md", "docs/C.md")
 # What examples/c/record.c and each program of a page record when they are run twice: where each bucket begins and the
@@ -94,6 +100,27 @@ def text_of_statuses(program: pathlib.Path) -> Iterator[Case]:
     names_of_all = sorted(set(listed.values()) | {"Forked"})
     unknown = [name for name in names_of_all if answer(program, ["explain", name]).status != 0]
     yield "each name is explained", f"not explained are {unknown}" if unknown else None
+
+
+def texts(installed: native.Installed) -> Iterator[Case]:
+    """Known images: their reports by the known answers, the metrics and the texts for people by plain renderers."""
+    try:
+        program = installed.program(native.PROGRAMS / "texts.c", *native.SANITIZED)
+    except native.Failed as why:
+        yield "texts.c", str(why)
+        return
+    for image in sorted(known.FOLDER.glob("*.img"))[::STRIDE]:
+        data = image.read_bytes()
+        if len(data) % 8 != 0:
+            continue
+        yield f"{image.name}, its report", difference(known.wanted_of(image), answer(program, ["report", image]))
+        for what, words, wanted in [
+            ("metrics", ["export", image], plain_export.answer(data)),
+            ("metrics with a prefix", ["export", image, PREFIX], plain_export.answer(data, PREFIX)),
+            ("text", ["show", image], plain_show.answer(data)),
+            ("text in a width", ["show", image, str(WIDTH)], plain_show.answer(data, width=WIDTH)),
+        ]:
+            yield f"{image.name}, its {what}", difference(Answer(*wanted), answer(program, words))
 
 
 def report_in(program: Path, file: pathlib.Path) -> Answer:
@@ -184,6 +211,7 @@ def cases(program: pathlib.Path, options: argparse.Namespace) -> Iterator[Case]:
             own = folder / f"works_{number}"
             own.mkdir()
             yield from checked(installed, name, flags, own if works else None)
+        yield from texts(installed)
         for name, test in examples(installed, program, folder):
             yield name, wrong_of(test)
         yield from services.cases(installed, program, folder, report_in)

@@ -1,5 +1,5 @@
 """`show`: known and forged images beside a plain renderer; names, parts of names, widths, signs and separators; many
-sparse values."""
+sparse values; redundant counts."""
 
 from __future__ import annotations
 
@@ -19,6 +19,9 @@ PROGRAM = "persist_report"
 MOST_IMAGES = 1000
 MOST_SPARSE_IMAGES = 12
 SAMPLE_TAG = 3
+HISTOGRAM_TAG = 1
+HISTOGRAM_REDUNDANT = 13
+MOST_COUNT = b"18,446,744,073,709,551,615"
 
 # The text of the example, by hand: two of the three units are true. Of the 80 cells of a line 31 are not the bar's.
 EXAMPLE_TEXT = (
@@ -132,6 +135,13 @@ def beside(program: pathlib.Path, data: bytes, words: Sequence[Word] = (), **opt
     return difference(Answer(*plain_show.answer(data, **options)), answer(program, ["show", "-", *words], data))
 
 
+def explained_beside(program: pathlib.Path, data: bytes, words: Sequence[Word] = (), **options: Any) -> str | None:
+    """The same with `--explain`; of a fault the first line, since what follows it is tried elsewhere."""
+    came = answer(program, ["show", "-", *words, "--explain"], data)
+    came.error = b"".join(came.error.splitlines(True)[:1])
+    return difference(Answer(*plain_show.answer(data, explains=True, **options)), came)
+
+
 def columns(program: pathlib.Path, data: bytes) -> Iterator[Case]:
     """The width that `COLUMNS` asks for, from 40 to 200; `--width` comes before it, and what is no number says
     nothing."""
@@ -201,14 +211,37 @@ def sparse(program: pathlib.Path, folder: pathlib.Path, options: argparse.Namesp
             yield f"sparse image {number} of seed {options.seed}, {words}", beside(program, data, words, **settings)
 
 
+def redundant(program: pathlib.Path, folder: pathlib.Path) -> Iterator[Case]:
+    """The example with a redundant count of its own: with `--explain`, in front of the command or behind it, one more
+    line says it, where it is not the units. No variable of the environment asks for that line."""
+    words = list(struct.unpack(f"<{EXAMPLE.stat().st_size // 8}Q", EXAMPLE.read_bytes()))
+    record = next(at for at in range(len(words)) if words[at + 1 : at + 3] == [forge.BLOCK_COOKIE, HISTOGRAM_TAG])
+    text = EXAMPLE_TEXT
+    for count, human, line in [(3, [], b""), (2, [], b"2"), (0, [], b"0"), (2**64 - 1, ["--human"], MOST_COUNT)]:
+        words[record + HISTOGRAM_REDUNDANT] = count
+        image = folder / "counted"
+        image.write_bytes(struct.pack(f"<{len(words)}Q", *words))
+        told = text[:-1] + b"  counted once more: " + line + b"\n\n" if line else text
+        for title, before, after, setting, wanted in [
+            ("alone", [], [], {}, text),
+            ("explained", [], ["--explain"], {}, told),
+            ("explained in front", ["--explain"], [], {}, told),
+            ("explained by the environment", [], [], {"PERSIST_REPORT_EXPLAIN": "1"}, text),
+        ]:
+            came = answer(program, [*before, "show", image, *human, *after], env=setting)
+            yield f"{count} counted once more, {title}", difference(Answer(wanted), came)
+
+
 def cases(program: pathlib.Path, options: argparse.Namespace) -> Iterator[Case]:
     """Worked examples; the known images; and forged ones, a thousand at most, each drawn in one way or the other."""
     with tempfile.TemporaryDirectory() as folder:
         yield from worked(program, pathlib.Path(folder))
         yield from sparse(program, pathlib.Path(folder), options)
+        yield from redundant(program, pathlib.Path(folder))
     yield from command_faults.cases(program, ["show"])
     for image in sorted(known.FOLDER.glob("*.img")):
         yield image.name, beside(program, image.read_bytes())
+        yield f"{image.name}, explained", explained_beside(program, image.read_bytes())
     for number in range(min(options.images, MOST_IMAGES)):
         chance = random.Random(f"{options.seed} {number}")
         data = forge.image_of(chance)
@@ -218,3 +251,6 @@ def cases(program: pathlib.Path, options: argparse.Namespace) -> Iterator[Case]:
         words += ["--human"] if is_human else []
         settings = {"width": width, "is_ascii": is_ascii, "is_log": is_log, "is_human": is_human}
         yield f"image {number} of seed {options.seed}", beside(program, data, words, **settings)
+        if number % 4 == 0:
+            wrong = explained_beside(program, data, words, **settings)
+            yield f"image {number} of seed {options.seed}, explained", wrong

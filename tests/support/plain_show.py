@@ -142,7 +142,7 @@ def counted(count: int, word: str, is_human: bool) -> str:
 
 def histogram_text(
     name: str, histogram: plain_reader.ReadHistogram, width: int, is_ascii: bool, shows_all: bool, is_log: bool,
-    is_human: bool,
+    is_human: bool, explains: bool,
 ) -> Iterator[str]:
     kind = plain_reader.KINDS[histogram["kind"]]
     rows: list[Row] = [(low, high, units) for low, (high, units) in sorted(histogram["buckets"].items())]
@@ -161,6 +161,8 @@ def histogram_text(
         together = sum(units for low, _, units in rows if low in left_out)
         values, units = counted(len(left_out), "more value", is_human), counted(together, "unit", is_human)
         yield f"  {values}, with {units} in all (--all shows them)"
+    if explains and histogram["redundant"] != total:
+        yield f"  counted once more: {number(histogram['redundant'], is_human)}"
     yield ""
 
 
@@ -196,13 +198,14 @@ def text_of(
     shows_all: bool = False,
     is_log: bool = False,
     is_human: bool = False,
+    explains: bool = False,
 ) -> bytes:
     """The whole text; raises the image's fault."""
     by_name, bad_records, stopped, flags = plain_reader.reading_of(data, collections.Counter())
     lines: list[str] = []
     shown = shown_of(by_name, names, part)
     for name in shown:
-        lines += histogram_text(name.decode(), by_name[name], width, is_ascii, shows_all, is_log, is_human)
+        lines += histogram_text(name.decode(), by_name[name], width, is_ascii, shows_all, is_log, is_human, explains)
     lines += ending_of(shown, bad_records, stopped, flags)
     return "".join(f"{line}\n" for line in lines).encode()
 

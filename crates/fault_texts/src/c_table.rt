@@ -1,7 +1,7 @@
 //! What those statuses of the calls from C and C++ mean that no other program prints, and what to do.
 
 /// Each status by the name that `povundiri_status_text` has for it, with what it means and what to do, as in `TEXTS`.
-pub const C_TEXTS: [(&str, &str, &str); 19] = [
+pub const C_TEXTS: [(&str, &str, &str); 20] = [
     (
         "Done",
         "In C: the call did what it says.",
@@ -86,6 +86,11 @@ pub const C_TEXTS: [(&str, &str, &str); 19] = [
         "TooManyKeys",
         "In C: the image has more keys than the caller allows, and is not reported.",
         "Allow more if you trust the image. A forged one can have very many.",
+    ),
+    (
+        "BadPrefix",
+        "In C: no name of a metric may begin with the prefix of an export.",
+        "Pass a letter or `_` and then letters, digits and `_`, or a null pointer for `povundiri`.",
     ),
     (
         "Forked",

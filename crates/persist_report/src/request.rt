@@ -137,15 +137,16 @@ pub fn command<'a>(alloc: Global) -> Result<Command<'a>, AllocError> {
         .subcommand(explain_command(alloc)?)
 }
 
-// What a command of this name does; none if something is missing, which the parser refuses.
+// What a command of this name does, which is asked to explain or not; none if something is missing, which the parser refuses.
 fn task_of<'a>(
     alloc: Global,
     name: &str,
     found: &ArgMatches<'a>,
     columns: u16,
+    explains: bool,
 ) -> Result<Option<Task<'a>>, AllocError> {
     match name {
-        "show" => Ok(Some(show_task(alloc, found, columns)?)),
+        "show" => Ok(Some(show_task(alloc, found, columns, explains)?)),
         "size" => Ok(Some(Task::Size(size_task(alloc, found)?))),
         "export" => export_task(alloc, found),
         _ => Ok(plain_task(name, found)),
@@ -181,14 +182,15 @@ impl<'a> Request<'a> {
     pub fn of<S: AsStr>(alloc: Global, words: &'a [S], columns: u16) -> Result<Request<'a>, Error> {
         let mut command = command(alloc)?;
         let matches = command.try_get_matches_from_mut(words)?;
-        if let Some((name, found)) = matches.subcommand()
-            && let Some(task) = task_of(alloc, name, found, columns)?
-        {
-            return Ok(Request {
-                task,
-                explains: found.get_flag("explain") || matches.get_flag("explain"),
-                wants_whole: found.get_flag("whole"),
-            });
+        if let Some((name, found)) = matches.subcommand() {
+            let explains = found.get_flag("explain") || matches.get_flag("explain");
+            if let Some(task) = task_of(alloc, name, found, columns, explains)? {
+                return Ok(Request {
+                    task,
+                    explains,
+                    wants_whole: found.get_flag("whole"),
+                });
+            }
         }
         Err(command.error(ErrorKind::MissingSubcommand, "a subcommand is required")?)
     }

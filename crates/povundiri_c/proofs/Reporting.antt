@@ -1,6 +1,7 @@
--- What was read of words is what their report is of.
+-- What was read of words is what their text is of.
 use Rattle.std.proofs.Common.{◌≡◌, ◌⊎◌, Bool, ℕ, List, length, drop, ◌++◌, sym, ap, ◌∙◌, subst, Result, Ok, Err, MatchResult, IfOk, IfErr, inr}
 use Rattle.std.proofs.lemmas.Result.{MatchResult-at_ok, MatchResult-at_err}
+use Rattle.bucket_ranges.specs.Reading as ranges
 use Rattle.bucket_ranges.specs.Reading.{IsReading}
 use Rattle.segment_image.specs.Head.{header_of}
 use Rattle.segment_image.specs.declared.head.SegmentHead.{SegmentHead}
@@ -9,8 +10,7 @@ use Rattle.segment_image.specs.declared.fault.ImageFault.TheVariants.{NoMemory}
 use Rattle.image_reader.specs.Keys.{HasMoreKeys}
 use Rattle.image_reader.specs.declared.reading.Reading.{Reading}
 use Rattle.image_reader.specs.Views.{reading_view}
-use Rattle.reading_texts.specs.Text.{IsTextOf}
-use Rattle.povundiri_c.specs.Reports.{IsReportOfWords, IsSaidOfValid, SayKeys}
+use Rattle.povundiri_c.specs.Reports.{IsSaidOfValid, IsTextOfWords, SayKeys}
 use Rattle.povundiri_c.specs.Status.{status_of_image_fault}
 
 -- the status of words that have no reading is that of their header's fault, if it has one
@@ -20,19 +20,19 @@ pub fault_of : {X : Type 0} (outer : Result SegmentHead ImageFault) (result : Re
 fault_of (Ok head) result why status P Q held is says = tt
 fault_of (Err fault) result why status P Q held is says = search (is, held, says)
 
--- the text of what was read is the report of the words
-pub report_of : (words : List ℕ) (outer : Result SegmentHead ImageFault) (result : Result Reading ImageFault) (reading : Reading) (text : List ℕ) (Q : ImageFault → Type 0)
+-- the text of what was read is that of the words
+pub text_of_words : (IsOf : ranges.Reading → List ℕ → Type 0) (words : List ℕ) (outer : Result SegmentHead ImageFault) (result : Result Reading ImageFault) (reading : Reading) (text : List ℕ) (Q : ImageFault → Type 0)
     → header_of words ≡ outer
     → MatchResult outer (λ head. MatchResult result (λ read. IsReading words head (reading_view read)) Q) (λ fault. result ≡ Err fault)
-    → result ≡ Ok reading → IsTextOf (reading_view reading) text → IsReportOfWords words text
-report_of words (Ok head) result reading text Q same held is of = record {
+    → result ≡ Ok reading → IsOf (reading_view reading) text → IsTextOfWords IsOf words text
+text_of_words IsOf words (Ok head) result reading text Q same held is of = record {
   head = head;
   head_is = same;
   reading = reading_view reading;
   reading_is = MatchResult-at_ok (λ read. IsReading words head (reading_view read)) Q reading is held;
   text_is = of;
 }
-report_of words (Err fault) result reading text Q same held is of = absurd (subst (λ (read : Result Reading ImageFault). MatchResult read (λ _. Unit {0}) (λ _. ⊥)) (sym is ∙ held) tt)
+text_of_words IsOf words (Err fault) result reading text Q same held is of = absurd (subst (λ (read : Result Reading ImageFault). MatchResult read (λ _. Unit {0}) (λ _. ⊥)) (sym is ∙ held) tt)
 
 -- bytes that were written in front of others
 pub in_front : (text bytes old : List ℕ) (count : ℕ) → bytes ≡ text → count ≡ length text → bytes ++ drop count old ≡ text ++ drop (length text) old

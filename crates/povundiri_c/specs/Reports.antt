@@ -1,32 +1,72 @@
--- The report that C is given.
-use Rattle.std.specs.Prelude.{◌≡◌, ◌⊎◌, ◌<◌, Bool, ℕ, List, length, drop, ◌++◌, Ok}
+-- The texts of an image that C is given.
+use Rattle.std.specs.Prelude.{◌≡◌, ◌⊎◌, ◌<◌, Bool, false, ◌==◌, if◌then◌else◌, ℕ, List, [], length, drop, ◌++◌, Ok}
 use Rattle.bucket_ranges.specs.Reading.{Reading, IsReading}
 use Rattle.segment_image.specs.Head.{header_of}
 use Rattle.segment_image.specs.declared.head.SegmentHead.{SegmentHead}
 use Rattle.image_reader.specs.Keys.{HasMoreKeys}
 use Rattle.reading_texts.specs.Text.{IsTextOf}
+use Rattle.reading_texts.specs.Exporting.{IsExportOf}
+use Rattle.reading_shows.specs.declared.choice.Choice.TheVariants.{All}
+use Rattle.reading_shows.specs.declared.style.Style.{Style}
+use Rattle.reading_shows.specs.Showing.{IsShowOf}
+use Rattle.povundiri_c.specs.declared.texts.TextAsked.{TextAsked}
+use Rattle.povundiri_c.specs.declared.texts.TextAsked.TheVariants.{Report, Export, Show}
 
--- the text is the report of what the words read as
-pub record IsReportOfWords (words text : List ℕ) : Type 0 where
+-- ---- which text
+
+-- how many cells a line has where so many are asked for: 80 where none are
+abbrev pub width_asked : ℕ → ℕ
+width_asked width = if width == 0 then 80 else width
+
+-- how histograms are drawn: in lines of so many cells, and by no option
+abbrev pub style_asked : ℕ → Style
+style_asked width = record {
+  width = width_asked width;
+  is_ascii = false;
+  is_human = false;
+  is_log = false;
+  shows_all = false;
+  shows_redundant = false;
+}
+
+-- the metrics of a reading with this prefix, without labels of all lines
+abbrev pub IsExportAsked : List ℕ → Reading → List ℕ → Type 0
+IsExportAsked prefix = IsExportOf prefix []
+
+-- the text of a reading for people in this width, of all histograms
+abbrev pub IsShowAsked : ℕ → Reading → List ℕ → Type 0
+IsShowAsked width = IsShowOf (style_asked width) All
+
+-- the text that is asked for
+abbrev pub IsTextAsked : TextAsked → Reading → List ℕ → Type 0
+IsTextAsked Report = IsTextOf
+IsTextAsked (Export prefix) = IsExportAsked prefix.now
+IsTextAsked (Show width) = IsShowAsked width
+
+-- ---- what is written of it
+
+-- the text is that of what the words read as
+pub record IsTextOfWords (IsOf : Reading → List ℕ → Type 0) (words text : List ℕ) : Type 0 where
   pub head : SegmentHead
   pub head_is : header_of words ≡ Ok head
   pub reading : Reading
   pub reading_is : IsReading words head reading
-  pub text_is : IsTextOf reading text
+  pub text_is : IsOf reading text
 
--- the report of the words is at the front of the array, which had room for it; the bytes after it are unchanged
-abbrev pub IsReportWritten : List ℕ → List ℕ → List ℕ → ℕ → Type 0
-IsReportWritten words old new needed = (text : List ℕ) × IsReportOfWords words text × (needed ≡ length text) × (new ≡ text ++ drop (length text) old)
+-- the text of the words is at the front of the array, which had room for it; the bytes after it are unchanged
+abbrev pub IsTextWritten : (Reading → List ℕ → Type 0) → List ℕ → List ℕ → List ℕ → ℕ → Type 0
+IsTextWritten IsOf words old new needed =
+    (text : List ℕ) × IsTextOfWords IsOf words text × (needed ≡ length text) × (new ≡ text ++ drop (length text) old)
 
--- the array has no room for the report of the words, which has this many bytes
-abbrev pub IsReportTooLong : List ℕ → List ℕ → ℕ → Type 0
-IsReportTooLong words old needed = (text : List ℕ) × IsReportOfWords words text × (needed ≡ length text) × (length old < length text)
+-- the array has no room for the text of the words, which has this many bytes
+abbrev pub IsTextTooLong : (Reading → List ℕ → Type 0) → List ℕ → List ℕ → ℕ → Type 0
+IsTextTooLong IsOf words old needed = (text : List ℕ) × IsTextOfWords IsOf words text × (needed ≡ length text) × (length old < length text)
 
 -- the header of the words has no fault, and they read as more than this many keys, or as no more
 abbrev pub SayKeys : List ℕ → ℕ → Bool → Type 0
 SayKeys words most more = (head : SegmentHead) × (header_of words ≡ Ok head) × HasMoreKeys words head most more
 
--- what is returned for words whose header has no fault: their report was written, the array is too short for it, or memory ran out for the
+-- what is returned for words whose header has no fault: their text was written, the array is too short for it, or memory ran out for the
 -- text or for the reading
 abbrev pub IsSaidOfValid : ℕ → Type 0
 IsSaidOfValid status = (status ≡ 0) ⊎ (status ≡ 7) ⊎ (status ≡ 13) ⊎ (status ≡ 513)

@@ -14,6 +14,7 @@ mod owned_segment;
 mod seat_state;
 mod seats;
 mod status;
+mod texts;
 mod types;
 
 pub use handle::Handle;

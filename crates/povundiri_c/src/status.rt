@@ -52,6 +52,9 @@ pub(crate) const BUSY: u32 = 15;
 /// The image has more keys than the caller allows.
 pub(crate) const TOO_MANY_KEYS: u32 = 17;
 
+/// No name of a metric may begin with the prefix.
+pub(crate) const BAD_PREFIX: u32 = 18;
+
 /// Why a call is refused: its status, and a length: how much room is needed where the status is `SHORT`; of a batch, how many items were
 /// counted; else 0.
 #[derive(Clone, Copy)]

@@ -177,6 +177,15 @@ abbrev pub left_out_line : Bool → List HistRow → List ℕ
 left_out_line is_human rows =
     if length rows == 0 then [] else left_out_text is_human (length rows) (sum_by (λ row. row.units) rows)
 
+-- the line of these units, which are counted once more
+abbrev pub redundant_text : Bool → ℕ → List ℕ
+redundant_text is_human units = joined (codes "  counted once more: " ∷ number is_human units ∷ codes "\n" ∷ [])
+
+-- the line of the redundant count, where it is asked for and differs from the units
+abbrev pub redundant_line : Style → Histogram → List ℕ
+redundant_line style hist =
+    if style.shows_redundant && not (hist.redundant == units_of hist) then redundant_text style.is_human hist.redundant else []
+
 -- what the lines of a histogram have in common
 abbrev pub frame_of : Histogram → Frame
 frame_of hist = record {
@@ -197,6 +206,7 @@ histogram_text style hist =
     ++ number_lines style.is_human hist
     ++ row_lines style (frame_of hist) (shown_rows (shows_all_of style.shows_all hist) (rows_of hist))
     ++ left_out_line style.is_human (left_out_rows (shows_all_of style.shows_all hist) (rows_of hist))
+    ++ redundant_line style hist
     ++ codes "\n"
 
 -- ---- the end

@@ -24,6 +24,7 @@ mod naming;
 mod page;
 mod page_lists;
 mod page_rows;
+mod redundant;
 mod shares;
 mod sheet;
 mod showing;

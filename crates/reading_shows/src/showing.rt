@@ -11,6 +11,7 @@ use crate::ending::put_ending;
 use crate::heading::put_numbers;
 use crate::lines::{put_left_out, put_rows};
 use crate::most::pick;
+use crate::redundant::put_redundant;
 use crate::style::{Style, frame_of, shows_all_of};
 use image_reader::{HistReading, Reading};
 use reading_texts::rows_of;
@@ -40,6 +41,7 @@ fn put_histogram(
         picked.shown.as_slice(),
     )?;
     put_left_out(text, style.is_human, picked.left_out.as_slice())?;
+    put_redundant(text, style, hist)?;
     text.extend_from_slice(b"\n")?;
     Ok(())
 }
@@ -63,8 +65,8 @@ fn put_histograms(
 /// Returns the text of a reading for people, byte for byte: of each chosen histogram, by name, its numbers, its
 /// quantiles and a bar for each bucket that has units, or for each of the 20 values of a sparse one with the most
 /// units, unless the style shows all; then the flags that are set and the bad records. Of the values of a sparse
-/// histogram that are left out one line says how many they are, and what units they have together. The one error is
-/// that memory runs out.
+/// histogram that are left out one line says how many they are, and what units they have together. Where the style shows
+/// redundant counts, one more line says that of a histogram whose units it is not. The one error is that memory runs out.
 pub fn show_text(
     alloc: Global,
     reading: &Reading,

@@ -24,6 +24,8 @@ pub struct Style {
     pub is_log: bool,
     /// Whether a line may stand for each value of a sparse histogram, and not only for the 20 with the most units.
     pub shows_all: bool,
+    /// Whether a line says how many units are counted once more, where these are not all.
+    pub shows_redundant: bool,
 }
 
 // What the rows of a histogram have in common.

@@ -82,6 +82,15 @@ fn style_options<'a>(alloc: Global, command: Command<'a>) -> Result<Command<'a>,
     command.arg(width)?.arg(all)?.arg(log)?.arg(ascii)
 }
 
+// Asks for the lines that follow the line of a fault, and for those of redundant counts.
+fn explain_counts_flag<'a>(alloc: Global) -> Arg<'a> {
+    explain_flag(alloc)
+        .help("Explain errors, and show redundant counts that differ")
+        .long_help(
+            "Explain errors: file, line, reason and what to do (on by default in a\nterminal). Also show the redundant count of a histogram, where it\ndiffers from the units",
+        )
+}
+
 pub fn show_command<'a>(alloc: Global) -> Result<Command<'a>, AllocError> {
     let names = Arg::new(alloc, "NAME")
         .num_args(0..)
@@ -111,7 +120,7 @@ pub fn show_command<'a>(alloc: Global) -> Result<Command<'a>, AllocError> {
     style_options(alloc, command)?
         .arg(to_option(alloc))?
         .arg(whole_flag(alloc))?
-        .arg(explain_flag(alloc))
+        .arg(explain_counts_flag(alloc))
 }
 
 pub fn explain_command<'a>(alloc: Global) -> Result<Command<'a>, AllocError> {
@@ -143,6 +152,7 @@ pub fn show_task<'a>(
     alloc: Global,
     show: &ArgMatches<'a>,
     columns: u16,
+    explains: bool,
 ) -> Result<Task<'a>, AllocError> {
     let names = match show.get_strs("NAME") {
         Some(names) => Vec::from_slice(alloc, names)?,
@@ -154,6 +164,7 @@ pub fn show_task<'a>(
         is_human: show.get_flag("human"),
         is_log: show.get_flag("log"),
         shows_all: show.get_flag("all"),
+        shows_redundant: explains,
     };
     Ok(Task::Show {
         file: show.get_str("FILE"),

@@ -1,13 +1,16 @@
-//! The report of an image.
+//! The texts of an image: its report, its metrics, and its text for people.
 
-ghost use Rattle.std.specs.Prelude.{◌≡◌, ◌≢◌, ◌⊎◌, true, false, IfOk, IfErr};
+ghost use Rattle.std.specs.Prelude.{◌≡◌, ◌≢◌, ◌⊎◌, ◌↔◌, true, false, IfOk, IfErr};
 ghost use Rattle.segment_image.specs.Head.{header_of};
-ghost use Rattle.povundiri_c.specs.Reports.{IsReportTooLong, IsReportWritten, IsSaidOfValid, SayKeys};
+ghost use Rattle.reading_texts.specs.Labels.{is_metric_word};
+ghost use Rattle.reading_texts.specs.Text.{IsTextOf};
+ghost use Rattle.povundiri_c.specs.Reports.{IsExportAsked, IsSaidOfValid, IsShowAsked, IsTextTooLong, IsTextWritten, SayKeys};
 ghost use Rattle.povundiri_c.specs.Status.{status_of_image_fault};
 
-use crate::status::{DONE, NO_MEMORY, SHORT, TOO_MANY_KEYS, of_image_fault};
-use image_reader::{has_more_keys, read};
-use reading_texts::report_text;
+use crate::status::{BAD_PREFIX, TOO_MANY_KEYS, of_image_fault};
+use crate::texts::{TextAsked, write_text};
+use image_reader::has_more_keys;
+use reading_texts::is_prefix;
 use std::alloc::Global;
 
 /// Writes the report of an image as CSV, where there is room for it, and how many bytes it has.
@@ -26,13 +29,13 @@ pub extern "C" fn povundiri_proved_report(
     needed: &mut usize,
 ) -> u32
     ensures fault { IfErr (header_of words.now) (λ fault. result ≡ status_of_image_fault fault) }
-    ensures done { result ≡ 0 → IsReportWritten words.now text.old text.new needed.new }
-    ensures short { result ≡ 7 → IsReportTooLong words.now text.old needed.new }
+    ensures done { result ≡ 0 → IsTextWritten IsTextOf words.now text.old text.new needed.new }
+    ensures short { result ≡ 7 → IsTextTooLong IsTextOf words.now text.old needed.new }
     ensures valid { IfOk (header_of words.now) (λ _. IsSaidOfValid result) }
     ensures untouched { result ≢ 0 → text.new ≡ text.old }
     ensures alone { result ≢ 0 → result ≢ 7 → needed.new ≡ needed.old }
 {
-    write_report(alloc, words, text, needed)
+    write_text(alloc, TextAsked::Report, words, text, needed)
 }
 
 /// The same, of an image that reads as no more keys than `most_keys`: buckets of its histograms, and values of the
@@ -54,8 +57,8 @@ pub extern "C" fn povundiri_proved_report_bounded(
     most_keys: u64,
 ) -> u32
     ensures fault { IfErr (header_of words.now) (λ fault. result ≡ status_of_image_fault fault) }
-    ensures done { result ≡ 0 → IsReportWritten words.now text.old text.new needed.new }
-    ensures short { result ≡ 7 → IsReportTooLong words.now text.old needed.new }
+    ensures done { result ≡ 0 → IsTextWritten IsTextOf words.now text.old text.new needed.new }
+    ensures short { result ≡ 7 → IsTextTooLong IsTextOf words.now text.old needed.new }
     ensures many { result ≡ 17 → SayKeys words.now most_keys true }
     ensures few { (result ≡ 0) ⊎ (result ≡ 7) → SayKeys words.now most_keys false }
     ensures valid { IfOk (header_of words.now) (λ _. (result ≡ 17) ⊎ IsSaidOfValid result) }
@@ -69,30 +72,65 @@ pub extern "C" fn povundiri_proved_report_bounded(
     if more {
         return TOO_MANY_KEYS;
     }
-    write_report(alloc, words, text, needed)
+    write_text(alloc, TextAsked::Report, words, text, needed)
 }
 
-// Writes the report of an image, where there is room for it.
-fn write_report(alloc: Global, words: &[u64], text: &mut [u8], needed: &mut usize) -> u32
-    ensures fault { IfErr (header_of words.now) (λ fault. result ≡ status_of_image_fault fault) }
-    ensures done { result ≡ 0 → IsReportWritten words.now text.old text.new needed.new }
-    ensures short { result ≡ 7 → IsReportTooLong words.now text.old needed.new }
-    ensures valid { IfOk (header_of words.now) (λ _. IsSaidOfValid result) }
-    ensures others { result ≢ 17 }
+/// Writes the metrics of an image in the Prometheus text format, where there is room for them, and how many bytes they
+/// have. The names of all metrics begin with the prefix.
+///
+/// - The status is 18 exactly if no name of a metric may begin with it: it is not a letter of ASCII or `_` and then such
+///   ones and digits [prefix].
+/// - Else it is that of the header's first fault, 500 and the fault's number, where it has one [fault], and 0, 7, 13 or
+///   513 where it has none: the last two where memory runs out [valid].
+/// - 0: the metrics of the words are at the front of the array, their length is returned, and the bytes after them are
+///   unchanged [done].
+/// - 7: the array has no room for the metrics, whose length is returned [short].
+/// - On any status but 0 the array is unchanged [untouched], and on any but 0 and 7 the length too [alone].
+#[unsafe(no_mangle)]
+pub extern "C" fn povundiri_proved_export(
+    alloc: Global,
+    words: &[u64],
+    prefix: &[u8],
+    text: &mut [u8],
+    needed: &mut usize,
+) -> u32
+    ensures prefix { (result ≡ 18) ↔ (is_metric_word prefix.now ≡ false) }
+    ensures fault { result ≢ 18 → IfErr (header_of words.now) (λ fault. result ≡ status_of_image_fault fault) }
+    ensures valid { result ≢ 18 → IfOk (header_of words.now) (λ _. IsSaidOfValid result) }
+    ensures done { result ≡ 0 → IsTextWritten (IsExportAsked prefix.now) words.now text.old text.new needed.new }
+    ensures short { result ≡ 7 → IsTextTooLong (IsExportAsked prefix.now) words.now text.old needed.new }
     ensures untouched { result ≢ 0 → text.new ≡ text.old }
     ensures alone { result ≢ 0 → result ≢ 7 → needed.new ≡ needed.old }
 {
-    let reading = match read(alloc, words) {
-        Ok(reading) => reading,
-        Err(fault) => return of_image_fault(fault),
-    };
-    let Ok(found) = report_text(alloc, &reading) else {
-        return NO_MEMORY;
-    };
-    *needed = found.len();
-    if text.len() < found.len() {
-        return SHORT;
+    if !is_prefix(prefix) {
+        return BAD_PREFIX;
     }
-    text[..found.len()].copy_from_slice(&found);
-    DONE
+    write_text(alloc, TextAsked::Export { prefix }, words, text, needed)
+}
+
+/// Writes the text of an image for people, of all its histograms, where there is room for it, and how many bytes it has.
+/// A line has so many cells, and 80 where 0 are asked for.
+///
+/// - The status is that of the header's first fault, 500 and the fault's number, where it has one [fault]. Else it is
+///   0, 7, 13 or 513: the last two where memory runs out [valid].
+/// - 0: the text of the words is at the front of the array, its length is returned, and the bytes after it are
+///   unchanged [done].
+/// - 7: the array has no room for the text, whose length is returned [short].
+/// - On any status but 0 the array is unchanged [untouched], and on any but 0 and 7 the length too [alone].
+#[unsafe(no_mangle)]
+pub extern "C" fn povundiri_proved_show(
+    alloc: Global,
+    words: &[u64],
+    width: u16,
+    text: &mut [u8],
+    needed: &mut usize,
+) -> u32
+    ensures fault { IfErr (header_of words.now) (λ fault. result ≡ status_of_image_fault fault) }
+    ensures done { result ≡ 0 → IsTextWritten (IsShowAsked width) words.now text.old text.new needed.new }
+    ensures short { result ≡ 7 → IsTextTooLong (IsShowAsked width) words.now text.old needed.new }
+    ensures valid { IfOk (header_of words.now) (λ _. IsSaidOfValid result) }
+    ensures untouched { result ≢ 0 → text.new ≡ text.old }
+    ensures alone { result ≢ 0 → result ≢ 7 → needed.new ≡ needed.old }
+{
+    write_text(alloc, TextAsked::Show { width }, words, text, needed)
 }

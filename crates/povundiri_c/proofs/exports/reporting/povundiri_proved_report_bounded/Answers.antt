@@ -43,7 +43,7 @@ pub returns-then-more-clause-few : goal.returns-then-more-clause-few
 returns-then-more-clause-few c = λ either. elim either [ inl same ↦ absurd (omega (arith, same)) | inr same ↦ absurd (omega (arith, same)) ]
 
 pub returns-clause-many : goal.returns-clause-many
-returns-clause-many c = λ same. absurd (c.write_report.ensures.others same)
+returns-clause-many c = λ same. absurd (c.write_text.ensures.not_many same)
 
 pub returns-clause-few : goal.returns-clause-few
 returns-clause-few c = λ _.

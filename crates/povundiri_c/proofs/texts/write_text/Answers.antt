@@ -5,8 +5,9 @@ use Rattle.segment_image.specs.declared.head.SegmentHead.{SegmentHead}
 use Rattle.segment_image.specs.declared.fault.ImageFault.TheVariants.{NoMemory}
 use Rattle.image_reader.specs.declared.reading.Reading.{Reading}
 use Rattle.image_reader.specs.Views.{reading_view}
-use Rattle.povundiri_c.proofs.Reporting.{fault_of, in_front, report_of, said_of_valid}
-use Rattle.povundiri_c.proofs.exports.reporting.write_report.Goals as goal
+use Rattle.povundiri_c.specs.Reports.{IsTextAsked}
+use Rattle.povundiri_c.proofs.Reporting.{fault_of, in_front, text_of_words, said_of_valid}
+use Rattle.povundiri_c.proofs.texts.write_text.Goals as goal
 
 pub returns-in-Err-clause-fault : goal.returns-in-Err-clause-fault
 returns-in-Err-clause-fault c =
@@ -22,18 +23,18 @@ returns-in-Err-clause-valid c =
 
 pub returns-then-text-len-clause-short : goal.returns-then-text-len-clause-short
 returns-then-text-len-clause-short c = λ _. (
-  c.in-Ok-report_text.found.items,
-  report_of c.args.words.now (header_of c.args.words.now) c.read.result c.in-Ok.reading c.in-Ok-report_text.found.items (λ fault. fault ≡ NoMemory)
-      refl c.read.ensures.answer c.in-Ok.is c.in-Ok-report_text.ensures,
-  c.len.ensures ∙ c.in-Ok-report_text.found.ok.0,
-  omega (arith, c.len.ensures, c.len-2.ensures, c.in-Ok-report_text.found.ok.0, c.if-text-len.true),
+  c.in-Ok-text_of.found.items,
+  text_of_words (IsTextAsked c.args.asked) c.args.words.now (header_of c.args.words.now) c.read.result c.in-Ok.reading c.in-Ok-text_of.found.items (λ fault. fault ≡ NoMemory)
+      refl c.read.ensures.answer c.in-Ok.is c.in-Ok-text_of.ensures,
+  c.len.ensures ∙ c.in-Ok-text_of.found.ok.0,
+  omega (arith, c.len.ensures, c.len-2.ensures, c.in-Ok-text_of.found.ok.0, c.if-text-len.true),
 )
 
 pub returns-clause-done : goal.returns-clause-done
 returns-clause-done c = λ _. (
-  c.in-Ok-report_text.found.items,
-  report_of c.args.words.now (header_of c.args.words.now) c.read.result c.in-Ok.reading c.in-Ok-report_text.found.items (λ fault. fault ≡ NoMemory)
-      refl c.read.ensures.answer c.in-Ok.is c.in-Ok-report_text.ensures,
-  c.len.ensures ∙ c.in-Ok-report_text.found.ok.0,
-  in_front _ _ c.args.text.now _ (c.copy_from_slice.ensures.after ∙ c.deref.ensures.value) (c.len-3.ensures ∙ c.in-Ok-report_text.found.ok.0),
+  c.in-Ok-text_of.found.items,
+  text_of_words (IsTextAsked c.args.asked) c.args.words.now (header_of c.args.words.now) c.read.result c.in-Ok.reading c.in-Ok-text_of.found.items (λ fault. fault ≡ NoMemory)
+      refl c.read.ensures.answer c.in-Ok.is c.in-Ok-text_of.ensures,
+  c.len.ensures ∙ c.in-Ok-text_of.found.ok.0,
+  in_front _ _ c.args.text.now _ (c.copy_from_slice.ensures.after ∙ c.deref.ensures.value) (c.len-3.ensures ∙ c.in-Ok-text_of.found.ok.0),
 )

@@ -285,9 +285,9 @@ def by_name(program: pathlib.Path, parse: Parse | None, folder: pathlib.Path) ->
     """`--families`: names made lawful, labels, and names that clash."""
     script, image = folder / "families", folder / "families.img"
 
-    def made(hists: Iterable[str]) -> bytes:
-        """The image of histograms, each as its fields in a script."""
-        script.write_text("segment,8192,1024,7\n" + "".join(f"hist,{hist}\n" for hist in hists) + FAMILY_COUNTS)
+    def made(hists: Iterable[str], counts: str = FAMILY_COUNTS) -> bytes:
+        """The image of histograms, each as its fields in a script, and what is counted in them."""
+        script.write_text("segment,8192,1024,7\n" + "".join(f"hist,{hist}\n" for hist in hists) + counts)
         answer(program, ["run", script, image])
         return image.read_bytes()
 
@@ -318,7 +318,7 @@ def by_name(program: pathlib.Path, parse: Parse | None, folder: pathlib.Path) ->
         right = came.status == 3 and out.read_bytes() == b"old\n" and not left
         yield f"{fault}, --to", None if right else f"came {came}, left {left}"
     for name, other in OF_SEGMENT.items():
-        came = answer(program, ["export", "--families"], made([f"{name},boolean"]))
+        came = answer(program, ["export", "--families"], made([f"{name},boolean"], ""))
         yield f"Clash {name}", difference(Answer(b"", f"persist_report: Clash {name} {other}\n".encode(), 3), came)
 
 

@@ -28,7 +28,7 @@ pub fn families_flag<'a>(alloc: Global) -> Arg<'a> {
         .action(ArgAction::SetTrue)
         .help("Name metrics after the histograms: PREFIX_NAME")
         .long_help(
-            "Name metrics after the histograms: PREFIX_NAME, with _ for each byte of\nNAME but letters and digits",
+            "Name metrics after the histograms: PREFIX_NAME, with _ for each byte\nof NAME but letters and digits",
         )
 }
 

@@ -31,9 +31,14 @@ SAID = ["S.sample(-5).mark 0 -> 2", "S.sample(-5).count 0 -> 2", "S.redundant 0 
 MOUNTED = "world,128,64,7,1,2\n" + "".join(
     f"{call}\nstep,0,100\n" for call in ("hist,0,A,boolean", "add,0,A,0,1", "add,0,A,1,3", "delta,0,A")
 )
-COUNTED = ["A.single 0 -> 1", "A.counts 0 -> 32", "A.count[1] 0 -> 3", "A.mark[1] 0 -> 3", "A.single_mark 0 -> 1"]
+COUNTED = [
+    '@16.name "" -> "A"', "A.single empty -> (bucket 0, 1 unit)", "A.counts 0 -> 32",
+    "A.single (bucket 0, 1 unit) -> frozen (bucket 0, 1 unit)", "A.count[1] 0 -> 3", "A.mark[1] 0 -> 3",
+    "A.single_mark 0 -> 1", "answer: histogram at 16", "answer: added",
+    "answer: took a sum of 3, 1 unit at 0, 3 units at 1",
+]
 
-# Exchanges that fail, in the order of their events. A packed word has its bucket times 2^32 and its units.
+# Exchanges that fail, in the order of their events.
 LATE = {
     "free pointer": (
         "world,128,64,7,2,2\nhist,0,A,boolean\nhist,1,B,boolean\nstep,0,3\nstep,1,3\nstep,0,1000\nstep,1,1000\n",
@@ -54,14 +59,17 @@ LATE = {
         "world,128,64,7,2,2\nhist,0,A,boolean\nstep,0,100\nhist,1,A,boolean\nstep,1,100\nadd,0,A,0,1\nstep,0,100\n"
         "add,0,A,1,1\nadd,1,A,1,1\nstep,0,8\nstep,1,8\nstep,0,1\nstep,1,100\nstep,0,100\n",
         [
-            "A.single 0 -> 1", "free 32 -> 42", "free 42 -> 52", "A.counts 0 -> 32", "A.counts: wanted 0, found 32",
-            "@42.type 2 -> 0",
+            "A.single empty -> (bucket 0, 1 unit)", "free 32 -> 42", "free 42 -> 52", "A.counts 0 -> 32",
+            "A.counts: wanted 0, found 32", "@42.type 2 -> 0",
         ],
     ),
     "single word": (
         "world,128,64,7,2,2\nhist,0,A,boolean\nstep,0,100\nhist,1,A,boolean\nstep,1,100\n"
         "add,0,A,1,1\nadd,1,A,1,1\nstep,0,1\nstep,1,1\nstep,0,100\nstep,1,100\n",
-        ["A.single 0 -> 4294967297", "A.single: wanted 0, found 4294967297", "A.single 4294967297 -> 4294967298"],
+        [
+            "A.single empty -> (bucket 1, 1 unit)", "A.single: wanted empty, found (bucket 1, 1 unit)",
+            "A.single (bucket 1, 1 unit) -> (bucket 1, 2 units)",
+        ],
     ),
 }
 

@@ -9,7 +9,7 @@ from __future__ import annotations
 import csv
 from collections.abc import Sequence
 
-from support.layout import COUNTS, HISTOGRAM, SAMPLE
+from support.layout import COUNTS, HISTOGRAM, SAMPLE, TOP
 from support.plain_calls import Calls, Event
 from support.plain_reader import signed
 from support.seeded_schedules import Schedule
@@ -17,6 +17,8 @@ from support.seeded_schedules import Schedule
 COLUMN = 32
 HEADER = {6: "flags", 7: "free", 8: "tail", 15: "queue.next"}
 COMMON = ["size", "cookie", "type", "next"]
+# In a histogram's record the single word, the sum and its mark, and the first word of the name.
+SINGLE, SUMS, NAME = 9, (11, 12), 15
 FIELDS = {
     HISTOGRAM: [
         *COMMON, "kind", "min", "max", "buckets", "counts", "single", "single_mark", "sum", "sum_mark", "redundant",
@@ -71,6 +73,69 @@ def meaning(words: Sequence[int], at: int) -> str:
     return f"{owner}.{fields[place] if place < len(fields) else other}"
 
 
+def quantity(number: int | str, one: str) -> str:
+    return f"{number} {one}" if int(number) == 1 else f"{number} {one}s"
+
+
+def packed(word: int) -> str:
+    return f"(bucket {word >> 32}, {quantity(word % 2**32, 'unit')})"
+
+
+def single(version: int, buckets: int, word: int) -> str:
+    """A single word in words, or its number where docs/FORMAT.md has no such word."""
+    is_packed = word % TOP >> 32 < buckets and 1 <= word % 2**32 <= 65_535
+    if word < TOP:
+        return packed(word) if is_packed else str(word) if word else "empty"
+    low = word - TOP
+    if version == 2:
+        return f"frozen {packed(low)}" if is_packed else str(word) if low else "frozen"
+    return f"disabled (bucket {low})" if low < buckets else "disabled" if low == 65_535 else str(word)
+
+
+def letters(word: int) -> str:
+    """Eight bytes of a name; those that are 0 belong to none."""
+    signs = [chr(byte) if 32 <= byte < 127 and chr(byte) not in '"\\' else f"\\x{byte:02x}" for byte in
+             word.to_bytes(8, "little") if byte]
+    return '"' + "".join(signs) + '"'
+
+
+def value(words: Sequence[int], at: int, number: int) -> str:
+    """What a number says in a word, as the words stand."""
+    block = next((block for block in blocks_of(words) if block <= at < block + words[block]), None)
+    if block is None:
+        return str(number)
+    tag, place = words[block + 2], at - block
+    if tag == HISTOGRAM and place == SINGLE:
+        return single(words[1], words[block + 7], number)
+    if tag == HISTOGRAM and NAME <= place < NAME + -(-min(words[block + 14], 128) // 8):
+        return letters(number)
+    if tag == HISTOGRAM and place in SUMS or tag == SAMPLE and place == 5:
+        return str(signed(number))
+    return str(number)
+
+
+def said(fields: Sequence[str]) -> str:
+    """An answer in words, of its fields in a line."""
+    kind, *rest = fields
+    if kind == "hist":
+        return f"histogram at {rest[0]}"
+    if kind == "delta":
+        return f"took a sum of {rest[0]}" + keys(rest[1:])
+    if kind == "snapshot":
+        return f"saw a sum of {rest[0]}, redundant {rest[1]}" + keys(rest[2:])
+    if kind == "refused":
+        return "refused, " + " ".join(rest)
+    if kind == "batch_refused":
+        return "refused, " + " ".join(rest[1:]) + f", after {quantity(rest[0], 'item')}"
+    return {"added": "added", "flagged": "corrupt flag set"}[kind]
+
+
+def keys(fields: Sequence[str]) -> str:
+    """Keys and their units, without those that have none."""
+    pairs = zip(fields[::2], fields[1::2])
+    return "".join(f", {quantity(units, 'unit')} at {key}" for key, units in pairs if units != "0")
+
+
 def asked(record: Sequence[str]) -> str:
     """What the record of a call asks for."""
     kind, _, *rest = record
@@ -83,9 +148,10 @@ def effect(words: list[int], event: Event | None, change: Sequence[int]) -> str:
     if change:
         at, old, new = change
         words[at] = new
-        return f"{meaning(words, at)} {old} -> {new}"
+        return f"{meaning(words, at)} {value(words, at, old)} -> {value(words, at, new)}"
     if event and event[0] == "exchange" and words[event[1]] != event[2]:
-        return f"{meaning(words, event[1])}: wanted {event[2]}, found {words[event[1]]}"
+        at, wanted, found = event[1], event[2] or 0, words[event[1]]
+        return f"{meaning(words, at)}: wanted {value(words, at, wanted)}, found {value(words, at, found)}"
     return "-"
 
 
@@ -120,6 +186,6 @@ def picture(schedule: str, lines: str, most: int | None = None) -> str:
             calls.begin(int(number), actor)
         if what == "answer":
             calls.answer(int(number), actor, rest)
-            rows.append(row("", actor, ",".join(["answer", *rest])))
+            rows.append(row("", actor, f"answer: {said(rest)}"))
             running.discard(actor)
     return "".join(rows)

@@ -1,3 +1,4 @@
 mod Blocks
 mod Shown
+mod Texts
 mod Written

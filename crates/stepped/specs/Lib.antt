@@ -2,6 +2,8 @@ pub mod Fault
 pub mod Failure
 pub mod Lines
 pub mod Meaning
+pub mod Value
+pub mod Said
 pub mod Picture
 pub mod Form
 pub mod Replay

@@ -6,8 +6,9 @@ use Rattle.segment_calls.specs.declared.call.Call.{Call}
 use Rattle.segment_calls.specs.declared.call.Call.TheVariants.{Hist, Add, Delta, Snapshot, Batch, SetCorrupt}
 use Rattle.stepped.specs.declared.lines.Effect.{Effect}
 use Rattle.stepped.specs.declared.lines.Effect.TheVariants.{Quiet, Changed, Missed}
-use Rattle.stepped.specs.Lines.{answer_fields, behind}
 use Rattle.stepped.specs.Meaning.{meaning}
+use Rattle.stepped.specs.Said.{answer_text}
+use Rattle.stepped.specs.Value.{value_text}
 
 -- what a call asks for
 abbrev pub call_text : Call → List ℕ
@@ -26,12 +27,14 @@ begin_cell actor call = codes "actor " ++ decimal actor ++ codes ": " ++ call_te
 -- that did not go through, what that wanted and what it found; or that it changed none.
 abbrev pub event_cell : List ℕ → Effect → List ℕ
 event_cell words Quiet = codes "-"
-event_cell words (Missed miss) = meaning words miss.at ++ codes ": wanted " ++ decimal miss.wanted ++ codes ", found " ++ decimal miss.found
-event_cell words (Changed change) = meaning words change.at ++ codes " " ++ decimal change.old ++ codes " -> " ++ decimal change.new
+event_cell words (Missed miss) =
+    meaning words miss.at ++ codes ": wanted " ++ value_text words miss.at miss.wanted ++ codes ", found " ++ value_text words miss.at miss.found
+event_cell words (Changed change) =
+    meaning words change.at ++ codes " " ++ value_text words change.at change.old ++ codes " -> " ++ value_text words change.at change.new
 
 -- a call's answer
 abbrev pub answer_cell : Answer → List ℕ
-answer_cell answer = codes "answer" ++ behind (answer_fields answer)
+answer_cell answer = codes "answer: " ++ answer_text answer
 
 -- the way to the column of an actor: 32 spaces for each before
 abbrev pub column : ℕ → List ℕ

@@ -144,8 +144,8 @@ pub fn show_answer<W: Write>(writer: &mut W, place: LinePlace, answer: &Answer) 
     end_line(writer)
 }
 
-/// Writes the fields of an answer, each after a comma. The error is the writer's.
-pub fn put_answer<W: Write>(writer: &mut W, answer: &Answer) -> io::Result<()>
+// The fields of an answer, each after a comma.
+fn put_answer<W: Write>(writer: &mut W, answer: &Answer) -> io::Result<()>
     ensures { OnOk result (Appends (W.contents writer.old) (W.contents writer.new) (behind (answer_fields answer.now))) }
 {
     match answer {
@@ -200,8 +200,8 @@ fn put_refusal<W: Write>(writer: &mut W, why: Refusal) -> io::Result<()>
     }
 }
 
-// The word for a refusal.
-fn refusal_word(why: Refusal) -> &'static [u8]
+/// Returns the word for a refusal.
+pub fn refusal_word(why: Refusal) -> &'static [u8]
     ensures { result.now ≡ refusal_word_of why }
 {
     match why {
@@ -218,8 +218,8 @@ fn refusal_word(why: Refusal) -> &'static [u8]
     }
 }
 
-// The word for a fault of a spec.
-fn spec_fault_word(fault: SpecFault) -> &'static [u8]
+/// Returns the word for a fault of a spec.
+pub fn spec_fault_word(fault: SpecFault) -> &'static [u8]
     ensures { result.now ≡ spec_fault_word_of fault }
 {
     match fault {

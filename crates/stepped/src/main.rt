@@ -13,6 +13,8 @@ mod picture;
 mod replay;
 mod request;
 mod run;
+mod said;
+mod value;
 
 use std::process::ExitCode;
 

@@ -62,8 +62,8 @@ fn is_sought(words: &[u64], sought: Sought, block: usize) -> bool
     }
 }
 
-// The first block that is looked for.
-fn find_block(words: &[u64], sought: Sought) -> Option<usize>
+/// Returns the first block that is looked for [first], [sought], which begins within the words [inside].
+pub fn find_block(words: &[u64], sought: Sought) -> Option<usize>
     ensures first { result ≡ block_of words.now sought }
     ensures inside { IfSome result (λ block. block < length words.now) }
     ensures sought { IfSome result (λ block. is_sought_in words.now sought block ≡ true) }

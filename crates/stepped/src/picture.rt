@@ -5,8 +5,10 @@ ghost use Rattle.std.specs.Fmt.{decimal};
 ghost use Rattle.std.specs.Io.KnownBytes.{Appends};
 ghost use Rattle.stepped.specs.Picture.{answer_cell, begin_cell, call_text, column, event_cell, row, row_start};
 
-use crate::lines::{Effect, put_answer};
+use crate::lines::Effect;
 use crate::meaning::put_meaning;
+use crate::said::put_said;
+use crate::value::put_value;
 use hist_core::{Answer, Call};
 use std::io;
 use std::io::Write;
@@ -95,11 +97,19 @@ pub fn draw_event<W: Write>(
     match effect {
         Effect::Changed(change) => {
             put_meaning(writer, words, change.at)?;
-            writeln!(writer, " {} -> {}", change.old, change.new)
+            writer.write_all(b" ")?;
+            put_value(writer, words, change.at, change.old)?;
+            writer.write_all(b" -> ")?;
+            put_value(writer, words, change.at, change.new)?;
+            writer.write_all(b"\n")
         }
         Effect::Missed(miss) => {
             put_meaning(writer, words, miss.at)?;
-            writeln!(writer, ": wanted {}, found {}", miss.wanted, miss.found)
+            writer.write_all(b": wanted ")?;
+            put_value(writer, words, miss.at, miss.wanted)?;
+            writer.write_all(b", found ")?;
+            put_value(writer, words, miss.at, miss.found)?;
+            writer.write_all(b"\n")
         }
         Effect::Quiet => writer.write_all(b"-\n"),
     }
@@ -110,7 +120,7 @@ pub fn draw_answer<W: Write>(writer: &mut W, actor: usize, answer: &Answer) -> i
     ensures { OnOk result (Appends (W.contents writer.old) (W.contents writer.new) (row [] actor (answer_cell answer.now))) }
 {
     start_row(writer, actor)?;
-    writer.write_all(b"answer")?;
-    put_answer(writer, answer)?;
+    writer.write_all(b"answer: ")?;
+    put_said(writer, answer)?;
     writer.write_all(b"\n")
 }

@@ -33,7 +33,7 @@ MOUNTED = "world,128,64,7,1,2\n" + "".join(
 )
 COUNTED = [
     '@16.name "" -> "A"', "A.single empty -> (bucket 0, 1 unit)", "A.counts 0 -> 32",
-    "A.single (bucket 0, 1 unit) -> disabled (bucket 0)", "A.count[1] 0 -> 3", "A.mark[1] 0 -> 3",
+    "A.single (bucket 0, 1 unit) -> frozen (bucket 0, 1 unit)", "A.count[1] 0 -> 3", "A.mark[1] 0 -> 3",
     "A.single_mark 0 -> 1", "answer: histogram at 16", "answer: added",
     "answer: took a sum of 3, 1 unit at 0, 3 units at 1",
 ]

@@ -19,7 +19,7 @@ MOST_COLUMNS = 80
 MOST_LINES = 25
 SECONDS = 120
 # Commands that have been there from the start.
-COMMANDS = ["report", "export", "show", "run", "resume", "merge", "extract", "explain"]
+COMMANDS = ["report", "export", "show", "run", "resume", "merge", "look", "extract", "explain"]
 # What `--help` says, however its lines are broken: of the program, of its commands, and of `stepped`.
 SENTENCES: dict[tuple[str, ...], list[str]] = {
     (): ["Show, convert, merge and continue the histograms of a Povundiri segment"],

@@ -34,7 +34,19 @@ fn two_outputs(alloc: Global) -> Result<Error, AllocError>
     )
 }
 
-/// Refuses a task that names `-` where it cannot be meant: as two inputs, or as OUT beside a report. `Usage` comes only
+// What is wrong with a command line by which standard input would be read three times. The one error is that memory runs
+// out.
+fn no_file(alloc: Global) -> Result<Error, AllocError>
+    ensures { IfOk result (λ error. kind_of error ≡ ErrorKind.ArgumentConflict) }
+{
+    command(alloc)?.error(
+        ErrorKind::ArgumentConflict,
+        "FILE cannot be -, since it is read three times; ./- is the file of that name",
+    )
+}
+
+/// Refuses a task that names `-` where it cannot be meant: as two inputs, as a file that is read three times, or as OUT
+/// beside a report. `Usage` comes only
 /// for such a mistake.
 pub fn check_dashes(alloc: Global, task: &Task<'_>) -> Result<(), Failure>
     ensures { IfErr result UsageIsMistake }
@@ -53,6 +65,7 @@ pub fn check_dashes(alloc: Global, task: &Task<'_>) -> Result<(), Failure>
             dead: second,
             ..
         } if *first == DASH && *second == DASH => Err(Failure::Usage(two_inputs(alloc)?)),
+        Task::Look { file, .. } if *file == DASH => Err(Failure::Usage(no_file(alloc)?)),
         _ => Ok(()),
     }
 }

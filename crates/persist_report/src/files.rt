@@ -17,7 +17,7 @@ use crate::terminal::reads_terminal;
 use crate::workers::Workers;
 use fault_texts::Origin;
 use image_reader::Reading;
-use persist_commands::{OpenGate, merge_files, resume_script, run_script};
+use persist_commands::{OpenGate, look_file, merge_files, resume_script, run_script};
 use persist_report_core::{CliFault, damage_of};
 use reading_shows::{Form, first_missing, write_text};
 use std::alloc::Global;
@@ -288,4 +288,35 @@ pub fn merge_files_into<
         image.into_inner(),
         None,
     )
+}
+
+/// Looks at the segment in a file that is in use, which is read three times, and writes its image to another, or to
+/// standard output if none is named. `Usage` comes only for a mistake on the command line.
+pub fn look_into<'a, R: Files<File = File> + Clock + Input + Print + RandomSource + AllocGlobal>(
+    context: &Context<'_, R>,
+    file: &'a str,
+    out: Option<&'a str>,
+) -> Result<(), Failure>
+    ensures { IfErr result UsageIsMistake }
+{
+    let mut first = open(context, file, None)?;
+    let mut second = open(context, file, None)?;
+    let mut third = open(context, file, context.copy())?;
+    let mut image = open_out(context, out.unwrap_or(DASH))?;
+    let outcome = look_file(
+        context.alloc(),
+        &mut first,
+        &mut second,
+        &mut third,
+        &mut image,
+    );
+    let (first, second, third) = (first.into_inner(), second.into_inner(), third.into_inner());
+    let last = if third.is_used() {
+        &third
+    } else if second.is_used() {
+        &second
+    } else {
+        &first
+    };
+    end(context, outcome, None, last, image.into_inner(), None)
 }

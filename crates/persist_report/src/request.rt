@@ -27,8 +27,8 @@ use reading_shows::{ListStyle, Style};
 use std::alloc::{AllocError, Global};
 use std::convert::AsStr;
 use writing::{
-    extract_command, extract_task, merge_command, merge_task, resume_command, resume_task,
-    run_command, run_task,
+    extract_command, extract_task, look_command, look_task, merge_command, merge_task,
+    resume_command, resume_task, run_command, run_task,
 };
 
 /// What the program is asked to do.
@@ -96,6 +96,11 @@ pub enum Task<'a> {
         dead: &'a str,
         out: &'a str,
     },
+    /// Look at the segment in a file that is in use. Write its image to another file, or to standard output if there is none.
+    Look {
+        file: &'a str,
+        out: Option<&'a str>,
+    },
     /// Find a segment in a file. Write its image to another, and to the error stream where it was.
     Extract {
         file: &'a str,
@@ -131,6 +136,7 @@ pub fn command<'a>(alloc: Global) -> Result<Command<'a>, AllocError> {
         .subcommand(merge_command(alloc)?)?
         .subcommand(run_command(alloc)?)?
         .subcommand(resume_command(alloc)?)?
+        .subcommand(look_command(alloc)?)?
         .subcommand(extract_command(alloc)?)?
         .subcommand(size_command(alloc)?.arg(explain_flag(alloc))?)?
         .subcommand(scale_command(alloc)?)?
@@ -165,6 +171,7 @@ fn plain_task<'a>(name: &str, found: &ArgMatches<'a>) -> Option<Task<'a>> {
         "run" => run_task(found),
         "resume" => resume_task(found),
         "merge" => merge_task(found),
+        "look" => look_task(found),
         "extract" => extract_task(found),
         "scale" => scale_task(found),
         "explain" => Some(Task::Explain {

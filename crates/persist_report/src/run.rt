@@ -7,7 +7,7 @@ use crate::context::Context;
 use crate::dashes::{DASH, check_dashes};
 use crate::extracting::extract_file;
 use crate::failure::Failure;
-use crate::files::{merge_files_into, resume_file, run_file, write_file};
+use crate::files::{look_into, merge_files_into, resume_file, run_file, write_file};
 use crate::request::{Request, Task, no_fault, not_text};
 use crate::scales::print_scale;
 use crate::sizing::size_of_task;
@@ -193,6 +193,7 @@ fn meet<
             workers,
         } => resume_file(context, base, script, out, workers),
         Task::Merge { base, dead, out } => merge_files_into(context, base, dead, out),
+        Task::Look { file, out } => look_into(context, file, out),
         Task::Extract { file, out, nth } => extract_file(context, file, out, nth),
         Task::Size(size) => size_of_task(context, &size),
         Task::Scale { name, scale } => print_scale(context, name, scale),

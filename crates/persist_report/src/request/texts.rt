@@ -66,6 +66,13 @@ pub const MERGE: &str =
     "Add two images into a new one; counts that a delta has already taken are left
 out.";
 
+/// What `look` does.
+pub const LOOK: &str =
+    "Write the image of a segment that a process is using: FILE is read three times,
+and the process is not disturbed. It has the histograms and counts of the time
+of the reads. Use it like any other image. OUT is the old file until it is the
+whole new one.";
+
 /// What `extract` does.
 pub const EXTRACT: &str =
     "Find a segment in any file, such as a mapped file or a core dump, and write its

@@ -59,6 +59,17 @@ pub fn merge_command<'a>(alloc: Global) -> Result<Command<'a>, AllocError> {
         .arg(explain_flag(alloc))
 }
 
+pub fn look_command<'a>(alloc: Global) -> Result<Command<'a>, AllocError> {
+    let out = Arg::new(alloc, "OUT").help("File for the image [default: standard output]");
+    Command::new(alloc, "look")
+        .about("Write the image of a segment that a process is using")
+        .long_about(texts::LOOK)
+        .after_help("Example:\n  persist_report look my.img now.img")
+        .arg(file(alloc, "FILE", "File that a process has mapped, or an image"))?
+        .arg(out)?
+        .arg(explain_flag(alloc))
+}
+
 pub fn extract_command<'a>(alloc: Global) -> Result<Command<'a>, AllocError> {
     let nth = Arg::new(alloc, "nth")
         .long("nth")
@@ -98,6 +109,13 @@ pub fn merge_task<'a>(merge: &ArgMatches<'a>) -> Option<Task<'a>> {
         base: merge.get_str("BASE")?,
         dead: merge.get_str("DEAD")?,
         out: merge.get_str("OUT")?,
+    })
+}
+
+pub fn look_task<'a>(look: &ArgMatches<'a>) -> Option<Task<'a>> {
+    Some(Task::Look {
+        file: look.get_str("FILE")?,
+        out: look.get_str("OUT"),
     })
 }
 

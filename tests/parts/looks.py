@@ -1,0 +1,106 @@
+"""Looks at a file that changes between the reads of `look`, beside a plain composition, plain_look.py.
+
+Each look gets three copies, forged ones of both versions and of any length, and mapped files too. For this the program
+is traced: before it reads an open file for the first time, the next copy is put into it.
+"""
+
+from __future__ import annotations
+
+import argparse
+import dataclasses
+import pathlib
+import random
+import tempfile
+from collections.abc import Iterator, Sequence
+
+from support import forge, layout, plain_look, plain_reader, tracer
+from support.program import EXAMPLE, ROOT, Answer, Case, answer, content, difference, fault, untried
+
+PROGRAM = "persist_report"
+LOOKS = 100
+STOOD = b"what stood there before"
+# A word of a header that no running program changes is damaged in so many of the copies.
+DAMAGED = 0.1
+
+
+@dataclasses.dataclass
+class Changing(tracer.Fault):
+    """Puts the next copy into a file, before an open file of it is read for the first time. No call fails."""
+
+    path: pathlib.Path = pathlib.Path()
+    copies: Sequence[bytes] = ()
+    seen: list[int] = dataclasses.field(default_factory=list)
+
+    def is_meant(self, thread: int, call: tracer.Call) -> bool:
+        read = call.arguments[0]
+        if call.number == tracer.READ and read not in self.seen and tracer.file_of(thread, read) == str(self.path):
+            self.path.write_bytes(self.copies[len(self.seen)])
+            self.seen.append(read)
+        return False
+
+
+def changed(words: Sequence[int], chance: random.Random) -> list[int]:
+    """The words of another copy: some behind the header are others, mostly as large as words that are there."""
+    copy = list(words)
+    for _ in range(chance.choice([0, 1, 5, 50])):
+        place = chance.randrange(layout.QUEUE + layout.NEXT, len(copy))
+        copy[place] = chance.choice([chance.choice(copy), 0, layout.QUEUE, layout.TOP, layout.TOP + 7, copy[place] + 1])
+        copy[place] %= layout.WORD
+    return copy
+
+
+def copies_of(chance: random.Random) -> list[list[int]]:
+    """Three copies of the words of a segment, mostly of version 2."""
+    data = forge.image_of(chance)
+    words = list(layout.words_of(data[: len(data) // 8 * 8]))
+    if len(words) <= layout.FIRST or chance.random() < DAMAGED:
+        return [words] * 2 + [words[: chance.randrange(len(words) + 1)]]
+    words[1] = 2 if chance.random() > DAMAGED else words[1]
+    copies = [changed(words, chance) for _ in range(3)]
+    copies[0][layout.FREE] = chance.choice([words[layout.FREE], layout.FIRST])
+    return copies
+
+
+def looked(copies: Sequence[Sequence[int]]) -> tuple[Answer, bytes | None]:
+    """What the program answers to these copies, and the bytes of the look, if there is one."""
+    try:
+        plain_reader.check_header(tuple(copies[2]), plain_reader.collections.Counter())
+    except plain_reader.ImageFault as wrong:
+        return fault(str(wrong), 3), None
+    if len({len(copy) for copy in copies}) > 1:
+        return fault("Image BadSize", 3), None
+    if copies[2][1] != 2:
+        return fault("Adopt OldVersion", 3), None
+    return Answer(), layout.data_of(plain_look.look_of(*copies))
+
+
+def forged(program: pathlib.Path, folder: pathlib.Path, seed: int | str) -> Iterator[Case]:
+    """Looks at forged copies, as images and as mapped files."""
+    file, out = folder / "file", folder / "out"
+    for number in range(LOOKS):
+        chance = random.Random(f"looks {seed} {number}")
+        copies = copies_of(chance)
+        front = chance.choice([b"", bytes(8)]) if all(copy[:1] == [layout.SEGMENT_COOKIE] for copy in copies) else b""
+        file.write_bytes(b"")
+        out.write_bytes(STOOD)
+        change = Changing((), path=file, copies=[front + layout.data_of(copy) for copy in copies])
+        wanted, image = looked(copies)
+        wrong = difference(wanted, tracer.answer(program, ["look", file, out], change))
+        if wrong is None and content(out) != (STOOD if image is None else image):
+            wrong = "OUT is not the look, or not as it was"
+        yield f"look {number} of seed {seed}", wrong
+
+
+def cases(program: pathlib.Path, options: argparse.Namespace) -> Iterator[Case]:
+    closed = ROOT / "examples" / "crash.img"
+    look = layout.data_of(plain_look.look_of(*[layout.words_of(closed.read_bytes())] * 3))
+    with tempfile.TemporaryDirectory() as name:
+        folder = pathlib.Path(name)
+        yield "standard output", difference(Answer(look), answer(program, ["look", closed]))
+        yield "version 1", difference(fault("Adopt OldVersion", 3), answer(program, ["look", EXAMPLE]))
+        yield "standard input", difference(Answer(status=2), dataclasses.replace(answer(program, ["look", "-"]), error=b""))
+        yield "no file", difference(fault("Read", 4), answer(program, ["look", folder / "none"]))
+        if not tracer.can_trace():
+            yield untried(tracer.NOT_ALLOWED, options)
+            return
+        yield from forged(program, folder.resolve(), options.seed)

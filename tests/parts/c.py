@@ -114,11 +114,12 @@ def texts(installed: native.Installed) -> Iterator[Case]:
         if len(data) % 8 != 0:
             continue
         yield f"{image.name}, its report", difference(known.wanted_of(image), answer(program, ["report", image]))
+        metrics, text = ["export", str(image)], ["show", str(image)]
         for what, words, wanted in [
-            ("metrics", ["export", image], plain_export.answer(data)),
-            ("metrics with a prefix", ["export", image, PREFIX], plain_export.answer(data, PREFIX)),
-            ("text", ["show", image], plain_show.answer(data)),
-            ("text in a width", ["show", image, str(WIDTH)], plain_show.answer(data, width=WIDTH)),
+            ("metrics", metrics, plain_export.answer(data)),
+            ("metrics with a prefix", [*metrics, PREFIX], plain_export.answer(data, PREFIX)),
+            ("text", text, plain_show.answer(data)),
+            ("text in a width", [*text, str(WIDTH)], plain_show.answer(data, width=WIDTH)),
         ]:
             yield f"{image.name}, its {what}", difference(Answer(*wanted), answer(program, words))
 

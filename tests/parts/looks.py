@@ -98,7 +98,8 @@ def cases(program: pathlib.Path, options: argparse.Namespace) -> Iterator[Case]:
         folder = pathlib.Path(name)
         yield "standard output", difference(Answer(look), answer(program, ["look", closed]))
         yield "version 1", difference(fault("Adopt OldVersion", 3), answer(program, ["look", EXAMPLE]))
-        yield "standard input", difference(Answer(status=2), dataclasses.replace(answer(program, ["look", "-"]), error=b""))
+        refused = dataclasses.replace(answer(program, ["look", "-"]), error=b"")
+        yield "standard input", difference(Answer(status=2), refused)
         yield "no file", difference(fault("Read", 4), answer(program, ["look", folder / "none"]))
         if not tracer.can_trace():
             yield untried(tracer.NOT_ALLOWED, options)

@@ -217,17 +217,21 @@ def redundant(program: pathlib.Path, folder: pathlib.Path) -> Iterator[Case]:
     words = list(struct.unpack(f"<{EXAMPLE.stat().st_size // 8}Q", EXAMPLE.read_bytes()))
     record = next(at for at in range(len(words)) if words[at + 1 : at + 3] == [forge.BLOCK_COOKIE, HISTOGRAM_TAG])
     text = EXAMPLE_TEXT
-    for count, human, line in [(3, [], b""), (2, [], b"2"), (0, [], b"0"), (2**64 - 1, ["--human"], MOST_COUNT)]:
+    counted: list[tuple[int, list[str], bytes]] = [
+        (3, [], b""), (2, [], b"2"), (0, [], b"0"), (2**64 - 1, ["--human"], MOST_COUNT)
+    ]
+    for count, human, line in counted:
         words[record + HISTOGRAM_REDUNDANT] = count
         image = folder / "counted"
         image.write_bytes(struct.pack(f"<{len(words)}Q", *words))
         told = text[:-1] + b"  counted once more: " + line + b"\n\n" if line else text
-        for title, before, after, setting, wanted in [
+        ways: list[tuple[str, list[str], list[str], dict[str, str], bytes]] = [
             ("alone", [], [], {}, text),
             ("explained", [], ["--explain"], {}, told),
             ("explained in front", ["--explain"], [], {}, told),
             ("explained by the environment", [], [], {"PERSIST_REPORT_EXPLAIN": "1"}, text),
-        ]:
+        ]
+        for title, before, after, setting, wanted in ways:
             came = answer(program, [*before, "show", image, *human, *after], env=setting)
             yield f"{count} counted once more, {title}", difference(Answer(wanted), came)
 

@@ -15,11 +15,12 @@ from collections.abc import Callable, Iterator
 from typing import Any
 
 from support import native
-from support.program import ROOT, Answer, Case, Path
+from support.program import ROOT, Answer, Case, Path, answer
 
 SOURCE = ROOT / "examples" / "cpp" / "service.cpp"
 MOST_SECONDS = 120
 ENOUGH = 200
+LOOKS = 300
 # Of the image in a file, which begins at byte 8, the word after which nothing was claimed.
 FREE_AT = 8 * (1 + 7)
 ALL_UNITS = 4_294_967_295
@@ -44,21 +45,35 @@ class Service:
         self.folder = folder / "services"
         self.folder.mkdir()
         self.program = installed.program(SOURCE)
+        self.reader = program
         self.report_in: Callable[[pathlib.Path], Answer] = lambda file: report_in(program, file)
 
     def recorded(self, file: pathlib.Path) -> int:
         return requests_of(self.report_in(file))
 
+    def wait_for(self, running: subprocess.Popen[str], file: pathlib.Path, before: int) -> None:
+        """Returns once it has recorded more requests than there were before, or ends, or takes too long."""
+        ends = time.monotonic() + MOST_SECONDS
+        while running.poll() is None and self.recorded(file) <= before and time.monotonic() < ends:
+            time.sleep(0.05)
+
     def killed(self, file: pathlib.Path, before: int) -> str:
         """What it prints until it is killed, once it has recorded more requests than there were before."""
-        ends = time.monotonic() + MOST_SECONDS
         with subprocess.Popen([self.program, file], stdout=subprocess.PIPE, text=True) as running:
             try:
-                while running.poll() is None and self.recorded(file) <= before and time.monotonic() < ends:
-                    time.sleep(0.05)
+                self.wait_for(running, file, before)
             finally:
                 running.kill()
             return running.communicate()[0]
+
+    def looked(self, file: pathlib.Path) -> int:
+        """How many requests a look at its file has; `Failed` if there is no look, or it is not read whole."""
+        look = str(file.with_suffix(".img"))
+        for words in (["look", str(file), look], ["report", "--whole", look]):
+            came = answer(self.reader, words)
+            if (came.error, came.status) != (b"", 0):
+                raise native.Failed(f"{words[0]}: {came}")
+        return requests_of(came)
 
     def ended(self, file: pathlib.Path, **settings: Any) -> tuple[str, str]:
         """What it says to its two streams when it is told to end, once it has answered some hundred requests."""
@@ -106,6 +121,25 @@ def is_killed_thrice(service: Service) -> str | None:
             return f"behind {before} requests came {left}"
         before = left
     return None
+
+
+def is_looked_at(service: Service) -> str | None:
+    """While it runs, each look at its file is read whole, and has no fewer requests than the one before; the last one
+    has no more than it had answered when it ended."""
+    file, before = service.folder / "looked.seg", 0
+    with subprocess.Popen([service.program, file], stdout=subprocess.PIPE, text=True) as running:
+        try:
+            service.wait_for(running, file, 0)
+            for _ in range(LOOKS):
+                found = service.looked(file)
+                if found < before:
+                    return f"behind a look with {before} requests came one with {found}"
+                before = found
+        finally:
+            running.send_signal(signal.SIGTERM)
+            said = running.communicate(timeout=MOST_SECONDS)[0]
+    served, _ = counts(said) or (0, 0)
+    return None if ENOUGH <= before <= served else f"the last look had {before} requests: {said!r}"
 
 
 def ends_well(service: Service) -> str | None:
@@ -183,6 +217,7 @@ def has_a_full_disk(service: Service) -> str | None:
 
 TESTS = (
     ("killed three times", is_killed_thrice),
+    ("looked at", is_looked_at),
     ("told to end", ends_well),
     ("another spec of a release before", has_another_spec),
     ("to the last unit", has_few_units),

@@ -7,6 +7,7 @@ is traced: before it reads an open file for the first time, the next copy is put
 from __future__ import annotations
 
 import argparse
+import collections
 import dataclasses
 import pathlib
 import random
@@ -61,17 +62,19 @@ def copies_of(chance: random.Random) -> list[list[int]]:
     return copies
 
 
-def looked(copies: Sequence[Sequence[int]]) -> tuple[Answer, bytes | None]:
-    """What the program answers to these copies, and the bytes of the look, if there is one."""
+def looked(copies: Sequence[bytes]) -> tuple[Answer, bytes | None]:
+    """What the program answers to these contents of the file, and the bytes of the look, if there is one."""
+    seen: plain_reader.Seen = collections.Counter()
     try:
-        plain_reader.check_header(tuple(copies[2]), plain_reader.collections.Counter())
+        one, two, three = (plain_reader.words_of(data, seen) for data in copies)
+        plain_reader.check_header(three, seen)
     except plain_reader.ImageFault as wrong:
         return fault(str(wrong), 3), None
-    if len({len(copy) for copy in copies}) > 1:
+    if len({len(one), len(two), len(three)}) > 1:
         return fault("Image BadSize", 3), None
-    if copies[2][1] != 2:
+    if three[1] != 2:
         return fault("Adopt OldVersion", 3), None
-    return Answer(), layout.data_of(plain_look.look_of(*copies))
+    return Answer(), layout.data_of(plain_look.look_of(one, two, three))
 
 
 def forged(program: pathlib.Path, folder: pathlib.Path, seed: int | str) -> Iterator[Case]:
@@ -83,8 +86,9 @@ def forged(program: pathlib.Path, folder: pathlib.Path, seed: int | str) -> Iter
         front = chance.choice([b"", bytes(8)]) if all(copy[:1] == [layout.SEGMENT_COOKIE] for copy in copies) else b""
         file.write_bytes(b"")
         out.write_bytes(STOOD)
-        change = Changing((), path=file, copies=[front + layout.data_of(copy) for copy in copies])
-        wanted, image = looked(copies)
+        contents = [front + layout.data_of(copy) for copy in copies]
+        change = Changing((), path=file, copies=contents)
+        wanted, image = looked(contents)
         wrong = difference(wanted, tracer.answer(program, ["look", file, out], change))
         if wrong is None and content(out) != (STOOD if image is None else image):
             wrong = "OUT is not the look, or not as it was"

@@ -9,12 +9,17 @@ use std::alloc::Global;
 use std::io;
 use std::io::Printer;
 
-/// What a command runs with: the system, whether it explains its faults, and whether an image that is not whole is one.
+/// What a command runs with.
 #[derive(Drop)]
 pub struct Context<'r, R> {
+    /// The system.
     pub rt: &'r R,
+    /// Whether faults are explained.
     pub explains: bool,
+    /// Whether an image that is not whole is a fault.
     pub wants_whole: bool,
+    /// Whether the image that is read is a look at a file in use.
+    pub is_live: bool,
 }
 
 impl<R: AllocGlobal> Context<'_, R> {

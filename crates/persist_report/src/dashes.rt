@@ -34,9 +34,9 @@ fn two_outputs(alloc: Global) -> Result<Error, AllocError>
     )
 }
 
-// What is wrong with a command line by which standard input would be read three times. The one error is that memory runs
-// out.
-fn no_file(alloc: Global) -> Result<Error, AllocError>
+/// Returns what is wrong with a command line by which standard input would be read three times. The one error is that memory
+/// runs out.
+pub fn no_file(alloc: Global) -> Result<Error, AllocError>
     ensures { IfOk result (λ error. kind_of error ≡ ErrorKind.ArgumentConflict) }
 {
     command(alloc)?.error(
@@ -45,9 +45,8 @@ fn no_file(alloc: Global) -> Result<Error, AllocError>
     )
 }
 
-/// Refuses a task that names `-` where it cannot be meant: as two inputs, as a file that is read three times, or as OUT
-/// beside a report. `Usage` comes only
-/// for such a mistake.
+/// Refuses a task that names `-` where it cannot be meant: as two inputs, as a file that is read three times, or as OUT beside
+/// a report. `Usage` comes only for such a mistake.
 pub fn check_dashes(alloc: Global, task: &Task<'_>) -> Result<(), Failure>
     ensures { IfErr result UsageIsMistake }
 {

@@ -11,13 +11,14 @@ use crate::dashes::DASH;
 use crate::explaining::{FaultContext, failure_of, unopened, unopened_out};
 use crate::failure::Failure;
 use crate::incoming::Incoming;
+use crate::looking::open_look;
 use crate::noted::{Noted, Stream};
 use crate::output::{Output, open_output};
 use crate::terminal::reads_terminal;
 use crate::workers::Workers;
 use fault_texts::Origin;
 use image_reader::Reading;
-use persist_commands::{OpenGate, look_file, merge_files, resume_script, run_script};
+use persist_commands::{OpenGate, merge_files, resume_script, run_script};
 use persist_report_core::{CliFault, damage_of};
 use reading_shows::{Form, first_missing, write_text};
 use std::alloc::Global;
@@ -69,8 +70,9 @@ pub fn open_out<'a, 'r, R: Files<File = File> + Clock + Print + RandomSource + A
     }
 }
 
-// The failure of a fault. BASE, if there is one, is read before the input; `output` is where a write failed, and why.
-fn failed<'a, R: AllocGlobal, I>(
+/// Returns the failure of a fault. BASE, if there is one, is read before the input; `output` is where a write failed, and why.
+/// `Usage` comes only for a mistake on the command line.
+pub fn failed<'a, R: AllocGlobal, I>(
     context: &Context<'_, R>,
     fault: CliFault,
     base: Option<&Noted<'a, I>>,
@@ -168,8 +170,8 @@ fn say_what_is_read<R: Files + Eprint>(rt: &R) {
     }
 }
 
-/// Opens the file of an image, or standard input if no file is named, or `-`. If no file is named and standard input is a
-/// terminal, this is said. On `Ok` it has not failed [file]; `Usage` comes only for a mistake on the command line [fault].
+/// Opens the file of an image, or standard input if no file is named, or `-`; or a look at the file, if that is asked for. If no
+/// file is named and standard input is a terminal, this is said. On `Ok` it has not failed [file]; `Usage` comes only for a mistake on the command line [fault].
 pub fn open_image<'a, R: Files + Input + Eprint + AllocGlobal>(
     context: &Context<'_, R>,
     file: Option<&'a str>,
@@ -177,6 +179,9 @@ pub fn open_image<'a, R: Files + Input + Eprint + AllocGlobal>(
     ensures file { IfOk result (λ file. has_failed file ≡ false) }
     ensures fault { IfErr result UsageIsMistake }
 {
+    if context.is_live {
+        return open_look(context, file);
+    }
     if file.is_none() {
         say_what_is_read(context.rt);
     }
@@ -288,35 +293,4 @@ pub fn merge_files_into<
         image.into_inner(),
         None,
     )
-}
-
-/// Looks at the segment in a file that is in use, which is read three times, and writes its image to another, or to
-/// standard output if none is named. `Usage` comes only for a mistake on the command line.
-pub fn look_into<'a, R: Files<File = File> + Clock + Input + Print + RandomSource + AllocGlobal>(
-    context: &Context<'_, R>,
-    file: &'a str,
-    out: Option<&'a str>,
-) -> Result<(), Failure>
-    ensures { IfErr result UsageIsMistake }
-{
-    let mut first = open(context, file, None)?;
-    let mut second = open(context, file, None)?;
-    let mut third = open(context, file, context.copy())?;
-    let mut image = open_out(context, out.unwrap_or(DASH))?;
-    let outcome = look_file(
-        context.alloc(),
-        &mut first,
-        &mut second,
-        &mut third,
-        &mut image,
-    );
-    let (first, second, third) = (first.into_inner(), second.into_inner(), third.into_inner());
-    let last = if third.is_used() {
-        &third
-    } else if second.is_used() {
-        &second
-    } else {
-        &first
-    };
-    end(context, outcome, None, last, image.into_inner(), None)
 }

@@ -1,5 +1,6 @@
-//! What a command reads: a file, or standard input.
+//! What a command reads: a file, standard input, or a look at a file.
 
+use std::collections::VecDeque;
 use std::io;
 use std::io::Read;
 
@@ -10,6 +11,8 @@ pub enum Incoming<F, I> {
     File(F),
     /// Standard input.
     Standard(I),
+    /// The bytes of a look that are left.
+    Look(VecDeque<u8>),
 }
 
 impl<F: Read, I: Read> Read for Incoming<F, I> {
@@ -17,6 +20,7 @@ impl<F: Read, I: Read> Read for Incoming<F, I> {
         match self {
             Incoming::File(file) => file.read(buf),
             Incoming::Standard(input) => input.read(buf),
+            Incoming::Look(bytes) => bytes.read(buf),
         }
     }
 }

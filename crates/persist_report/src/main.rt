@@ -1,5 +1,6 @@
 //! The program `persist_report`: writes the histograms of an image as a report, as metrics or for people, runs scripts in
-//! new segments and in those of images, merges images, extracts them from any file, prints scales, and explains faults.
+//! new segments and in those of images, merges images, looks at files in use, extracts images from any file, prints
+//! scales, and explains faults.
 #![tactic(auto)]
 
 mod cause;
@@ -13,6 +14,7 @@ mod files;
 mod incoming;
 mod leftover;
 mod lock;
+mod looking;
 mod noted;
 mod nth;
 mod output;

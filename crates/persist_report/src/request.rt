@@ -39,6 +39,8 @@ pub struct Request<'a> {
     pub explains: bool,
     /// Whether an image that is not whole is a fault.
     pub wants_whole: bool,
+    /// Whether a file in use is looked at.
+    pub is_live: bool,
 }
 
 /// What a command does. The image in `file` is that on standard input if there is no file. A text goes to the file `to`, or to
@@ -196,6 +198,7 @@ impl<'a> Request<'a> {
                     task,
                     explains,
                     wants_whole: found.get_flag("whole"),
+                    is_live: found.get_flag("live"),
                 });
             }
         }

@@ -7,7 +7,8 @@ use crate::context::Context;
 use crate::dashes::{DASH, check_dashes};
 use crate::extracting::extract_file;
 use crate::failure::Failure;
-use crate::files::{look_into, merge_files_into, resume_file, run_file, write_file};
+use crate::files::{merge_files_into, resume_file, run_file, write_file};
+use crate::looking::look_into;
 use crate::request::{Request, Task, no_fault, not_text};
 use crate::scales::print_scale;
 use crate::sizing::size_of_task;
@@ -50,11 +51,13 @@ pub fn run<
                 task,
                 explains,
                 wants_whole,
+                is_live,
             } = request;
             let context = Context {
                 rt,
                 explains: explains || is_asked(rt),
                 wants_whole,
+                is_live,
             };
             meet(&context, task)?;
         }

@@ -25,3 +25,12 @@ pub fn image<'a>(alloc: Global) -> Arg<'a> {
         .help("Image file [default: standard input]")
         .long_help("Image file; standard input if it is left out or -")
 }
+
+/// Asks for a look at a file that a process is using.
+pub fn live_flag<'a>(alloc: Global) -> Arg<'a> {
+    Arg::new(alloc, "live")
+        .long("live")
+        .action(ArgAction::SetTrue)
+        .help("Look at FILE while a process is using it")
+        .long_help("Look at FILE while a process is using it, as `look` does")
+}

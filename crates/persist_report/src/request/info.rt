@@ -1,7 +1,7 @@
 //! The command `info`, and the options of lists.
 
 use crate::request::Task;
-use crate::request::arguments::{explain_flag, image};
+use crate::request::arguments::{explain_flag, image, live_flag};
 use clap::{Arg, ArgAction, ArgMatches, Command};
 use reading_shows::{ListStyle, Style};
 use std::alloc::{AllocError, Global};
@@ -29,6 +29,7 @@ pub fn info_command<'a>(alloc: Global) -> Result<Command<'a>, AllocError> {
         .after_help("Example:\n  persist_report info my.img")
         .arg(image(alloc))?
         .arg(human)?
+        .arg(live_flag(alloc))?
         .arg(explain_flag(alloc))
 }
 

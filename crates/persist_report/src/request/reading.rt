@@ -1,6 +1,6 @@
 //! The commands that read an image, and `explain`: their arguments, and what these ask for.
 
-use crate::request::arguments::{explain_flag, image};
+use crate::request::arguments::{explain_flag, image, live_flag};
 use crate::request::info::{list_options, list_style};
 use crate::request::{Task, texts};
 use crate::text_options::{families_flag, label_option, labels_found, to_found, to_option};
@@ -34,6 +34,7 @@ pub fn report_command<'a>(alloc: Global) -> Result<Command<'a>, AllocError> {
         .arg(image(alloc))?
         .arg(rows)?
         .arg(to_option(alloc))?
+        .arg(live_flag(alloc))?
         .arg(whole_flag(alloc))?
         .arg(explain_flag(alloc))
 }
@@ -54,6 +55,7 @@ pub fn export_command<'a>(alloc: Global) -> Result<Command<'a>, AllocError> {
         .arg(label_option(alloc))?
         .arg(families_flag(alloc))?
         .arg(to_option(alloc))?
+        .arg(live_flag(alloc))?
         .arg(whole_flag(alloc))?
         .arg(explain_flag(alloc))
 }
@@ -111,7 +113,7 @@ pub fn show_command<'a>(alloc: Global) -> Result<Command<'a>, AllocError> {
     let command = Command::new(alloc, "show")
         .about("Show the histograms of an image: numbers, quantiles and bars")
         .long_about(texts::SHOW)
-        .after_help("Example:\n  persist_report show my.img A --width 60")
+        .after_long_help("Example:\n  persist_report show my.img A --width 60")
         .arg(image(alloc))?
         .arg(names)?
         .arg(part)?
@@ -119,6 +121,7 @@ pub fn show_command<'a>(alloc: Global) -> Result<Command<'a>, AllocError> {
     let command = list_options(alloc, command)?;
     style_options(alloc, command)?
         .arg(to_option(alloc))?
+        .arg(live_flag(alloc))?
         .arg(whole_flag(alloc))?
         .arg(explain_counts_flag(alloc))
 }

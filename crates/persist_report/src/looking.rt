@@ -1,0 +1,108 @@
+//! Looks at the segment in a file that is in use: its image is written to another file, or is what a text shows.
+
+ghost use Rattle.std.specs.Prelude.{◌≡◌, false, IfErr, IfOk};
+ghost use Rattle.persist_report.specs.Failure.{UsageIsMistake};
+ghost use Rattle.segment_image.specs.Watched.{has_failed};
+
+use crate::context::Context;
+use crate::dashes::{DASH, no_file};
+use crate::failure::Failure;
+use crate::files::{end, failed, open, open_out};
+use crate::incoming::Incoming;
+use crate::noted::{Noted, Stream};
+use fault_texts::Origin;
+use persist_commands::look_file;
+use persist_report_core::CliFault;
+use std::collections::VecDeque;
+use std::fs::File;
+use std::random::RandomSource;
+use std::rt::Files;
+use std::time::Clock;
+
+// Of three inputs that are read one after the other, the one that was read last.
+fn last_used<'n, 'a, I>(
+    first: &'n Noted<'a, I>,
+    second: &'n Noted<'a, I>,
+    third: &'n Noted<'a, I>,
+) -> &'n Noted<'a, I> {
+    if third.is_used() {
+        third
+    } else if second.is_used() {
+        second
+    } else {
+        first
+    }
+}
+
+/// Looks at the segment in a file that is in use, which is read three times, and writes its image to another, or to
+/// standard output if none is named. `Usage` comes only for a mistake on the command line.
+pub fn look_into<'a, R: Files<File = File> + Clock + Input + Print + RandomSource + AllocGlobal>(
+    context: &Context<'_, R>,
+    file: &'a str,
+    out: Option<&'a str>,
+) -> Result<(), Failure>
+    ensures { IfErr result UsageIsMistake }
+{
+    let mut first = open(context, file, None)?;
+    let mut second = open(context, file, None)?;
+    let mut third = open(context, file, context.copy())?;
+    let mut image = open_out(context, out.unwrap_or(DASH))?;
+    let outcome = look_file(
+        context.alloc(),
+        &mut first,
+        &mut second,
+        &mut third,
+        &mut image,
+    );
+    let (first, second, third) = (first.into_inner(), second.into_inner(), third.into_inner());
+    let last = last_used(&first, &second, &third);
+    end(context, outcome, None, last, image.into_inner(), None)
+}
+
+// The bytes of the image of a look at the segment in a file, which is read three times.
+fn look_at<R: Files + Input + AllocGlobal>(
+    context: &Context<'_, R>,
+    file: &str,
+) -> Result<VecDeque<u8>, Failure>
+    ensures { IfErr result UsageIsMistake }
+{
+    let mut first = open(context, file, None)?;
+    let mut second = open(context, file, None)?;
+    let mut third = open(context, file, context.copy())?;
+    let mut bytes = Noted::stream(VecDeque::new(context.alloc()), Origin::Output, None);
+    let outcome = look_file(
+        context.alloc(),
+        &mut first,
+        &mut second,
+        &mut third,
+        &mut bytes,
+    );
+    let fault = match outcome {
+        Ok(()) => return Ok(bytes.into_inner().into_inner()),
+        // The bytes stay in memory, so memory ran out for them.
+        Err(CliFault::Write) => CliFault::NoMemory,
+        Err(fault) => fault,
+    };
+    let (first, second, third) = (first.into_inner(), second.into_inner(), third.into_inner());
+    let last = last_used(&first, &second, &third);
+    Err(failed(context, fault, None, last, (Origin::Output, None)))
+}
+
+/// Opens the image of a look at the segment in a file that is in use. On `Ok` it has not failed [file]; `Usage` comes only for
+/// a mistake on the command line, as where no file is named, or `-` [fault].
+pub fn open_look<'a, R: Files + Input + AllocGlobal>(
+    context: &Context<'_, R>,
+    file: Option<&'a str>,
+) -> Result<Stream<'a, Incoming<R::File, R::Reader>>, Failure>
+    ensures file { IfOk result (λ file. has_failed file ≡ false) }
+    ensures fault { IfErr result UsageIsMistake }
+{
+    match file {
+        Some(path) if path != DASH => {
+            let bytes = look_at(context, path)?;
+            let look = Incoming::Look(bytes);
+            Ok(Noted::stream(look, Origin::File(path), context.copy()))
+        }
+        _ => Err(Failure::Usage(no_file(context.alloc())?)),
+    }
+}

@@ -89,9 +89,16 @@ def short_of(units: Units, least: Units, version: int) -> list[Cell]:
 def wrong_of(units: Units, faults: list[str], before: Units, data: bytes, version: int) -> str | None:
     """What is wrong with the units of a report, beside those that were there before and what the threads told; or
     None."""
+    return wrong_between(units, faults, before, data, data, version)
+
+
+def wrong_between(
+    units: Units, faults: list[str], before: Units, first: bytes, last: bytes, version: int
+) -> str | None:
+    """The same of words that were read between two moments, with what the threads told at the first and at the last."""
     if faults:
         return f"the report has {faults[:3]}"
-    begun, ended = numbers(data)
+    begun, ended = numbers(last)[0], numbers(first)[1]
     for cell in units:
         if units[cell] > before[cell] + begun[cell]:
             return f"{cell} has {units[cell]} units, and {before[cell]} + {begun[cell]} were begun"

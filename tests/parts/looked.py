@@ -1,0 +1,127 @@
+"""Four threads of a C++ program make names and record into a mapped file, and the program looks at it while they do.
+
+Each look is read without a bad record or a stop. Each bucket has at least the units of calls that had ended before the
+look, at most those of calls that had begun when it was done, and no fewer than in the look before. Now and then a look
+is adopted, and the report of what is continued from it is the same. In the end the process is killed amid a look, and
+the next run continues in the file.
+"""
+
+from __future__ import annotations
+
+import argparse
+import collections
+import pathlib
+import random
+import subprocess
+from collections.abc import Iterator
+
+from support import bounds, native
+from support.program import Answer, Case, answer
+
+PROGRAM = "persist_report"
+# Looks at one run of the program, runs in one file, and how many looks go by until one is adopted.
+LOOKS_A_RUN, RUNS_A_FILE, ADOPTED_EACH = 100, 2, 10
+VERSION = 2
+ID = 7
+
+
+def rows_of(report: bytes) -> list[bytes]:
+    """The lines of a report but for those of the segment."""
+    return [line for line in report.splitlines() if not line.startswith(b"!")]
+
+
+class Watched(bounds.Runs):
+    """Runs in one file, at which the program looks."""
+
+    def __init__(
+        self, recording: pathlib.Path, program: pathlib.Path, folder: pathlib.Path, chance: random.Random
+    ) -> None:
+        super().__init__(recording, program, chance, VERSION)
+        self.met: collections.Counter[str] = collections.Counter()
+        self.file, self.tally, self.look, self.script, self.out = (
+            folder / name for name in ("file", "tally", "look", "script", "out")
+        )
+        self.file.unlink(missing_ok=True)
+        size, page = self.shape
+        self.script.write_text(f"segment,{size},{page},{ID}\n")
+        # Units that were there when the run began, and units in the last look.
+        self.last: bounds.Units = collections.Counter()
+        self.is_made = False
+
+    def adopted(self, report: bytes) -> str | None:
+        """What is wrong with a segment that continues from the look, or None."""
+        came = answer(self.program, ["resume", self.look, self.script, self.out])
+        if came.status != 0 or rows_of(came.output) != rows_of(report):
+            return f"continued: {came}"
+        self.met["adopted"] += 1
+        return None
+
+    def wrong(self, number: int) -> str | None:
+        """What is wrong with a look, or None. There is none until the segment is made."""
+        ended = self.tally.read_bytes()
+        found = answer(self.program, ["look", self.file, self.look])
+        begun = self.tally.read_bytes()
+        if found.status != 0 and not self.is_made and not any(ended):
+            self.met["before it was made"] += 1
+            return None
+        if found != Answer():
+            return f"look: {found}"
+        report = answer(self.program, ["report", self.look])
+        if report.status != 0:
+            return f"report: {report}"
+        self.is_made = True
+        units, faults = bounds.units_of(report.output)
+        wrong = bounds.wrong_between(units, faults, self.before, ended, begun, self.version)
+        fallen = [cell for cell in self.last if units[cell] < self.last[cell]]
+        self.met["amid a call"] += bounds.numbers(begun)[0] != bounds.numbers(ended)[1]
+        self.met["full"] += b"!flag,full\n" in report.output
+        self.last = units
+        if wrong is None and fallen:
+            wrong = f"{fallen[0]} has fewer units than in the look before"
+        return self.adopted(report.output) if wrong is None and number % ADOPTED_EACH == 0 else wrong
+
+    def run(self, looks: int) -> str | None:
+        """What is wrong with one of so many looks at a run, which is killed then, or None."""
+        words = self.words("file", self.file, self.tally)
+        with subprocess.Popen(words, stdout=subprocess.PIPE, stderr=subprocess.PIPE) as running:
+            assert running.stderr is not None
+            try:
+                wrong = next((wrong for wrong in map(self.wrong, range(1, looks + 1)) if wrong is not None), None)
+            finally:
+                running.kill()
+            said = running.stderr.read().decode()
+        self.met["units"] += sum(self.last.values())
+        return f"it said {said}" if said else wrong or self.wrong_behind()
+
+    def wrong_behind(self) -> str | None:
+        """What is wrong with a look at what the killed program left, or None; the next run continues with that."""
+        wrong = self.wrong(1)
+        self.before = self.last
+        return wrong
+
+
+def looked_often(
+    recording: pathlib.Path, folder: pathlib.Path, program: pathlib.Path, options: argparse.Namespace
+) -> Iterator[Case]:
+    met: collections.Counter[str] = collections.Counter()
+    left, number = options.looks, 0
+    while left > 0:
+        watched = Watched(recording, program, folder, random.Random(f"{options.seed} looked {number}"))
+        for _ in range(RUNS_A_FILE):
+            looks = min(left, LOOKS_A_RUN)
+            left -= looks
+            if looks > 0:
+                yield f"file {number} of seed {options.seed}, {watched.shape[0]} words", watched.run(looks)
+        met += watched.met
+        number += 1
+    print(
+        f"looked: {options.looks} looks, {met['amid a call']} amid a call, {met['full']} at a full segment, "
+        f"{met['before it was made']} before it was made; {met['adopted']} adopted; {met['units']} units",
+        flush=True,
+    )
+    if options.looks >= 1000:
+        yield "each kind of look", None if met["amid a call"] and met["full"] else f"met were {dict(met)}"
+
+
+def cases(program: pathlib.Path, options: argparse.Namespace) -> Iterator[Case]:
+    return native.cases_of("killed.cpp", lambda recording, folder: looked_often(recording, folder, program, options))

@@ -95,12 +95,27 @@ def forged(program: pathlib.Path, folder: pathlib.Path, seed: int | str) -> Iter
         yield f"look {number} of seed {seed}", wrong
 
 
+def live(program: pathlib.Path, closed: pathlib.Path, look: bytes) -> Iterator[Case]:
+    """With `--live` a text is that of the look, and standard input cannot be looked at."""
+    for words in (["report"], ["show"], ["export"], ["info"], ["report", "--rows"], ["show", "--list"]):
+        title = " ".join(words)
+        wanted = answer(program, words, look)
+        assert wanted.output and (wanted.error, wanted.status) == (b"", 0), f"{title}: {wanted}"
+        yield f"{title} --live", difference(wanted, answer(program, [*words, "--live", str(closed)]))
+        for source in ([], ["-"]):
+            refused = answer(program, [*words, "--live", *source], look)
+            yield f"{title} --live of standard input", None if refused.status == 2 else str(refused)
+    old = answer(program, ["report", "--live", EXAMPLE])
+    yield "version 1, --live", difference(fault("Adopt OldVersion", 3), old)
+
+
 def cases(program: pathlib.Path, options: argparse.Namespace) -> Iterator[Case]:
     closed = ROOT / "examples" / "crash.img"
     look = layout.data_of(plain_look.look_of(*[layout.words_of(closed.read_bytes())] * 3))
     with tempfile.TemporaryDirectory() as name:
         folder = pathlib.Path(name)
         yield "standard output", difference(Answer(look), answer(program, ["look", closed]))
+        yield from live(program, closed, look)
         yield "version 1", difference(fault("Adopt OldVersion", 3), answer(program, ["look", EXAMPLE]))
         refused = dataclasses.replace(answer(program, ["look", "-"]), error=b"")
         yield "standard input", difference(Answer(status=2), refused)

@@ -102,8 +102,7 @@ def live(program: pathlib.Path, closed: pathlib.Path, look: bytes) -> Iterator[C
         wanted = answer(program, words, look)
         assert wanted.output and (wanted.error, wanted.status) == (b"", 0), f"{title}: {wanted}"
         yield f"{title} --live", difference(wanted, answer(program, [*words, "--live", str(closed)]))
-        for source in ([], ["-"]):
-            refused = answer(program, [*words, "--live", *source], look)
+        for refused in (answer(program, [*words, "--live"], look), answer(program, [*words, "--live", "-"], look)):
             yield f"{title} --live of standard input", None if refused.status == 2 else str(refused)
     old = answer(program, ["report", "--live", EXAMPLE])
     yield "version 1, --live", difference(fault("Adopt OldVersion", 3), old)

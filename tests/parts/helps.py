@@ -16,7 +16,7 @@ from support.program import Case, answer, built, difference
 PROGRAM = "persist_report"
 STEPPED = "stepped"
 MOST_COLUMNS = 80
-MOST_LINES = 24
+MOST_LINES = 25
 SECONDS = 120
 # Commands that have been there from the start.
 COMMANDS = ["report", "export", "show", "run", "resume", "merge", "look", "extract", "explain"]

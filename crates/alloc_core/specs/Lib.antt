@@ -7,5 +7,6 @@ pub mod Layout
 pub mod Planned
 pub mod Event
 pub mod Attempt
+pub mod Load
 pub mod Alloc
 pub mod Laws

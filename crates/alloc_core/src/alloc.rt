@@ -139,6 +139,7 @@ impl Alloc {
     ghost use Rattle.segment_image.specs.Words.{word_at};
     ghost use Rattle.alloc_core.specs.Event.{spot, after, change};
     ghost use Rattle.alloc_core.specs.Attempt.{attempt_of};
+    ghost use Rattle.alloc_core.specs.Load.{load_of};
     ghost use Rattle.alloc_core.specs.Planned.{planned, is_pointer};
     ghost use Rattle.alloc_core.specs.Alloc.{event_at, next_event, stage_of_plan, seen_after, stage_after, started, moved, Allocation, IsStep, IsCorruptBy};
     ghost use Rattle.alloc_core.specs.Laws.{Keeps, IsNewBlock};
@@ -199,6 +200,17 @@ impl Alloc {
                 at: FREE_WORD,
                 wanted: self.seen,
             }),
+            _ => None,
+        }
+    }
+
+    /// Returns the word that its next event loads, if it is a load.
+    pub fn next_load(&self) -> Option<usize>
+        ensures { result ≡ load_of (next_event self.now) }
+    {
+        match self.stage {
+            AllocStage::LoadFlags => Some(FLAGS_WORD),
+            AllocStage::LoadFree => Some(FREE_WORD),
             _ => None,
         }
     }

@@ -71,6 +71,7 @@ impl Publish {
     ghost use Rattle.segment_image.specs.Words.{word_at};
     ghost use Rattle.alloc_core.specs.Event.{spot, after};
     ghost use Rattle.alloc_core.specs.Attempt.{attempt_of};
+    ghost use Rattle.alloc_core.specs.Load.{load_of};
     ghost use Rattle.list_core.specs.Chain.{IsStop};
     ghost use Rattle.list_core.specs.Publish.{Publishing, next_event, stage_after, started, moved, IsStep, IsStrayBy, IsReach, chain_after, StandsOn, TailGoesOn};
 
@@ -133,6 +134,16 @@ impl Publish {
                 at: TAIL_WORD,
                 wanted: old,
             }),
+            _ => None,
+        }
+    }
+
+    /// Returns the word that its next event loads, if it is a load.
+    pub fn next_load(&self) -> Option<usize>
+        ensures { result ≡ load_of (next_event self.now) }
+    {
+        match self.stage {
+            PubStage::LoadTail => Some(TAIL_WORD),
             _ => None,
         }
     }

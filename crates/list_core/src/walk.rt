@@ -46,7 +46,7 @@ impl WalkStep {
 }
 
 impl Walk {
-    ghost use Rattle.std.specs.Prelude.{◌≡◌, ℕ, List, ◌+◌, ◌≤◌, length, slice_index, true};
+    ghost use Rattle.std.specs.Prelude.{◌≡◌, ℕ, List, ◌+◌, ◌%◌, ◌^◌, ◌≤◌, length, slice_index, true};
     ghost use Rattle.segment_image.specs.declared.head.SegmentHead.{SegmentHead};
     ghost use Rattle.segment_image.specs.Words.{word_at};
     ghost use Rattle.segment_image.specs.declared.layout.TheConstants.{HEADER_WORDS, BLOCK_NEXT, QUEUE};
@@ -88,6 +88,13 @@ impl Walk {
         let said = said_of(self.next(words), words.len());
         self.at = said.stands(self.at);
         said
+    }
+
+    /// Returns the word that its next step loads: the next of the block where it stands.
+    pub fn next_load(&self) -> usize
+        ensures { result ≡ (self.now + BLOCK_NEXT) % 2 ^ 64 }
+    {
+        (self.at as usize).wrapping_add(BLOCK_NEXT)
     }
 
     // The next of the block where the walk stands.

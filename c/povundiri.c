@@ -38,6 +38,7 @@ extern inline uint32_t povundiri_set_corrupt(struct povundiri_handle *recorder);
 extern inline uint32_t povundiri_limit_indexes(struct povundiri_handle *recorder, size_t entries);
 extern inline uint32_t povundiri_records(struct povundiri_handle *recorder, uint64_t *records, size_t length, size_t *needed);
 extern inline uint32_t povundiri_next_shared(struct povundiri_handle *recorder, size_t cursor, uint64_t *record);
+extern inline uint32_t povundiri_segment_look(struct povundiri_handle *segment, uint64_t *image, size_t image_length, size_t *needed);
 extern inline uint32_t povundiri_report(const uint64_t *words, size_t length, char *text, size_t text_length, size_t *needed);
 extern inline uint32_t povundiri_report_bounded(const uint64_t *words, size_t length, char *text, size_t text_length, size_t *needed,
                                                 uint64_t most_keys);

@@ -162,7 +162,7 @@ enum povundiri_status {
 
     /* Why an image was not adopted. */
     POVUNDIRI_ADOPT_BAD_IMAGE = 301, /* never returned: 501 to 509 say what is wrong with its header */
-    POVUNDIRI_ADOPT_OLD_VERSION = 302,
+    POVUNDIRI_ADOPT_OLD_VERSION = 302, /* also: it cannot be looked at */
     POVUNDIRI_ADOPT_CORRUPT = 303,
     POVUNDIRI_ADOPT_DAMAGED = 304,
     POVUNDIRI_ADOPT_NO_UNITS = 305,
@@ -226,6 +226,10 @@ uint32_t povundiri_proved_export(const uint64_t *words, size_t words_length, con
                                  size_t text_length, size_t *needed);
 uint32_t povundiri_proved_show(const uint64_t *words, size_t words_length, uint16_t width, uint8_t *text, size_t text_length,
                                size_t *needed);
+
+uint32_t povundiri_proved_compose(const uint64_t *one, size_t one_length, const uint64_t *two, size_t two_length, const uint64_t *three,
+                                  size_t three_length, uint64_t *image, size_t image_length);
+uint32_t povundiri_proved_segment_look(struct povundiri_handle *segment, uint64_t *image, size_t image_length, size_t *needed);
 
 /* Whether an array is valid: only an empty one may be null. */
 inline bool povundiri_is_array(const void *at, size_t length) {
@@ -501,6 +505,32 @@ inline uint32_t povundiri_records(struct povundiri_handle *recorder, uint64_t *r
 POVUNDIRI_CHECKED
 inline uint32_t povundiri_next_shared(struct povundiri_handle *recorder, size_t cursor, uint64_t *record) {
     return recorder == NULL || record == NULL ? (uint32_t)POVUNDIRI_NULL : povundiri_proved_next_shared(recorder, cursor, record);
+}
+
+/* ---- Looks ---- */
+
+/* A look at a segment of version 2 that is in use: an image of it, while others record. It disturbs no recorder, and needs none. The
+ * report, metrics and text of a look are those of an image, and povundiri_adopt takes it if nobody marked the segment as corrupt.
+ *
+ * The words are read three times, each by one load, and put together. The image reads without a fault. Of each bucket it has at least the
+ * units of calls that had ended before the look began, and no unit of a call that began after it was done; it has each histogram that was
+ * in the segment when the look began. The numbers of different histograms, and of different buckets of one, need not be of one moment. That
+ * is tested, on running programs, and not proved.
+ *
+ * `words` are those of the segment, such as those of a mapped file from its byte 8 on: its own, or another process's. `length` is how many
+ * may be read: at least as many as the segment has. `needed`, which may be null, is how many words the image has, also on SHORT.
+ * Statuses: NULL; SHORT; NO_MEMORY; IMAGE_..: the header has this fault; ADOPT_OLD_VERSION: the segment is of version 1.
+ * Keep: pointers, but that others may store to the words meanwhile, as recorders do; process. */
+uint32_t povundiri_look(const uint64_t *words, size_t length, uint64_t *image, size_t image_length, size_t *needed) POVUNDIRI_CHECKED;
+
+/* The same of a segment by its handle, also of one in the heap.
+ * Statuses: NULL, EMPTY, OTHER_KIND, SHORT, NO_MEMORY, ADOPT_OLD_VERSION.
+ * Keep: pointers; handles; turns; process. */
+POVUNDIRI_CHECKED
+inline uint32_t povundiri_segment_look(struct povundiri_handle *segment, uint64_t *image, size_t image_length, size_t *needed) {
+    size_t own = 0;
+    if (segment == NULL || !povundiri_is_array(image, image_length)) return POVUNDIRI_NULL;
+    return povundiri_proved_segment_look(segment, (uint64_t *)povundiri_address(image), image_length, needed != NULL ? needed : &own);
 }
 
 /* ---- Readers ---- */

@@ -32,6 +32,7 @@
 #include <chrono>
 #include <cstddef>
 #include <cstdint>
+#include <cstdlib>
 #include <initializer_list>
 #include <limits>
 #include <memory>
@@ -651,6 +652,22 @@ public:
         return in_turn([&](povundiri_handle* segment) { return povundiri_outstanding(segment, &outstanding); });
     }
 
+    // A look at it while threads record: an image, for 'report', 'export_text', 'show_text' and 'adopt' (povundiri_segment_look). It holds
+    // the mutex meanwhile, so an 'add' that has to borrow units waits for it. Of a segment in a file, 'look_file' holds none.
+    std::vector<std::uint64_t> look() const {
+        std::vector<std::uint64_t> image;
+        detail::need(try_look(image), "look");
+        return image;
+    }
+    [[nodiscard]] Status try_look(std::vector<std::uint64_t>& image) const {
+        const Status usable = state_.usable();
+        if (usable != Status::Done) return usable;
+        const std::lock_guard<std::mutex> turn(state_->turn);
+        return detail::filled(image, [this](std::uint64_t* data, std::size_t size, std::size_t* needed) {
+            return povundiri_segment_look(&state_->segment, data, size, needed);
+        });
+    }
+
     // Ends it, closes its file, and returns the image. InUse if it has recorders.
     std::vector<std::uint64_t> close() {
         std::vector<std::uint64_t> image;
@@ -767,6 +784,40 @@ inline Status Segment::try_close(std::vector<std::uint64_t>& image) {
     });
     if (status == Status::Done) povundiri_file_close(&state_->file);
     return status;
+}
+
+// ---- Looks ----
+
+// An image of a segment of version 2 that others record into meanwhile: of its words, as in a mapping (povundiri_look), or in a file
+// (povundiri_file_look), whose fault may be the system's, in the generic category.
+[[nodiscard]] inline Status try_look(Span<const std::uint64_t> words, std::vector<std::uint64_t>& image) {
+    return detail::filled(image, [&](std::uint64_t* data, std::size_t size, std::size_t* needed) {
+        return povundiri_look(words.data(), words.size(), data, size, needed);
+    });
+}
+
+inline std::vector<std::uint64_t> look(Span<const std::uint64_t> words) {
+    std::vector<std::uint64_t> image;
+    detail::need(try_look(words, image), "look, words", words.size());
+    return image;
+}
+
+[[nodiscard]] inline std::error_code try_look_file(const char* path, std::vector<std::uint64_t>& image) {
+    std::uint64_t* words = nullptr;
+    std::size_t length = 0;
+    int fault = 0;
+    const std::uint32_t status = povundiri_file_look(path, &words, &length, &fault);
+    const std::unique_ptr<std::uint64_t, void (*)(void*)> owned(words, std::free);
+    if (status == POVUNDIRI_SYSTEM) return {fault, std::generic_category()};
+    image.assign(words, words + length);
+    return static_cast<Status>(status);
+}
+
+inline std::vector<std::uint64_t> look_file(const char* path) {
+    std::vector<std::uint64_t> image;
+    const std::error_code fault = try_look_file(path, image);
+    if (fault) raise(fault, std::string("look_file \"").append(path != nullptr ? path : "").append("\""));
+    return image;
 }
 
 // ---- Readers ----

@@ -191,6 +191,19 @@ uint32_t povundiri_open(const char *path, struct povundiri_shape shape, enum pov
                         const struct povundiri_file_options *options, struct povundiri_file *file, struct povundiri_handle *segment,
                         struct povundiri_opened *opened) POVUNDIRI_CHECKED;
 
+/* ---- Looks ---- */
+
+/* A look at the segment in a file that is in use, of this process or of another: povundiri_look, by three reads of the file. It takes no lock,
+ * and the file has to be readable, no more. The file holds a segment as povundiri_open makes it, or it is an image.
+ *
+ * POVUNDIRI_DONE: *image are the words of an image, for free(), and *length is how many. Else these are NULL and 0.
+ *   POVUNDIRI_SYSTEM   *fault is the system's (errno.h): of opening or reading; EINVAL if the path is that of no regular file. Else *fault is 0
+ *   POVUNDIRI_NULL, POVUNDIRI_NO_MEMORY
+ *   POVUNDIRI_IMAGE_..   the header has this fault; IMAGE_BAD_SIZE also if the file became shorter meanwhile
+ *   POVUNDIRI_ADOPT_OLD_VERSION   the segment is of version 1
+ * Keep: pointers; process. */
+uint32_t povundiri_file_look(const char *path, uint64_t **image, size_t *length, int *fault) POVUNDIRI_CHECKED;
+
 /* ---- Forks ---- */
 
 /* A number of this process: the same until fork, and in a child of fork another one than in all its ancestors. So a program that keeps the

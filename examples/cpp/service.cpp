@@ -6,9 +6,11 @@
 //   - a histogram that another release made with other buckets is not recorded into;
 //   - what is not recorded, also for want of units, is counted, and told at the end.
 //
+// Meanwhile a thread writes the metrics to a second file, if one is named, each second.
+//
 //     c++ -std=c++17 -pthread service.cpp $(pkg-config --cflags --libs povundiri) -o service
 //     ./service latency.seg & sleep 1; kill -9 $!
-//     ./service latency.seg & sleep 1; kill $!
+//     ./service latency.seg latency.prom & sleep 2; kill $!
 
 #include <povundiri.hpp>
 
@@ -17,8 +19,10 @@
 #include <csignal>
 #include <cstdio>
 #include <exception>
+#include <fstream>
 #include <functional>
 #include <random>
+#include <string>
 #include <thread>
 #include <vector>
 
@@ -61,6 +65,18 @@ void serve(povundiri::Segment& segment, unsigned seed) {
     }
 }
 
+// Writes the metrics of the running segment to a file, which is whole at any moment: it is written beside it and renamed.
+void publish(const povundiri::Segment& segment, const std::string& path) {
+    const std::string beside = path + ".new";
+    std::vector<std::uint64_t> image;
+    while (!ends) {
+        if (segment.try_look(image) == Status::Done && std::ofstream(beside) << povundiri::export_text(image)) {
+            std::rename(beside.c_str(), path.c_str());
+        }
+        std::this_thread::sleep_for(std::chrono::seconds(1));
+    }
+}
+
 // How many requests the services before have recorded.
 std::uint64_t served_before(povundiri::Segment& segment) {
     povundiri::Recorder recorder;
@@ -82,16 +98,17 @@ povundiri::Segment open_segment(const char* path) {
     return segment;
 }
 
-void run(const char* path) {
+void run(const char* path, const char* metrics) {
     povundiri::Segment segment = open_segment(path);
     std::printf("served before: %llu\n", static_cast<unsigned long long>(served_before(segment)));
     std::fflush(stdout);
     std::vector<std::thread> threads;
     try {
-        threads.reserve(kThreads);
+        threads.reserve(kThreads + 1);
         while (threads.size() < kThreads) threads.emplace_back(serve, std::ref(segment), static_cast<unsigned>(threads.size()));
+        if (metrics != nullptr) threads.emplace_back(publish, std::cref(segment), metrics);
     } catch (const std::exception& fault) {
-        std::fprintf(stderr, "%zu threads serve: %s\n", threads.size(), fault.what());
+        std::fprintf(stderr, "%zu threads run: %s\n", threads.size(), fault.what());
     }
     for (std::thread& thread : threads) thread.join();
     std::printf("served: %llu, not recorded: %llu\n", static_cast<unsigned long long>(served), static_cast<unsigned long long>(missed));
@@ -100,7 +117,7 @@ void run(const char* path) {
 }  // namespace
 
 int main(int count, char** words) {
-    if (count != 2) return 2;
+    if (count != 2 && count != 3) return 2;
     std::signal(SIGTERM, [](int) { ends = true; });
-    run(words[1]);
+    run(words[1], count == 3 ? words[2] : nullptr);
 }

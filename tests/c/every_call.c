@@ -76,6 +76,10 @@ static void nulls_of_segments(void) {
     ANSWERS(NULL, povundiri_export(words, 16, NULL, NULL, 1, NULL));
     ANSWERS(NULL, povundiri_show(NULL, 1, 0, NULL, 0, NULL));
     ANSWERS(NULL, povundiri_show(words, 16, 0, NULL, 1, NULL));
+    ANSWERS(NULL, povundiri_look(NULL, 1, words, 16, NULL));
+    ANSWERS(NULL, povundiri_look(words, 16, NULL, 1, NULL));
+    ANSWERS(NULL, povundiri_segment_look(NULL, words, 16, NULL));
+    ANSWERS(NULL, povundiri_segment_look(&out, NULL, 16, NULL));
     let_go(&segment, &recorder);
 }
 
@@ -152,6 +156,7 @@ static void asks_for_a_segment(struct povundiri_handle *it, struct povundiri_han
     uint64_t words[WORDS];
     uint32_t number;
     HOLDS(povundiri_close(it, words, WORDS, NULL) == status);
+    HOLDS(povundiri_segment_look(it, words, WORDS, NULL) == status);
     HOLDS(povundiri_recorder(it, 1, &out) == status);
     HOLDS(povundiri_lend(it, recorder, 1) == status);
     HOLDS(povundiri_join(it, recorder) == status);
@@ -754,6 +759,37 @@ static void shows(void) {
     ANSWERS(IMAGE_TOO_SHORT, povundiri_show(words, 15, 0, text, REPORT, &needed));
 }
 
+/* A look at a segment that nobody changes is its image. */
+static void looks(void) {
+    struct povundiri_shape moving = {WORDS, PAGE, 7, 0, 1};
+    struct povundiri_handle segment = {0};
+    uint64_t words[WORDS + 1], image[WORDS + 1], old[WORDS];
+    size_t needed = 0;
+    image_of(words, 2);
+    words[WORDS] = 8;
+    image[WORDS] = 9;
+    ANSWERS(SHORT, povundiri_look(words, WORDS + 1, image, WORDS - 1, &needed));
+    HOLDS(needed == WORDS);
+    needed = 0;
+    DONE(povundiri_look(words, WORDS + 1, image, WORDS + 1, &needed));
+    HOLDS(needed == WORDS && memcmp(image, words, WORDS * sizeof *words) == 0 && image[WORDS] == 9);
+    ANSWERS(IMAGE_TOO_SHORT, povundiri_look(words, 15, image, WORDS, NULL));
+    ANSWERS(IMAGE_TOO_SHORT, povundiri_look(NULL, 0, image, WORDS, NULL));
+    ANSWERS(IMAGE_BAD_SIZE, povundiri_look(words, WORDS - 1, image, WORDS, NULL));
+    image_of(old, 1);
+    ANSWERS(ADOPT_OLD_VERSION, povundiri_look(old, WORDS, image, WORDS, NULL));
+    DONE(povundiri_adopt(words, WORDS, 0, &segment));
+    ANSWERS(SHORT, povundiri_segment_look(&segment, image, WORDS - 1, &needed));
+    HOLDS(needed == WORDS);
+    memset(image, 0, WORDS * sizeof *image);
+    DONE(povundiri_segment_look(&segment, image, WORDS + 1, &needed));
+    HOLDS(needed == WORDS && memcmp(image, words, WORDS * sizeof *words) == 0 && image[WORDS] == 9);
+    DONE(povundiri_drop(&segment));
+    DONE(povundiri_create(moving, &segment));
+    ANSWERS(ADOPT_OLD_VERSION, povundiri_segment_look(&segment, image, WORDS, NULL));
+    DONE(povundiri_drop(&segment));
+}
+
 /* A header, a word that is stored in it, and the fault that it has then. */
 struct header_fault {
     size_t at;
@@ -865,6 +901,7 @@ static const struct test TESTS[] = {
     {"bounded_reports", bounded_reports},
     {"exports", exports},
     {"shows", shows},
+    {"looks", looks},
     {"adopted", adopted},
     {"threads", threads},
     {"texts", texts},

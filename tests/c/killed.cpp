@@ -1,9 +1,13 @@
 // Four threads record until they are killed, and tell in a second shared file what they have begun and ended (tally.hpp).
 //
-//     killed PLACE FILE TALLY SEED VERSION WORDS PAGE
+//     killed PLACE FILE TALLY SEED VERSION WORDS PAGE [LOOKS]
 //
 // PLACE is 'file': the segment lies in FILE, which is mapped, and continues where one stands there; or 'heap': it lies in the heap, and goes
 // on with the image FILE where there is such a file. It prints 'begins' first. A status that may not come ends it with status 3.
+//
+// With LOOKS it looks so many times at its own segment, by its handle and, in a file, also by that, and ends then with status 0. Each look is
+// reported, and a bucket that has fewer units than had ended before, more than were begun behind it, or fewer than the look before ends it
+// with status 3. It prints how many looks were taken amid a call.
 
 #include <fcntl.h>
 #include <sys/mman.h>
@@ -17,6 +21,7 @@
 #include <fstream>
 #include <iterator>
 #include <random>
+#include <sstream>
 #include <string>
 #include <thread>
 #include <vector>
@@ -34,6 +39,7 @@ struct Options {
     std::string place, file, tally;
     std::uint32_t seed;
     povundiri::Shape shape;
+    std::uint64_t looks;
 };
 
 [[noreturn]] void stop(const char* what, const char* why) {
@@ -168,15 +174,74 @@ void open_in_heap(const Options& options, povundiri::Segment& segment) {
     need("adopt", povundiri::Segment::try_adopt(words, segment, options.shape.cursors));
 }
 
+// The cell of a bucket, by the histogram's name and the bucket's least value.
+std::size_t cell_of(const std::string& name, std::int32_t low) {
+    if (name == "boolean") return tally::kBoolean + static_cast<std::size_t>(low);
+    if (name == "linear") return tally::kLinear + static_cast<std::size_t>(std::find(kLinearValues, std::end(kLinearValues), low) - kLinearValues);
+    if (name == "custom") return tally::kCustom + (low >= 10) + (low >= 100) + (low >= 1000);
+    if (name == "sparse") return tally::kSparse + static_cast<std::size_t>(low + 64);
+    return tally::kMade + std::stoul(name.substr(name.find('_') + 1));
+}
+
+using Units = std::vector<std::uint64_t>;
+
+// The units of each cell that an image has. A bad record, or a list that stopped, ends the program.
+Units units_of(const std::vector<std::uint64_t>& image) {
+    Units units(tally::kCells);
+    std::istringstream report(povundiri::report(image));
+    for (std::string line; std::getline(report, line);) {
+        std::istringstream fields(line);
+        std::string name, kind, low, high, count;
+        std::getline(std::getline(std::getline(std::getline(std::getline(fields, name, ','), kind, ','), low, ','), high, ','), count);
+        if (name == "!bad" || name == "!stopped") stop("look", line.c_str());
+        if (name[0] != '!' && kind != "total") units[cell_of(name, static_cast<std::int32_t>(std::stol(low)))] = std::stoull(count);
+    }
+    return units;
+}
+
+// What all threads began of each cell, or ended.
+Units told(const tally::Thread* threads, std::atomic<std::uint64_t> tally::Cell::*which) {
+    Units units(tally::kCells);
+    for (std::size_t cell = 0; cell < tally::kCells; ++cell) {
+        for (std::size_t i = 0; i < tally::kThreads; ++i) units[cell] += (threads[i][cell].*which).load();
+    }
+    return units;
+}
+
+// Looks at the segment while it is recorded into, and at what it had before.
+void look(const Options& options, const povundiri::Segment& segment, const tally::Thread* threads, const Units& before) {
+    Units last = before;
+    std::uint64_t amid = 0;
+    for (std::uint64_t number = 0; number < options.looks; ++number) {
+        const Units ended = told(threads, &tally::Cell::ended);
+        const bool in_file = options.place == "file" && number % 2 == 0;
+        const Units now = units_of(in_file ? povundiri::look_file(options.file.c_str()) : segment.look());
+        const Units begun = told(threads, &tally::Cell::begun);
+        for (std::size_t cell = 0; cell < tally::kCells; ++cell) {
+            const bool right = before[cell] + ended[cell] <= now[cell] && now[cell] <= before[cell] + begun[cell] && last[cell] <= now[cell];
+            if (!right) stop("look", ("cell " + std::to_string(cell)).c_str());
+        }
+        amid += begun != ended;
+        last = now;
+    }
+    std::printf("%llu\n", static_cast<unsigned long long>(amid));
+    std::fflush(stdout);
+}
+
 [[noreturn]] void record(const Options& options) {
     tally::Thread* cells = tally_of(options.tally);
     povundiri::Segment segment;
     options.place == "file" ? open_in_file(options, segment) : open_in_heap(options, segment);
+    const Units before = options.looks == 0 ? Units() : units_of(segment.look());
     std::vector<std::thread> threads;
     for (std::uint32_t i = 0; i < tally::kThreads; ++i) {
         Recorder recorder;
         need("recorder", segment.try_recorder(recorder));
         threads.emplace_back(&Worker::run, new Worker(std::move(recorder), cells[i], options.seed + i));
+    }
+    if (options.looks > 0) {
+        look(options, segment, cells, before);
+        std::_Exit(0);
     }
     while (true) pause();
 }
@@ -184,9 +249,10 @@ void open_in_heap(const Options& options, povundiri::Segment& segment) {
 }  // namespace
 
 int main(int count, char** words) {
-    if (count != 8) stop("killed", "PLACE FILE TALLY SEED VERSION WORDS PAGE");
+    if (count != 8 && count != 9) stop("killed", "PLACE FILE TALLY SEED VERSION WORDS PAGE [LOOKS]");
     std::puts("begins");
     std::fflush(stdout);
     const auto number = [words](int at) { return std::strtoull(words[at], nullptr, 10); };
-    record({words[1], words[2], words[3], static_cast<std::uint32_t>(number(4)), povundiri::shape(number(6), number(7), 7, 1, number(5))});
+    const povundiri::Shape shape = povundiri::shape(number(6), number(7), 7, 1, number(5));
+    record({words[1], words[2], words[3], static_cast<std::uint32_t>(number(4)), shape, count == 9 ? number(8) : 0});
 }

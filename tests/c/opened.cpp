@@ -140,6 +140,45 @@ void faults() {
     HOLDS(!Segment::try_open(path_of("goes_on").c_str(), kShape, Policy::AdoptOrFail, opened, options) && bool(opened.segment));
 }
 
+std::error_code look(const char* name, std::vector<std::uint64_t>& image) { return povundiri::try_look_file(path_of(name).c_str(), image); }
+
+// A file in use is looked at by its name, and so is an image.
+void looked() {
+    make("looked", 3);
+    Opened opened;
+    HOLDS(!open("looked", Policy::AdoptOrFail, opened));
+    record(opened.segment, 2);
+    std::vector<std::uint64_t> image, other;
+    HOLDS(!look("looked", image) && image.size() == 4096 && povundiri::report(image) == "b,boolean,1,2,5\nb,total,5,5\n");
+    DONE(opened.segment.try_look(other));
+    HOLDS(image == other);
+    const auto* const bytes = reinterpret_cast<const char*>(image.data());
+    std::ofstream(path_of("image"), std::ios::binary).write(bytes, static_cast<std::streamsize>(8 * image.size()));
+    HOLDS(!look("image", other) && image == other);
+    std::ofstream(path_of("short"), std::ios::binary).write(bytes, static_cast<std::streamsize>(8 * image.size() - 8));
+    HOLDS(look("short", other) == Status::ImageBadSize && other.empty());
+    HOLDS(look("none", other) == std::errc::no_such_file_or_directory);
+    HOLDS(povundiri::try_look_file(folder.c_str(), other) == std::errc::invalid_argument);
+    std::ofstream(path_of("other_text")) << std::string(4096, 'x');
+    HOLDS(look("other_text", other) == Status::ImageBadCookie);
+    std::ofstream(path_of("empty")).flush();
+    HOLDS(look("empty", other) == Status::ImageTooShort);
+    HOLDS(povundiri::try_look_file(nullptr, other) == Status::Null);
+    std::uint64_t* words = nullptr;
+    std::size_t length = 1;
+    int fault = 1;
+    HOLDS(povundiri_file_look(path_of("none").c_str(), &words, &length, nullptr) == POVUNDIRI_NULL);
+    HOLDS(povundiri_file_look(path_of("image").c_str(), &words, &length, &fault) == POVUNDIRI_DONE && length == 4096 && fault == 0);
+    std::free(words);
+    Segment moving;
+    DONE(Segment::try_create(povundiri::shape(4096, 256, 7, 0, 1), moving));
+    RETURNS(AdoptOldVersion, moving.try_look(other));
+    RETURNS(Empty, Segment().try_look(other));
+    RETURNS(Short, static_cast<Status>(povundiri_look(image.data(), image.size(), nullptr, 0, nullptr)));
+    DONE(povundiri::try_look(image, other));
+    HOLDS(image == other);
+}
+
 }  // namespace
 
 int main(int count, char** words) {
@@ -148,6 +187,7 @@ int main(int count, char** words) {
     int failed = group("a segment goes on", goes_on);
     failed += group("a damaged file", damaged);
     failed += group("a spent file", spent);
+    failed += group("looks", looked);
     failed += group("faults", faults);
     return failed != 0;
 }

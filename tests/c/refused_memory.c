@@ -86,7 +86,7 @@ static void each_allocation(void) {
     struct povundiri_shape shape = {WORDS, PAGE, 7, 1, 2};
     struct povundiri_handle segment = {0}, recorder = {0};
     struct povundiri_room room = {NULL, (WORDS + 2) * 8};
-    uint64_t words[WORDS];
+    uint64_t words[WORDS], look[WORDS];
     size_t needed = 0;
     char text[4096];
     void *memory = malloc(room.bytes + 16);
@@ -102,7 +102,10 @@ static void each_allocation(void) {
     REFUSE_EACH(povundiri_adopt_in(room, words, WORDS, 1, &segment));
     ASKS_FOR_NONE(povundiri_drop(&segment));
     REFUSE_EACH(povundiri_adopt(words, WORDS, 1, &segment));
+    REFUSE_EACH(povundiri_segment_look(&segment, words, WORDS, &needed));
     ASKS_FOR_NONE(povundiri_close(&segment, words, WORDS, NULL));
+    REFUSE_EACH(povundiri_look(words, WORDS, look, WORDS, &needed));
+    HOLDS(needed == WORDS && memcmp(look, words, sizeof words) == 0);
     REFUSE_EACH(povundiri_export(words, WORDS, NULL, text, sizeof text, &needed));
     REFUSE_EACH(povundiri_show(words, WORDS, 0, text, sizeof text, &needed));
     REFUSE_EACH(povundiri_report_bounded(words, WORDS, text, sizeof text, &needed, 1000));

@@ -3,7 +3,8 @@
 Each look is read without a bad record or a stop. Each bucket has at least the units of calls that had ended before the
 look, at most those of calls that had begun when it was done, and no fewer than in the look before. Now and then a look
 is adopted, and the report of what is continued from it is the same. In the end the process is killed amid a look, and
-the next run continues in the file.
+the next run continues in the file. The same from inside: the program looks at its own segment, in a file and in the
+heap.
 """
 
 from __future__ import annotations
@@ -21,6 +22,8 @@ from support.program import Answer, Case, answer
 PROGRAM = "persist_report"
 # Looks at one run of the program, runs in one file, and how many looks go by until one is adopted.
 LOOKS_A_RUN, RUNS_A_FILE, ADOPTED_EACH = 100, 2, 10
+# The looks of a run that are taken from inside are one of so many of all.
+INSIDE = 4
 VERSION = 2
 ID = 7
 
@@ -123,5 +126,31 @@ def looked_often(
         yield "each kind of look", None if met["amid a call"] and met["full"] else f"met were {dict(met)}"
 
 
+def looked_inside(
+    recording: pathlib.Path, folder: pathlib.Path, program: pathlib.Path, options: argparse.Namespace
+) -> Iterator[Case]:
+    """The program looks at its own segment, by the handle and by the file, and compares what it finds itself."""
+    looks, amid = options.looks // INSIDE, 0
+    for place in ("file", "heap"):
+        runs = bounds.Runs(recording, program, random.Random(f"{options.seed} looked {place}"), VERSION)
+        file, tally = folder / f"inside_{place}", folder / "tally"
+        for number in range(RUNS_A_FILE):
+            came = answer(recording, [*runs.words(place, file, tally), str(looks)][1:])
+            begins, _, found = came.output.partition(b"\n")
+            right = came.status == 0 and not came.error and begins == b"begins" and found.strip().isdigit()
+            amid += int(found) if right else 0
+            yield f"from inside, {place}, run {number}, {runs.shape[0]} words", None if right else str(came)
+    print(f"looked: {2 * RUNS_A_FILE * looks} looks from inside, {amid} amid a call", flush=True)
+    if options.looks >= 1000:
+        yield "looks from inside, amid a call", None if amid else "none"
+
+
+def all_looks(
+    recording: pathlib.Path, folder: pathlib.Path, program: pathlib.Path, options: argparse.Namespace
+) -> Iterator[Case]:
+    yield from looked_often(recording, folder, program, options)
+    yield from looked_inside(recording, folder, program, options)
+
+
 def cases(program: pathlib.Path, options: argparse.Namespace) -> Iterator[Case]:
-    return native.cases_of("killed.cpp", lambda recording, folder: looked_often(recording, folder, program, options))
+    return native.cases_of("killed.cpp", lambda recording, folder: all_looks(recording, folder, program, options))

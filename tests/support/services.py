@@ -21,6 +21,8 @@ SOURCE = ROOT / "examples" / "cpp" / "service.cpp"
 MOST_SECONDS = 120
 ENOUGH = 200
 LOOKS = 300
+# Different texts of its metrics that are waited for, with one before the first.
+TEXTS = 4
 # Of the image in a file, which begins at byte 8, the word after which nothing was claimed.
 FREE_AT = 8 * (1 + 7)
 ALL_UNITS = 4_294_967_295
@@ -142,6 +144,27 @@ def is_looked_at(service: Service) -> str | None:
     return None if ENOUGH <= before <= served else f"the last look had {before} requests: {said!r}"
 
 
+def publishes(service: Service) -> str | None:
+    """While it runs it writes its metrics: those of a look, with no fewer requests than the ones before, and no more
+    than it had answered when it ended."""
+    file, metrics = service.folder / "publishes.seg", service.folder / "publishes.prom"
+    found = [0]
+    words = [str(word) for word in (service.program, file, metrics)]
+    with subprocess.Popen(words, stdout=subprocess.PIPE, stderr=subprocess.PIPE, text=True) as running:
+        ends = time.monotonic() + MOST_SECONDS
+        while len(found) < TEXTS and running.poll() is None and time.monotonic() < ends:
+            time.sleep(0.05)
+            text = metrics.read_text() if metrics.exists() else ""
+            count = re.search(r'^povundiri_units_count\{[^}]*"latency_us"[^}]*\} (\d+)$', text, re.MULTILINE)
+            if count is not None and int(count[1]) != found[-1]:
+                found.append(int(count[1]))
+        running.send_signal(signal.SIGTERM)
+        said, errors = running.communicate(timeout=MOST_SECONDS)
+    served, _ = counts(said) or (0, 0)
+    wrong = errors or len(found) < TEXTS or found != sorted(found) or found[-1] > served
+    return f"{found} {said!r} {errors!r}" if wrong else None
+
+
 def ends_well(service: Service) -> str | None:
     """Told to end, it has recorded all that it answered."""
     file = service.folder / "ends.seg"
@@ -218,6 +241,7 @@ def has_a_full_disk(service: Service) -> str | None:
 TESTS = (
     ("killed three times", is_killed_thrice),
     ("looked at", is_looked_at),
+    ("its metrics", publishes),
     ("told to end", ends_well),
     ("another spec of a release before", has_another_spec),
     ("to the last unit", has_few_units),

@@ -19,6 +19,7 @@ mod noted;
 mod nth;
 mod output;
 mod place;
+mod repeating;
 mod request;
 mod run;
 mod scales;

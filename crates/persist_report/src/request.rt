@@ -9,11 +9,12 @@ mod texts;
 mod writing;
 
 use crate::nth::Nth;
+use crate::repeating::Repeat;
 use crate::request::info::{info_command, info_task};
 use crate::request::scale::{scale_command, scale_task};
 use crate::scales::Scale;
 use crate::sizing_request::{SizeTask, size_command, size_task};
-use crate::text_options::to_found;
+use crate::text_options::{repeat_found, to_found};
 use crate::workers::Workers;
 use arguments::explain_flag;
 use clap::error::ErrorKind;
@@ -41,6 +42,8 @@ pub struct Request<'a> {
     pub wants_whole: bool,
     /// Whether a file in use is looked at.
     pub is_live: bool,
+    /// How often its text is written; once where that is not said.
+    pub repeat: Option<Repeat>,
 }
 
 /// What a command does. The image in `file` is that on standard input if there is no file. A text goes to the file `to`, or to
@@ -199,6 +202,7 @@ impl<'a> Request<'a> {
                     explains,
                     wants_whole: found.get_flag("whole"),
                     is_live: found.get_flag("live"),
+                    repeat: repeat_found(found),
                 });
             }
         }

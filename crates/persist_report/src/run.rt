@@ -9,6 +9,7 @@ use crate::extracting::extract_file;
 use crate::failure::Failure;
 use crate::files::{merge_files_into, resume_file, run_file, write_file};
 use crate::looking::look_into;
+use crate::repeating::{Division, Repeat, begin};
 use crate::request::{Request, Task, no_fault, not_text};
 use crate::scales::print_scale;
 use crate::sizing::size_of_task;
@@ -52,6 +53,7 @@ pub fn run<
                 explains,
                 wants_whole,
                 is_live,
+                repeat,
             } = request;
             let context = Context {
                 rt,
@@ -59,7 +61,10 @@ pub fn run<
                 wants_whole,
                 is_live,
             };
-            meet(&context, task)?;
+            match repeat {
+                None => meet(&context, &task)?,
+                Some(repeat) => meet_again(&context, &task, repeat)?,
+            }
         }
         Err(error) if error.use_stderr() => return Err(Failure::from(error)),
         Err(shown) => rt.print(shown).map_err(|_| CliFault::Write)?,
@@ -153,11 +158,11 @@ fn meet<
         + AllocGlobal
         + Threads
         + Wait,
->(context: &Context<'_, R>, task: Task<'_>) -> Result<(), Failure>
+>(context: &Context<'_, R>, task: &Task<'_>) -> Result<(), Failure>
     ensures { IfErr result UsageIsMistake }
 {
-    check_dashes(context.alloc(), &task)?;
-    match task {
+    check_dashes(context.alloc(), task)?;
+    match *task {
         Task::Report {
             file,
             has_rows_alone,
@@ -167,13 +172,13 @@ fn meet<
         Task::Export {
             file,
             prefix,
-            labels,
+            ref labels,
             has_families,
             to,
-        } => write_export(context, file, prefix, &labels, has_families, to),
+        } => write_export(context, file, prefix, labels, has_families, to),
         Task::Show {
             file,
-            names,
+            ref names,
             part,
             style,
             list,
@@ -198,8 +203,41 @@ fn meet<
         Task::Merge { base, dead, out } => merge_files_into(context, base, dead, out),
         Task::Look { file, out } => look_into(context, file, out),
         Task::Extract { file, out, nth } => extract_file(context, file, out, nth),
-        Task::Size(size) => size_of_task(context, &size),
+        Task::Size(ref size) => size_of_task(context, size),
         Task::Scale { name, scale } => print_scale(context, name, scale),
         Task::Explain { name } => explain(context.rt, name),
     }
+}
+
+// What comes before a text that a task writes again.
+fn division_of(task: &Task<'_>) -> Division {
+    match task {
+        Task::Show { to: None, .. } => Division::Time,
+        Task::Export { to: None, .. } => Division::Comment,
+        _ => Division::None,
+    }
+}
+
+// Does what a task says, again and again.
+fn meet_again<
+    R: Files<File = File>
+        + Clock
+        + Input
+        + Print
+        + Eprint
+        + RandomSource
+        + AllocGlobal
+        + Threads
+        + Wait,
+>(context: &Context<'_, R>, task: &Task<'_>, repeat: Repeat) -> Result<(), Failure>
+    ensures { IfErr result UsageIsMistake }
+{
+    for number in 0..repeat.times() {
+        if number > 0 {
+            repeat.wait(context.rt);
+        }
+        begin(context, division_of(task), number == 0)?;
+        meet(context, task)?;
+    }
+    Ok(())
 }

@@ -1,6 +1,7 @@
 //! The options of the commands that write a text.
 
-use clap::{Arg, ArgAction, ArgMatches};
+use crate::repeating::Repeat;
+use clap::{Arg, ArgAction, ArgMatches, Command, value_parser};
 use std::alloc::{AllocError, Global};
 
 /// The file that a text is written to.
@@ -43,4 +44,33 @@ pub fn labels_found<'a>(alloc: Global, found: &ArgMatches<'a>) -> Result<Vec<&'a
         Some(labels) => Vec::from_slice(alloc, labels),
         None => Ok(Vec::new(alloc)),
     }
+}
+
+/// The options of a text of a look that is written again and again.
+pub fn repeat_options<'a>(
+    alloc: Global,
+    command: Command<'a>,
+) -> Result<Command<'a>, AllocError> {
+    let every = Arg::new(alloc, "every")
+        .long("every")
+        .value_name("SECONDS")
+        .value_parser(value_parser!(u32).range(1..=86_400))
+        .requires_arg("live")?
+        .help("With --live: look again every SECONDS")
+        .long_help("With --live: look again every SECONDS, until it is ended or --count is\nreached");
+    let count = Arg::new(alloc, "count")
+        .long("count")
+        .value_name("LOOKS")
+        .value_parser(value_parser!(u32).range(1..))
+        .requires_arg("every")?
+        .help("With --every: end after so many looks");
+    command.arg(every)?.arg(count)
+}
+
+/// How often a text is to be written, if that is said.
+pub fn repeat_found(found: &ArgMatches<'_>) -> Option<Repeat> {
+    found.get_one::<u32>("every").map(|seconds| Repeat {
+        seconds,
+        count: found.get_one::<u32>("count"),
+    })
 }

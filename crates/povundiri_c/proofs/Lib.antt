@@ -9,3 +9,4 @@ pub mod Passing
 pub mod Present
 pub mod Reporting
 pub mod Mailboxes
+pub mod Looking

@@ -9,3 +9,4 @@ pub mod Seats
 pub mod Segments
 pub mod Status
 pub mod Mailbox
+pub mod Looks

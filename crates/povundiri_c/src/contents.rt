@@ -4,6 +4,7 @@ ghost use Rattle.std.specs.Prelude.{◌≡◌, Err, None, MatchResult, option_ma
 ghost use Rattle.std.specs.Fn.{FnOnceReturnsAtMut};
 ghost use Rattle.povundiri_c.specs.Calls.{ByRecorder, OnRecorder, outstanding_in, units_of};
 ghost use Rattle.povundiri_c.specs.Joins.{BySegment, GivesRecorder, ServesContents, recorder_in};
+ghost use Rattle.povundiri_c.specs.Looks.{IsLookIn};
 ghost use Rattle.povundiri_c.specs.Recorders.{Adds, AtPlace};
 ghost use Rattle.povundiri_c.specs.Segments.{AnswersClose};
 
@@ -12,6 +13,7 @@ use crate::owned_segment::{JoinOrLend, OwnedSegment};
 use crate::status::{IN_USE, OTHER_KIND, Refused, SHORT};
 use core::mem::replace_with;
 use live_segment::Image;
+use std::alloc::Global;
 
 /// A segment, or a recorder; or nothing, while a call takes it out.
 #[derive(Drop)]
@@ -137,6 +139,16 @@ impl Contents {
         match self {
             Contents::Segment(owned) => Ok(owned.outstanding()),
             _ => Err(OTHER_KIND),
+        }
+    }
+
+    // A look at it, if it is a segment with at most `room` words.
+    pub(crate) fn look(&mut self, alloc: Global, room: usize) -> Result<Image, Refused>
+        ensures { IsLookIn room self.old result × (self.new ≡ self.old) }
+    {
+        match self {
+            Contents::Segment(owned) => owned.look(alloc, room),
+            _ => Err(Refused::of(OTHER_KIND)),
         }
     }
 

@@ -1,5 +1,6 @@
 //! The functions that C calls.
 
+mod looking;
 mod reading;
 mod recording;
 mod reporting;

@@ -10,7 +10,7 @@ mod passing;
 
 use crate::joinable_recorder::JoinableRecorder;
 use crate::mailbox::{Mailbox, MailboxSeat};
-use crate::status::{NO_MEMORY, of_refusal};
+use crate::status::{NO_MEMORY, Refused, SHORT, of_look_fault, of_refusal};
 use live_segment::{Image, Opener, Segment};
 use owned_recorder::owned_recorder;
 use std::alloc::{AllocError, Global};
@@ -44,6 +44,7 @@ pub struct OwnedSegment {
 impl OwnedSegment {
     ghost use Rattle.std.specs.Prelude.{IfOk, MatchResult};
     ghost use Rattle.povundiri_c.specs.Joins.{GivesRecorder};
+    ghost use Rattle.povundiri_c.specs.Looks.{IsLookOfOwned};
     ghost use Rattle.povundiri_c.specs.Segments.{IsImageFrom, size_of};
 
     /// That of a segment and the opener that was made with it.
@@ -110,6 +111,23 @@ impl OwnedSegment {
                 cursors: self.cursors,
             }),
             Err(why) => Err(of_refusal(why)),
+        }
+    }
+
+    /// A look at the segment, where there is room for its words.
+    pub(crate) fn look(&self, alloc: Global, room: usize) -> Result<Image, Refused>
+        ensures { IsLookOfOwned room self.now result }
+    {
+        let size = self.size() as usize;
+        if room < size {
+            return Err(Refused {
+                status: SHORT,
+                length: size,
+            });
+        }
+        match self.segment.look(alloc) {
+            Ok(image) => Ok(image),
+            Err(fault) => Err(Refused::of(of_look_fault(fault))),
         }
     }
 

@@ -1,11 +1,13 @@
 //! What each export returns: 0, or the number of what went wrong.
 
 ghost use Rattle.std.specs.Prelude.{◌≡◌};
+ghost use Rattle.povundiri_c.specs.Looks.{status_of_look_fault};
 ghost use Rattle.povundiri_c.specs.Recorders.{refused_with};
 ghost use Rattle.povundiri_c.specs.Status.{status_of_refusal, status_of_open_fault, status_of_adopt_fault, status_of_image_fault};
 
 use live_segment::{AdoptFault, OpenFault, Refusal};
 use segment_image::ImageFault;
+use segment_looks::LookFault;
 
 /// The call did what it says.
 pub(crate) const DONE: u32 = 0;
@@ -55,6 +57,9 @@ pub(crate) const TOO_MANY_KEYS: u32 = 17;
 /// No name of a metric may begin with the prefix.
 pub(crate) const BAD_PREFIX: u32 = 18;
 
+/// A segment of version 1, which cannot be looked at: the number is that of an image which is not adopted for that.
+const OLD_VERSION: u32 = 302;
+
 /// Why a call is refused: its status, and a length: how much room is needed where the status is `SHORT`; of a batch, how many items were
 /// counted; else 0.
 #[derive(Clone, Copy)]
@@ -103,4 +108,15 @@ pub(crate) fn of_image_fault(fault: ImageFault) -> u32
     ensures { result ≡ status_of_image_fault fault }
 {
     500 + fault.number()
+}
+
+/// That of copies that give no look.
+pub(crate) fn of_look_fault(fault: LookFault) -> u32
+    ensures { result ≡ status_of_look_fault fault }
+{
+    match fault {
+        LookFault::Image(fault) => of_image_fault(fault),
+        LookFault::OldVersion => OLD_VERSION,
+        LookFault::NoMemory => NO_MEMORY,
+    }
 }

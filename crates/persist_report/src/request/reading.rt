@@ -3,7 +3,9 @@
 use crate::request::arguments::{explain_flag, image, live_flag};
 use crate::request::info::{list_options, list_style};
 use crate::request::{Task, texts};
-use crate::text_options::{families_flag, label_option, labels_found, to_found, to_option};
+use crate::text_options::{
+    families_flag, label_option, labels_found, repeat_options, to_found, to_option,
+};
 use clap::{Arg, ArgAction, ArgMatches, Command, value_parser};
 use reading_shows::Style;
 use std::alloc::{AllocError, Global};
@@ -46,7 +48,7 @@ pub fn export_command<'a>(alloc: Global) -> Result<Command<'a>, AllocError> {
         .default_value("povundiri")
         .help("Prefix of all metric names")
         .long_help("Prefix of all metric names: letters, digits and _, no digit first");
-    Command::new(alloc, "export")
+    let command = Command::new(alloc, "export")
         .about("Print the histograms of an image in the Prometheus text format")
         .long_about(texts::EXPORT)
         .after_help("Example:\n  persist_report export my.img --prefix my")
@@ -55,7 +57,8 @@ pub fn export_command<'a>(alloc: Global) -> Result<Command<'a>, AllocError> {
         .arg(label_option(alloc))?
         .arg(families_flag(alloc))?
         .arg(to_option(alloc))?
-        .arg(live_flag(alloc))?
+        .arg(live_flag(alloc))?;
+    repeat_options(alloc, command)?
         .arg(whole_flag(alloc))?
         .arg(explain_flag(alloc))
 }
@@ -119,9 +122,10 @@ pub fn show_command<'a>(alloc: Global) -> Result<Command<'a>, AllocError> {
         .arg(part)?
         .arg(html)?;
     let command = list_options(alloc, command)?;
-    style_options(alloc, command)?
+    let command = style_options(alloc, command)?
         .arg(to_option(alloc))?
-        .arg(live_flag(alloc))?
+        .arg(live_flag(alloc))?;
+    repeat_options(alloc, command)?
         .arg(whole_flag(alloc))?
         .arg(explain_counts_flag(alloc))
 }

@@ -8,14 +8,19 @@ from __future__ import annotations
 
 import argparse
 import collections
+import contextlib
 import dataclasses
+import os
 import pathlib
+import pty
 import random
+import re
+import subprocess
 import tempfile
 from collections.abc import Iterator, Sequence
 
 from support import forge, layout, plain_look, plain_reader, tracer
-from support.program import EXAMPLE, ROOT, Answer, Case, answer, content, difference, fault, untried
+from support.program import EXAMPLE, ROOT, Answer, Case, Word, answer, content, difference, fault, untried
 
 PROGRAM = "persist_report"
 LOOKS = 100
@@ -108,6 +113,45 @@ def live(program: pathlib.Path, closed: pathlib.Path, look: bytes) -> Iterator[C
     yield "version 1, --live", difference(fault("Adopt OldVersion", 3), old)
 
 
+def on_screen(words: Sequence[Word]) -> bytes:
+    """What a program writes to a terminal."""
+    mine, its = pty.openpty()
+    written = b""
+    with subprocess.Popen(words, stdin=subprocess.DEVNULL, stdout=its, stderr=subprocess.DEVNULL) as running:
+        os.close(its)
+        # A read fails once nobody has the terminal's other end.
+        with contextlib.suppress(OSError):
+            while piece := os.read(mine, 65_536):
+                written += piece
+        running.wait()
+    os.close(mine)
+    return written.replace(b"\r\n", b"\n")
+
+
+def repeated(program: pathlib.Path, closed: pathlib.Path, look: bytes, folder: pathlib.Path) -> Iterator[Case]:
+    """With `--every` a text comes again: below a line of the time, or in the file, which has the last."""
+    again = ["--live", "--every", "1", "--count", "2"]
+    for words, mark in ((["show"], b""), (["show", "--list"], b""), (["export"], b"# ")):
+        text = answer(program, words, look).output
+        time = rb"%s\d{4}-\d\d-\d\dT\d\d:\d\d:\d\dZ\n" % re.escape(mark)
+        came = answer(program, [*words, str(closed), *again])
+        form = re.escape(text) + time + re.escape(text)
+        right = (came.error, came.status) == (b"", 0) and re.fullmatch(form, came.output)
+        yield f"{' '.join(words)} --every", None if right else str(came)
+    out = folder / "metrics"
+    wanted = answer(program, ["export"], look).output
+    came = answer(program, ["export", str(closed), *again, "--to", str(out)])
+    yield "export --every --to", difference(Answer(), came) or (None if content(out) == wanted else "another text")
+    for words in (["--every", "1"], ["--live", "--count", "2"], ["--live", "--every", "0"], ["--live", "--every", "x"]):
+        refused = answer(program, ["show", str(closed), *words])
+        yield f"show {' '.join(words)}", None if refused.status == 2 and not refused.output else str(refused)
+    gone = answer(program, ["show", str(folder / "none"), *again])
+    yield "no file, --every", difference(fault("Read", 4), gone)
+    clear, screen = b"\x1b[H\x1b[2J", on_screen([program, "show", closed, *again])
+    text = answer(program, ["show"], look).output
+    yield "show --every on a terminal", None if screen == 2 * (clear + text) else f"it came {screen!r}"
+
+
 def cases(program: pathlib.Path, options: argparse.Namespace) -> Iterator[Case]:
     closed = ROOT / "examples" / "crash.img"
     look = layout.data_of(plain_look.look_of(*[layout.words_of(closed.read_bytes())] * 3))
@@ -115,6 +159,7 @@ def cases(program: pathlib.Path, options: argparse.Namespace) -> Iterator[Case]:
         folder = pathlib.Path(name)
         yield "standard output", difference(Answer(look), answer(program, ["look", closed]))
         yield from live(program, closed, look)
+        yield from repeated(program, closed, look, folder)
         yield "version 1", difference(fault("Adopt OldVersion", 3), answer(program, ["look", EXAMPLE]))
         refused = dataclasses.replace(answer(program, ["look", "-"]), error=b"")
         yield "standard input", difference(Answer(status=2), refused)

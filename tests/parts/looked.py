@@ -13,15 +13,18 @@ import argparse
 import collections
 import pathlib
 import random
+import re
 import subprocess
 from collections.abc import Iterator
 
 from support import bounds, native
-from support.program import Answer, Case, answer
+from support.program import Answer, Case, Word, answer
 
 PROGRAM = "persist_report"
 # Looks at one run of the program, runs in one file, and how many looks go by until one is adopted.
 LOOKS_A_RUN, RUNS_A_FILE, ADOPTED_EACH = 100, 2, 10
+# How many looks go by until one is at the memory of the process.
+IN_MEMORY_EACH = 7
 # The looks of a run that are taken from inside are one of so many of all.
 INSIDE = 4
 VERSION = 2
@@ -50,6 +53,7 @@ class Watched(bounds.Runs):
         # Units that were there when the run began, and units in the last look.
         self.last: bounds.Units = collections.Counter()
         self.is_made = False
+        self.process: int | None = None
 
     def adopted(self, report: bytes) -> str | None:
         """What is wrong with a segment that continues from the look, or None."""
@@ -59,10 +63,20 @@ class Watched(bounds.Runs):
         self.met["adopted"] += 1
         return None
 
+    def place(self, number: int) -> list[Word]:
+        """FILE of a look: the mapped file, or now and then the memory of the process, and where the file is in it."""
+        if number % IN_MEMORY_EACH == 0 and self.is_made and self.process is not None:
+            maps = pathlib.Path(f"/proc/{self.process}/maps").read_text()
+            mapped = re.search(rf"^([0-9a-f]+)-.* {re.escape(str(self.file))}$", maps, re.MULTILINE)
+            if mapped is not None:
+                self.met["in memory"] += 1
+                return [f"/proc/{self.process}/mem", "--at", str(int(mapped[1], 16))]
+        return [self.file]
+
     def wrong(self, number: int) -> str | None:
         """What is wrong with a look, or None. There is none until the segment is made."""
         ended = self.tally.read_bytes()
-        found = answer(self.program, ["look", self.file, self.look])
+        found = answer(self.program, ["look", *self.place(number), self.look])
         begun = self.tally.read_bytes()
         if found.status != 0 and not self.is_made and not any(ended):
             self.met["before it was made"] += 1
@@ -88,9 +102,11 @@ class Watched(bounds.Runs):
         words = self.words("file", self.file, self.tally)
         with subprocess.Popen(words, stdout=subprocess.PIPE, stderr=subprocess.PIPE) as running:
             assert running.stderr is not None
+            self.process = running.pid
             try:
                 wrong = next((wrong for wrong in map(self.wrong, range(1, looks + 1)) if wrong is not None), None)
             finally:
+                self.process = None
                 running.kill()
             said = running.stderr.read().decode()
         self.met["units"] += sum(self.last.values())
@@ -119,11 +135,13 @@ def looked_often(
         number += 1
     print(
         f"looked: {options.looks} looks, {met['amid a call']} amid a call, {met['full']} at a full segment, "
-        f"{met['before it was made']} before it was made; {met['adopted']} adopted; {met['units']} units",
+        f"{met['before it was made']} before it was made, {met['in memory']} in memory; {met['adopted']} adopted; "
+        f"{met['units']} units",
         flush=True,
     )
     if options.looks >= 1000:
-        yield "each kind of look", None if met["amid a call"] and met["full"] else f"met were {dict(met)}"
+        kinds = ("amid a call", "full", "in memory")
+        yield "each kind of look", None if all(met[kind] for kind in kinds) else f"met were {dict(met)}"
 
 
 def looked_inside(

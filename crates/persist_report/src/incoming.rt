@@ -1,5 +1,6 @@
-//! What a command reads: a file, standard input, or a look at a file.
+//! What a command reads: a file, a part of one, standard input, or a look at a file.
 
+use crate::part::Part;
 use std::collections::VecDeque;
 use std::io;
 use std::io::Read;
@@ -9,6 +10,8 @@ use std::io::Read;
 pub enum Incoming<F, I> {
     /// A file.
     File(F),
+    /// A part of a file.
+    Part(Part<F>),
     /// Standard input.
     Standard(I),
     /// The bytes of a look that are left.
@@ -19,6 +22,7 @@ impl<F: Read, I: Read> Read for Incoming<F, I> {
     fn read(&mut self, buf: &mut [u8]) -> io::Result<usize> {
         match self {
             Incoming::File(file) => file.read(buf),
+            Incoming::Part(part) => part.read(buf),
             Incoming::Standard(input) => input.read(buf),
             Incoming::Look(bytes) => bytes.read(buf),
         }

@@ -4,16 +4,20 @@ ghost use Rattle.std.specs.Prelude.{◌≡◌, false, IfErr, IfOk};
 ghost use Rattle.persist_report.specs.Failure.{UsageIsMistake};
 ghost use Rattle.segment_image.specs.Watched.{has_failed};
 
+use crate::cause::Cause;
 use crate::context::Context;
 use crate::dashes::{DASH, no_file};
+use crate::explaining::unopened;
 use crate::failure::Failure;
 use crate::files::{end, failed, open, open_out};
 use crate::incoming::Incoming;
 use crate::noted::{Noted, Stream};
+use crate::part::Part;
 use fault_texts::Origin;
 use persist_commands::look_file;
 use persist_report_core::CliFault;
 use std::collections::VecDeque;
+use std::fs;
 use std::fs::File;
 use std::random::RandomSource;
 use std::rt::Files;
@@ -34,18 +38,43 @@ fn last_used<'n, 'a, I>(
     }
 }
 
+// Opens a file to read it, or the segment in it that begins at a byte.
+fn open_at<'a, R: Files<File = File> + Input + AllocGlobal>(
+    context: &Context<'_, R>,
+    path: &'a str,
+    at: Option<u64>,
+    copy: Option<Vec<u8>>,
+) -> Result<Stream<'a, Incoming<R::File, R::Reader>>, Failure>
+    ensures file { IfOk result (λ file. has_failed file ≡ false) }
+    ensures fault { IfErr result UsageIsMistake }
+{
+    let Some(at) = at else {
+        return open(context, path, copy);
+    };
+    let part = match fs::open(context.rt, path) {
+        Ok(file) => Part::of(context.alloc(), file, at),
+        Err(error) => Err(error),
+    };
+    match part {
+        Ok(part) => Ok(Noted::stream(Incoming::Part(part), Origin::File(path), copy)),
+        Err(error) => Err(unopened(context, Cause::of(CliFault::Read, error), path)),
+    }
+}
+
 /// Looks at the segment in a file that is in use, which is read three times, and writes its image to another, or to
-/// standard output if none is named. `Usage` comes only for a mistake on the command line.
+/// standard output if none is named. If a byte is named, the segment begins there, as in the memory of a process. `Usage` comes
+/// only for a mistake on the command line.
 pub fn look_into<'a, R: Files<File = File> + Clock + Input + Print + RandomSource + AllocGlobal>(
     context: &Context<'_, R>,
     file: &'a str,
+    at: Option<u64>,
     out: Option<&'a str>,
 ) -> Result<(), Failure>
     ensures { IfErr result UsageIsMistake }
 {
-    let mut first = open(context, file, None)?;
-    let mut second = open(context, file, None)?;
-    let mut third = open(context, file, context.copy())?;
+    let mut first = open_at(context, file, at, None)?;
+    let mut second = open_at(context, file, at, None)?;
+    let mut third = open_at(context, file, at, context.copy())?;
     let mut image = open_out(context, out.unwrap_or(DASH))?;
     let outcome = look_file(
         context.alloc(),

@@ -18,6 +18,7 @@ mod looking;
 mod noted;
 mod nth;
 mod output;
+mod part;
 mod place;
 mod repeating;
 mod request;

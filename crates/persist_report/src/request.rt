@@ -101,9 +101,11 @@ pub enum Task<'a> {
         dead: &'a str,
         out: &'a str,
     },
-    /// Look at the segment in a file that is in use. Write its image to another file, or to standard output if there is none.
+    /// Look at the segment in a file that is in use, which begins at a byte if one is named. Write its image to another file, or to
+    /// standard output if there is none.
     Look {
         file: &'a str,
+        at: Option<u64>,
         out: Option<&'a str>,
     },
     /// Find a segment in a file. Write its image to another, and to the error stream where it was.

@@ -201,7 +201,7 @@ fn meet<
             workers,
         } => resume_file(context, base, script, out, workers),
         Task::Merge { base, dead, out } => merge_files_into(context, base, dead, out),
-        Task::Look { file, out } => look_into(context, file, out),
+        Task::Look { file, at, out } => look_into(context, file, at, out),
         Task::Extract { file, out, nth } => extract_file(context, file, out, nth),
         Task::Size(ref size) => size_of_task(context, size),
         Task::Scale { name, scale } => print_scale(context, name, scale),

@@ -61,12 +61,19 @@ pub fn merge_command<'a>(alloc: Global) -> Result<Command<'a>, AllocError> {
 
 pub fn look_command<'a>(alloc: Global) -> Result<Command<'a>, AllocError> {
     let out = Arg::new(alloc, "OUT").help("File for the image [default: standard output]");
+    let at = Arg::new(alloc, "at")
+        .long("at")
+        .value_name("BYTE")
+        .value_parser(value_parser!(u64))
+        .help("Where the segment begins in FILE")
+        .long_help("Where the segment begins in FILE, as in /proc/PID/mem: at the zeros of\na mapped file, or at its image");
     Command::new(alloc, "look")
         .about("Write the image of a segment that a process is using")
         .long_about(texts::LOOK)
         .after_help("Example:\n  persist_report look my.img now.img")
         .arg(file(alloc, "FILE", "File that a process has mapped, or an image"))?
         .arg(out)?
+        .arg(at)?
         .arg(explain_flag(alloc))
 }
 
@@ -115,6 +122,7 @@ pub fn merge_task<'a>(merge: &ArgMatches<'a>) -> Option<Task<'a>> {
 pub fn look_task<'a>(look: &ArgMatches<'a>) -> Option<Task<'a>> {
     Some(Task::Look {
         file: look.get_str("FILE")?,
+        at: look.get_one::<u64>("at"),
         out: look.get_str("OUT"),
     })
 }

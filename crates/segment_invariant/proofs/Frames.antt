@@ -13,6 +13,7 @@ pub mod GrowthOfRecords
 pub mod GrowthOfStates
 pub mod OneActor
 pub mod PassedOver
+pub mod Rises
 pub mod Roles
 pub mod Shown
 pub mod Spending

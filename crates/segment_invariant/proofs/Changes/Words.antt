@@ -1,14 +1,15 @@
 -- One word of a published block becomes another, and the block goes on: what has then to be shown of the blocks.
 use Rattle.segment_invariant.proofs.Prelude.Std.{◌≡◌, ◌≢◌, ◌⊎◌, ℕ, ◌+◌, ◌<◌, ◌≤◌, ℤ, true, List, length, set, All, Contains, inl, inr, ⊎_elim, refl, sym, ap, ◌∙◌, subst, arith, length-set, false, slice_index, dite, ℕ_discrete, some, none, some-injective, some-ne-none, get_elem?, at_set, set_else, sum_same}
 use Rattle.segment_invariant.proofs.Prelude.Machine.{Dimensions, IsShown, stops, IsLinked, Entry, Actor, Portion, Own, Spent, SumLoaded, Seen, Behind, tally_units, counted_of, all_counted, all_taken, taken_units, taken_of, is_opener, State}
-use Rattle.segment_invariant.proofs.Prelude.Invariant.{Body, held, words_of, is_claimed, Piece, extent_of, Anatomy, layout_of, order_of, claims_of, free_of, Record, histogram, Stands, Sees, HasRecord, RecordsAreKept, StandsRight, HoldsOwn, CallsRight, HasKey, SumsAreNear, LooksBack, FinalsAreExact, StandStill, Invariant, summed_cost}
+use Rattle.segment_invariant.proofs.Prelude.Invariant.{Body, held, words_of, is_claimed, Piece, extent_of, Anatomy, layout_of, order_of, claims_of, free_of, Record, histogram, Stands, Sees, HasRecord, RecordsAreKept, StandsRight, HoldsOwn, CallsRight, HasKey, SumsAreNear, LooksBack, FinalsAreExact, StandStill, Invariant, KeptOn, summed_cost}
 use Rattle.std.proofs.lemmas.List.{get_or-set_other}
 use Rattle.list_core.proofs.Chains.{linked_beside}
 use Rattle.segment_invariant.proofs.Frames.Ahead.{KeepsUp}
 use Rattle.segment_invariant.proofs.Allocating.Claimers.{still_put, AllClaimedRight, right_put}
 use Rattle.segment_invariant.proofs.Blocks.Pieces.{one_index, one_piece, first_piece, piece_stored, free_with, claims_same, stands_beside, stands_here}
 use Rattle.segment_invariant.proofs.Blocks.Stops.{stop_open}
-use Rattle.segment_invariant.proofs.Frames.Onward.{GoesAs, goes_itself, Onward, sees_on}
+use Rattle.segment_invariant.specs.Rises.{GoesAs}
+use Rattle.segment_invariant.proofs.Frames.Onward.{goes_itself, Onward, sees_on}
 use Rattle.segment_invariant.proofs.Frames.Standing.{own_stays}
 use Rattle.segment_invariant.proofs.Changes.Changes.{changes_on}
 use Rattle.segment_invariant.proofs.Changes.Ledgers.{Balances, balanced_beside}
@@ -197,7 +198,7 @@ module _ (shape : Dimensions) (opened : Anatomy) (state : State) (kept : Invaria
 
   -- so the state that is left is kept
   pub turned_on : (id : ℕ) (a : Actor) → get_elem? state.actors id ≡ some a → is_opener a.role ≡ false → a.hand.place ≢ Spent → (d : Deed) → Turned kept.roles.opener id a d
-      → Invariant shape opened (record { words = set state.words (at + j) v; cursors = state.cursors; actors = set state.actors id (changed a d) })
+      → KeptOn shape opened kept.anatomy (record { words = set state.words (at + j) v; cursors = state.cursors; actors = set state.actors id (changed a d) })
   turned_on id a mine recorder lived d shows =
       let fits = kept.each id a mine lived in
       changes_on shape opened state kept id a mine recorder lived d turned (set state.words (at + j) v) (λ at body. ⊥) (record {

@@ -1,7 +1,7 @@
 -- The amount of the entry that is next is added to the sum of its histogram.
 use Rattle.segment_invariant.proofs.Prelude.Std.{◌≡◌, ◌≢◌, ℕ, zero, suc, ◌+◌, ◌*◌, ◌%◌, ◌^◌, ◌<◌, ◌≤◌, ℤ, pos, ◌+ℤ◌, ◌-ℤ◌, Bool, true, false, cond, not, ◌||◌, ◌&&◌, ◌⊎◌, ne_eqb, List, [], ◌∷◌, ◌++◌, map, filter, length, set, All, Contains, inl, inr, ⊎_elim, refl, sym, ap, ◌∙◌, subst, arith, length-append, if◌then◌else◌, unsigned_abs, ◌==◌, w64, cast_signed, cast_unsigned, int_eq, bytes_eq, +ℤ_idl, +ℤ_idr, Decides-int_eq, map-append, All-cons, All-nil, All-contains, filter-append, Contains-append_cases, Contains-append_right, bytes_eq-Decides, some, none, get_elem?, all_of, one_in, sum_beside, sum_same, contains_map}
 use Rattle.segment_invariant.proofs.Prelude.Machine.{Dimensions, EntryProgress, Entry, Actor, is_counted, is_summed, is_noted, is_of, tally_sum, tally_noted, noted_among, counting_event, add_sum, word_at, State, Cost, Known, Spent, Idle, is_bound, cost_of, units_of, summed_of, noted_of, is_opener}
-use Rattle.segment_invariant.proofs.Prelude.Invariant.{Record, histogram, Anatomy, layout_of, EventKeeps, HasRecord, summed_cost, IsSumOf, SumsAreNear, Invariant}
+use Rattle.segment_invariant.proofs.Prelude.Invariant.{Record, histogram, Anatomy, layout_of, EventKeeps, HasRecord, summed_cost, IsSumOf, SumsAreNear, Invariant, KeptOn}
 use Rattle.std.proofs.Common.{negsuc, neg_ℤ}
 use Rattle.std.proofs.Math.IntN.{+ℤ_assoc, +ℤ_comm, +ℤ_invr, neg_ℤ-+ℤ}
 use Rattle.std.proofs.lemmas.Int.{wrapping_add_onto, int_wrap_fits, fits_signed_from_abs}
@@ -320,7 +320,7 @@ module _ (shape : Dimensions) (opened : Anatomy) (state : State) (kept : Invaria
       ∙ (ap (λ z. tally_sum (summed_of a) name +ℤ z) (ap (λ (n : List ℕ). if bytes_eq n name then amount else pos 0) called ∙ ap (λ (t : Bool). if t then amount else pos 0) other)
       ∙ +ℤ_idr (tally_sum (summed_of a) name))
 
-  pub sum_added : Invariant shape opened (record { words = set state.words (known.reference + 11) sum; cursors = state.cursors; actors = actors })
+  pub sum_added : KeptOn shape opened kept.anatomy (record { words = set state.words (known.reference + 11) sum; cursors = state.cursors; actors = actors })
   sum_added = amount_added shape opened state kept id a mine recorder unbound c d next refl known has sum r.noted 11 sum turns narrow a.seen.counts refl
       (untouched_off c.counted c.noted) (λ summed. counted) (λ noted. refl) (λ summed. some_amount)
       (λ name. (amount_of_name r.name name amount, sum_held_more name, sums_more name))
@@ -345,7 +345,7 @@ add_sum_kept at amount shape opened state id a kept mine recorder (unbound, c, k
     let (from, five, within) = block_within shape opened state kept known.reference (histogram r) (k, there) refl in
     let size = length_shown shape state.words (layout_of kept.anatomy) kept.shown in
     happens opened.version state id a (counting_event (add_sum at amount)) (omega (arith, within, size, refers)) shape opened (
-      subst (λ (p : ℕ × ℕ × ℤ × List EntryProgress). Invariant shape opened (record {
+      subst (λ (p : ℕ × ℕ × ℤ × List EntryProgress). KeptOn shape opened kept.anatomy (record {
         words = set state.words (p.0 + 11) ((p.1 + cast_unsigned w64 p.2) % 2 ^ 64);
         cursors = state.cursors;
         actors = set state.actors id (record a { hand = record a.hand { place = Idle }; entries = record a.entries { running = p.3 } });

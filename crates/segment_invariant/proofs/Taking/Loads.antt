@@ -1,7 +1,7 @@
 -- Sums and redundant counts are loaded. A recorder sees a counter of a record.
 use Rattle.segment_invariant.proofs.Prelude.Std.{◌≡◌, ◌≢◌, ℕ, ◌+◌, ◌<◌, ℤ, false, List, [], ◌∷◌, ◌++◌, set, inl, inr, refl, sym, ap, ◌∙◌, subst, arith, ⊎_elim, w64, cast_signed, All-push, Contains-append_left, some, get_elem?, at_set, sum_same}
 use Rattle.segment_invariant.proofs.Prelude.Machine.{Dimensions, word_at, Actor, Look, Place, Spent, Idle, Looking, Moving, CountLoaded, SumLoaded, Sighting, is_bound, is_opener, State, load_sum, load_redundant, taking_event, Ready, next}
-use Rattle.segment_invariant.proofs.Prelude.Invariant.{Record, histogram, Anatomy, Sample, sample, HasRecord, WasCounter, WasInUse, WasMet, HasSample, StandsRight, SumsAreNear, IsSumOf, summed_cost, Invariant}
+use Rattle.segment_invariant.proofs.Prelude.Invariant.{Record, histogram, Anatomy, Sample, sample, HasRecord, WasCounter, WasInUse, WasMet, HasSample, StandsRight, SumsAreNear, IsSumOf, summed_cost, Invariant, KeptOn}
 use Rattle.segment_machine.specs.declared.place.Place.TheVariants.{FlagsLoaded, FreeLoaded, Raised, Sized, Marked, TailLoaded, Beaten, Linked, Losing, SampleLoaded, CursorLoaded, BehindCursor}
 use Rattle.segment_invariant.specs.Seen.{IsCounterIn}
 use Rattle.segment_invariant.proofs.Blocks.Places.{counter_within}
@@ -69,7 +69,7 @@ module _ (shape : Dimensions) (opened : Anatomy) (state : State) (kept : Invaria
         (omega (arith, low)) same in
         absurd (cc bodies)
 
-    pub counter_seen : Invariant shape opened (record {
+    pub counter_seen : KeptOn shape opened kept.anatomy (record {
       words = state.words;
       cursors = state.cursors;
       actors = set state.actors id (seer a place (record a.seen { counts = a.seen.counts ++ z ∷ [] }) a.done.given a.done.lost);

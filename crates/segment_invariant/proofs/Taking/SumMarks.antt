@@ -1,7 +1,7 @@
 -- The sum mark is swapped for the sum that was loaded.
 use Rattle.segment_invariant.proofs.Prelude.Std.{◌≡◌, ◌≢◌, ℕ, ◌+◌, ◌-◌, ◌*◌, ◌^◌, ◌<◌, ◌≤◌, ℤ, pos, ◌+ℤ◌, ◌-ℤ◌, Bool, true, false, if◌then◌else◌, List, [], ◌∷◌, ◌++◌, length, take, drop, set, Contains, inl, inr, ⊎_elim, refl, sym, ap, ◌∙◌, subst, arith, length-append, append-nil, map, unsigned_abs, w64, cast_signed, cast_unsigned, bytes_eq, +ℤ_idl, +ℤ_idr, take-append_seam, to_z-of_z, All-contains, Contains-append_left, Contains-append_right, Contains-append_cases, bytes_eq-Decides, some, none, get_elem?, rows, row_in, one_in, below_length, sum_same}
 use Rattle.segment_invariant.proofs.Prelude.Machine.{Dimensions, word_at, Entry, Actor, Portion, Known, Moment, Taken, Spent, Idle, SumLoaded, change_last, tally_units, tally_sum, tally_noted, counted_of, summed_of, noted_of, taken_units, taken_sum, all_counted, all_summed, all_noted, all_taken, cost_of, taken_of, portion_of, is_opener, State, swap_sum_mark, taking_event}
-use Rattle.segment_invariant.proofs.Prelude.Invariant.{Record, histogram, Anatomy, HasRecord, IsFirst, IsRightlyKnown, IsLawfulRecord, IsAlone, IsSumOf, SumsAreNear, summed_cost, FinalsAreExact, Invariant, HasKey, is_beaten, EventKeeps}
+use Rattle.segment_invariant.proofs.Prelude.Invariant.{Record, histogram, Anatomy, HasRecord, IsFirst, IsRightlyKnown, IsLawfulRecord, IsAlone, IsSumOf, SumsAreNear, summed_cost, FinalsAreExact, Invariant, KeptOn, HasKey, is_beaten, EventKeeps}
 use Rattle.std.proofs.Common.{neg_ℤ}
 use Rattle.std.proofs.Math.Facts.{Fits-of_z}
 use Rattle.std.proofs.Math.IntN.{+ℤ_assoc, +ℤ_comm, +ℤ_invr}
@@ -338,7 +338,7 @@ module _ (shape : Dimensions) (opened : Anatomy) (state : State) (kept : Invaria
 
   -- ---- all of it
 
-  sum_marked : Invariant shape opened (record { words = set state.words (known.reference + 12) v; cursors = state.cursors; actors = actors })
+  sum_marked : KeptOn shape opened kept.anatomy (record { words = set state.words (known.reference + 12) v; cursors = state.cursors; actors = actors })
   sum_marked =
       let fits = kept.each id a mine lived in
       let calls = calls_same kept.anatomy new a refl fits.calls in
@@ -405,7 +405,7 @@ sum_mark_swapped h sum shape opened state id a kept mine recorder (known, (takin
     let loaded : IsSumOf state.actors known.reference r sum = inr (inr (inr (id, a, mine, here))) in
     let mark : IsSumOf state.actors known.reference r (cast_signed w64 (word_at state.words (h + 12))) = inr (inr (inl (ap (cast_signed w64) found))) in
     happens opened.version state id a (taking_event (swap_sum_mark h sum)) (subst (λ (n : ℕ). n + 12 < length state.words) refers within) shape opened (
-      subst (λ (p : ℕ × List Taken). Invariant shape opened (record {
+      subst (λ (p : ℕ × List Taken). KeptOn shape opened kept.anatomy (record {
         words = set state.words (p.0 + 12) (cast_unsigned w64 sum);
         cursors = state.cursors;
         actors = set state.actors id (record a { hand = record a.hand { place = Idle }; deltas = record a.deltas { taken = p.1 } });

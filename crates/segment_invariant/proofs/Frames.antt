@@ -18,5 +18,6 @@ pub mod Roles
 pub mod Shown
 pub mod Spending
 pub mod Standing
+pub mod SumsRise
 pub mod Together
 pub mod SeesMore

@@ -1,11 +1,14 @@
 -- What is published goes on from one state to a later one: fixed words stay, counters rise, single words lead on, the list becomes longer
--- at its end, flags and the free pointer rise.
-use Rattle.std.specs.Prelude.{◌≡◌, ◌≢◌, ◌⊎◌, true, ℕ, ◌+◌, ◌<◌, ◌≤◌, List, ◌++◌, length, slice_index}
+-- at its end, flags and the free pointer rise; a sum changes by no more than what was spent on it.
+use Rattle.std.specs.Prelude.{◌≡◌, ◌≢◌, ◌⊎◌, true, ℕ, ◌+◌, ◌*◌, ◌<◌, ◌≤◌, ◌-ℤ◌, unsigned_abs, List, ◌++◌, length, slice_index}
+use Rattle.std.specs.Int.{w64, cast_signed}
 use mathlib.Core.Option.{none}
 use Rattle.bucket_ranges.specs.Spec.{buckets_of}
 use Rattle.segment_calls.specs.Form.{Leads}
+use Rattle.segment_machine.specs.declared.actor.Actor.{Actor}
 use Rattle.segment_invariant.specs.Body.{Record, Counts, Sample, Body, queue, plain, held, histogram, counts, sample, other, words_of, is_claimed, Piece, Listed, Anatomy, order_of, free_of}
-use Rattle.segment_invariant.specs.Seen.{Stands, IsNoLater}
+use Rattle.segment_invariant.specs.Seen.{Stands, HasRecord, IsNoLater}
+use Rattle.segment_invariant.specs.Invariant.{summed_costs}
 
 -- A record goes on as another: what was given to its maker stays, and its counts reference once it has one; its single word leads on; its
 -- mark and its redundant count rise.
@@ -66,3 +69,9 @@ pub record Rises (old new : Anatomy) : Type 0 where
   pub tail : (seen : ℕ) → IsNoLater (order_of old) seen old.tail → IsNoLater (order_of new) seen new.tail
   pub corrupt : old.corrupt ≡ true → new.corrupt ≡ true
   pub full : old.full ≡ true → new.full ≡ true
+
+-- What is spent on a name does not come back, and the sum of a record changes by at most 2^31 times what was spent on its name since.
+pub record SumsRise (old new : List Piece) (before after : List Actor) : Type 0 where
+  pub costs : (name : List ℕ) → summed_costs name before ≤ summed_costs name after
+  pub sums : (at : ℕ) (r s : Record) → HasRecord old at r → HasRecord new at s
+      → unsigned_abs (cast_signed w64 s.sum -ℤ cast_signed w64 r.sum) + 2147483648 * summed_costs r.name before ≤ 2147483648 * summed_costs r.name after

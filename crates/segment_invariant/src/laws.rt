@@ -172,8 +172,8 @@ pub fn walking_keeps()
 {}
 
 /// Each event that counts an entry keeps what holds: loading a counts reference, and adding units to a count, an amount to a sum,
-/// and units to a redundant count. What is published goes on. Its actor learns that counts lie within the segment, and that the
-/// units it adds fit.
+/// and units to a redundant count. What is published goes on, and a sum changes by no more than 2^31 times what is spent on it. Its
+/// actor learns that counts lie within the segment, and that the units it adds fit.
 pub fn counting_keeps()
     ensures { CountingKeeps }
 {}
@@ -198,8 +198,8 @@ pub fn cursors_keep()
     ensures { CursorsKeep }
 {}
 
-/// Each event keeps what holds, of whatever family, in versions 1 and 2. What is published goes on, and its actor learns of what it
-/// found.
+/// Each event keeps what holds, of whatever family, in versions 1 and 2. What is published goes on, a sum changes by no more than 2^31
+/// times what is spent on it, and its actor learns of what it found.
 pub fn events_keep()
     ensures { EventsKeep }
 {}

@@ -5,7 +5,7 @@ use Rattle.segment_machine.specs.Reached.{new_state, IsReached, started, stepped
 use Rattle.segment_invariant.specs.Body.{blank}
 use Rattle.segment_invariant.specs.Consistent.{Opening, IsConsistent}
 use Rattle.segment_invariant.specs.Keeps.{KeptOn}
-use Rattle.segment_invariant.proofs.Frames.Rises.{rises_itself, kept_again}
+use Rattle.segment_invariant.proofs.Frames.Rises.{kept_again, kept_itself}
 use Rattle.segment_invariant.proofs.Openings.Segments.{opening_is_kept, new_is_opening}
 use Rattle.segment_invariant.proofs.Consistency.Whole.{is_consistent}
 use Rattle.segment_invariant.proofs.Notes.Announcements.{announcements_keep}
@@ -20,11 +20,11 @@ pub states_rise : StatesRise
 states_rise shape opened start state kept reached = go state reached
   where
     -- a state that is kept behind one that is reached is so from the start on
-    on : {old new : State} (before : KeptOn shape opened kept.anatomy old) → KeptOn shape opened before.0.anatomy new → KeptOn shape opened kept.anatomy new
+    on : {old new : State} (before : KeptOn shape opened kept old) → KeptOn shape opened before.0 new → KeptOn shape opened kept new
     on before next = kept_again shape opened start kept before next
 
-    go : (state : State) → IsReached opened.version start state → KeptOn shape opened kept.anatomy state
-    go state started = (kept, rises_itself kept.anatomy)
+    go : (state : State) → IsReached opened.version start state → KeptOn shape opened kept state
+    go state started = kept_itself shape opened start kept
     go state (stepped old new id event before step) = let was = go old before in on was (steps_rise shape opened old new id event step was.0).0
     go state (announced old new id before told) = let was = go old before in on was (announcements_keep shape opened old new id was.0 told)
     go state (offered old new id units before made) = let was = go old before in on was (offers_keep shape opened old new id units was.0 made)

@@ -103,7 +103,7 @@ module _ (shape : Dimensions) (opened : Anatomy) (old : State) (id : ℕ) (a at 
   pub happens_on : (kept : Invariant shape opened old) → get_elem? old.actors id ≡ some a → is_opener a.role ≡ false → Notes a before at
       → Ready at event → (behind : List Note) (then_is : Actor)
       → (Learned at event found → Notes (next at event found) behind then_is)
-      → KeptOn shape opened kept.anatomy (then_with then_is) × Learned at event found
+      → KeptOn shape opened kept (then_with then_is) × Learned at event found
   happens_on kept there records notes_before ready behind then_is goes =
       let first = notes_follow shape opened before old id a at kept there records notes_before in
       let did = events_keep event shape opened (with_actor old id at) id at first.0.0 (set_at old.actors id a at there) first.1 ready in
@@ -112,7 +112,7 @@ module _ (shape : Dimensions) (opened : Anatomy) (old : State) (id : ℕ) (a at 
       let stands = set_at (set old.actors id at) id at acted (set_at old.actors id a at there) in
       let last = notes_follow shape opened behind mid id acted then_is did.0.0 stands (acts_on at event found ∙ first.1) (goes did.1) in
       let actors = set-set (set old.actors id at) id acted then_is ∙ set-set old.actors id at then_is in (
-        subst (λ list. KeptOn shape opened kept.anatomy (record (then_with then_is) { actors = list })) actors
+        subst (λ list. KeptOn shape opened kept (record (then_with then_is) { actors = list })) actors
             (kept_again shape opened old kept first.0 (kept_again shape opened (with_actor old id at) first.0.0 did.0 last.0)),
         did.1,
       )
@@ -127,14 +127,14 @@ module _ (shape : Dimensions) (opened : Anatomy) (old : State) (id : ℕ) (a at 
 
 -- so does a step, and what is published goes on
 pub steps_rise : (shape : Dimensions) (opened : Anatomy) (old new : State) (id : ℕ) (event : Event) (step : IsStep opened.version old id event new)
-    (kept : Invariant shape opened old) → KeptOn shape opened kept.anatomy new × Learned step.at event (found_at old event)
+    (kept : Invariant shape opened old) → KeptOn shape opened kept new × Learned step.at event (found_at old event)
 steps_rise shape opened old new id event step kept =
     let did = happens_on shape opened old id step.actor step.at step.before event kept step.there step.is_recorder step.notes_before
     step.ready step.behind step.then_is (λ learned. step.notes_behind) in
     let size = length old.words in
     let all = after size opened.version event (memory old) in
     let actors : set old.actors id step.then_is ≡ new.actors = sym step.actors_are in (
-      subst (KeptOn shape opened kept.anatomy)
+      subst (KeptOn shape opened kept)
           (λ i. record {
             words = words_of_memory new size all step.size step.memory_is i;
             cursors = cursors_of_memory new size all step.size step.memory_is i;

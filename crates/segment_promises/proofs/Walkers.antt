@@ -5,6 +5,7 @@ use Rattle.segment_invariant.proofs.Prelude.Invariant.{Anatomy, order_of, moving
 use Rattle.segment_machine.specs.Actor.{given_by}
 use Rattle.segment_invariant.proofs.Frames.Books.{books_of, books_by, kept_by, GivenInOrder}
 use Rattle.segment_invariant.proofs.Frames.Rises.{rises_itself}
+use Rattle.segment_invariant.proofs.Frames.SumsRise.{sums_rest}
 use Rattle.segment_invariant.proofs.Frames.Deeds.{Deeds, sums_of}
 use Rattle.segment_invariant.proofs.Frames.Roles.{Stood, AllStood, opens_nothing, still_younger, still_apart, still_eldest, still_heirs, fits_beside}
 use Rattle.segment_invariant.proofs.Frames.Standing.{met_more}
@@ -169,4 +170,5 @@ module _ (shape : Dimensions) (opened : Anatomy) (state : State) (kept : Invaria
       (λ k c away at. kept.cursors.given k c at))
       (each_beside (λ k c. StandsRight shape kept.anatomy k c c.hand.place)
       (subst (StandsRight shape kept.anatomy 0 walker) (sym kept.roles.idle) tt) (λ k c away at. kept.standing k c at))
-      fits_all kept.anatomy (rises_itself kept.anatomy)).0
+      fits_all kept (rises_itself kept.anatomy)
+      (sums_rest shape state.words kept.anatomy kept.shown state.actors beside (sums_of state.actors beside deeds).costs)).0

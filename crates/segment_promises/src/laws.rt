@@ -23,7 +23,9 @@ pub fn reached_states_follow()
 ///
 /// - Each published block stands where it stood. What was given to its maker stays, and so does a record's counts reference
 ///   once it has one.
-/// - Counts, redundant counts and marks rise. Nothing is said here of sums.
+/// - Counts, redundant counts and marks rise.
+/// - What was spent on a name does not come back, and the sum of a record changes by at most 2^31 times what was spent on its
+///   name since. Nothing is said here of how a sum mark changes.
 /// - A single word leads on. One that names a bucket leads to words that name the same, with no fewer units or, in version 1,
 ///   disabled; one that is off stays as it is.
 /// - A block that is published beside them lies where none was.

@@ -38,7 +38,7 @@ module _ (shape : Dimensions) (opened : Anatomy) (state : State) (kept : Invaria
 
   -- the state with these words, and with the actor that goes on
   abbrev pub GoesTo : List ℕ → Doing → Type 0
-  GoesTo words d = KeptOn shape opened kept.anatomy (record { words = words; cursors = state.cursors; actors = set state.actors id (doing a (unlisted a d)) })
+  GoesTo words d = KeptOn shape opened kept (record { words = words; cursors = state.cursors; actors = set state.actors id (doing a (unlisted a d)) })
 
   abbrev Claims : List Piece → Doing → Type 0
   Claims pieces d =

@@ -130,7 +130,7 @@ module _ (shape : Dimensions) (opened : Anatomy) (state : State) (kept : Invaria
   module _ (d : Doing) (turns : TurnsTo a d.place) (up : KeepsUp a.hand.place d.place) (pieces : List Piece) (spare : ℕ) (corrupt full : Bool) (words : List ℕ)
       (acts : Acts shape opened state before (reshaped before pieces spare corrupt full before.tail) id a (unlisted a d) words) where
     -- it goes on, and the state is kept
-    pub acts_on : KeptOn shape opened kept.anatomy (record { words = words; cursors = state.cursors; actors = set state.actors id (doing a (unlisted a d)) })
+    pub acts_on : KeptOn shape opened kept (record { words = words; cursors = state.cursors; actors = set state.actors id (doing a (unlisted a d)) })
     acts_on =
         let fits = kept.each id a mine turns.lived in
         let new : Anatomy = reshaped before pieces spare corrupt full before.tail in

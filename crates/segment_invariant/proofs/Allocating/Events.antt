@@ -41,7 +41,7 @@ module _ (shape : Dimensions) (opened : Anatomy) (state : State) (kept : Invaria
   -- what an event leaves, and what its actor learns
   abbrev pub Keeps : Event → Type 0
   Keeps event =
-      KeptOn shape opened kept.anatomy (after_word opened.version state id a event) × Learned a event (word_at state.words (spot (length state.words) event))
+      KeptOn shape opened kept (after_word opened.version state id a event) × Learned a event (word_at state.words (spot (length state.words) event))
 
   -- the words are those of the shape
   pub words_long : length state.words ≡ shape.size
@@ -49,10 +49,10 @@ module _ (shape : Dimensions) (opened : Anatomy) (state : State) (kept : Invaria
 
   -- an event that leaves its word as it is
   leaves : (at v : ℕ) (b : Actor) → v ≡ word_at state.words at
-      → KeptOn shape opened kept.anatomy (record { words = state.words; cursors = state.cursors; actors = set state.actors id b })
-      → KeptOn shape opened kept.anatomy (record { words = set state.words at v; cursors = state.cursors; actors = set state.actors id b })
+      → KeptOn shape opened kept (record { words = state.words; cursors = state.cursors; actors = set state.actors id b })
+      → KeptOn shape opened kept (record { words = set state.words at v; cursors = state.cursors; actors = set state.actors id b })
   leaves at v b same =
-      subst (λ (words : List ℕ). KeptOn shape opened kept.anatomy (record { words = words; cursors = state.cursors; actors = set state.actors id b }))
+      subst (λ (words : List ℕ). KeptOn shape opened kept (record { words = words; cursors = state.cursors; actors = set state.actors id b }))
       (sym (ap (set state.words at) same ∙ set-get_or state.words at 0))
 
   -- flags with the corrupt one are those of a segment where it is set
@@ -63,7 +63,7 @@ module _ (shape : Dimensions) (opened : Anatomy) (state : State) (kept : Invaria
 
   -- the flags are loaded, and the corrupt one is seen where it is set
   flags_at : (clear : Bool) → (clear ≡ false → anatomy.corrupt ≡ true) → is_bound a.hand.place ≡ false
-      → KeptOn shape opened kept.anatomy (record {
+      → KeptOn shape opened kept (record {
         words = state.words;
         cursors = state.cursors;
         actors = set state.actors id (record a {
@@ -131,7 +131,7 @@ module _ (shape : Dimensions) (opened : Anatomy) (state : State) (kept : Invaria
   abbrev Exchanged : (old new wanted : ℕ) → Bool → Type 0
   Exchanged old new wanted through =
       let found = word_at state.words 7 in
-      KeptOn shape opened kept.anatomy (record {
+      KeptOn shape opened kept (record {
         words = set state.words 7 (if through then new else found);
         cursors = state.cursors;
         actors = set state.actors id (after_free through a old new wanted found);

@@ -39,7 +39,7 @@ module _ (shape : Dimensions) (opened : Anatomy) (state : State) (kept : Invaria
   anatomy = kept.anatomy
 
   abbrev Goes : ℕ → ℕ → Actor → Type 0
-  Goes at v b = KeptOn shape opened kept.anatomy (record { words = set state.words at v; cursors = state.cursors; actors = set state.actors id b })
+  Goes at v b = KeptOn shape opened kept (record { words = set state.words at v; cursors = state.cursors; actors = set state.actors id b })
 
   -- the piece of words in the making
   abbrev raw : ℕ → List ℕ → Piece

@@ -13,8 +13,8 @@ module _ (shape : Dimensions) (opened : Anatomy) (state : State) (id : ℕ) (a :
     (mine : get_elem? state.actors id ≡ some a) (records : is_opener a.role ≡ false) where
   -- what an event does to a word of the segment is what happens
   at_word : (event : Event) → spot (length state.words) event < length state.words → Keeps shape opened state kept id a mine records event
-      → KeptOn shape opened kept.anatomy (happened opened.version state id a event) × Learned a event (found_at state event)
-  at_word event within keeps = happens opened.version state id a event within shape opened keeps
+      → KeptOn shape opened kept (happened opened.version state id a event) × Learned a event (found_at state event)
+  at_word event within keeps = happens opened.version state id a event within shape opened kept keeps
 
   -- a word before the queue block is one, and so is a word of a block
   header_within : (at : ℕ) → at < 16 → at < length state.words

@@ -1,7 +1,7 @@
 -- A state is kept where a recorder counts, packs or takes: it changes a word of a published block, and itself.
 use Rattle.segment_invariant.proofs.Prelude.Std.{append-nil, ◌≡◌, ◌≢◌, ℕ, ◌<◌, ◌≤◌, ℤ, true, List, [], ◌++◌, set, All, Contains, IsPermutation, inl, inr, ⊎_elim, refl, sym, ap, ◌∙◌, subst, arith, false, All-weaker, some, get_elem?, at_set, rows, column, sum_same}
 use Rattle.segment_invariant.proofs.Prelude.Machine.{Dimensions, IsShown, Behind, IsLinked, Entry, Actor, Portion, Answered, Claim, Own, Spent, tally_units, counted_of, all_counted, units_of, taken_of, is_opener, State}
-use Rattle.segment_invariant.proofs.Prelude.Invariant.{IsWithinCounts, Record, Body, plain, held, histogram, Piece, Anatomy, layout_of, order_of, free_of, claims_of, Stands, Sees, StandsAs, RecordsAreKept, StandsRight, HoldsOwn, CallsRight, HasKey, SumsAreNear, LooksBack, FinalsAreExact, Fits, IsSetBy, ClaimedRight, StandStill, is_living, Invariant, KeptOn}
+use Rattle.segment_invariant.proofs.Prelude.Invariant.{IsWithinCounts, Record, Body, plain, held, histogram, Piece, Anatomy, layout_of, order_of, free_of, claims_of, Stands, Sees, StandsAs, RecordsAreKept, StandsRight, HoldsOwn, CallsRight, HasKey, LooksBack, FinalsAreExact, Fits, IsSetBy, ClaimedRight, StandStill, is_living, Invariant, KeptOn}
 use Rattle.segment_invariant.proofs.Frames.Ahead.{KeepsUp, ahead_at}
 use Rattle.segment_invariant.specs.Ledger.{IsBalanced}
 use Rattle.segment_invariant.specs.Invariant.{IsOnList}
@@ -19,6 +19,7 @@ use Rattle.segment_invariant.proofs.Frames.Standing.{Grounds, follows_itself, ow
 use Rattle.segment_invariant.proofs.Counting.Seen.{known_stands}
 use Rattle.segment_invariant.proofs.Publishing.Links.{listed_claimed}
 use Rattle.segment_invariant.proofs.Changes.Ledgers.{rows_beside}
+use Rattle.segment_invariant.proofs.Changes.Sums.{SumsGoOn}
 use Rattle.segment_invariant.proofs.Changes.Others.{Deed, deed_of, changed, changed_role, changed_roles, alone_was, none_alone, finals_else, looks_on}
 use Rattle.segment_invariant.proofs.Frames.PassedOver.{passed_on, still_onward}
 
@@ -41,7 +42,7 @@ pub record Changes (shape : Dimensions) (opened : Anatomy) (state : State) (old 
   pub counted : (name : List ℕ) (key : ℤ) → tally_units (counted_of a) name key ≤ tally_units (counted_of (changed a d)) name key
   pub keys : (entry : Entry) → Contains (counted_of (changed a d)) entry → 0 < entry.units → HasKey old.records entry.name entry.key
   pub taken_keys : (t : Portion) (count : ℤ × ℕ) → Contains (taken_of (changed a d)) t → Contains t.counts count → HasKey old.records t.name count.0
-  pub sums : SumsAreNear new.pieces (set state.actors id (changed a d))
+  pub sums : SumsGoOn old.pieces new.pieces state.actors (set state.actors id (changed a d))
   pub lives : d.place ≢ Spent
   pub stands : StandsRight shape new id (changed a d) d.place
   pub sees : Sees new state.cursors d.seen
@@ -147,7 +148,7 @@ module _ (shape : Dimensions) (opened : Anatomy) (state : State) (kept : Invaria
       }
 
   -- the state that is left is kept
-  pub changes_on : KeptOn shape opened kept.anatomy (record { words = words; cursors = state.cursors; actors = actors })
+  pub changes_on : KeptOn shape opened kept (record { words = words; cursors = state.cursors; actors = actors })
   changes_on = (
     record {
       anatomy = new;
@@ -179,7 +180,7 @@ module _ (shape : Dimensions) (opened : Anatomy) (state : State) (kept : Invaria
           (row_from counted_of state.actors id b entry there);
       taken_keys = λ t count there has. ⊎_elim (λ was. kept.taken_keys t count was has) (λ own. changes.taken_keys t count own has)
           (row_from taken_of state.actors id b t there);
-      sums = changes.sums;
+      sums = changes.sums.0;
       pool = sum_same units_of state.actors id a b mine refl ∙ kept.pool;
       corrupt = subst (IsSetBy old.corrupt opened.corrupt) (sym (column (λ (c : Actor). c.done.spoiled) state.actors id a b mine refl)) kept.corrupt;
       full = subst (IsSetBy old.full opened.full) (sym (column (λ (c : Actor). c.done.filled) state.actors id a b mine refl)) kept.full;
@@ -199,4 +200,5 @@ module _ (shape : Dimensions) (opened : Anatomy) (state : State) (kept : Invaria
     },
     rises_onward old new added changes.onward refl [] (sym (append-nil old.records)) (let same = changes.free in omega (arith, same))
         (λ seen no_later. no_later) (λ set. set) (λ set. set),
+    changes.sums.1,
   )

@@ -80,7 +80,7 @@ module _ (shape : Dimensions) (opened : Anatomy) (state : State) (kept : Invaria
     }
 
     -- the state that is left is kept
-    pub places_on : KeptOn shape opened kept.anatomy (record { words = set state.words (at + j) v; cursors = state.cursors; actors = actors })
+    pub places_on : KeptOn shape opened kept (record { words = set state.words (at + j) v; cursors = state.cursors; actors = actors })
     places_on =
         let fits = kept.each id a mine lived in
         turned_on shape opened state kept at body then_is j v stands turns id a mine recorder lived deed (record {

@@ -160,7 +160,7 @@ module _ (shape : Dimensions) (opened : Anatomy) (state : State) (kept : Invaria
   abbrev between : State
   between = record { words = set state.words (look.counts + (4 + bucket)) v; cursors = state.cursors; actors = set state.actors id b }
 
-  first_step : KeptOn shape opened kept.anatomy between
+  first_step : KeptOn shape opened kept between
   first_step =
       units_counted shape opened state kept id a mine recorder unbound entry next uncounted look.counts (counts c) (counts more) (4 + bucket) v mounted turns shows
 
@@ -185,7 +185,7 @@ module _ (shape : Dimensions) (opened : Anatomy) (state : State) (kept : Invaria
   abbrev seen : Seen
   seen = record a.seen { counts = a.seen.counts ++ record { at = at; word = word_at between.words at } ∷ [] }
 
-  left : KeptOn shape opened kept.anatomy (record {
+  left : KeptOn shape opened kept (record {
     words = between.words;
     cursors = state.cursors;
     actors = set between.actors id (seer b Idle seen a.done.given a.done.lost);
@@ -203,8 +203,8 @@ module _ (shape : Dimensions) (opened : Anatomy) (state : State) (kept : Invaria
   counted_at =
       let small = fits in
       let event = counting_event (add_count at units) in
-      happens opened.version state id a event (omega (arith, spot, there)) shape opened (
-        subst (λ (p : List ℕ × List Actor). KeptOn shape opened kept.anatomy (record { words = p.0; cursors = state.cursors; actors = p.1 }))
+      happens opened.version state id a event (omega (arith, spot, there)) shape opened kept (
+        subst (λ (p : List ℕ × List Actor). KeptOn shape opened kept (record { words = p.0; cursors = state.cursors; actors = p.1 }))
             (λ i. (
               set state.words (sym spot i) (carry i),
               (set-set state.actors id b (seer b Idle seen a.done.given a.done.lost) ∙ (λ j. set state.actors id (record a {

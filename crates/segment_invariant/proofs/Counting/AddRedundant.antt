@@ -166,7 +166,7 @@ module _ (shape : Dimensions) (opened : Anatomy) (state : State) (kept : Invaria
 
   -- ---- the state
 
-  pub units_added : KeptOn shape opened kept.anatomy (record { words = set state.words (known.reference + 13) v; cursors = state.cursors; actors = actors })
+  pub units_added : KeptOn shape opened kept (record { words = set state.words (known.reference + 13) v; cursors = state.cursors; actors = actors })
   units_added = amount_added shape opened state kept id a mine recorder unbound c d next refl known has r.sum v 13 v turns narrow (a.seen.counts ++ s ∷ []) refl
       (untouched_off c.counted c.summed) (λ is. counted) (λ noted. summed) amounts
       (λ name. (pos 0, sym (+ℤ_idr _), ap (λ entries. tally_sum entries name) summed_same ∙ sym (+ℤ_idr _)))
@@ -179,7 +179,7 @@ module _ (shape : Dimensions) (opened : Anatomy) (state : State) (kept : Invaria
       let more = noted_more name in
       let none_of : of_name r.name name units ≡ 0 = ap (λ (n : List ℕ). if bytes_eq n name then units else 0) called ∙ ap (λ (t : Bool). if t then units else 0) other in
       omega (arith, more, none_of))
-      (sums_on kept.anatomy.pieces new.pieces state.actors actors sum_stays (loaded_set state.actors id a b mine (λ at sum is. absurd (cc is)))
+      (sums_on shape state.words kept.anatomy kept.shown new.pieces state.actors actors sum_stays (loaded_set state.actors id a b mine (λ at sum is. absurd (cc is)))
       (λ name. let all = sum_same (summed_cost name) state.actors id a b mine (cost_same name) in omega (arith, all)) kept.sums)
       (λ sees. changes.sees_count new state.cursors a.seen s
       (known.reference, 13, histogram (with_amount r r.sum v), stands_now, refl, inr refl, omega arith)
@@ -271,8 +271,8 @@ add_redundant_kept at amount shape opened state id a kept mine recorder (unbound
     let whole = units_added shape opened state kept id a mine recorder unbound c next known has named counted summed unnoted in
     let small = noted_small shape opened state kept id a mine recorder unbound c next known has named counted summed unnoted in
     let carry = no_carry shape opened state kept id a mine recorder unbound c next known has named counted summed unnoted in
-    happens opened.version state id a (counting_event (add_redundant at amount)) (omega (arith, within, size, refers)) shape opened (
-      subst (λ (p : ℕ × ℕ × ℕ × ℕ × List EntryProgress). KeptOn shape opened kept.anatomy (record {
+    happens opened.version state id a (counting_event (add_redundant at amount)) (omega (arith, within, size, refers)) shape opened kept (
+      subst (λ (p : ℕ × ℕ × ℕ × ℕ × List EntryProgress). KeptOn shape opened kept (record {
         words = set state.words (p.0 + 13) p.1;
         cursors = state.cursors;
         actors = set state.actors id (record a {

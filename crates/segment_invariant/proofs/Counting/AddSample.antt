@@ -133,7 +133,7 @@ module _ (shape : Dimensions) (opened : Anatomy) (state : State) (kept : Invaria
   abbrev between : State
   between = record { words = set state.words (at + 6) v; cursors = state.cursors; actors = set state.actors id b }
 
-  first_step : KeptOn shape opened kept.anatomy between
+  first_step : KeptOn shape opened kept between
   first_step = units_counted shape opened state kept id a mine recorder unbound entry next uncounted at (sample s) (sample more) 6 v stands turns shows
 
   abbrev kept_between : Invariant shape opened between
@@ -158,7 +158,7 @@ module _ (shape : Dimensions) (opened : Anatomy) (state : State) (kept : Invaria
   abbrev seen : Seen
   seen = record a.seen { counts = a.seen.counts ++ record { at = at + 6; word = word_at between.words (at + 6) } ∷ [] }
 
-  left : KeptOn shape opened kept.anatomy (record {
+  left : KeptOn shape opened kept (record {
     words = between.words;
     cursors = state.cursors;
     actors = set between.actors id (seer b Idle seen a.done.given a.done.lost);
@@ -175,8 +175,8 @@ module _ (shape : Dimensions) (opened : Anatomy) (state : State) (kept : Invaria
   pub counted_at : Goes shape opened state kept id a mine recorder (counting_event (add_count (at + 6) units))
   counted_at =
       let small = fits in
-      happens opened.version state id a (counting_event (add_count (at + 6) units)) there shape opened (
-        subst (λ (p : List ℕ × List Actor). KeptOn shape opened kept.anatomy (record { words = p.0; cursors = state.cursors; actors = p.1 }))
+      happens opened.version state id a (counting_event (add_count (at + 6) units)) there shape opened kept (
+        subst (λ (p : List ℕ × List Actor). KeptOn shape opened kept (record { words = p.0; cursors = state.cursors; actors = p.1 }))
             (λ i. (
               set state.words (at + 6) (carry i),
               (set-set state.actors id b (seer b Idle seen a.done.given a.done.lost) ∙ (λ j. set state.actors id (record a {

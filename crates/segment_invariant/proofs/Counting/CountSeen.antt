@@ -95,7 +95,7 @@ module _ (shape : Dimensions) (opened : Anatomy) (state : State) (kept : Invaria
     -- the state is kept where it sees that count, and goes on to a place
     pub off_seen : (place : Place) → is_bound place ≡ false → ((reference : ℕ) (sum : ℤ) → place ≢ SumLoaded reference sum)
         → StandsRight shape kept.anatomy id (seer a place (record a.seen { counts = a.seen.counts ++ z ∷ [] }) a.done.given a.done.lost) place
-        → KeptOn shape opened kept.anatomy (record {
+        → KeptOn shape opened kept (record {
           words = state.words;
           cursors = state.cursors;
           actors = set state.actors id (seer a place (record a.seen { counts = a.seen.counts ++ z ∷ [] }) a.done.given a.done.lost);
@@ -121,7 +121,7 @@ module _ (shape : Dimensions) (opened : Anatomy) (state : State) (kept : Invaria
 
   pub count_seen : 1 ≤ word_at state.words at → (place : Place) → is_bound place ≡ false → ((reference : ℕ) (sum : ℤ) → place ≢ SumLoaded reference sum)
       → StandsRight shape kept.anatomy id (seer a place (record a.seen { counts = a.seen.counts ++ z ∷ [] }) a.done.given a.done.lost) place
-      → KeptOn shape opened kept.anatomy (record {
+      → KeptOn shape opened kept (record {
         words = state.words;
         cursors = state.cursors;
         actors = set state.actors id (seer a place (record a.seen { counts = a.seen.counts ++ z ∷ [] }) a.done.given a.done.lost);

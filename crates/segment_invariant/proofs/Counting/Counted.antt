@@ -130,7 +130,7 @@ module _ (shape : Dimensions) (opened : Anatomy) (state : State) (kept : Invaria
       pub met : (of : ℕ) → IsFirst kept.anatomy.records c.entry.name spec.Sparse of
           → (sample : ℕ) × IsFirstOf kept.anatomy.records of c.entry.key sample × Contains a.seen.chain sample × SawSample a.seen of c.entry.key sample
 
-    pub units_counted : CountedInto → KeptOn shape opened kept.anatomy (record { words = set state.words (at + j) v; cursors = state.cursors; actors = actors })
+    pub units_counted : CountedInto → KeptOn shape opened kept (record { words = set state.words (at + j) v; cursors = state.cursors; actors = actors })
     units_counted shows =
         let fits = kept.each id a mine lived in
         turned_on shape opened state kept at body then_is j v stands turns id a mine recorder lived deed (record {

@@ -53,7 +53,7 @@ module _ (shape : Dimensions) (opened : Anatomy) (state : State) (kept : Invaria
 
   -- the state that is left is kept
   pub words_seen : StandsRight shape kept.anatomy id b place
-      → KeptOn shape opened kept.anatomy (record { words = state.words; cursors = state.cursors; actors = set state.actors id b })
+      → KeptOn shape opened kept (record { words = state.words; cursors = state.cursors; actors = set state.actors id b })
   words_seen stands =
       let fits = kept.each id a mine lives in
       sees_more shape opened state kept id a mine recorder place with_words a.done.given a.done.lost lives free moves state.cursors

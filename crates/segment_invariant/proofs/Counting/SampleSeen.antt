@@ -37,7 +37,7 @@ module _ (shape : Dimensions) (opened : Anatomy) (state : State) (kept : Invaria
   -- the state that is left is kept
   pub sample_seen : (place : Place) → is_bound place ≡ false → ((reference : ℕ) (sum : ℤ) → place ≢ SumLoaded reference sum)
       → StandsRight shape kept.anatomy id (seer a place sees_sample a.done.given a.done.lost) place
-      → KeptOn shape opened kept.anatomy (record { words = state.words; cursors = state.cursors; actors = set state.actors id (seer a place sees_sample a.done.given a.done.lost) })
+      → KeptOn shape opened kept (record { words = state.words; cursors = state.cursors; actors = set state.actors id (seer a place sees_sample a.done.given a.done.lost) })
   sample_seen place free no_sum stood =
       let fits = kept.each id a mine lives in
       let moves : (name : List ℕ) (key : ℤ) → moving_at a name key place ≡ moving_at a name key a.hand.place =

@@ -54,7 +54,7 @@ module _ (shape : Dimensions) (opened : Anatomy) (state : State) (kept : Invaria
     pub sees_on : SumsAreNear kept.anatomy.pieces (set state.actors id b) → All (WasSingle kept.anatomy.version kept.anatomy.pieces) singles
         → All (WasCounter kept.anatomy.pieces) counts → All (WasInUse kept.anatomy.pieces) counts → All (WasMet kept.anatomy.pieces a.seen) counts
         → StandsRight shape kept.anatomy id b place → LooksBack kept.anatomy state.actors kept.roles.opener b
-        → KeptOn shape opened kept.anatomy (record { words = state.words; cursors = state.cursors; actors = set state.actors id b })
+        → KeptOn shape opened kept (record { words = state.words; cursors = state.cursors; actors = set state.actors id b })
     sees_on near are_singles are_counters are_used are_met stands looks =
         let fits = kept.each id a mine lived in
         sees_more shape opened state kept id a mine records place saw a.done.given a.done.lost lived lives moves state.cursors (later_itself (order_of kept.anatomy) state.cursors)

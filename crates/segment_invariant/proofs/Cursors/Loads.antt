@@ -44,8 +44,8 @@ module _ (shape : Dimensions) (opened : Anatomy) (state : State) (kept : Invaria
       let stop = cursor_stop cursor within in
       let s : Sighting = record { at = cursor; word = found } in
       let seen : Seen = record a.seen { cursors = a.seen.cursors ++ sight cursor found } in
-      happens_there opened.version state id a (cursor_event (load_cursor cursor)) cursor refl shape opened (
-        subst (λ (cursors : List ℕ). KeptOn shape opened kept.anatomy (record {
+      happens_there opened.version state id a (cursor_event (load_cursor cursor)) cursor refl shape opened kept (
+        subst (λ (cursors : List ℕ). KeptOn shape opened kept (record {
           words = state.words;
           cursors = cursors;
           actors = set state.actors id (seer a place seen a.done.given a.done.lost);

@@ -107,8 +107,8 @@ module _ (shape : Dimensions) (opened : Anatomy) (state : State) (kept : Invaria
         let stop = cursor_stop shape opened state kept id a mine records cursor within in
         let s : Sighting = record { at = cursor; word = found } in
         let seen : Seen = record a.seen { cursors = a.seen.cursors ++ sight cursor found } in
-        happens_there opened.version state id a (cursor_event (move_cursor cursor old new)) cursor refl shape opened (
-          subst (λ (p : Bool × List ℕ). KeptOn shape opened kept.anatomy (record {
+        happens_there opened.version state id a (cursor_event (move_cursor cursor old new)) cursor refl shape opened kept (
+          subst (λ (p : Bool × List ℕ). KeptOn shape opened kept (record {
             words = state.words;
             cursors = p.1;
             actors = set state.actors id (after_cursor p.0 a cursor new found);
@@ -276,8 +276,8 @@ module _ (shape : Dimensions) (opened : Anatomy) (state : State) (kept : Invaria
           let s : Sighting = record { at = cursor; word = new } in
           let stop_new : IsStop order new = (suc place, stands.0.1, stands.0.3) in
           let many = length-set state.cursors cursor new in
-          happens_there opened.version state id a (cursor_event (move_cursor cursor old new)) cursor refl shape opened (
-            subst (λ (hits : Bool). KeptOn shape opened kept.anatomy (record {
+          happens_there opened.version state id a (cursor_event (move_cursor cursor old new)) cursor refl shape opened kept (
+            subst (λ (hits : Bool). KeptOn shape opened kept (record {
               words = state.words;
               cursors = set state.cursors cursor (if hits then new else found);
               actors = set state.actors id (after_cursor hits a cursor new found);

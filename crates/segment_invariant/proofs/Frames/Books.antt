@@ -3,7 +3,7 @@ use Rattle.segment_invariant.proofs.Prelude.Std.{◌≡◌, ◌≢◌, ◌⊎◌
 use Rattle.segment_invariant.proofs.Prelude.Machine.{Dimensions, IsShown, stops, Entry, Spent, Actor, Portion, Given, cost_of, all_counted, all_taken, all_published, units_of, is_opener, State}
 use Rattle.segment_invariant.proofs.Prelude.Invariant.{Piece, Anatomy, layout_of, order_of, claims_of, listed, noted_held, all_held, ClaimedRight, HasKey, RecordsAreKept, SumsAreNear, IsSetBy, StandStill, RolesAreKept, StandsRight, Fits, Invariant, KeptOn}
 use Rattle.std.proofs.lemmas.List.Sorted.{IsPermutation-trans, IsPermutation-sym, IsPermutation-append_right, IsPermutation-map}
-use Rattle.segment_invariant.specs.Rises.{Rises}
+use Rattle.segment_invariant.specs.Rises.{Rises, SumsRise}
 use Rattle.segment_invariant.proofs.Frames.Answers.{answered_by}
 use Rattle.segment_machine.specs.Actor.{given_by, all_given, all_names, all_owed}
 use Rattle.segment_invariant.specs.Ledger.{IsBalanced}
@@ -78,8 +78,9 @@ pub kept_by : (shape : Dimensions) (opened anatomy : Anatomy) (words cursors : L
     → ((id : ℕ) (a : Actor) → get_elem? actors id ≡ some a → All (λ g. Contains (order_of anatomy) g.reference) a.done.given)
     → ((id : ℕ) (a : Actor) → get_elem? actors id ≡ some a → StandsRight shape anatomy id a a.hand.place)
     → ((id : ℕ) (a : Actor) → get_elem? actors id ≡ some a → a.hand.place ≢ Spent → Fits shape anatomy cursors actors roles.opener id a)
-    → (old : Anatomy) → Rises old anatomy → KeptOn shape opened old (record { words = words; cursors = cursors; actors = actors })
-kept_by shape opened anatomy words cursors actors books roles first_noted ordered given standing each old rises = (
+    → {old : State} (kept : Invariant shape opened old) → Rises kept.anatomy anatomy → SumsRise kept.anatomy.pieces anatomy.pieces old.actors actors
+    → KeptOn shape opened kept (record { words = words; cursors = cursors; actors = actors })
+kept_by shape opened anatomy words cursors actors books roles first_noted ordered given standing each kept rises sums = (
   record {
     anatomy = anatomy;
     shown = books.shown;
@@ -107,6 +108,7 @@ kept_by shape opened anatomy words cursors actors books roles first_noted ordere
     each = each;
   },
   rises,
+  sums,
 )
 
 -- the list is kept where others published the same

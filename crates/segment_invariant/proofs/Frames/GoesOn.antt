@@ -1,7 +1,7 @@
 -- A state is kept where one actor goes on, and at most one of the blocks in the making changes.
 use Rattle.segment_invariant.proofs.Prelude.Std.{true≢false, ◌≡◌, ◌≢◌, ℕ, ◌<◌, Bool, List, ◌++◌, map, length, set, take, drop, All, Contains, inl, inr, refl, sym, ap, ◌∙◌, subst, subst₂, length-set, false, true, take-append_seam, get_or_append_left, IsPermutation, flat_map, All-weaker, some, some-injective, get_elem?, at_set}
 use Rattle.segment_invariant.proofs.Prelude.Machine.{Dimensions, word_at, IsShown, Behind, IsStop, IsLinked, Actor, Own, Spent, State, Event, spot, next, Learned, is_opener}
-use Rattle.segment_invariant.proofs.Prelude.Invariant.{found_at, Body, plain, Piece, Anatomy, layout_of, order_of, free_of, claims_of, Stands, IsNoLater, Sees, StandsRight, HoldsOwn, CallsRight, LooksBack, Fits, IsSetBy, ClaimedRight, StandStill, Invariant, KeptOn, IsAhead}
+use Rattle.segment_invariant.proofs.Prelude.Invariant.{found_at, Body, plain, histogram, Piece, Anatomy, layout_of, order_of, free_of, claims_of, Stands, IsNoLater, Sees, StandsRight, HoldsOwn, CallsRight, LooksBack, Fits, IsSetBy, ClaimedRight, StandStill, Invariant, KeptOn, IsAhead}
 use Rattle.std.proofs.Math.Seq.{drop-append_seam}
 use Rattle.std.proofs.lemmas.List.{set-append_left}
 use Rattle.segment_invariant.proofs.Frames.Ahead.{ahead_later}
@@ -19,6 +19,7 @@ use Rattle.segment_invariant.proofs.Frames.Anatomies.{balanced_along, list_along
 use Rattle.segment_invariant.proofs.Frames.Growth.{reshaped, Stays}
 use Rattle.segment_invariant.proofs.Frames.PassedOver.{still_there, passed_on}
 use Rattle.segment_invariant.proofs.Frames.Rises.{rises_reshaped}
+use Rattle.segment_invariant.proofs.Frames.SumsRise.{sums_come}
 
 -- What has to be shown where an actor goes on to a doing: of the blocks and the words that are then there, and of the actor itself.
 pub record Goes (shape : Dimensions) (opened : Anatomy) (state : State) (old new : Anatomy) (opener : Actor) (id : ℕ) (a : Actor) (d : Doing) (words : List ℕ) : Type 0 where
@@ -120,7 +121,7 @@ module _ (shape : Dimensions) (opened : Anatomy) (state : State) (kept : Invaria
         (r, now, still_at ∙ same_at)
 
     -- the state that is left is kept
-    pub goes_on : KeptOn shape opened kept.anatomy (record { words = words; cursors = state.cursors; actors = actors })
+    pub goes_on : KeptOn shape opened kept (record { words = words; cursors = state.cursors; actors = actors })
     goes_on = (
       record {
         anatomy = behind;
@@ -153,6 +154,8 @@ module _ (shape : Dimensions) (opened : Anatomy) (state : State) (kept : Invaria
         each = fits_all;
       },
       rises_reshaped before pieces spare corrupt full tail goes.stays (goes.free (free_of before) (inl refl)) goes.tail_later goes.flagged goes.filled,
+      sums_come shape state.words before kept.shown pieces state.actors actors (same_sums state.actors actors same).costs
+          (λ at s there. (s, goes.stays.back at (histogram s) there, refl)),
     )
 
 -- ---- an event at a word of the segment
@@ -196,10 +199,10 @@ module _ (version : ℕ) (state : State) (id : ℕ) (a : Actor) (event : Event) 
   }
 
   -- so what is kept behind it is kept
-  pub happens : (shape : Dimensions) (opened : Anatomy) {old : Anatomy}
-      → KeptOn shape opened old (after_word version state id a event) × Learned a event (word_at state.words at)
-      → KeptOn shape opened old (happened version state id a event) × Learned a event (found_at state event)
-  happens shape opened {old} (kept, learned) = (
-    subst (KeptOn shape opened old) (sym state_is) kept,
+  pub happens : (shape : Dimensions) (opened : Anatomy) (was : Invariant shape opened state)
+      → KeptOn shape opened was (after_word version state id a event) × Learned a event (word_at state.words at)
+      → KeptOn shape opened was (happened version state id a event) × Learned a event (found_at state event)
+  happens shape opened was (kept, learned) = (
+    subst (KeptOn shape opened was) (sym state_is) kept,
     subst (Learned a event) (sym found_word) learned,
   )

@@ -1,11 +1,12 @@
 -- What is published goes on from one state to the next, and so from one to any that is reached from it.
-use Rattle.segment_invariant.proofs.Prelude.Std.{◌≡◌, ◌≢◌, ◌⊎◌, ℕ, ◌+◌, ◌≤◌, Bool, true, List, [], ◌++◌, length, inl, inr, ⊎_elim, refl, sym, ap, ◌∙◌, subst, arith, append-nil, append_assoc, length-append, None, none}
+use Rattle.segment_invariant.proofs.Prelude.Std.{◌≡◌, ◌≢◌, ℕ, ◌+◌, ◌≤◌, Bool, true, List, [], ◌++◌, length, inl, inr, ⊎_elim, refl, sym, ap, ◌∙◌, subst, arith, append-nil, append_assoc, length-append, None, none}
 use Rattle.segment_invariant.proofs.Prelude.Machine.{Spec, Dimensions, State, buckets_of, Leads, Behind}
 use Rattle.segment_invariant.proofs.Prelude.Invariant.{Record, Counts, Sample, Body, queue, plain, held, histogram, counts, sample, other, words_of, is_claimed, Piece, Listed, Anatomy, order_of, free_of, form_at, Stands, IsNoLater, Invariant, KeptOn}
 use Rattle.segment_invariant.specs.Rises.{RecordGoes, CountsGo, SampleGoes, GoesAs, Rises}
 use Rattle.segment_invariant.proofs.Frames.Growth.{reshaped, Stays}
 use Rattle.segment_invariant.proofs.Frames.Leads.{leads_on}
 use Rattle.segment_invariant.proofs.Frames.Onward.{goes_itself, Onward}
+use Rattle.segment_invariant.proofs.Frames.SumsRise.{sums_rest, sums_again}
 
 -- ---- from one state to the next
 
@@ -205,6 +206,14 @@ module _ (shape : Dimensions) (opened : Anatomy) (state : State) (kept : Invaria
     }
 
   -- and a state that is kept on behind one that is kept on is kept on
-  pub kept_again : {between after : State} (first : KeptOn shape opened kept.anatomy between) → KeptOn shape opened first.0.anatomy after
-      → KeptOn shape opened kept.anatomy after
-  kept_again first then = (then.0, rises_again first.0.anatomy then.0.anatomy first.1 then.1)
+  pub kept_again : {between after : State} (first : KeptOn shape opened kept between) → KeptOn shape opened first.0 after
+      → KeptOn shape opened kept after
+  kept_again {between} {after} first then = (
+    then.0,
+    rises_again first.0.anatomy then.0.anatomy first.1 then.1,
+    sums_again kept.anatomy first.0.anatomy then.0.anatomy state.actors between.actors after.actors first.1 first.2 then.2,
+  )
+
+  -- a kept state is kept on as it is
+  pub kept_itself : KeptOn shape opened kept state
+  kept_itself = (kept, rises_itself kept.anatomy, sums_rest shape state.words kept.anatomy kept.shown state.actors state.actors (λ name. omega arith))

@@ -15,6 +15,7 @@ use Rattle.segment_invariant.proofs.Frames.Deeds.{SameSums}
 use Rattle.segment_invariant.proofs.Frames.GoesOn.{not_opener}
 use Rattle.segment_invariant.proofs.Frames.OneActor.{living_at}
 use Rattle.segment_invariant.proofs.Frames.Rises.{rises_itself}
+use Rattle.segment_invariant.proofs.Frames.SumsRise.{sums_rest}
 use Rattle.segment_invariant.proofs.Frames.Roles.{SameRole, role_kept, stood_set, roles_set, fits_beside}
 use Rattle.segment_invariant.proofs.Frames.Together.{balanced, sums_near, loaded_set}
 use Rattle.segment_invariant.proofs.Frames.Anew.{calls_anew, sees_anew}
@@ -163,7 +164,7 @@ module _ (shape : Dimensions) (opened : Anatomy) (state : State) (kept : Invaria
     ]
 
     -- the state that is left is kept
-    pub sees_more : KeptOn shape opened kept.anatomy (record { words = state.words; cursors = cursors; actors = actors })
+    pub sees_more : KeptOn shape opened kept (record { words = state.words; cursors = cursors; actors = actors })
     sees_more = (
       record {
         anatomy = kept.anatomy;
@@ -193,6 +194,7 @@ module _ (shape : Dimensions) (opened : Anatomy) (state : State) (kept : Invaria
         each = fits_all;
       },
       rises_itself kept.anatomy,
+      sums_rest shape state.words kept.anatomy kept.shown state.actors actors same.costs,
     )
 
 -- ---- an event at a shared cursor
@@ -236,10 +238,10 @@ module _ (version : ℕ) (state : State) (id : ℕ) (a : Actor) (event : Event) 
       }
 
   -- so what is kept behind it is kept
-  pub happens_there : (shape : Dimensions) (opened : Anatomy) {old : Anatomy}
-      → KeptOn shape opened old (after_cursor_word version state id a event cursor) × Learned a event (slice_index state.cursors cursor)
-      → KeptOn shape opened old (happened version state id a event) × Learned a event (found_at state event)
-  happens_there shape opened {old} (kept, learned) = (
-    subst (KeptOn shape opened old) (sym state_is) kept,
+  pub happens_there : (shape : Dimensions) (opened : Anatomy) (was : Invariant shape opened state)
+      → KeptOn shape opened was (after_cursor_word version state id a event cursor) × Learned a event (slice_index state.cursors cursor)
+      → KeptOn shape opened was (happened version state id a event) × Learned a event (found_at state event)
+  happens_there shape opened was (kept, learned) = (
+    subst (KeptOn shape opened was) (sym state_is) kept,
     subst (Learned a event) (sym found_cursor) learned,
   )

@@ -208,7 +208,7 @@ amounts_kept amount shape opened state id a kept mine records ((before, last, ru
     let changed : change_last f a.entries.running ≡ n.running = ap (change_last f) runs ∙ last_changed f before last in
     let lived : a.hand.place ≢ Spent = λ is_spent.
     not_empty before [] last (sym runs ∙ ap (λ (a : Actor). a.entries.running) (subst (StandsRight shape kept.anatomy id a) is_spent (kept.standing id a mine))) in
-    subst (λ (running : List EntryProgress). KeptOn shape opened kept.anatomy (record state { actors = set state.actors id (record a { entries = record a.entries { running = running } }) })) (sym changed)
+    subst (λ (running : List EntryProgress). KeptOn shape opened kept (record state { actors = set state.actors id (record a { entries = record a.entries { running = running } }) })) (sym changed)
     (notes_on shape opened state kept id a mine records n lived counts (takes_nothing a n) (λ name key. refl) (λ known has. has)
     (answered_set kept.anatomy.records state.actors id a (noting a n) mine refl refl)
     (λ fit.

@@ -69,7 +69,7 @@ module _ (a : Actor) (share : ℕ) (spent : List Cost) (ended : List EntryProgre
       (running : (c : EntryProgress) → Contains a.entries.running c → Contains ended c ⊎ (is_untouched c ≡ true)) (idle : a.entries.running ≡ [] → ended ≡ [])
       (pays : (anatomy : Anatomy) → CallsRight anatomy a → (name : List ℕ) → tally_noted (map (λ (c : EntryProgress). c.entry) ended) name ≤ cost_of spent name) where
     ends_with : (shape : Dimensions) (opened : Anatomy) (state : State) (id : ℕ) (kept : Invariant shape opened state) (mine : get_elem? state.actors id ≡ some a)
-        → is_opener a.role ≡ false → a.hand.place ≢ Spent → KeptOn shape opened kept.anatomy (record state { actors = set state.actors id (noting a gone) })
+        → is_opener a.role ≡ false → a.hand.place ≢ Spent → KeptOn shape opened kept (record state { actors = set state.actors id (noting a gone) })
     ends_with shape opened state id kept mine records lived =
         let longer = ap length (log_more a ended) in
         let long = length-append (log_of a) (map (λ (c : EntryProgress). c.entry) ended) in

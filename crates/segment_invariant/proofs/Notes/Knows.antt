@@ -50,7 +50,7 @@ module _ (a : Actor) (known : Known) where
 
   pub knows_one_more : (shape : Dimensions) (opened : Anatomy) (state : State) (id : ℕ) (kept : Invariant shape opened state) → get_elem? state.actors id ≡ some a
       → is_opener a.role ≡ false → a.hand.place ≢ Spent → IsRightlyKnown kept.anatomy known
-      → KeptOn shape opened kept.anatomy (record state { actors = set state.actors id (noted a (knows known)) })
+      → KeptOn shape opened kept (record state { actors = set state.actors id (noted a (knows known)) })
   knows_one_more shape opened state id kept mine records lived right =
       notes_on shape opened state kept id a mine records knower lived knows_counts (takes_nothing a knower)
       (λ name key. moves_still shape kept.anatomy id name key a.hand.place (kept.standing id a mine))

@@ -13,6 +13,7 @@ use Rattle.segment_invariant.proofs.Frames.Standing.{grounds_itself, stands_on}
 use Rattle.segment_invariant.proofs.Frames.Together.{loaded_set, balanced, sums_near}
 use Rattle.segment_invariant.proofs.Frames.Roles.{SameRole, stood_set, roles_set, fits_beside}
 use Rattle.segment_invariant.proofs.Frames.Rises.{rises_itself}
+use Rattle.segment_invariant.proofs.Frames.SumsRise.{sums_rest}
 use Rattle.segment_invariant.proofs.Lists.Portions.{taken_total, taken_sum_total}
 
 -- ---- what changes of an actor that notes something
@@ -171,7 +172,7 @@ module _ (shape : Dimensions) (opened : Anatomy) (state : State) (kept : Invaria
         ]
 
         -- the state with that note is kept
-        pub notes_on : KeptOn shape opened kept.anatomy (record state { actors = noters })
+        pub notes_on : KeptOn shape opened kept (record state { actors = noters })
         notes_on = (
           record {
             anatomy = kept.anatomy;
@@ -201,4 +202,5 @@ module _ (shape : Dimensions) (opened : Anatomy) (state : State) (kept : Invaria
             each = each;
           },
           rises_itself kept.anatomy,
+          sums_rest shape state.words kept.anatomy kept.shown state.actors noters sums.costs,
         )

@@ -180,7 +180,7 @@ module _ (shape : Dimensions) (opened : Anatomy) (state : State) (kept : Invaria
       up = λ free. subst (λ (p : Place). is_beaten p ≡ false) (sym placed) refl;
     }
 
-    first_step : KeptOn shape opened kept.anatomy between
+    first_step : KeptOn shape opened kept between
     first_step = places_on shape opened state kept h (histogram r) (histogram s) 9 v stands turns id a mine recorder lives (turn unseen) shows
 
     abbrev kept_between : Invariant shape opened between
@@ -192,7 +192,7 @@ module _ (shape : Dimensions) (opened : Anatomy) (state : State) (kept : Invaria
     abbrev c : Actor
     c = seer b (turn looked) (record a.seen { singles = a.seen.singles ++ record { at = h + 9; word = v } ∷ [] }) a.done.given a.done.lost
 
-    left : KeptOn shape opened kept.anatomy (record { words = between.words; cursors = state.cursors; actors = set between.actors id c })
+    left : KeptOn shape opened kept (record { words = between.words; cursors = state.cursors; actors = set between.actors id c })
     left = kept_again shape opened state kept first_step
         (now_seen shape opened between kept_between id b mine_between recorder (alive unseen) h asked buckets (turn looked) (alive looked) (moves b) (no_sum looked) keeps_up
         v (get_or-set_same state.words (h + 9) v 0 there)
@@ -210,13 +210,13 @@ module _ (shape : Dimensions) (opened : Anatomy) (state : State) (kept : Invaria
         let fits = kept.each id a mine lives in
         let same : v ≡ off_word opened.version old = (λ i. off_word (kept.same.0 i) (found.3 i)) in
         let seen_as : v ≡ off_word a.segment.version old = (λ i. off_word (sym fits.versioned i) (found.3 i)) in
-        happens opened.version state id a (packing_event (disable h old)) there shape opened (
-          subst (λ (test : Bool). KeptOn shape opened kept.anatomy (record {
+        happens opened.version state id a (packing_event (disable h old)) there shape opened kept (
+          subst (λ (test : Bool). KeptOn shape opened kept (record {
             words = set state.words (h + 9) (if test then off_word opened.version old else word_at state.words (h + 9));
             cursors = state.cursors;
             actors = set state.actors id (after_disable test a h old (word_at state.words (h + 9)));
           })) (sym (eq-eqb (word_at state.words (h + 9)) old is_old))
-              (subst (λ (p : List ℕ × List Actor). KeptOn shape opened kept.anatomy (record { words = p.0; cursors = state.cursors; actors = p.1 }))
+              (subst (λ (p : List ℕ × List Actor). KeptOn shape opened kept (record { words = p.0; cursors = state.cursors; actors = p.1 }))
               (λ i. (
                 set state.words (h + 9) (same i),
                 (set-set state.actors id b c ∙ (λ j. set state.actors id (record a {

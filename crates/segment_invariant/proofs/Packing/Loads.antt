@@ -53,9 +53,9 @@ module _ (shape : Dimensions) (opened : Anatomy) (state : State) (kept : Invaria
       let y : Sighting = record { at = h + 9; word = r.single } in
       let (histogram_is, counts_are) = look_right shape kept.anatomy id a a.hand.place h (kept.standing id a mine) in
       let lawful = kept.records.lawful h r stands in
-      happens opened.version state id a (packing_event (load_single h)) (word_within shape opened state kept h 9 (histogram r) stands refl (omega arith)) shape opened (
+      happens opened.version state id a (packing_event (load_single h)) (word_within shape opened state kept h 9 (histogram r) stands refl (omega arith)) shape opened kept (
         loaded shape opened state kept id a mine records (h + 9) (next a (packing_event (load_single h)) (word_at state.words (h + 9)))
-            (subst (λ (n : ℕ). KeptOn shape opened kept.anatomy (record {
+            (subst (λ (n : ℕ). KeptOn shape opened kept (record {
               words = state.words;
               cursors = state.cursors;
               actors = set state.actors id (next a (packing_event (load_single h)) n);

@@ -98,7 +98,7 @@ module _ (shape : Dimensions) (opened : Anatomy) (state : State) (kept : Invaria
   abbrev between : State
   between = record { words = set state.words (h + 8) own.at; cursors = state.cursors; actors = actors }
 
-  first_step : KeptOn shape opened kept.anatomy between
+  first_step : KeptOn shape opened kept between
   first_step =
       let fits = kept.each id a mine lives in
       let calls = fits.calls in
@@ -126,7 +126,7 @@ module _ (shape : Dimensions) (opened : Anatomy) (state : State) (kept : Invaria
         counted = λ name key. omega arith;
         keys = λ entry there. kept.keys entry (row_in counted_of state.actors id a entry mine there);
         taken_keys = λ t count there. kept.taken_keys t count (row_in taken_of state.actors id a t mine there);
-        sums = sums_on kept.anatomy.pieces pieces state.actors actors (sums_same shape opened state kept id h r own stands unmounted holds tag bare room) same.loaded
+        sums = sums_on shape state.words kept.anatomy kept.shown pieces state.actors actors (sums_same shape opened state kept id h r own stands unmounted holds tag bare room) same.loaded
             (λ name. let costs = same.costs name in omega (arith, costs)) kept.sums;
         lives = λ spent. cc spent;
         stands = tt;
@@ -178,13 +178,13 @@ module _ (shape : Dimensions) (opened : Anatomy) (state : State) (kept : Invaria
       (counts_fixed shape opened between kept_between id b mine_between (λ spent. cc spent) h known buckets)
 
   -- the state that is left is kept
-  pub mount_left : (found : ℕ) → KeptOn shape opened kept.anatomy (record {
+  pub mount_left : (found : ℕ) → KeptOn shape opened kept (record {
     words = set state.words (h + 8) own.at;
     cursors = state.cursors;
     actors = set state.actors id (after_mount true a h own.at found);
   })
   mount_left found =
-      subst (λ (list : List Actor). KeptOn shape opened kept.anatomy (record { words = between.words; cursors = state.cursors; actors = list }))
+      subst (λ (list : List Actor). KeptOn shape opened kept (record { words = between.words; cursors = state.cursors; actors = list }))
       (set-set state.actors id b (after_mount true a h own.at found))
       (kept_again shape opened state kept first_step
       (words_seen shape opened between kept_between id b mine_between recorder refl (Looking look) (λ is. cc is) (λ reference sum is. cc is)
@@ -208,8 +208,8 @@ module _ (shape : Dimensions) (opened : Anatomy) (state : State) (kept : Invaria
       let bucketed : r.spec ≢ Sparse = λ sparse.
       let kind : knows.first_spec ≡ Sparse = sym (one r.spec knows.first_spec known.reference known.reference first knows.first).1 ∙ sparse in
       not_sparse known.spec buckets.2 (sparse_same known.spec (sym knows.same.0 ∙ ap spec_fields kind)) in
-      happens opened.version state id a (packing_event (mount_counts h at)) (word_within shape opened state kept h 8 (histogram r) stands refl (omega arith)) shape opened (
-        subst (λ (p : Bool × ℕ). KeptOn shape opened kept.anatomy (record {
+      happens opened.version state id a (packing_event (mount_counts h at)) (word_within shape opened state kept h 8 (histogram r) stands refl (omega arith)) shape opened kept (
+        subst (λ (p : Bool × ℕ). KeptOn shape opened kept (record {
           words = set state.words (h + 8) (if p.0 then p.1 else found);
           cursors = state.cursors;
           actors = set state.actors id (after_mount p.0 a h p.1 found);

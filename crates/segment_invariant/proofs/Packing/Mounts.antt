@@ -41,8 +41,8 @@ module _ (shape : Dimensions) (opened : Anatomy) (state : State) (kept : Invaria
       let saw : Contains (a.seen.words ++ sight_counts h found) (record { at = h + 8; word = found }) =
       subst (λ (more : List Sighting). Contains (a.seen.words ++ more) (record { at = h + 8; word = found })) (sym sighted)
       (Contains-push a.seen.words (record { at = h + 8; word = found })) in
-      happens opened.version state id a (packing_event (mount_counts h at)) (word_within shape opened state kept h 8 (histogram r) stands refl (omega arith)) shape opened (
-        subst (λ (b : Bool). KeptOn shape opened kept.anatomy (record {
+      happens opened.version state id a (packing_event (mount_counts h at)) (word_within shape opened state kept h 8 (histogram r) stands refl (omega arith)) shape opened kept (
+        subst (λ (b : Bool). KeptOn shape opened kept (record {
           words = set state.words (h + 8) (if b then at else found);
           cursors = state.cursors;
           actors = set state.actors id (after_mount b a h at found);

@@ -163,7 +163,7 @@ module _ (shape : Dimensions) (opened : Anatomy) (state : State) (kept : Invaria
   abbrev between : State
   between = record { words = set state.words (look.counts + (4 + bucket)) v; cursors = state.cursors; actors = set state.actors id b }
 
-  first_step : KeptOn shape opened kept.anatomy between
+  first_step : KeptOn shape opened kept between
   first_step = places_on shape opened state kept look.counts (counts c) (counts more) (4 + bucket) v mounted turns id a mine recorder lives place shows
 
   abbrev kept_between : Invariant shape opened between
@@ -195,7 +195,7 @@ module _ (shape : Dimensions) (opened : Anatomy) (state : State) (kept : Invaria
   abbrev seen : Seen
   seen = record a.seen { counts = a.seen.counts ++ record { at = at; word = word_at between.words at } ∷ [] }
 
-  left : KeptOn shape opened kept.anatomy (record {
+  left : KeptOn shape opened kept (record {
     words = between.words;
     cursors = state.cursors;
     actors = set between.actors id (seer b place seen a.done.given a.done.lost);
@@ -214,8 +214,8 @@ module _ (shape : Dimensions) (opened : Anatomy) (state : State) (kept : Invaria
   moved_at =
       let small = fits in
       let event = packing_event (add_moved look.counts bucket units) in
-      happens opened.version state id a event (omega (arith, spot, there)) shape opened (
-        subst (λ (p : List ℕ × List Actor). KeptOn shape opened kept.anatomy (record { words = p.0; cursors = state.cursors; actors = p.1 }))
+      happens opened.version state id a event (omega (arith, spot, there)) shape opened kept (
+        subst (λ (p : List ℕ × List Actor). KeptOn shape opened kept (record { words = p.0; cursors = state.cursors; actors = p.1 }))
             (λ i. (
               set state.words (sym spot i) (carry i),
               (set-set state.actors id b (seer b place seen a.done.given a.done.lost) ∙ (λ j. set state.actors id (record a {

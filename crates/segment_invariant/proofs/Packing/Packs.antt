@@ -208,7 +208,7 @@ module _ (shape : Dimensions) (opened : Anatomy) (state : State) (kept : Invaria
   abbrev between : State
   between = record { words = set state.words (h + 9) new; cursors = state.cursors; actors = set state.actors id b }
 
-  first_step : KeptOn shape opened kept.anatomy between
+  first_step : KeptOn shape opened kept between
   first_step = units_counted shape opened state kept id a mine recorder unbound entry next uncounted h (histogram r) (histogram s) 9 new stands turns shows
 
   abbrev kept_between : Invariant shape opened between
@@ -220,7 +220,7 @@ module _ (shape : Dimensions) (opened : Anatomy) (state : State) (kept : Invaria
   word_between : word_at between.words (h + 9) ≡ new
   word_between = get_or-set_same state.words (h + 9) new 0 there
 
-  left : KeptOn shape opened kept.anatomy (record {
+  left : KeptOn shape opened kept (record {
     words = between.words;
     cursors = state.cursors;
     actors = set between.actors id (seer b Idle (record a.seen { singles = a.seen.singles ++ record { at = h + 9; word = word_at between.words (h + 9) } ∷ [] }) a.done.given a.done.lost);
@@ -229,12 +229,12 @@ module _ (shape : Dimensions) (opened : Anatomy) (state : State) (kept : Invaria
       (single_seen shape opened between kept_between id b (set_at state.actors id a b mine) recorder refl h known buckets Idle refl (λ reference sum is. cc is) (λ word. tt))
 
   -- the state is kept
-  pub units_packed_on : KeptOn shape opened kept.anatomy (record {
+  pub units_packed_on : KeptOn shape opened kept (record {
     words = set state.words (h + 9) new;
     cursors = state.cursors;
     actors = set state.actors id (after_pack true a h new (word_at state.words (h + 9)));
   })
-  units_packed_on = subst (λ (actors : List Actor). KeptOn shape opened kept.anatomy (record { words = between.words; cursors = state.cursors; actors = actors }))
+  units_packed_on = subst (λ (actors : List Actor). KeptOn shape opened kept (record { words = between.words; cursors = state.cursors; actors = actors }))
       (set-set state.actors id b _ ∙ (λ i. set state.actors id (record a {
         hand = record a.hand { place = Idle };
         entries = record a.entries { running = sym (next.changed as_counted) i };
@@ -258,8 +258,8 @@ module _ (shape : Dimensions) (opened : Anatomy) (state : State) (kept : Invaria
       let still = ap is_off same ∙ on in
       let packed = subst (λ (w : ℕ). IsPacking bucket c.entry.units w new) (sym same) packs in
       happens opened.version state id a (packing_event (pack h old new))
-      (within_words shape opened state kept id a mine recorder unbound c next uncounted h known buckets named bucket keyed new still packed) shape opened (
-        subst (λ (b : Bool). KeptOn shape opened kept.anatomy (record {
+      (within_words shape opened state kept id a mine recorder unbound c next uncounted h known buckets named bucket keyed new still packed) shape opened kept (
+        subst (λ (b : Bool). KeptOn shape opened kept (record {
           words = set state.words (h + 9) (if b then new else word);
           cursors = state.cursors;
           actors = set state.actors id (after_pack b a h new word);

@@ -24,8 +24,8 @@ module _ (shape : Dimensions) (opened : Anatomy) (state : State) (kept : Invaria
       let size = length_shown shape state.words (layout_of kept.anatomy) kept.shown in
       let within = is.placed.within in
       let room = is.room in
-      happens opened.version state id a (packing_event (purge_block at)) (omega (arith, place, size, within, room)) shape opened (
-        subst (λ (s : ℕ × List Own × Place). KeptOn shape opened kept.anatomy (record {
+      happens opened.version state id a (packing_event (purge_block at)) (omega (arith, place, size, within, room)) shape opened kept (
+        subst (λ (s : ℕ × List Own × Place). KeptOn shape opened kept (record {
           words = set state.words (s.0 + 2) 0;
           cursors = state.cursors;
           actors = set state.actors id (record a { hand = record { place = s.2; own = s.1 } });

@@ -36,7 +36,7 @@ module _ (shape : Dimensions) (opened : Anatomy) (state : State) (kept : Invaria
 
   -- the state with the record on the list
   abbrev pub Onward : Type 0
-  Onward = KeptOn shape opened kept.anatomy (record {
+  Onward = KeptOn shape opened kept (record {
     words = set state.words (tail + 3) own.at;
     cursors = state.cursors;
     actors = set state.actors id (after_link true a tail own.at 12);

@@ -27,12 +27,13 @@ use Rattle.segment_invariant.proofs.Frames.Books.{cursors_set, noticed_there, no
 use Rattle.segment_invariant.proofs.Frames.Roles.{roles_set}
 use Rattle.segment_invariant.proofs.Frames.GoesOn.{not_opener}
 use Rattle.segment_invariant.proofs.Allocating.Claimers.{still_put, right_put}
-use Rattle.segment_invariant.proofs.Frames.Growth.{grounds_grow, stands_as_grows, with_next, next_claimed, beside_next, Grows, stop_at, longer_by, stop_grows, no_later_grows, sees_grow, grows_on}
+use Rattle.segment_invariant.proofs.Frames.Growth.{grounds_grow, stands_as_grows, record_came, with_next, next_claimed, beside_next, Grows, stop_at, longer_by, stop_grows, no_later_grows, sees_grow, grows_on}
 use Rattle.segment_invariant.proofs.Frames.GrowthOfActors.{saw_itself}
 use Rattle.segment_invariant.proofs.Frames.Standing.{own_stays, follows_itself, stands_on}
 use Rattle.segment_invariant.proofs.Frames.GrowthOfRecords.{AddedRight, records_grow, key_grows, sums_grow}
 use Rattle.segment_invariant.proofs.Frames.GrowthOfStates.{loaded_record, fits_on}
 use Rattle.segment_invariant.proofs.Frames.Rises.{rises_onward}
+use Rattle.segment_invariant.proofs.Frames.SumsRise.{one_there, sums_same}
 use Rattle.segment_invariant.proofs.Lists.Ends.{snoc_split, distinct_filter, all_without, own_found, published_is}
 use Rattle.segment_invariant.proofs.Walking.Walks.{stop_stands, stop_within}
 use Rattle.segment_invariant.proofs.Blocks.Published.{SameHeld, next_held, unclaimed_held, holdings_set, holdings_both, next_stays, next_came, next_owned, next_was_owned, Publishes}
@@ -430,7 +431,7 @@ module _ (shape : Dimensions) (opened : Anatomy) (state : State) (kept : Invaria
         fits_on shape opened state kept new added grows who b (doing_of b) here lives (saw_itself b) (sees_now b fits.sees) (ahead_now b.hand.place b.done.beaten b.done.lost fits.ahead)
         (own_stays shape anatomy new who (λ x stands. others_stay who x.at (held x) ne stands) b.hand.own fits.own) fits.apart fits.owes
 
-    pub links_on : KeptOn shape opened kept.anatomy (record { words = words'; cursors = state.cursors; actors = actors' })
+    pub links_on : KeptOn shape opened kept (record { words = words'; cursors = state.cursors; actors = actors' })
     links_on = (
       record {
         anatomy = new;
@@ -488,4 +489,8 @@ module _ (shape : Dimensions) (opened : Anatomy) (state : State) (kept : Invaria
       },
       rises_onward anatomy new added (grows_on anatomy new added grows) refl (l ∷ []) refl (let same = free_is in omega (arith, same))
           (λ seen. no_later_grows anatomy new added grows seen anatomy.tail) (λ set. set) (λ set. set),
+      sums_same anatomy.pieces pieces state.actors actors' (same_sums state.actors actors' same).costs (λ at r s here now. ⊎_elim
+          (λ t. ap (λ (z : Record). z.sum) (one_there shape state.words anatomy kept.shown at r t.0 here t.2) ∙ ap (λ (z : Record). z.sum) (sym t.3))
+          (λ new_one. absurd (grows.apart at at 0 0 (histogram s) (histogram r) new_one here (omega arith) (omega arith) refl))
+          (record_came anatomy new added grows at s now)),
     )

@@ -22,8 +22,8 @@ module _ (shape : Dimensions) (opened : Anatomy) (state : State) (kept : Invaria
       let size = length_shown shape state.words (layout_of kept.anatomy) kept.shown in
       let within = is.placed.within in
       let room = is.room in
-      happens opened.version state id a (publishing_event (store_own_next at)) (omega (arith, place, size, within, room)) shape opened (
-        subst (λ (s : ℕ × List Own). KeptOn shape opened kept.anatomy (record {
+      happens opened.version state id a (publishing_event (store_own_next at)) (omega (arith, place, size, within, room)) shape opened kept (
+        subst (λ (s : ℕ × List Own). KeptOn shape opened kept (record {
           words = set state.words (s.0 + 3) 12;
           cursors = state.cursors;
           actors = set state.actors id (record a { hand = record a.hand { own = s.1 } });

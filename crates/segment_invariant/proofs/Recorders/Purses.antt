@@ -11,6 +11,7 @@ use Rattle.segment_invariant.proofs.Frames.Deeds.{Deeds, deeds_more, sums_of}
 use Rattle.segment_invariant.proofs.Frames.Books.{books_of, books_by, kept_by}
 use Rattle.segment_invariant.proofs.Frames.Roles.{no_recorder, opens_nothing, AllStood, Stood, still_younger, still_apart, still_eldest, still_heirs, opens_first, fits_beside}
 use Rattle.segment_invariant.proofs.Frames.Rises.{rises_itself}
+use Rattle.segment_invariant.proofs.Frames.SumsRise.{sums_rest}
 use Rattle.segment_invariant.proofs.Recorders.Shares.{opener_fits}
 use Rattle.segment_invariant.proofs.Recorders.Newcomers.{Comes, comes}
 
@@ -94,17 +95,18 @@ module _ (shape : Dimensions) (opened : Anatomy) (old : State) (kept : Invariant
       (λ live. absurd (live refl))
       (λ k c within front at live. beside k c (kept.each k c at live))
 
-  pub fill_kept : KeptOn shape opened kept.anatomy (record old { actors = more })
+  pub fill_kept : KeptOn shape opened kept (record old { actors = more })
   unfolding roles
   fill_kept = kept_by shape opened kept.anatomy old.words old.cursors more
       (books_by shape opened kept.anatomy old.words old.cursors old.actors more deeds came.loaded (books_of shape opened old kept))
-      roles kept.first_noted came.ordered came.given came.standing each kept.anatomy (rises_itself kept.anatomy)
+      roles kept.first_noted came.ordered came.given came.standing each kept (rises_itself kept.anatomy)
+      (sums_rest shape old.words kept.anatomy kept.shown old.actors more (sums_of old.actors more deeds).costs)
 
 pub fills_keep : FillsKeep
 fills_keep shape opened old new id kept (a, stands, may, is) =
     let opener = opens_first old.actors kept.roles id a stands may.1 in
-    subst (KeptOn shape opened kept.anatomy) (sym is)
+    subst (KeptOn shape opened kept) (sym is)
     (subst₂
-    (λ (k : ℕ) (c : Actor). KeptOn shape opened kept.anatomy (record old { actors = set old.actors k (lender c) ++ purse (offered_of c.role) ∷ [] }))
+    (λ (k : ℕ) (c : Actor). KeptOn shape opened kept (record old { actors = set old.actors k (lender c) ++ purse (offered_of c.role) ∷ [] }))
     (sym opener.0) opener.1
     (fill_kept shape opened old kept (subst MayFill (sym opener.1) may)))

@@ -15,6 +15,7 @@ use Rattle.segment_invariant.proofs.Frames.Together.{IsLater, fits}
 use Rattle.segment_invariant.proofs.Frames.Books.{books_of, books_by, kept_by}
 use Rattle.segment_invariant.proofs.Frames.Roles.{no_recorder, opens_nothing, opens_first}
 use Rattle.segment_invariant.proofs.Frames.Rises.{rises_itself}
+use Rattle.segment_invariant.proofs.Frames.SumsRise.{sums_rest}
 use Rattle.segment_invariant.proofs.Recorders.Shares.{opener_fits}
 use Rattle.segment_invariant.proofs.Recorders.Newcomers.{Comes, comes}
 
@@ -264,19 +265,20 @@ module _ (shape : Dimensions) (opened : Anatomy) (old : State) (kept : Invariant
       opener_lives : opener.hand.place ≢ Spent
       opener_lives e = cc (sym kept.roles.idle ∙ e)
 
-  pub split_kept : KeptOn shape opened kept.anatomy (record old { actors = split })
+  pub split_kept : KeptOn shape opened kept (record old { actors = split })
   unfolding roles
   split_kept = kept_by shape opened kept.anatomy old.words old.cursors split
       (books_by shape opened kept.anatomy old.words old.cursors old.actors split deeds came.loaded (books_of shape opened old kept))
-      roles kept.first_noted came.ordered came.given came.standing each kept.anatomy (rises_itself kept.anatomy)
+      roles kept.first_noted came.ordered came.given came.standing each kept (rises_itself kept.anatomy)
+      (sums_rest shape old.words kept.anatomy kept.shown old.actors split (sums_of old.actors split deeds).costs)
 
 pub splits_keep : SplitsKeep
 splits_keep shape opened old new id kept splitting =
     let a = splitting.0 in
     let may = splitting.2 in
     let opener = opens_first old.actors kept.roles id a splitting.1 may.1 in
-    subst (KeptOn shape opened kept.anatomy) (sym splitting.3)
+    subst (KeptOn shape opened kept) (sym splitting.3)
     (subst₂
-    (λ (k : ℕ) (c : Actor). KeptOn shape opened kept.anatomy (record old { actors = set old.actors k (parent c) ++ newcomer c ∷ [] }))
+    (λ (k : ℕ) (c : Actor). KeptOn shape opened kept (record old { actors = set old.actors k (parent c) ++ newcomer c ∷ [] }))
     (sym opener.0) opener.1
     (split_kept shape opened old kept (subst MaySplit (sym opener.1) may)))

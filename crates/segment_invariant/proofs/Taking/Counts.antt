@@ -50,9 +50,9 @@ module _ (shape : Dimensions) (opened : Anatomy) (state : State) (kept : Invaria
         (All-contains (WasSingle kept.anatomy.version kept.anatomy.pieces) a.seen.singles _ (kept.each id a mine lives).sees.singles (right.single word single_is)) refl stands in
         let r_off : is_off r.single ≡ true = sym (ap is_off (off_leads kept.anatomy.version (buckets_of r.spec) word r.single word_off leads.1)) ∙ word_off in
         happens opened.version state id a (taking_event (load_count at))
-        (count_there shape opened state kept id a mine records unbound look knows some_counts bucket below) shape opened (
+        (count_there shape opened state kept id a mine records unbound look knows some_counts bucket below) shape opened kept (
           loaded shape opened state kept id a mine records at (next a (taking_event (load_count at)) found)
-              (subst (λ (p : Place). KeptOn shape opened kept.anatomy (record {
+              (subst (λ (p : Place). KeptOn shape opened kept (record {
                 words = state.words;
                 cursors = state.cursors;
                 actors = set state.actors id (seer a p (record a.seen { counts = a.seen.counts ++ record { at = at; word = found } ∷ [] }) a.done.given a.done.lost);
@@ -75,9 +75,9 @@ module _ (shape : Dimensions) (opened : Anatomy) (state : State) (kept : Invaria
         let most = sample_most shape opened state kept reference s stands in
         let bound = counted_fits shape opened state kept s.name s.value in
         let back : reference + 6 - 6 ≡ reference = omega arith in
-        happens opened.version state id a (taking_event (load_count at)) (word_within shape opened state kept reference 6 (sample s) stands refl (omega arith)) shape opened (
+        happens opened.version state id a (taking_event (load_count at)) (word_within shape opened state kept reference 6 (sample s) stands refl (omega arith)) shape opened kept (
           loaded shape opened state kept id a mine records at (next a (taking_event (load_count at)) found)
-              (subst (λ (p : Place). KeptOn shape opened kept.anatomy (record {
+              (subst (λ (p : Place). KeptOn shape opened kept (record {
                 words = state.words;
                 cursors = state.cursors;
                 actors = set state.actors id (seer a p (record a.seen { counts = a.seen.counts ++ z ∷ [] }) a.done.given a.done.lost);

@@ -137,7 +137,7 @@ module _ (shape : Dimensions) (opened : Anatomy) (state : State) (kept : Invaria
         absurd (cc bodies)
 
     -- so the state is kept where it sees that mark and looks on
-    pub mark_seen : KeptOn shape opened kept.anatomy (record {
+    pub mark_seen : KeptOn shape opened kept (record {
       words = state.words;
       cursors = state.cursors;
       actors = set state.actors id (seer a (Looking look) saw a.done.given a.done.lost);

@@ -166,7 +166,7 @@ module _ (shape : Dimensions) (opened : Anatomy) (state : State) (kept : Invaria
   abbrev between : State
   between = record { words = set state.words (look.counts + i) v; cursors = state.cursors; actors = set state.actors id d }
 
-  first_step : KeptOn shape opened kept.anatomy between
+  first_step : KeptOn shape opened kept between
   first_step = takes_kept shape opened state kept look.counts (counts c) (counts more) i v mounted turns id a mine recorder lives known takes.0 front last takes.3.2
       takes.3.3 key least m (Looking look) (record {
         records = counts_kept shape opened state kept look.counts c more i v mounted turns refl (λ at z there refers is.
@@ -223,7 +223,7 @@ module _ (shape : Dimensions) (opened : Anatomy) (state : State) (kept : Invaria
       let units = its.4.units in
       omega (arith, many, kind, units)
 
-  left : KeptOn shape opened kept.anatomy (record {
+  left : KeptOn shape opened kept (record {
     words = between.words;
     cursors = state.cursors;
     actors = set between.actors id (seer d (Looking look) (record a.seen { counts = a.seen.counts ++ record { at = at; word = word_at between.words at } ∷ [] }) a.done.given a.done.lost);
@@ -238,8 +238,8 @@ module _ (shape : Dimensions) (opened : Anatomy) (state : State) (kept : Invaria
   key_is = sym (ap (taken_key a) placed ∙ named_it.4)
 
   raised_at : Goes shape opened state kept id a mine recorder (taking_event (raise_mark at least))
-  raised_at = happens opened.version state id a (taking_event (raise_mark at least)) (let below = there in omega (arith, spot, below)) shape opened (
-    subst (λ (p : List ℕ × List Actor). KeptOn shape opened kept.anatomy (record { words = p.0; cursors = state.cursors; actors = p.1 }))
+  raised_at = happens opened.version state id a (taking_event (raise_mark at least)) (let below = there in omega (arith, spot, below)) shape opened kept (
+    subst (λ (p : List ℕ × List Actor). KeptOn shape opened kept (record { words = p.0; cursors = state.cursors; actors = p.1 }))
         (λ i. (
           set state.words (sym spot i) (carry i),
           (set-set state.actors id d (seer d (Looking look) (record a.seen { counts = a.seen.counts ++ record { at = at; word = word_at between.words at } ∷ [] }) a.done.given a.done.lost)

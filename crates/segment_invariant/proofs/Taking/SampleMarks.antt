@@ -157,7 +157,7 @@ module _ (shape : Dimensions) (opened : Anatomy) (state : State) (kept : Invaria
   abbrev between : State
   between = record { words = set state.words (at + 7) v; cursors = state.cursors; actors = set state.actors id d }
 
-  first_step : KeptOn shape opened kept.anatomy between
+  first_step : KeptOn shape opened kept between
   first_step = takes_kept shape opened state kept at (sample s) (sample more) 7 v stands turns id a mine recorder lives known takes.0 front last takes.3.2
       takes.3.3 s.value least s.mark Idle (record {
         records =
@@ -198,7 +198,7 @@ module _ (shape : Dimensions) (opened : Anatomy) (state : State) (kept : Invaria
   word_between : word_at between.words (at + 7) ≡ v
   word_between = get_or-set_same state.words (at + 7) v 0 there
 
-  left : KeptOn shape opened kept.anatomy (record {
+  left : KeptOn shape opened kept (record {
     words = between.words;
     cursors = state.cursors;
     actors = set between.actors id (seer d Idle (record a.seen { counts = a.seen.counts ++ record { at = at + 7; word = word_at between.words (at + 7) } ∷ [] }) a.done.given a.done.lost);
@@ -213,8 +213,8 @@ module _ (shape : Dimensions) (opened : Anatomy) (state : State) (kept : Invaria
   key_is = found.2 ∙ (sym (ap (λ (word : std.Option ℕ). cast_signed w64 (unwrap_or word 0)) saw.2 ∙ value_word value saw.3) ∙ sym (ap (taken_key a) placed))
 
   raised_at : Goes shape opened state kept id a mine recorder (taking_event (raise_mark (at + 7) least))
-  raised_at = happens opened.version state id a (taking_event (raise_mark (at + 7) least)) there shape opened (
-    subst (λ (p : List ℕ × List Actor). KeptOn shape opened kept.anatomy (record { words = p.0; cursors = state.cursors; actors = p.1 }))
+  raised_at = happens opened.version state id a (taking_event (raise_mark (at + 7) least)) there shape opened kept (
+    subst (λ (p : List ℕ × List Actor). KeptOn shape opened kept (record { words = p.0; cursors = state.cursors; actors = p.1 }))
         (λ i. (
           set state.words (at + 7) (carry i),
           (set-set state.actors id d (seer d Idle (record a.seen { counts = a.seen.counts ++ record { at = at + 7; word = word_at between.words (at + 7) } ∷ [] }) a.done.given a.done.lost)

@@ -152,7 +152,7 @@ module _ (shape : Dimensions) (opened : Anatomy) (state : State) (kept : Invaria
   abbrev between : State
   between = record { words = set state.words (h + 10) v; cursors = state.cursors; actors = set state.actors id d }
 
-  first_step : KeptOn shape opened kept.anatomy between
+  first_step : KeptOn shape opened kept between
   first_step = takes_kept shape opened state kept h (histogram r) (histogram s) 10 v has turns id a mine recorder lives known takes.0 front last takes.3.2 takes.3.3
       key least m (Looking look) (record {
         records = record_kept shape opened state kept h r s 10 v has turns refl
@@ -192,7 +192,7 @@ module _ (shape : Dimensions) (opened : Anatomy) (state : State) (kept : Invaria
   word_between : word_at between.words (h + 10) ≡ v
   word_between = get_or-set_same state.words (h + 10) v 0 there
 
-  left : KeptOn shape opened kept.anatomy (record {
+  left : KeptOn shape opened kept (record {
     words = between.words;
     cursors = state.cursors;
     actors = set between.actors id
@@ -208,8 +208,8 @@ module _ (shape : Dimensions) (opened : Anatomy) (state : State) (kept : Invaria
   carry = raised_is m least ∙ ap (λ (n : ℕ). max n least) (sym found_is)
 
   pub raised_at : Goes shape opened state kept id a mine recorder (taking_event (raise_single_mark h least))
-  raised_at = happens opened.version state id a (taking_event (raise_single_mark h least)) there shape opened (
-    subst (λ (p : List ℕ × List Actor). KeptOn shape opened kept.anatomy (record { words = p.0; cursors = state.cursors; actors = p.1 }))
+  raised_at = happens opened.version state id a (taking_event (raise_single_mark h least)) there shape opened kept (
+    subst (λ (p : List ℕ × List Actor). KeptOn shape opened kept (record { words = p.0; cursors = state.cursors; actors = p.1 }))
         (λ i. (
           set state.words (h + 10) (carry i),
           (set-set state.actors id d

@@ -177,7 +177,7 @@ module _ (shape : Dimensions) (opened : Anatomy) (state : State) (kept : Invaria
             (further_from a.deltas.taken front last taken_is f refl refl t there)
 
     -- the state that is left is kept
-    pub takes_kept : KeptOn shape opened kept.anatomy (record { words = set state.words (at + j) v; cursors = state.cursors; actors = actors })
+    pub takes_kept : KeptOn shape opened kept (record { words = set state.words (at + j) v; cursors = state.cursors; actors = actors })
     takes_kept =
         let fits = kept.each id a mine lived in
         turned_on shape opened state kept at body then_is j v stands turns id a mine recorder lived deed (record {

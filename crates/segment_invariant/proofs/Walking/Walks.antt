@@ -117,7 +117,7 @@ module _ (shape : Dimensions) (opened : Anatomy) (state : State) (kept : Invaria
         → All (WasFixed pieces) words
         → All (HoldsOwn shape pieces id) own
         → ((i j : ℕ) (x y : Own) → get_elem? own i ≡ some x → get_elem? own j ≡ some y → x.at ≡ y.at → i ≡ j)
-        → KeptOn shape opened kept.anatomy (record { words = words'; cursors = state.cursors; actors = set state.actors id (doing a (walking place beaten own tails chain ends words)) })
+        → KeptOn shape opened kept (record { words = words'; cursors = state.cursors; actors = set state.actors id (doing a (walking place beaten own tails chain ends words)) })
     walks_on place beaten own tails chain ends words turns more pieces present words' stays others still blocks claims free shown linked stop later ahead stands prefix no_later fixed holds apart =
         let d : Doing = walking place beaten own tails chain ends words in
         let new : Anatomy = reshaped anatomy pieces anatomy.spare anatomy.corrupt anatomy.full present in
@@ -179,7 +179,7 @@ module _ (shape : Dimensions) (opened : Anatomy) (state : State) (kept : Invaria
         → IsPrefix chain order
         → AreNoLater order tails present
         → All (WasFixed anatomy.pieces) words
-        → KeptOn shape opened kept.anatomy (record { words = words'; cursors = state.cursors; actors = set state.actors id (doing a (walking place beaten a.hand.own tails chain ends words)) })
+        → KeptOn shape opened kept (record { words = words'; cursors = state.cursors; actors = set state.actors id (doing a (walking place beaten a.hand.own tails chain ends words)) })
     looks_on place beaten tails chain ends words turns more present words' shown linked stop later ahead stands prefix no_later fixed =
         let fits = kept.each id a mine turns.lived in
         walks_on place beaten a.hand.own tails chain ends words turns more anatomy.pieces present words' (stays_same anatomy.pieces)

@@ -27,3 +27,4 @@ pub mod Delta
 pub mod Snapshot
 pub mod List
 pub mod Alloc
+pub mod Look

@@ -7,6 +7,7 @@ pub mod Add
 pub mod Batch
 pub mod ActorRun
 pub mod Exchanging
+pub mod Loading
 pub mod Start
 pub mod WorldState
 pub mod Transit

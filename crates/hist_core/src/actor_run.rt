@@ -66,6 +66,7 @@ impl ActorRun {
     ghost use Rattle.hist_core.specs.declared.hist.HistStep.TheVariants.{Done};
     ghost use Rattle.hist_core.specs.Batch.{added_of};
     ghost use Rattle.hist_core.specs.Exchanging.{running_attempt};
+    ghost use Rattle.hist_core.specs.Loading.{running_load};
     ghost use Rattle.hist_core.specs.StepsBy.{WalksInOrder};
     ghost use Rattle.hist_core.specs.ActorRun.{IsFreshRun, IsActorRunOf, IsSomeRun, NoneHasName, IsKnownAt, KnowsAt, IsKnownAnswer, BeginsHist, HasRoomForHist, AsksForOne, IsHistAnnounced, IsAddAnnounced, RunsAdd, BeginsAdd, IsBatchAnnounced, BeginsBatch, BeginsSnapshot, BeginsDelta, IsNowShown, TakesOfOne, HasEndedDelta, HasDraftRoom, IsDeltaAnnounced, LooksAtOne, IsSnapshotAnnounced, IsAsItWas, held_by, Advances, Answers};
 
@@ -400,6 +401,20 @@ impl ActorRun {
             Some(Running::Add(add)) => add.next_exchange(),
             Some(Running::Batch(batch)) => batch.next_exchange(),
             Some(Running::SetCorrupt | Running::Delta(..) | Running::Snapshot(_)) | None => None,
+        }
+    }
+
+    // The word that the next event of the running call loads, where that is a load.
+    pub(crate) fn next_load(&self) -> Option<usize>
+        ensures { result ≡ running_load self.now.running }
+    {
+        match &self.running {
+            Some(Running::Hist(hist)) => hist.next_load(),
+            Some(Running::Add(add)) => add.next_load(),
+            Some(Running::Batch(batch)) => batch.next_load(),
+            Some(Running::Delta(delta_call, _)) => delta_call.next_load(),
+            Some(Running::Snapshot(snapshot_call)) => snapshot_call.next_load(),
+            Some(Running::SetCorrupt) | None => None,
         }
     }
 

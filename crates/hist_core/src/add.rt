@@ -105,6 +105,7 @@ impl Add {
     ghost use Rattle.hist_core.specs.ActorRun.{known_of};
     ghost use Rattle.hist_core.specs.StepsBy.{LiesWithin};
     ghost use Rattle.hist_core.specs.Exchanging.{add_attempt};
+    ghost use Rattle.hist_core.specs.Loading.{add_load};
     ghost use Rattle.alloc_core.specs.Layout.{IsShape};
     ghost use Rattle.hist_core.specs.declared.add.AddStage.TheVariants.{LoadingSingle, Packing, LoadingCounts, SeekingCounts, Mounting, Purging, LoadingAgain, Disabling, Moving, Counting, Summing, Noting};
     ghost use Rattle.hist_core.specs.Add.{IsAtStage, IsSomeAdd, AddSteps, IsBehindSingle, BeginsToAllocate, IsAllocating, IsAllocated, IsSampled, IsSearching, IsStarted, behind_count, behind_disabling, count_in};
@@ -453,6 +454,23 @@ impl Add {
             }),
             AddStage::Allocating { alloc } => alloc.next_exchange(),
             AddStage::Sampling { sampling } => sampling.next_exchange(),
+            _ => None,
+        }
+    }
+
+    // The word that its next event loads, where that is a load.
+    pub(crate) fn next_load(&self) -> Option<usize>
+        ensures { result ≡ add_load self.now self.now.stage }
+    {
+        match &self.stage {
+            AddStage::LoadingSingle | AddStage::LoadingAgain { .. } => {
+                Some((self.histogram as usize).wrapping_add(HISTOGRAM_SINGLE))
+            }
+            AddStage::LoadingCounts | AddStage::SeekingCounts => {
+                Some((self.histogram as usize).wrapping_add(HISTOGRAM_COUNTS))
+            }
+            AddStage::Allocating { alloc } => alloc.next_load(),
+            AddStage::Sampling { sampling } => sampling.next_load(),
             _ => None,
         }
     }

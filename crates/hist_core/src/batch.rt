@@ -38,6 +38,7 @@ impl Batch {
     ghost use Rattle.std.specs.Prelude.{◌<◌, ◌≤◌, vec_len};
     ghost use lib.ListN.{get_elem?};
     ghost use Rattle.hist_core.specs.Exchanging.{item_attempt};
+    ghost use Rattle.hist_core.specs.Loading.{item_load};
     ghost use Rattle.hist_core.specs.declared.batch.BatchStep.TheVariants.{Done};
     ghost use Rattle.hist_core.specs.Batch.{BatchSteps, IsItemSaid, IsRefusedAt, IsSameBatch, IsSomeBatch};
 
@@ -100,6 +101,16 @@ impl Batch {
             return None;
         }
         self.items[self.added].next_exchange()
+    }
+
+    // The word that its next event loads, where that is a load.
+    pub(crate) fn next_load(&self) -> Option<usize>
+        ensures { result ≡ item_load (get_elem? self.now.items.items self.now.added) }
+    {
+        if self.added >= self.items.len() {
+            return None;
+        }
+        self.items[self.added].next_load()
     }
 
     // Goes on by one event.

@@ -92,6 +92,7 @@ impl DeltaCall {
     ghost use Rattle.std.specs.Prelude.{◌≡◌, ◌≤◌, ◌<◌, ◌+◌, length, vec_len, vec_capacity, None, IfOk};
     ghost use Rattle.bucket_ranges.specs.Spec.{spec_fault};
     ghost use Rattle.hist_core.specs.ActorRun.{known_of};
+    ghost use Rattle.hist_core.specs.Loading.{delta_load};
     ghost use Rattle.hist_core.specs.StepsBy.{LiesWithin};
     ghost use Rattle.hist_core.specs.declared.delta_call.DeltaStage.TheVariants.{LoadingSingle, TakingPacked, LoadingCounts, LoadingCount, Raising, Walking, LoadingSample, RaisingSample, LoadingSum, Swapping};
     ghost use Rattle.hist_core.specs.DeltaCall.{IsSomeDeltaCall, IsStarted, IsAtStage, DeltaCallSteps, HasGoneOn, IsBehindSingle, behind_bucket, behind_sample, behind_walk, TakesBucket, TakesUnits, mark_of};
@@ -356,6 +357,22 @@ impl DeltaCall {
         let at = self.histogram as usize + HISTOGRAM_SUM_MARK;
         let mark = swap(words, at, sum.cast_unsigned());
         DeltaCallStep::Done(sum.wrapping_sub(mark.cast_signed()))
+    }
+
+    // The word that its next event loads, where that is a load.
+    pub(crate) fn next_load(&self) -> Option<usize>
+        ensures { result ≡ delta_load self.now.histogram self.now.stage }
+    {
+        let histogram = self.histogram as usize;
+        match self.stage {
+            DeltaStage::LoadingSingle => Some(histogram.wrapping_add(HISTOGRAM_SINGLE)),
+            DeltaStage::LoadingCounts { .. } => Some(histogram.wrapping_add(HISTOGRAM_COUNTS)),
+            DeltaStage::LoadingCount { mounted, bucket } => Some(mounted.next_load(bucket)),
+            DeltaStage::Walking { walk } => Some(walk.next_load(self.histogram)),
+            DeltaStage::LoadingSample { at, .. } => Some((at as usize).wrapping_add(SAMPLE_COUNT)),
+            DeltaStage::LoadingSum => Some(histogram.wrapping_add(HISTOGRAM_SUM)),
+            _ => None,
+        }
     }
 
     // Goes on by one event.

@@ -10,6 +10,9 @@ use segment_calls::{Asked, Refusal};
 use segment_image::Shape;
 use segment_image::layout::{BLOCK_HEADER, BLOCK_TYPE, HISTOGRAM_NAME_LENGTH, TYPE_HISTOGRAM};
 
+// No record and no name has so many words.
+const MOST_WORDS: usize = 1 << 60;
+
 /// A histogram that an actor knows, or asks for.
 #[derive(Debug, Drop)]
 pub(crate) struct KnownHist {
@@ -60,6 +63,7 @@ impl Hist {
     ghost use Rattle.std.specs.Prelude.{◌+◌, ◌-◌, ◌*◌, ◌^◌, vec_len, slice_index};
     ghost use Rattle.segment_machine.specs.declared.actor.Actor.{Actor};
     ghost use Rattle.hist_core.specs.Exchanging.{hist_attempt};
+    ghost use Rattle.hist_core.specs.Loading.{compared_load, hist_load};
     ghost use Rattle.hist_core.specs.Hist.{compared_place, compared_index, compared_word, IsHistBegun, IsSomeHist, HistSteps, IsMade, IsMakingRecord, IsMatched, IsDifferent};
     ghost use Rattle.hist_core.specs.declared.hist.HistStage.TheVariants.{Walking, Comparing};
 
@@ -227,6 +231,29 @@ impl Hist {
         match &self.stage {
             HistStage::Making { making } => making.next_exchange(),
             _ => None,
+        }
+    }
+
+    // The word of its record that is compared as number k.
+    fn compared_load(&self, k: usize) -> Option<usize>
+        ensures { result ≡ compared_load self.now k }
+    {
+        if k < MOST_WORDS && self.letters < MOST_WORDS {
+            let reference = self.reference as usize;
+            Some(reference.wrapping_add(self.compared_index(k)))
+        } else {
+            None
+        }
+    }
+
+    // The word that its next event loads, where that is a load.
+    pub(crate) fn next_load(&self) -> Option<usize>
+        ensures { result ≡ hist_load self.now self.now.stage }
+    {
+        match &self.stage {
+            HistStage::Walking => Some(self.walk.next_load()),
+            HistStage::Comparing { same } => self.compared_load(*same),
+            HistStage::Making { making } => making.next_load(),
         }
     }
 

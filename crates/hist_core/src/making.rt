@@ -40,6 +40,7 @@ pub(crate) struct Making {
 impl Making {
     ghost use Rattle.std.specs.Prelude.{◌+◌, ◌≤◌, vec_len};
     ghost use Rattle.hist_core.specs.Exchanging.{making_attempt};
+    ghost use Rattle.hist_core.specs.Loading.{making_load};
     ghost use Rattle.alloc_core.specs.Layout.{IsShape};
     ghost use Rattle.hist_core.specs.declared.making.MakingStage.TheVariants.{Filling};
     ghost use Rattle.hist_core.specs.Making.{IsSomeMaking, MakingSteps, IsStarted, IsAllocated, IsAllocating, IsPublished, IsPublishing, IsNextFilled, IsPayloadFilled};
@@ -160,6 +161,17 @@ impl Making {
             MakingStage::Allocating { alloc } => alloc.next_exchange(),
             MakingStage::Filling { .. } => None,
             MakingStage::Publishing { publish } => publish.next_exchange(),
+        }
+    }
+
+    // The word that its next event loads, where that is a load.
+    pub(crate) fn next_load(&self) -> Option<usize>
+        ensures { result ≡ making_load self.now.stage }
+    {
+        match &self.stage {
+            MakingStage::Allocating { alloc } => alloc.next_load(),
+            MakingStage::Filling { .. } => None,
+            MakingStage::Publishing { publish } => publish.next_load(),
         }
     }
 

@@ -3,6 +3,8 @@
 ghost use Rattle.std.specs.Prelude.{◌≡◌, ◌%◌, ◌^◌};
 ghost use Rattle.hist_core.specs.Mounted.{total_at};
 
+use segment_image::layout::BLOCK_HEADER;
+
 /// The counts of a histogram, as they were found in use.
 #[derive(Clone, Copy, Debug, PartialEq, Eq)]
 pub(crate) struct Mounted {
@@ -14,6 +16,17 @@ pub(crate) struct Mounted {
 }
 
 impl Mounted {
+    ghost use Rattle.std.specs.Prelude.{◌+◌};
+    ghost use Rattle.segment_image.specs.declared.layout.TheConstants.{BLOCK_HEADER};
+
+    // The word of the count of a bucket.
+    pub(crate) fn next_load(self, bucket: usize) -> usize
+        ensures { result ≡ (self.counts + (BLOCK_HEADER + bucket)) % 2 ^ 64 }
+    {
+        let place = bucket.wrapping_add(BLOCK_HEADER);
+        (self.counts as usize).wrapping_add(place)
+    }
+
     // The units of a bucket whose count this is: those of the packed bucket are also the ones that the single word keeps.
     pub(crate) fn total(self, bucket: usize, count: u64) -> u64
         ensures { result ≡ total_at self bucket count }

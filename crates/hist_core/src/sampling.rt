@@ -64,6 +64,7 @@ fn behind_type(at: u64, tag: u64) -> SamplingStage
 impl Sampling {
     ghost use Rattle.std.specs.Int.{w64, cast_unsigned};
     ghost use Rattle.hist_core.specs.Exchanging.{sampling_attempt};
+    ghost use Rattle.hist_core.specs.Loading.{sampling_load};
     ghost use Rattle.hist_core.specs.declared.sampling.SamplingStage.TheVariants.{Walking, LoadingType, LoadingHistogram, LoadingValue};
     ghost use Rattle.hist_core.specs.Sampling.{IsSomeSampling, SamplingSteps, IsStarted, IsIts, IsMade, IsMakingSample};
 
@@ -190,6 +191,23 @@ impl Sampling {
         match &self.stage {
             SamplingStage::Making { making } => making.next_exchange(),
             _ => None,
+        }
+    }
+
+    // The word that its next event loads, where that is a load.
+    pub(crate) fn next_load(&self) -> Option<usize>
+        ensures { result ≡ sampling_load self.now self.now.stage }
+    {
+        match &self.stage {
+            SamplingStage::Walking => Some(self.walk.next_load()),
+            SamplingStage::LoadingType { at } => Some((*at as usize).wrapping_add(BLOCK_TYPE)),
+            SamplingStage::LoadingHistogram { at } => {
+                Some((*at as usize).wrapping_add(SAMPLE_HISTOGRAM))
+            }
+            SamplingStage::LoadingValue { at, .. } => {
+                Some((*at as usize).wrapping_add(SAMPLE_VALUE))
+            }
+            SamplingStage::Making { making } => making.next_load(),
         }
     }
 

@@ -58,6 +58,7 @@ impl SnapshotCall {
     ghost use Rattle.bucket_ranges.specs.Ranges.{boundaries_of};
     ghost use Rattle.bucket_ranges.specs.Spec.{spec_fault};
     ghost use Rattle.hist_core.specs.ActorRun.{known_of};
+    ghost use Rattle.hist_core.specs.Loading.{snapshot_load};
     ghost use Rattle.hist_core.specs.StepsBy.{LiesWithin};
     ghost use Rattle.hist_core.specs.declared.snapshot_call.SnapshotStage.TheVariants.{LoadingSingle, LoadingCounts, LoadingCount, Walking, LoadingSample, LoadingSum, LoadingRedundant};
     ghost use Rattle.hist_core.specs.SnapshotCall.{IsAtStage, IsSomeSnapshotCall, IsStarted, SnapshotCallSteps, IsTotalPut, IsBehindSingle, IsBehindWalk, IsValueListed, behind_bucket};
@@ -238,6 +239,26 @@ impl SnapshotCall {
     {
         let redundant = words[self.histogram as usize + HISTOGRAM_REDUNDANT];
         SnapshotCallStep::Done { sum, redundant }
+    }
+
+    // The word that its next event loads.
+    pub(crate) fn next_load(&self) -> Option<usize>
+        ensures { result ≡ snapshot_load self.now.histogram self.now.stage }
+    {
+        let histogram = self.histogram as usize;
+        match self.stage {
+            SnapshotStage::LoadingSingle => Some(histogram.wrapping_add(HISTOGRAM_SINGLE)),
+            SnapshotStage::LoadingCounts { .. } => Some(histogram.wrapping_add(HISTOGRAM_COUNTS)),
+            SnapshotStage::LoadingCount { mounted, bucket } => Some(mounted.next_load(bucket)),
+            SnapshotStage::Walking { walk } => Some(walk.next_load(self.histogram)),
+            SnapshotStage::LoadingSample { at, .. } => {
+                Some((at as usize).wrapping_add(SAMPLE_COUNT))
+            }
+            SnapshotStage::LoadingSum => Some(histogram.wrapping_add(HISTOGRAM_SUM)),
+            SnapshotStage::LoadingRedundant { .. } => {
+                Some(histogram.wrapping_add(HISTOGRAM_REDUNDANT))
+            }
+        }
     }
 
     // Goes on by one event.

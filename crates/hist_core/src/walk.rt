@@ -69,7 +69,7 @@ fn behind_value(histogram: u64, at: u64, of: u64, word: u64) -> Met
 }
 
 impl SampleWalk {
-    ghost use Rattle.std.specs.Prelude.{◌≤◌, ◌<◌, length};
+    ghost use Rattle.std.specs.Prelude.{◌≤◌, ◌<◌, ◌%◌, ◌^◌, length};
     ghost use Rattle.segment_image.specs.Words.{word_at};
     ghost use Rattle.hist_core.specs.Walk.{Meets, spot_of};
 
@@ -84,6 +84,19 @@ impl SampleWalk {
             SampleWalk::LoadingHistogram { at } => at as usize + SAMPLE_HISTOGRAM,
             SampleWalk::LoadingValue { at, .. } => at as usize + SAMPLE_VALUE,
             SampleWalk::LoadingNext { at } => at as usize + BLOCK_NEXT,
+        }
+    }
+
+    // The word that its next event loads.
+    pub(crate) fn next_load(self, histogram: u64) -> usize
+        ensures { result ≡ spot_of histogram self % 2 ^ 64 }
+    {
+        match self {
+            SampleWalk::LoadingFirst => (histogram as usize).wrapping_add(BLOCK_NEXT),
+            SampleWalk::LoadingType { at } => (at as usize).wrapping_add(BLOCK_TYPE),
+            SampleWalk::LoadingHistogram { at } => (at as usize).wrapping_add(SAMPLE_HISTOGRAM),
+            SampleWalk::LoadingValue { at, .. } => (at as usize).wrapping_add(SAMPLE_VALUE),
+            SampleWalk::LoadingNext { at } => (at as usize).wrapping_add(BLOCK_NEXT),
         }
     }
 

@@ -37,6 +37,7 @@ impl World {
     ghost use Rattle.hist_core.specs.WorldState.{IsReachedAs, IsReachedFromImage, IsReachedFromNew, IsAdoptedWorldState, IsNewWorldState, BeginsFrom, HoldsNoPointer, StepsTo, IsAsBefore, OthersStay, Says, IsConsistentAs, ReadsBack, MayBeAdopted, AreKnownFirst};
     ghost use Rattle.hist_core.specs.Transit.{MoveTheirOwn};
     ghost use Rattle.hist_core.specs.Exchanging.{next_attempt};
+    ghost use Rattle.hist_core.specs.Loading.{next_load};
     ghost use Rattle.hist_core.specs.Moves.{Makes, MakesAll, FaultsAt, StopsAtMove};
     ghost use Rattle.hist_core.specs.World.{actor_checks, world_checks, IsAdoptFault, begin_checks, TakesMemory, BeginSays, step_checks, ChangesOneWord, ended_of, begun_of, taken_of};
 
@@ -218,6 +219,15 @@ impl World {
         ensures { result ≡ next_attempt self.now.world_state actor }
     {
         self.world_state.run(actor)?.next_exchange()
+    }
+
+    /// Returns the word that the next event of an actor's call loads, if it is a load. The stage at which the call
+    /// stands says so; of an allocation, a publish and a walk their own next event does. An actor that is not there,
+    /// or that runs no call, has none.
+    pub fn next_load(&self, actor: usize) -> Option<usize>
+        ensures { result ≡ next_load self.now.world_state actor }
+    {
+        self.world_state.run(actor)?.next_load()
     }
 
     /// An actor performs the next event of its call. `NoActor` where there is no such actor, then `Idle` where no

@@ -141,6 +141,22 @@ impl<'a> Recorder<'a> {
         self.state.most_keys(self.segment, histogram)
     }
 
+    /// Returns the name of a histogram that it knows.
+    pub fn name(&self, histogram: Hist) -> &[u8]
+        requires { Knows self.now.state histogram }
+        ensures { (known : Known) → Means self.now.state histogram known → result.now ≡ known.name }
+    {
+        self.state.name(histogram)
+    }
+
+    /// Returns the spec of a histogram that it knows, as the first `hist` of its name gave it.
+    pub fn spec(&self, histogram: Hist) -> &Spec
+        requires { Knows self.now.state histogram }
+        ensures { (known : Known) → Means self.now.state histogram known → result.now ≡ known.spec }
+    {
+        self.state.spec(histogram)
+    }
+
     /// Returns the histogram of a name: that of the first record of the name on the list, which is made where there
     /// is none. The recorder records into the same segment [kept], and each histogram that it knew it knows at the
     /// same place [same].

@@ -77,6 +77,22 @@ impl OwnedRecorder {
         self.state.most_keys(&self.segment, histogram)
     }
 
+    /// Returns the name of a histogram that it knows.
+    pub fn name(&self, histogram: Hist) -> &[u8]
+        requires { Knows self.now.state histogram }
+        ensures { (known : Known) → Means self.now.state histogram known → result.now ≡ known.name }
+    {
+        self.state.name(histogram)
+    }
+
+    /// Returns the spec of a histogram that it knows, as the first `hist` of its name gave it.
+    pub fn spec(&self, histogram: Hist) -> &Spec
+        requires { Knows self.now.state histogram }
+        ensures { (known : Known) → Means self.now.state histogram known → result.now ≡ known.spec }
+    {
+        self.state.spec(histogram)
+    }
+
     /// Returns the histogram of a name, as [`Recorder::hist`] does [same, named, answer, first, claims]. It keeps its
     /// segment [kept].
     pub fn hist(&mut self, name: &[u8], spec: &Spec) -> Result<Hist, Refusal>

@@ -13,9 +13,11 @@ pub mod GrowthOfRecords
 pub mod GrowthOfStates
 pub mod OneActor
 pub mod PassedOver
+pub mod Rises
 pub mod Roles
 pub mod Shown
 pub mod Spending
 pub mod Standing
+pub mod SumsRise
 pub mod Together
 pub mod SeesMore

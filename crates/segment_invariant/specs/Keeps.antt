@@ -1,5 +1,5 @@
 -- What is to be shown of what holds between any two events: it holds of a new segment, each event keeps it, recorders that are made
--- and joined keep it, and it has the parts of consistency in it.
+-- and joined keep it, what is published goes on, and it has the parts of consistency in it.
 use Rattle.std.specs.Prelude.{◌≡◌, ◌⊎◌, ℕ, zero, suc, take, drop, length, slice_set, false}
 use mathlib.Core.Option.{some}
 use lib.ListN.{get_elem?}
@@ -21,6 +21,7 @@ use Rattle.segment_invariant.specs.Consistent.{ListIsChain, FlagsAreSet, UnitsAr
 use Rattle.segment_machine.specs.Reached.{new_state, IsAnnounced, IsOffered, IsSplit, IsJoin, IsLent, IsReturned, IsFilled, IsPoured}
 use Rattle.segment_invariant.specs.Body.{Anatomy, blank, layout_of, order_of, claims_of}
 use Rattle.segment_invariant.specs.Invariant.{Invariant}
+use Rattle.segment_invariant.specs.Rises.{Rises, SumsRise}
 use Rattle.segment_machine.specs.Note.{Note, MayNote, noted}
 use Rattle.segment_machine.specs.Actor.{is_opener}
 
@@ -41,6 +42,11 @@ abbrev pub OpeningsAreKept : Type 0
 OpeningsAreKept = (shape : Dimensions) (version id cursors recorders : ℕ) (state : State) → IsShape shape → (version ≡ 1) ⊎ (version ≡ 2)
     → HasMadeRecorders recorders (new_state shape version id cursors) state → Invariant shape (blank version id shape.size) state
 
+-- a state is kept, and what was published in an earlier one that was kept goes on there; its sums change by no more than what was spent
+abbrev pub KeptOn : (shape : Dimensions) (opened : Anatomy) {before : State} → Invariant shape opened before → State → Type 0
+KeptOn shape opened {before} kept state = (next : Invariant shape opened state) × Rises kept.anatomy next.anatomy
+    × SumsRise kept.anatomy.pieces next.anatomy.pieces before.actors state.actors
+
 -- ---- at events
 
 -- what an event finds
@@ -54,11 +60,11 @@ happened version state id a event =
     let words = after size version event (memory state) in
     record { words = take size words; cursors = drop size words; actors = slice_set state.actors id (next a event (found_at state event)) }
 
--- an event that a recorder may do keeps what holds, and its actor learns of the number that it found
+-- an event that a recorder may do keeps what holds, what is published goes on, and its actor learns of the number that it found
 abbrev pub EventKeeps : Event → Type 0
-EventKeeps event = (shape : Dimensions) (opened : Anatomy) (state : State) (id : ℕ) (a : Actor) → Invariant shape opened state
+EventKeeps event = (shape : Dimensions) (opened : Anatomy) (state : State) (id : ℕ) (a : Actor) (kept : Invariant shape opened state)
     → get_elem? state.actors id ≡ some a → is_opener a.role ≡ false → Ready a event
-    → Invariant shape opened (happened opened.version state id a event) × Learned a event (found_at state event)
+    → KeptOn shape opened kept (happened opened.version state id a event) × Learned a event (found_at state event)
 
 -- the events that allocate a block and set flags
 abbrev pub AllocatingKeeps : Type 0
@@ -94,11 +100,11 @@ EventsKeep = (event : Event) → EventKeeps event
 
 -- ---- at notes
 
--- a note that a recorder may make keeps what holds
+-- a note that a recorder may make keeps what holds, and what is published goes on
 abbrev pub NoteKeeps : Note → Type 0
-NoteKeeps note = (shape : Dimensions) (opened : Anatomy) (state : State) (id : ℕ) (a : Actor) → Invariant shape opened state
+NoteKeeps note = (shape : Dimensions) (opened : Anatomy) (state : State) (id : ℕ) (a : Actor) (kept : Invariant shape opened state)
     → get_elem? state.actors id ≡ some a → is_opener a.role ≡ false → MayNote a note
-    → Invariant shape opened (record state { actors = slice_set state.actors id (noted a note) })
+    → KeptOn shape opened kept (record state { actors = slice_set state.actors id (noted a note) })
 
 -- each note does, and so does an announcement of notes
 abbrev pub NotesKeep : Type 0
@@ -106,41 +112,41 @@ NotesKeep = (note : Note) → NoteKeeps note
 
 -- so does an announcement
 abbrev pub AnnouncementsKeep : Type 0
-AnnouncementsKeep = (shape : Dimensions) (opened : Anatomy) (old new : State) (id : ℕ) → Invariant shape opened old → IsAnnounced old id new
-    → Invariant shape opened new
+AnnouncementsKeep = (shape : Dimensions) (opened : Anatomy) (old new : State) (id : ℕ) (kept : Invariant shape opened old) → IsAnnounced old id new
+    → KeptOn shape opened kept new
 
 -- ---- at seats
 
 -- a recorder is offered units, made, and joined
 abbrev pub OffersKeep : Type 0
-OffersKeep = (shape : Dimensions) (opened : Anatomy) (old new : State) (id units : ℕ) → Invariant shape opened old → IsOffered old id units new → Invariant shape opened new
+OffersKeep = (shape : Dimensions) (opened : Anatomy) (old new : State) (id units : ℕ) (kept : Invariant shape opened old) → IsOffered old id units new → KeptOn shape opened kept new
 
 -- so does an opener that makes a recorder
 abbrev pub SplitsKeep : Type 0
-SplitsKeep = (shape : Dimensions) (opened : Anatomy) (old new : State) (id : ℕ) → Invariant shape opened old → IsSplit old id new → Invariant shape opened new
+SplitsKeep = (shape : Dimensions) (opened : Anatomy) (old new : State) (id : ℕ) (kept : Invariant shape opened old) → IsSplit old id new → KeptOn shape opened kept new
 
 -- and one that joins a recorder
 abbrev pub JoinsKeep : Type 0
-JoinsKeep = (shape : Dimensions) (opened : Anatomy) (old new : State) (id other : ℕ) → Invariant shape opened old → IsJoin old id other new → Invariant shape opened new
+JoinsKeep = (shape : Dimensions) (opened : Anatomy) (old new : State) (id other : ℕ) (kept : Invariant shape opened old) → IsJoin old id other new → KeptOn shape opened kept new
 
 -- it is lent units, and gives units back
 abbrev pub LendsKeep : Type 0
-LendsKeep = (shape : Dimensions) (opened : Anatomy) (old new : State) (id other units : ℕ) → Invariant shape opened old → IsLent old id other units new
-    → Invariant shape opened new
+LendsKeep = (shape : Dimensions) (opened : Anatomy) (old new : State) (id other units : ℕ) (kept : Invariant shape opened old) → IsLent old id other units new
+    → KeptOn shape opened kept new
 
 -- and a recorder that gives units back
 abbrev pub ReturnsKeep : Type 0
-ReturnsKeep = (shape : Dimensions) (opened : Anatomy) (old new : State) (id other units : ℕ) → Invariant shape opened old → IsReturned old id other units new
-    → Invariant shape opened new
+ReturnsKeep = (shape : Dimensions) (opened : Anatomy) (old new : State) (id other units : ℕ) (kept : Invariant shape opened old) → IsReturned old id other units new
+    → KeptOn shape opened kept new
 
 -- an opener that fills a purse
 abbrev pub FillsKeep : Type 0
-FillsKeep = (shape : Dimensions) (opened : Anatomy) (old new : State) (id : ℕ) → Invariant shape opened old → IsFilled old id new → Invariant shape opened new
+FillsKeep = (shape : Dimensions) (opened : Anatomy) (old new : State) (id : ℕ) (kept : Invariant shape opened old) → IsFilled old id new → KeptOn shape opened kept new
 
 -- and a recorder to which one is poured out
 abbrev pub PoursKeep : Type 0
-PoursKeep = (shape : Dimensions) (opened : Anatomy) (old new : State) (id other : ℕ) → Invariant shape opened old → IsPoured old id other new
-    → Invariant shape opened new
+PoursKeep = (shape : Dimensions) (opened : Anatomy) (old new : State) (id other : ℕ) (kept : Invariant shape opened old) → IsPoured old id other new
+    → KeptOn shape opened kept new
 
 -- ---- what it has in it
 

@@ -1,6 +1,7 @@
 pub mod Body
 pub mod Ledger
 pub mod Seen
+pub mod Rises
 pub mod Consistent
 pub mod Invariant
 pub mod Keeps

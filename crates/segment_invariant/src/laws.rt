@@ -150,92 +150,96 @@ pub fn openings_are_kept()
     ensures { OpeningsAreKept }
 {}
 
-/// Each event that allocates a block, stores into it or sets a flag keeps what holds, and its actor learns that the free pointer
-/// which it found is lawful and is no earlier than the one that it knew, and that the corrupt flag is set where it has set it.
+/// Each event that allocates a block, stores into it or sets a flag keeps what holds, and what is published goes on. Its actor learns
+/// that the free pointer which it found is lawful and is no earlier than the one that it knew, and that the corrupt flag is set where
+/// it has set it.
 pub fn allocating_keeps()
     ensures { AllocatingKeeps }
 {}
 
-/// Each event that puts a record on the list keeps what holds, and its actor learns that what it found is the end of the list or a
-/// record that lies within the segment. A link that comes too late is one of few: the list has a record more for each.
+/// Each event that puts a record on the list keeps what holds, and what is published goes on. Its actor learns that what it found is
+/// the end of the list or a record that lies within the segment. A link that comes too late is one of few: the list has a record more
+/// for each.
 pub fn publishing_keeps()
     ensures { PublishingKeeps }
 {}
 
-/// Each event that walks along the list keeps what holds, and its actor learns that what it found is the end of the list or a
-/// record, which with its name and its ranges lies within the segment; it is what the actor found there before. At the end it has
-/// met all that it published, was given, or saw as tail or cursor.
+/// Each event that walks along the list keeps what holds, and what is published goes on. Its actor learns that what it found is the
+/// end of the list or a record, which with its name and its ranges lies within the segment; it is what the actor found there before.
+/// At the end it has met all that it published, was given, or saw as tail or cursor.
 pub fn walking_keeps()
     ensures { WalkingKeeps }
 {}
 
-/// Each event that counts an entry keeps what holds: loading a counts reference, and adding units to a count, an amount to a sum, and
-/// units to a redundant count. Its actor learns that counts lie within the segment, and that the units it adds fit.
+/// Each event that counts an entry keeps what holds: loading a counts reference, and adding units to a count, an amount to a sum,
+/// and units to a redundant count. What is published goes on, and a sum changes by no more than 2^31 times what is spent on it. Its
+/// actor learns that counts lie within the segment, and that the units it adds fit.
 pub fn counting_keeps()
     ensures { CountingKeeps }
 {}
 
 /// Each event that packs keeps what holds: loading and packing a single word, mounting counts or purging a lost block of them,
-/// disabling the word, and adding the units that it had. Its actor learns what became of the word that it saw before, and that the
-/// units it adds fit.
+/// disabling the word, and adding the units that it had. What is published goes on. Its actor learns what became of the word that
+/// it saw before, and that the units it adds fit.
 pub fn packing_keeps()
     ensures { PackingKeeps }
 {}
 
-/// Each event of a delta or a snapshot keeps what holds: loading a count, a sum or a redundant count, raising a mark to what was seen,
-/// and swapping the sum mark for the sum. Its actor learns that what it found is a number of units or a sum that fits, and that a later
-/// sample of a value counts nothing.
+/// Each event of a delta or a snapshot keeps what holds: loading a count, a sum or a redundant count, raising a mark to what was
+/// seen, and swapping the sum mark for the sum. What is published goes on. Its actor learns that what it found is a number of units
+/// or a sum that fits, and that a later sample of a value counts nothing.
 pub fn taking_keeps()
     ensures { TakingKeeps }
 {}
 
-/// Each event of a shared cursor keeps what holds, and its actor learns that the cursor stood at a record, or before the first one.
-/// An exchange that comes too late is one of few.
+/// Each event of a shared cursor keeps what holds, and what is published goes on. Its actor learns that the cursor stood at a record,
+/// or before the first one. An exchange that comes too late is one of few.
 pub fn cursors_keep()
     ensures { CursorsKeep }
 {}
 
-/// Each event keeps what holds, of whatever family, in versions 1 and 2, and its actor learns of what it found.
+/// Each event keeps what holds, of whatever family, in versions 1 and 2. What is published goes on, a sum changes by no more than 2^31
+/// times what is spent on it, and its actor learns of what it found.
 pub fn events_keep()
     ensures { EventsKeep }
 {}
 
-/// What holds between any two events holds after an opener says how many units it hands out next.
+/// What holds between any two events holds after an opener says how many units it hands out next, and what is published goes on.
 pub fn offers_keep()
     ensures { OffersKeep }
 {}
 
-/// What holds between any two events holds after an opener makes a recorder.
+/// What holds between any two events holds after an opener makes a recorder, and what is published goes on.
 pub fn splits_keep()
     ensures { SplitsKeep }
 {}
 
-/// What holds between any two events holds after an opener joins a recorder.
+/// What holds between any two events holds after an opener joins a recorder, and what is published goes on.
 pub fn joins_keep()
     ensures { JoinsKeep }
 {}
 
-/// What holds between any two events holds after an opener lends units to a recorder.
+/// What holds between any two events holds after an opener lends units to a recorder, and what is published goes on.
 pub fn lends_keep()
     ensures { LendsKeep }
 {}
 
-/// What holds between any two events holds after an opener takes units back from a recorder.
+/// What holds between any two events holds after an opener takes units back from a recorder, and what is published goes on.
 pub fn returns_keep()
     ensures { ReturnsKeep }
 {}
 
-/// What holds between any two events holds after an opener puts the units that it offered into a purse.
+/// What holds between any two events holds after an opener puts the units that it offered into a purse, and what is published goes on.
 pub fn fills_keep()
     ensures { FillsKeep }
 {}
 
-/// What holds between any two events holds after a purse is poured out to a recorder.
+/// What holds between any two events holds after a purse is poured out to a recorder, and what is published goes on.
 pub fn pours_keep()
     ensures { PoursKeep }
 {}
 
-/// What holds between any two events holds after a recorder's ghost notes without an event.
+/// What holds between any two events holds after a recorder's ghost notes without an event, and what is published goes on.
 pub fn announcements_keep()
     ensures { AnnouncementsKeep }
 {}
@@ -276,9 +280,9 @@ pub fn kept_marks_are_taken()
     ensures { KeptMarksAreTaken }
 {}
 
-/// What holds between any two events holds after each ghost note of a recorder: that a call which counts begins,
-/// continues or ends, that an amount became known, that a delta or a snapshot begins or ends, what a block of its own
-/// is to hold, or which histogram it was answered.
+/// What holds between any two events holds after each ghost note of a recorder, and what is published goes on. Such a
+/// note says that a call which counts begins, continues or ends, that an amount became known, that a delta or a
+/// snapshot begins or ends, what a block of its own is to hold, or which histogram it was answered.
 pub fn notes_keep()
     ensures { NotesKeep }
 {}

@@ -182,7 +182,7 @@ module _ (shape : Dimensions) (opened : Anatomy) (state : State) (kept : Invaria
   still_mine = set_else state.actors 0 id (walker shape opened state kept) away ∙ mine
 
   new_kept : Invariant shape opened new
-  new_kept = (events_keep event shape opened old id a (walker_kept shape opened state kept) still_mine records ready).0
+  new_kept = (events_keep event shape opened old id a (walker_kept shape opened state kept) still_mine records ready).0.0
 
   abbrev before : List ℕ
   before = order_of kept.anatomy
@@ -282,7 +282,7 @@ module _ (shape : Dimensions) (opened : Anatomy) (state : State) (kept : Invaria
 -- a link puts its record at the end of the chain, and nothing else changes it
 pub links_append : LinksAppend
 links_append shape opened old new id event chain kept step is =
-    let (noted, records) = notes_follow shape opened step.before old id step.actor step.at kept step.there step.is_recorder step.notes_before in
+    let ((noted, goes_on, sums), records) = notes_follow shape opened step.before old id step.actor step.at kept step.there step.is_recorder step.notes_before in
     let mid : State = with_actor old id step.at in
     let grows = chain_grows shape opened mid noted id step.at event (set_at old.actors id step.actor step.at step.there) records step.ready in
     let same : order_of noted.anatomy ≡ chain = chain_is shape opened mid noted chain is in

@@ -10,6 +10,7 @@ pub mod Heads
 pub mod Joined
 pub mod Keys
 pub mod Later
+pub mod LaterSums
 pub mod Lists
 pub mod Marks
 pub mod Names

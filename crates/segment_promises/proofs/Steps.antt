@@ -1,7 +1,7 @@
 -- What follows at once for those who step a segment.
 use Rattle.segment_invariant.proofs.Prelude.Std.{◌≡◌, ℕ, Bool, true, false, List, take, drop, length, set, refl, sym, ap, subst, ◌∙◌, set-set, take-append_seam, some, get_elem?}
 use Rattle.segment_invariant.proofs.Prelude.Machine.{Dimensions, Actor, Event, Ready, Learned, allocating_event, publishing_event, walking_event, counting_event, taking_event, packing_event, next, load_flags, load_free, exchange_free, store_size, store_cookie, store_type, store_payload, set_corrupt, set_full, store_own_next, load_tail, link, move_tail, after_link, load_next, load_published, load_counts, add_count, add_sum, load_count, raise_mark, load_sum, swap_sum_mark, load_redundant, raise_single_mark, load_single, pack, mount_counts, purge_block, disable, add_moved, after_pack, after_mount, after_disable, Note, Notes, State, is_opener}
-use Rattle.segment_invariant.proofs.Prelude.Invariant.{Anatomy, Invariant, found_at}
+use Rattle.segment_invariant.proofs.Prelude.Invariant.{Anatomy, Invariant, KeptOn, found_at}
 use Rattle.std.proofs.Common.{eqb}
 use Rattle.std.proofs.Math.Seq.{drop-append_seam}
 use Rattle.alloc_core.proofs.Owners.{set_at}
@@ -9,8 +9,9 @@ use Rattle.segment_machine.specs.Event.{cursor_event, after}
 use Rattle.segment_machine.specs.Allocating.{after_free}
 use Rattle.segment_machine.specs.Counting.{add_redundant}
 use Rattle.segment_machine.specs.Cursors.{load_cursor, move_cursor, after_cursor}
-use Rattle.segment_machine.specs.State.{memory}
+use Rattle.segment_machine.specs.State.{memory, IsStep}
 use Rattle.segment_invariant.proofs.Events.{events_keep}
+use Rattle.segment_invariant.proofs.Frames.Rises.{kept_again}
 use Rattle.segment_invariant.proofs.Notes.Announcements.{with_actor, notes_follow}
 use Rattle.segment_promises.specs.Follows.{StepsFollow}
 
@@ -98,30 +99,42 @@ module _ (shape : Dimensions) (opened : Anatomy) (old : State) (id : ℕ) (a at 
   abbrev then_with : Actor → State
   then_with b = record { words = take (length old.words) all; cursors = drop (length old.words) all; actors = set old.actors id b }
 
+  -- and what is published goes on
+  pub happens_on : (kept : Invariant shape opened old) → get_elem? old.actors id ≡ some a → is_opener a.role ≡ false → Notes a before at
+      → Ready at event → (behind : List Note) (then_is : Actor)
+      → (Learned at event found → Notes (next at event found) behind then_is)
+      → KeptOn shape opened kept (then_with then_is) × Learned at event found
+  happens_on kept there records notes_before ready behind then_is goes =
+      let first = notes_follow shape opened before old id a at kept there records notes_before in
+      let did = events_keep event shape opened (with_actor old id at) id at first.0.0 (set_at old.actors id a at there) first.1 ready in
+      let acted : Actor = next at event found in
+      let mid : State = record { words = take (length old.words) all; cursors = drop (length old.words) all; actors = set (set old.actors id at) id acted } in
+      let stands = set_at (set old.actors id at) id at acted (set_at old.actors id a at there) in
+      let last = notes_follow shape opened behind mid id acted then_is did.0.0 stands (acts_on at event found ∙ first.1) (goes did.1) in
+      let actors = set-set (set old.actors id at) id acted then_is ∙ set-set old.actors id at then_is in (
+        subst (λ list. KeptOn shape opened kept (record (then_with then_is) { actors = list })) actors
+            (kept_again shape opened old kept first.0 (kept_again shape opened (with_actor old id at) first.0.0 did.0 last.0)),
+        did.1,
+      )
+
   pub happens : Invariant shape opened old → get_elem? old.actors id ≡ some a → is_opener a.role ≡ false → Notes a before at
       → Ready at event → (behind : List Note) (then_is : Actor)
       → (Learned at event found → Notes (next at event found) behind then_is)
       → Invariant shape opened (then_with then_is) × Learned at event found
   happens kept there records notes_before ready behind then_is goes =
-      let first = notes_follow shape opened before old id a at kept there records notes_before in
-      let did = events_keep event shape opened (with_actor old id at) id at first.0 (set_at old.actors id a at there) first.1 ready in
-      let acted : Actor = next at event found in
-      let mid : State = record { words = take (length old.words) all; cursors = drop (length old.words) all; actors = set (set old.actors id at) id acted } in
-      let stands = set_at (set old.actors id at) id at acted (set_at old.actors id a at there) in
-      let last = notes_follow shape opened behind mid id acted then_is did.0 stands (acts_on at event found ∙ first.1) (goes did.1) in
-      let actors = set-set (set old.actors id at) id acted then_is ∙ set-set old.actors id at then_is in (
-        subst (λ list. Invariant shape opened (record (then_with then_is) { actors = list })) actors last.0,
-        did.1,
-      )
+      let did = happens_on kept there records notes_before ready behind then_is goes in
+      (did.0.0, did.1)
 
-pub steps_follow : StepsFollow
-steps_follow shape opened old new id event step kept =
-    let did = happens shape opened old id step.actor step.at step.before event kept step.there step.is_recorder step.notes_before
+-- so does a step, and what is published goes on
+pub steps_rise : (shape : Dimensions) (opened : Anatomy) (old new : State) (id : ℕ) (event : Event) (step : IsStep opened.version old id event new)
+    (kept : Invariant shape opened old) → KeptOn shape opened kept new × Learned step.at event (found_at old event)
+steps_rise shape opened old new id event step kept =
+    let did = happens_on shape opened old id step.actor step.at step.before event kept step.there step.is_recorder step.notes_before
     step.ready step.behind step.then_is (λ learned. step.notes_behind) in
     let size = length old.words in
     let all = after size opened.version event (memory old) in
     let actors : set old.actors id step.then_is ≡ new.actors = sym step.actors_are in (
-      subst (Invariant shape opened)
+      subst (KeptOn shape opened kept)
           (λ i. record {
             words = words_of_memory new size all step.size step.memory_is i;
             cursors = cursors_of_memory new size all step.size step.memory_is i;
@@ -130,3 +143,8 @@ steps_follow shape opened old new id event step kept =
           did.0,
       did.1,
     )
+
+pub steps_follow : StepsFollow
+steps_follow shape opened old new id event step kept =
+    let did = steps_rise shape opened old new id event step kept in
+    (did.0.0, did.1)

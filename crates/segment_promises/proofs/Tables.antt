@@ -79,13 +79,13 @@ pub tables_announce : (S : Type 0) → TablesAnnounce S
 tables_announce S shape opened notes slots id me becomes same records may =
     let last : Actor = noted_by me.0 notes in
     announced S shape opened slots id me becomes same last
-    (λ seg kept there. (notes_follow shape opened notes seg id me.0 last kept there records may).0)
+    (λ seg kept there. (notes_follow shape opened notes seg id me.0 last kept there records may).0.0)
 
 pub tables_offer : (S : Type 0) → TablesOffer S
 tables_offer S shape opened units slots id me becomes same may =
     let last : Actor = offering me.0 units in
     announced S shape opened slots id me becomes same last
-    (λ seg kept there. offers_keep shape opened seg (with_actor seg id last) id units kept (me.0, there, may, refl))
+    (λ seg kept there. (offers_keep shape opened seg (with_actor seg id last) id units kept (me.0, there, may, refl)).0)
 
 -- ---- seats
 
@@ -98,7 +98,7 @@ tables_split S shape opened id a may s run mine =
       segment = record seg { actors = both seg.actors };
       words = run.words;
       views = ap both run.views;
-      kept = splits_keep shape opened seg (record seg { actors = both seg.actors }) id run.kept (a, there, may, refl);
+      kept = (splits_keep shape opened seg (record seg { actors = both seg.actors }) id run.kept (a, there, may, refl)).0;
     }
 
 pub tables_join : (S : Type 0) → TablesJoin S
@@ -112,8 +112,8 @@ tables_join S shape opened id other a b may s run mine apart theirs =
       segment = record seg { actors = all seg.actors };
       words = run.words;
       views = ap all run.views;
-      kept = joins_keep shape opened seg (record seg { actors = all seg.actors }) id other run.kept
-          (a, b, (λ e. apart (sym e)), there, beside, may, refl);
+      kept = (joins_keep shape opened seg (record seg { actors = all seg.actors }) id other run.kept
+          (a, b, (λ e. apart (sym e)), there, beside, may, refl)).0;
     }
 
 pub tables_fill : (S : Type 0) → TablesFill S
@@ -125,7 +125,7 @@ tables_fill S shape opened id a may s run mine =
       segment = record seg { actors = both seg.actors };
       words = run.words;
       views = ap both run.views;
-      kept = fills_keep shape opened seg (record seg { actors = both seg.actors }) id run.kept (a, there, may, refl);
+      kept = (fills_keep shape opened seg (record seg { actors = both seg.actors }) id run.kept (a, there, may, refl)).0;
     }
 
 pub tables_pour : (S : Type 0) → TablesPour S
@@ -140,6 +140,6 @@ tables_pour S shape opened id other b c may s run mine apart theirs =
       segment = record seg { actors = all seg.actors };
       words = run.words;
       views = ap all run.views;
-      kept = pours_keep shape opened seg (record seg { actors = all seg.actors }) id other run.kept
-          (b, c, (λ e. apart (sym e)), there, beside, may, refl);
+      kept = (pours_keep shape opened seg (record seg { actors = all seg.actors }) id other run.kept
+          (b, c, (λ e. apart (sym e)), there, beside, may, refl)).0;
     }

@@ -4,6 +4,8 @@ use Rattle.segment_invariant.proofs.Prelude.Machine.{Dimensions, IsPrefix, Actor
 use Rattle.segment_invariant.proofs.Prelude.Invariant.{Anatomy, order_of, moving_at, Sees, WasMet, is_living, summed_cost, RolesAreKept, StandsRight, FinalsAreExact, Fits, Invariant}
 use Rattle.segment_machine.specs.Actor.{given_by}
 use Rattle.segment_invariant.proofs.Frames.Books.{books_of, books_by, kept_by, GivenInOrder}
+use Rattle.segment_invariant.proofs.Frames.Rises.{rises_itself}
+use Rattle.segment_invariant.proofs.Frames.SumsRise.{sums_rest}
 use Rattle.segment_invariant.proofs.Frames.Deeds.{Deeds, sums_of}
 use Rattle.segment_invariant.proofs.Frames.Roles.{Stood, AllStood, opens_nothing, still_younger, still_apart, still_eldest, still_heirs, fits_beside}
 use Rattle.segment_invariant.proofs.Frames.Standing.{met_more}
@@ -158,7 +160,7 @@ module _ (shape : Dimensions) (opened : Anatomy) (state : State) (kept : Invaria
   -- the state with it is kept
   pub walker_kept : Invariant shape opened (record state { actors = beside })
   unfolding roles
-  walker_kept = kept_by shape opened kept.anatomy state.words state.cursors beside
+  walker_kept = (kept_by shape opened kept.anatomy state.words state.cursors beside
       (books_by shape opened kept.anatomy state.words state.cursors state.actors beside deeds
       (loaded_set state.actors 0 opener walker kept.roles.stands (λ at sum is. is)) (books_of shape opened state kept))
       roles kept.first_noted
@@ -168,4 +170,5 @@ module _ (shape : Dimensions) (opened : Anatomy) (state : State) (kept : Invaria
       (λ k c away at. kept.cursors.given k c at))
       (each_beside (λ k c. StandsRight shape kept.anatomy k c c.hand.place)
       (subst (StandsRight shape kept.anatomy 0 walker) (sym kept.roles.idle) tt) (λ k c away at. kept.standing k c at))
-      fits_all
+      fits_all kept (rises_itself kept.anatomy)
+      (sums_rest shape state.words kept.anatomy kept.shown state.actors beside (sums_of state.actors beside deeds).costs)).0

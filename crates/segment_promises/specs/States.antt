@@ -1,16 +1,24 @@
--- The states that are reached: each is kept, from whatever kept state on, and those of a new segment are consistent.
+-- The states that are reached: each is kept, from whatever kept state on, and what is published goes on; those of a new segment are consistent.
 use Rattle.std.specs.Prelude.{ℕ}
 use Rattle.segment_image.specs.Shape.{Dimensions}
 use Rattle.segment_machine.specs.State.{State}
 use Rattle.segment_machine.specs.Reached.{IsReached, IsState}
 use Rattle.segment_invariant.specs.Body.{Anatomy, blank}
 use Rattle.segment_invariant.specs.Invariant.{Invariant}
+use Rattle.segment_invariant.specs.Rises.{Rises, SumsRise}
 use Rattle.segment_invariant.specs.Consistent.{IsConsistent, new_opening}
 
 -- every state that is reached from a kept one is kept, in whatever order actors step
 abbrev pub ReachedStatesFollow : Type 0
 ReachedStatesFollow = (shape : Dimensions) (opened : Anatomy) (start state : State) → Invariant shape opened start
     → IsReached opened.version start state → Invariant shape opened state
+
+-- and what is published in the kept one goes on there: fixed words stay, counters rise, single words lead on, the list becomes longer at its
+-- end, flags and the free pointer rise; a sum changes by no more than what was spent on it since
+abbrev pub StatesRise : Type 0
+StatesRise = (shape : Dimensions) (opened : Anatomy) (start state : State) → (kept : Invariant shape opened start)
+    → IsReached opened.version start state → (next : Invariant shape opened state) × Rises kept.anatomy next.anatomy
+    × SumsRise kept.anatomy.pieces next.anatomy.pieces start.actors state.actors
 
 -- every state that is reached from a new segment of version 1 or 2 is kept
 abbrev pub StatesAreKept : Type 0

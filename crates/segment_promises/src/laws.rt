@@ -2,7 +2,7 @@
 //!
 //! The functions do nothing. What each promises is a law of the definitions in `specs/`.
 
-ghost use Rattle.segment_promises.specs.States.{ReachedStatesFollow, StatesAreKept, StatesAreConsistent};
+ghost use Rattle.segment_promises.specs.States.{ReachedStatesFollow, StatesRise, StatesAreKept, StatesAreConsistent};
 ghost use Rattle.segment_promises.specs.Follows.{StepsFollow, TablesOpen, TablesClose, TablesFollow, TablesAnnounce, TablesOffer, TablesSplit, TablesJoin, TablesFill, TablesPour};
 ghost use Rattle.segment_promises.specs.Tallies.{PartsAddUp, TalliesAreCounts};
 ghost use Rattle.segment_promises.specs.Deltas.{FinalDeltasTakeAll, LoneDeltasTakeAll, FinalSnapshotsAreExact, SnapshotsStayBelow, DeltasTakeAccepted, SnapshotsSeeAccepted};
@@ -17,6 +17,22 @@ ghost use Rattle.segment_promises.specs.Examples.{LinksLengthen, DeltaOwes, Snap
 /// opened with.
 pub fn reached_states_follow()
     ensures { ReachedStatesFollow }
+{}
+
+/// From a kept state to every state that is reached from it, what is published goes on.
+///
+/// - Each published block stands where it stood. What was given to its maker stays, and so does a record's counts reference
+///   once it has one.
+/// - Counts, redundant counts and marks rise.
+/// - What was spent on a name does not come back, and the sum of a record changes by at most 2^31 times what was spent on its
+///   name since. Nothing is said here of how a sum mark changes.
+/// - A single word leads on. One that names a bucket leads to words that name the same, with no fewer units or, in version 1,
+///   disabled; one that is off stays as it is.
+/// - A block that is published beside them lies where none was.
+/// - The list has the same records in the same order, and maybe more at its end. What was no later than the tail still is.
+/// - The free pointer is no lower, and a flag that is set stays set.
+pub fn states_rise()
+    ensures { StatesRise }
 {}
 
 /// Every state that is reached from a new segment of version 1 or 2 is kept.

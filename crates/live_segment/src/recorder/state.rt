@@ -136,6 +136,24 @@ impl RecorderState {
         segment.keys_of(&self.known[histogram.index])
     }
 
+    /// The name of a histogram, as [`Recorder::name`](super::Recorder::name) has it.
+    pub fn name(&self, histogram: Hist) -> &[u8]
+        requires at { (segment : SomeSegment) × IsRecorderAt segment self.now }
+        requires knows { Knows self.now histogram }
+        ensures { (known : Known) → Means self.now histogram known → result.now ≡ known.name }
+    {
+        self.known[histogram.index].name.as_slice()
+    }
+
+    /// The spec of a histogram, as [`Recorder::spec`](super::Recorder::spec) has it.
+    pub fn spec(&self, histogram: Hist) -> &Spec
+        requires at { (segment : SomeSegment) × IsRecorderAt segment self.now }
+        requires knows { Knows self.now histogram }
+        ensures { (known : Known) → Means self.now histogram known → result.now ≡ known.spec }
+    {
+        &self.known[histogram.index].spec
+    }
+
     // The place of the histogram of a name among those that it knows.
     fn index_of(&self, name: &[u8]) -> Option<usize>
         requires { (segment : SomeSegment) × IsRecorderAt segment self.now }

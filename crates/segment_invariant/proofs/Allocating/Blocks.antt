@@ -1,7 +1,7 @@
 -- A state is kept where an actor that allocates changes nothing, stores into a block in its making, takes words for one, or sets a flag.
 use Rattle.segment_invariant.proofs.Prelude.Std.{◌≡◌, ℕ, ◌+◌, ◌-◌, ◌≤◌, Bool, false, true≢false, List, [], ◌∷◌, ◌++◌, map, set, All, inl, inr, refl, sym, ap, ◌∙◌, subst, append_assoc, arith, true, IsPermutation, fold, ◌||◌, flat_map, All-weaker, IsPermutation-refl, some, get_elem?, rows, column}
 use Rattle.segment_invariant.proofs.Prelude.Machine.{Dimensions, IsShown, Behind, IsLinked, Actor, Claim, Own, Place, State, is_opener}
-use Rattle.segment_invariant.proofs.Prelude.Invariant.{held, is_claimed, Piece, extent_of, Anatomy, layout_of, order_of, free_of, claims_of, StandsRight, HoldsOwn, IsSetBy, ClaimedRight, Invariant}
+use Rattle.segment_invariant.proofs.Prelude.Invariant.{held, is_claimed, Piece, extent_of, Anatomy, layout_of, order_of, free_of, claims_of, StandsRight, HoldsOwn, IsSetBy, ClaimedRight, Invariant, KeptOn}
 use Rattle.std.proofs.lemmas.List.Sorted.{IsPermutation-sym, IsPermutation-trans, IsPermutation-append}
 use Rattle.alloc_core.specs.Alloc.{IsRise}
 use Rattle.alloc_core.proofs.Layouts.{shown_grown}
@@ -38,7 +38,7 @@ module _ (shape : Dimensions) (opened : Anatomy) (state : State) (kept : Invaria
 
   -- the state with these words, and with the actor that goes on
   abbrev pub GoesTo : List ℕ → Doing → Type 0
-  GoesTo words d = Invariant shape opened (record { words = words; cursors = state.cursors; actors = set state.actors id (doing a (unlisted a d)) })
+  GoesTo words d = KeptOn shape opened kept (record { words = words; cursors = state.cursors; actors = set state.actors id (doing a (unlisted a d)) })
 
   abbrev Claims : List Piece → Doing → Type 0
   Claims pieces d =
@@ -93,6 +93,7 @@ module _ (shape : Dimensions) (opened : Anatomy) (state : State) (kept : Invaria
         corrupt = corrupt_kept d refl;
         full = full_kept d refl;
         flagged = λ set. set;
+        filled = λ set. set;
         stands = stands;
         seen = behind;
         own = fits.own;
@@ -128,6 +129,7 @@ module _ (shape : Dimensions) (opened : Anatomy) (state : State) (kept : Invaria
           corrupt = corrupt_kept d spoiled;
           full = full_kept d filled;
           flagged = λ set. set;
+          filled = λ set. set;
           stands = stands;
           seen = subst (λ n. Behind n (free_of after)) (sym seen) (free_stays a.seen.free fits.sees.free);
           own = own;
@@ -188,6 +190,7 @@ module _ (shape : Dimensions) (opened : Anatomy) (state : State) (kept : Invaria
         corrupt = corrupt_kept d refl;
         full = full_kept d refl;
         flagged = λ set. set;
+        filled = λ set. set;
         stands = stands;
         seen = inl (sym ends);
         own = All-weaker (HoldsOwn shape anatomy.pieces id) (HoldsOwn shape (Taken new).pieces id)
@@ -208,10 +211,10 @@ module _ (shape : Dimensions) (opened : Anatomy) (state : State) (kept : Invaria
       → IsShown shape (set state.words 6 v) (layout_of (record anatomy { corrupt = corrupt; full = full }))
       → IsSetBy corrupt opened.corrupt (map (λ a. a.done.spoiled) (set state.actors id (record a { hand = record a.hand { place = place }; done = record a.done { spoiled = spoiled; filled = filled; lacked = lacked } })))
       → IsSetBy full opened.full (map (λ a. a.done.filled) (set state.actors id (record a { hand = record a.hand { place = place }; done = record a.done { spoiled = spoiled; filled = filled; lacked = lacked } })))
-      → (anatomy.corrupt ≡ true → corrupt ≡ true)
+      → (anatomy.corrupt ≡ true → corrupt ≡ true) → (anatomy.full ≡ true → full ≡ true)
       → StandsRight shape (record anatomy { corrupt = corrupt; full = full }) id (record a { hand = record a.hand { place = place }; done = record a.done { spoiled = spoiled; filled = filled; lacked = lacked } }) place
       → GoesTo (set state.words 6 v) (record (doing_of a) { place = place; spoiled = spoiled; filled = filled; lacked = lacked })
-  flags_set corrupt full v place spoiled filled lacked turns up shown is_corrupt is_full flagged stands =
+  flags_set corrupt full v place spoiled filled lacked turns up shown is_corrupt is_full flagged fills stands =
       let d : Doing = record (doing_of a) { place = place; spoiled = spoiled; filled = filled; lacked = lacked } in
       let fits = kept.each id a mine turns.lived in
       acts_on shape opened state kept id a mine records d turns up anatomy.pieces anatomy.spare corrupt full (set state.words 6 v)
@@ -227,6 +230,7 @@ module _ (shape : Dimensions) (opened : Anatomy) (state : State) (kept : Invaria
         corrupt = is_corrupt;
         full = is_full;
         flagged = flagged;
+        filled = fills;
         stands = stands;
         seen = fits.sees.free;
         own = fits.own;

@@ -1,7 +1,7 @@
 -- A state is kept where one actor goes on that allocates: it sees nothing but the free pointer, and publishes nothing.
 use Rattle.segment_invariant.proofs.Prelude.Std.{◌≡◌, ◌≢◌, ℕ, pos, Bool, List, [], ◌∷◌, ◌++◌, map, set, All, inl, inr, refl, sym, ap, ◌∙◌, subst, false, true, IsPermutation, ⊤, flat_map, dite, some, none, some-injective, some-ne-none, ℕ_discrete, get_elem?, at_set, set_else, at_longer}
 use Rattle.segment_invariant.proofs.Prelude.Machine.{Dimensions, IsShown, Behind, IsLinked, Actor, Own, State, is_opener}
-use Rattle.segment_invariant.proofs.Prelude.Invariant.{Body, queue, plain, held, Piece, Anatomy, layout_of, order_of, free_of, claims_of, Stands, StandsRight, HoldsOwn, IsSetBy, ClaimedRight, StandStill, Invariant}
+use Rattle.segment_invariant.proofs.Prelude.Invariant.{Body, queue, plain, held, Piece, Anatomy, layout_of, order_of, free_of, claims_of, Stands, StandsRight, HoldsOwn, IsSetBy, ClaimedRight, StandStill, Invariant, KeptOn}
 use Rattle.atomic_table.proofs.Lists.{at_snoc}
 use Rattle.alloc_core.proofs.Owners.{set_at}
 use Rattle.segment_invariant.proofs.Frames.Ahead.{KeepsUp, ahead_at}
@@ -112,6 +112,7 @@ pub record Acts (shape : Dimensions) (opened : Anatomy) (state : State) (old new
   pub corrupt : IsSetBy new.corrupt opened.corrupt (map (λ a. a.done.spoiled) (set state.actors id (doing a d)))
   pub full : IsSetBy new.full opened.full (map (λ a. a.done.filled) (set state.actors id (doing a d)))
   pub flagged : old.corrupt ≡ true → new.corrupt ≡ true
+  pub filled : old.full ≡ true → new.full ≡ true
   pub stands : StandsRight shape new id (doing a d) d.place
   pub seen : Behind d.seen_free (free_of new)
   pub own : All (HoldsOwn shape new.pieces id) d.own
@@ -129,7 +130,7 @@ module _ (shape : Dimensions) (opened : Anatomy) (state : State) (kept : Invaria
   module _ (d : Doing) (turns : TurnsTo a d.place) (up : KeepsUp a.hand.place d.place) (pieces : List Piece) (spare : ℕ) (corrupt full : Bool) (words : List ℕ)
       (acts : Acts shape opened state before (reshaped before pieces spare corrupt full before.tail) id a (unlisted a d) words) where
     -- it goes on, and the state is kept
-    pub acts_on : Invariant shape opened (record { words = words; cursors = state.cursors; actors = set state.actors id (doing a (unlisted a d)) })
+    pub acts_on : KeptOn shape opened kept (record { words = words; cursors = state.cursors; actors = set state.actors id (doing a (unlisted a d)) })
     acts_on =
         let fits = kept.each id a mine turns.lived in
         let new : Anatomy = reshaped before pieces spare corrupt full before.tail in
@@ -150,6 +151,7 @@ module _ (shape : Dimensions) (opened : Anatomy) (state : State) (kept : Invaria
           corrupt = acts.corrupt;
           full = acts.full;
           flagged = acts.flagged;
+          filled = acts.filled;
           stands = acts.stands;
           sees = sees_doing new a (unlisted a d) state.cursors acts.seen
               (sees_along before pieces spare corrupt full before.tail acts.stays state.cursors a.seen (acts.free a.seen.free fits.sees.free)

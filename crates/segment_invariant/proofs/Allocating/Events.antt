@@ -1,7 +1,7 @@
 -- Each event that allocates a block or sets a flag keeps what holds, and its actor learns of the free pointer.
 use Rattle.segment_invariant.proofs.Prelude.Std.{◌≡◌, ◌≢◌, ℕ, ◌+◌, ◌-◌, ◌==◌, Bool, true, false, List, [], ◌∷◌, ◌++◌, map, length, set, inl, refl, sym, ap, ◌∙◌, subst, eq-eqb, ne_eqb, le-leb, arith, bit_and, not, nat_le, ◌&&◌, ◌||◌, fold, if◌then◌else◌, and_from, dite, some, ℕ_discrete, get_elem?, set-get_or, at_map, column}
 use Rattle.segment_invariant.proofs.Prelude.Machine.{Dimensions, word_at, Behind, Actor, Seen, Spent, Idle, is_bound, is_opener, State, Event, allocating_event, spot, Ready, Learned, load_flags, load_free, exchange_free, set_corrupt, set_full}
-use Rattle.segment_invariant.proofs.Prelude.Invariant.{Anatomy, layout_of, order_of, free_of, StandsRight, IsSetBy, Invariant, is_beaten}
+use Rattle.segment_invariant.proofs.Prelude.Invariant.{Anatomy, layout_of, order_of, free_of, StandsRight, IsSetBy, Invariant, KeptOn, is_beaten}
 use Rattle.std.proofs.Math.Bool.{or-true}
 use Rattle.std.specs.Prelude.{bit_or}
 use Rattle.alloc_core.specs.Alloc.{IsRise}
@@ -41,7 +41,7 @@ module _ (shape : Dimensions) (opened : Anatomy) (state : State) (kept : Invaria
   -- what an event leaves, and what its actor learns
   abbrev pub Keeps : Event → Type 0
   Keeps event =
-      Invariant shape opened (after_word opened.version state id a event) × Learned a event (word_at state.words (spot (length state.words) event))
+      KeptOn shape opened kept (after_word opened.version state id a event) × Learned a event (word_at state.words (spot (length state.words) event))
 
   -- the words are those of the shape
   pub words_long : length state.words ≡ shape.size
@@ -49,10 +49,10 @@ module _ (shape : Dimensions) (opened : Anatomy) (state : State) (kept : Invaria
 
   -- an event that leaves its word as it is
   leaves : (at v : ℕ) (b : Actor) → v ≡ word_at state.words at
-      → Invariant shape opened (record { words = state.words; cursors = state.cursors; actors = set state.actors id b })
-      → Invariant shape opened (record { words = set state.words at v; cursors = state.cursors; actors = set state.actors id b })
+      → KeptOn shape opened kept (record { words = state.words; cursors = state.cursors; actors = set state.actors id b })
+      → KeptOn shape opened kept (record { words = set state.words at v; cursors = state.cursors; actors = set state.actors id b })
   leaves at v b same =
-      subst (λ (words : List ℕ). Invariant shape opened (record { words = words; cursors = state.cursors; actors = set state.actors id b }))
+      subst (λ (words : List ℕ). KeptOn shape opened kept (record { words = words; cursors = state.cursors; actors = set state.actors id b }))
       (sym (ap (set state.words at) same ∙ set-get_or state.words at 0))
 
   -- flags with the corrupt one are those of a segment where it is set
@@ -63,7 +63,7 @@ module _ (shape : Dimensions) (opened : Anatomy) (state : State) (kept : Invaria
 
   -- the flags are loaded, and the corrupt one is seen where it is set
   flags_at : (clear : Bool) → (clear ≡ false → anatomy.corrupt ≡ true) → is_bound a.hand.place ≡ false
-      → Invariant shape opened (record {
+      → KeptOn shape opened kept (record {
         words = state.words;
         cursors = state.cursors;
         actors = set state.actors id (record a {
@@ -131,7 +131,7 @@ module _ (shape : Dimensions) (opened : Anatomy) (state : State) (kept : Invaria
   abbrev Exchanged : (old new wanted : ℕ) → Bool → Type 0
   Exchanged old new wanted through =
       let found = word_at state.words 7 in
-      Invariant shape opened (record {
+      KeptOn shape opened kept (record {
         words = set state.words 7 (if through then new else found);
         cursors = state.cursors;
         actors = set state.actors id (after_free through a old new wanted found);
@@ -178,7 +178,7 @@ module _ (shape : Dimensions) (opened : Anatomy) (state : State) (kept : Invaria
             (turns_unbound a Idle turn refl) (λ no. unbound_unbeaten a.hand.place turn) (shown_corrupt shape state.words (layout_of anatomy) kept.shown)
             (set_now opened.corrupt state.actors id a b (λ (x : Actor). x.done.spoiled) mine refl)
             (kept.full ∙ ap (λ set. opened.full || fold ◌||◌ false set) (sym (column (λ (x : Actor). x.done.filled) state.actors id a b mine refl)))
-            (λ set. refl) tt,
+            (λ set. refl) (λ set. set) tt,
         tt,
       )
 
@@ -190,6 +190,6 @@ module _ (shape : Dimensions) (opened : Anatomy) (state : State) (kept : Invaria
         flags_set shape opened state kept id a mine records anatomy.corrupt true (bit_or (word_at state.words 6) 2) Idle a.done.spoiled true lacked
             (turns_unbound a Idle turn refl) (λ no. unbound_unbeaten a.hand.place turn) (shown_full shape state.words (layout_of anatomy) kept.shown)
             (kept.corrupt ∙ ap (λ set. opened.corrupt || fold ◌||◌ false set) (sym (column (λ (x : Actor). x.done.spoiled) state.actors id a b mine refl)))
-            (set_now opened.full state.actors id a b (λ (x : Actor). x.done.filled) mine refl) (λ set. set) tt,
+            (set_now opened.full state.actors id a b (λ (x : Actor). x.done.filled) mine refl) (λ set. set) (λ set. refl) tt,
         tt,
       )

@@ -1,7 +1,7 @@
 -- Each store into the header of a block in its making keeps what holds: its size, its cookie, and its type, which claims it.
 use Rattle.segment_invariant.proofs.Prelude.Std.{◌≡◌, ◌≢◌, ℕ, suc, ◌+◌, ◌-◌, ◌<◌, ◌≤◌, ◌==◌, Bool, true, true≢false, List, [], ◌∷◌, ◌++◌, length, replicate, set, All, inl, inr, refl, sym, ap, ◌∙◌, subst, arith, false, nat_lt, if◌then◌else◌, IsPermutation, length-replicate, All-push, some, get_elem?, at_map, all_at}
 use Rattle.segment_invariant.proofs.Prelude.Machine.{Dimensions, IsShown, Actor, Claim, Own, Place, Idle, State, store_size, store_cookie, store_type, allocating_event, Ready, is_opener}
-use Rattle.segment_invariant.proofs.Prelude.Invariant.{plain, held, is_claimed, Piece, Anatomy, layout_of, claims_of, Stands, StandsRight, HoldsOwn, Invariant, is_beaten}
+use Rattle.segment_invariant.proofs.Prelude.Invariant.{plain, held, is_claimed, Piece, Anatomy, layout_of, claims_of, Stands, StandsRight, HoldsOwn, Invariant, KeptOn, is_beaten}
 use Rattle.alloc_core.specs.Layout.{put}
 use Rattle.alloc_core.specs.Laws.{own, claimed_words}
 use Rattle.alloc_core.specs.Alloc.{IsPlace}
@@ -39,7 +39,7 @@ module _ (shape : Dimensions) (opened : Anatomy) (state : State) (kept : Invaria
   anatomy = kept.anatomy
 
   abbrev Goes : ℕ → ℕ → Actor → Type 0
-  Goes at v b = Invariant shape opened (record { words = set state.words at v; cursors = state.cursors; actors = set state.actors id b })
+  Goes at v b = KeptOn shape opened kept (record { words = set state.words at v; cursors = state.cursors; actors = set state.actors id b })
 
   -- the piece of words in the making
   abbrev raw : ℕ → List ℕ → Piece

@@ -1,7 +1,7 @@
 -- Each event that allocates keeps what holds: it acts on a word of the segment, and what it leaves is kept.
 use Rattle.segment_invariant.proofs.Prelude.Std.{◌≡◌, ℕ, ◌+◌, ◌<◌, ◌≤◌, length, arith, false, some, get_elem?, subst, at_from, all_at}
 use Rattle.segment_invariant.proofs.Prelude.Machine.{Dimensions, Actor, State, Event, allocating_event, spot, Learned, Ready, load_flags, load_free, exchange_free, store_size, store_cookie, store_type, store_payload, set_corrupt, set_full, is_opener}
-use Rattle.segment_invariant.proofs.Prelude.Invariant.{Anatomy, StandsRight, HoldsOwn, Invariant, found_at}
+use Rattle.segment_invariant.proofs.Prelude.Invariant.{Anatomy, StandsRight, HoldsOwn, Invariant, KeptOn, found_at}
 use Rattle.segment_invariant.specs.Keeps.{happened, AllocatingKeeps}
 use Rattle.segment_invariant.proofs.Blocks.Pieces.{free_least, free_within}
 use Rattle.segment_invariant.proofs.Frames.GoesOn.{happens}
@@ -13,8 +13,8 @@ module _ (shape : Dimensions) (opened : Anatomy) (state : State) (id : ℕ) (a :
     (mine : get_elem? state.actors id ≡ some a) (records : is_opener a.role ≡ false) where
   -- what an event does to a word of the segment is what happens
   at_word : (event : Event) → spot (length state.words) event < length state.words → Keeps shape opened state kept id a mine records event
-      → Invariant shape opened (happened opened.version state id a event) × Learned a event (found_at state event)
-  at_word event within keeps = happens opened.version state id a event within shape opened keeps
+      → KeptOn shape opened kept (happened opened.version state id a event) × Learned a event (found_at state event)
+  at_word event within keeps = happens opened.version state id a event within shape opened kept keeps
 
   -- a word before the queue block is one, and so is a word of a block
   header_within : (at : ℕ) → at < 16 → at < length state.words

@@ -1,7 +1,7 @@
 -- An actor stores a word into a block of its own: what holds is kept. So each word of a payload.
 use Rattle.segment_invariant.proofs.Prelude.Std.{◌≡◌, ◌≢◌, ◌⊎◌, ℕ, zero, suc, ◌+◌, ◌-◌, ◌<◌, ◌≤◌, ◌==◌, Bool, true, false, true≢false, List, [], ◌∷◌, ◌++◌, length, replicate, set, All, Contains, inl, inr, refl, sym, ap, ◌∙◌, subst, append_assoc, eq-eqb, eqb-true, length-set, length-append, arith, if◌then◌else◌, length-replicate, dite, some, some-injective, some-ne-none, ℕ_discrete, get_elem?, at_set, set_else, at_from, contains_at, all_at}
 use Rattle.segment_invariant.proofs.Prelude.Machine.{Dimensions, Actor, Own, Place, Spent, State, purse, store_payload, allocating_event, Ready, is_opener}
-use Rattle.segment_invariant.proofs.Prelude.Invariant.{plain, held, is_claimed, Piece, Anatomy, StandsRight, HoldsOwn, Invariant}
+use Rattle.segment_invariant.proofs.Prelude.Invariant.{plain, held, is_claimed, Piece, Anatomy, StandsRight, HoldsOwn, Invariant, KeptOn}
 use Rattle.std.proofs.lemmas.List.{set-append_right}
 use Rattle.alloc_core.proofs.Owners.{set_at}
 use Rattle.alloc_core.specs.Alloc.{IsPlace}
@@ -175,14 +175,14 @@ module _ (shape : Dimensions) (opened : Anatomy) (state : State) (kept : Invaria
 
     -- the state is kept with that block, wherever the actor stands then
     pub fills_at : (place : Place) → TurnsTo a place → KeepsUp a.hand.place place → StandsRight shape after id (doing a (filling place)) place
-        → Invariant shape opened (record { words = words; cursors = state.cursors; actors = set state.actors id (record a { hand = record { place = place; own = set a.hand.own i y } }) })
+        → KeptOn shape opened kept (record { words = words; cursors = state.cursors; actors = set state.actors id (record a { hand = record { place = place; own = set a.hand.own i y } }) })
     fills_at place turns up stands =
         stores shape opened state kept id a mine records k p q words store (filling place) turns up
         (claims_kept shape opened state kept id a mine records pieces (filling place) (claims_same anatomy.pieces k p q at_k refl same_at long) refl)
         refl refl refl stands own_holds own_apart
 
     -- where it stood, while the block is of the type that it was
-    pub fills : y.tag ≡ x.tag → Invariant shape opened (record { words = words; cursors = state.cursors; actors = set state.actors id (record a { hand = record a.hand { own = set a.hand.own i y } }) })
+    pub fills : y.tag ≡ x.tag → KeptOn shape opened kept (record { words = words; cursors = state.cursors; actors = set state.actors id (record a { hand = record a.hand { own = set a.hand.own i y } }) })
     fills same_tag =
         let stays : Stays anatomy.pieces pieces = stays_put anatomy.pieces k id p q at_k refl refl tt tt in
         fills_at a.hand.place (turns_not a lived) (λ no. no)
@@ -225,7 +225,7 @@ module _ (shape : Dimensions) (opened : Anatomy) (state : State) (kept : Invaria
       let changed : change_own at (λ own. record own { payload = stored own.payload index value }) a.hand.own ≡ set a.hand.own i y =
       change_one (λ (own : Own). own.at == at) (λ (own : Own). record own { payload = stored own.payload index value }) a.hand.own i x there
       (eq-eqb x.at at place) (λ j z here passes. fits.apart j i z x here there (eqb-true z.at at passes ∙ sym place)) in (
-        subst (λ (s : ℕ × List Own). Invariant shape opened (record {
+        subst (λ (s : ℕ × List Own). KeptOn shape opened kept (record {
           words = set state.words (s.0 + (4 + index)) value;
           cursors = state.cursors;
           actors = set state.actors id (record a { hand = record a.hand { own = s.1 } });

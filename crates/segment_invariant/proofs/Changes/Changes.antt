@@ -1,7 +1,7 @@
 -- A state is kept where a recorder counts, packs or takes: it changes a word of a published block, and itself.
-use Rattle.segment_invariant.proofs.Prelude.Std.{◌≡◌, ◌≢◌, ℕ, ◌<◌, ◌≤◌, ℤ, true, List, ◌++◌, set, All, Contains, IsPermutation, inl, inr, ⊎_elim, refl, sym, ap, ◌∙◌, subst, arith, false, All-weaker, some, get_elem?, at_set, rows, column, sum_same}
+use Rattle.segment_invariant.proofs.Prelude.Std.{append-nil, ◌≡◌, ◌≢◌, ℕ, ◌<◌, ◌≤◌, ℤ, true, List, [], ◌++◌, set, All, Contains, IsPermutation, inl, inr, ⊎_elim, refl, sym, ap, ◌∙◌, subst, arith, false, All-weaker, some, get_elem?, at_set, rows, column, sum_same}
 use Rattle.segment_invariant.proofs.Prelude.Machine.{Dimensions, IsShown, Behind, IsLinked, Entry, Actor, Portion, Answered, Claim, Own, Spent, tally_units, counted_of, all_counted, units_of, taken_of, is_opener, State}
-use Rattle.segment_invariant.proofs.Prelude.Invariant.{IsWithinCounts, Record, Body, plain, held, histogram, Piece, Anatomy, layout_of, order_of, free_of, claims_of, Stands, Sees, StandsAs, RecordsAreKept, StandsRight, HoldsOwn, CallsRight, HasKey, SumsAreNear, LooksBack, FinalsAreExact, Fits, IsSetBy, ClaimedRight, StandStill, is_living, Invariant}
+use Rattle.segment_invariant.proofs.Prelude.Invariant.{IsWithinCounts, Record, Body, plain, held, histogram, Piece, Anatomy, layout_of, order_of, free_of, claims_of, Stands, Sees, StandsAs, RecordsAreKept, StandsRight, HoldsOwn, CallsRight, HasKey, LooksBack, FinalsAreExact, Fits, IsSetBy, ClaimedRight, StandStill, is_living, Invariant, KeptOn}
 use Rattle.segment_invariant.proofs.Frames.Ahead.{KeepsUp, ahead_at}
 use Rattle.segment_invariant.specs.Ledger.{IsBalanced}
 use Rattle.segment_invariant.specs.Invariant.{IsOnList}
@@ -13,11 +13,13 @@ use Rattle.segment_invariant.proofs.Frames.Books.{cursors_set, listed_set, notic
 use Rattle.segment_invariant.proofs.Frames.GoesOn.{not_opener}
 use Rattle.segment_invariant.proofs.Frames.OneActor.{lives_on}
 use Rattle.segment_invariant.proofs.Frames.Onward.{Onward, record_on, stands_as_on, listed_on, sees_on, off_stays}
+use Rattle.segment_invariant.proofs.Frames.Rises.{rises_onward}
 use Rattle.segment_invariant.proofs.Frames.Roles.{SameRole, SameRoles, roles_set}
 use Rattle.segment_invariant.proofs.Frames.Standing.{Grounds, follows_itself, own_stays, stands_on}
 use Rattle.segment_invariant.proofs.Counting.Seen.{known_stands}
 use Rattle.segment_invariant.proofs.Publishing.Links.{listed_claimed}
 use Rattle.segment_invariant.proofs.Changes.Ledgers.{rows_beside}
+use Rattle.segment_invariant.proofs.Changes.Sums.{SumsGoOn}
 use Rattle.segment_invariant.proofs.Changes.Others.{Deed, deed_of, changed, changed_role, changed_roles, alone_was, none_alone, finals_else, looks_on}
 use Rattle.segment_invariant.proofs.Frames.PassedOver.{passed_on, still_onward}
 
@@ -40,7 +42,7 @@ pub record Changes (shape : Dimensions) (opened : Anatomy) (state : State) (old 
   pub counted : (name : List ℕ) (key : ℤ) → tally_units (counted_of a) name key ≤ tally_units (counted_of (changed a d)) name key
   pub keys : (entry : Entry) → Contains (counted_of (changed a d)) entry → 0 < entry.units → HasKey old.records entry.name entry.key
   pub taken_keys : (t : Portion) (count : ℤ × ℕ) → Contains (taken_of (changed a d)) t → Contains t.counts count → HasKey old.records t.name count.0
-  pub sums : SumsAreNear new.pieces (set state.actors id (changed a d))
+  pub sums : SumsGoOn old.pieces new.pieces state.actors (set state.actors id (changed a d))
   pub lives : d.place ≢ Spent
   pub stands : StandsRight shape new id (changed a d) d.place
   pub sees : Sees new state.cursors d.seen
@@ -146,52 +148,57 @@ module _ (shape : Dimensions) (opened : Anatomy) (state : State) (kept : Invaria
       }
 
   -- the state that is left is kept
-  pub changes_on : Invariant shape opened (record { words = words; cursors = state.cursors; actors = actors })
-  changes_on = record {
-    anatomy = new;
-    shown = changes.shown;
-    same = kept.same;
-    versions = kept.versions;
-    still = λ k p there.
-        let (q, here, same_at) = kept.still k p there in
-        let (r, now, still_at) = changes.still k q here in
-        (r, now, still_at ∙ same_at);
-    blocks = changes.blocks;
-    list = listed_set words opened new state.actors id a b mine refl (record {
-      linked = changes.linked;
-      once = kept.list.once;
-      standing = All-weaker (λ l. StandsAs old.pieces l l.made) (λ l. StandsAs pieces l l.made)
-          (λ l. stands_as_on old new added changes.onward l l.made) old.records kept.list.standing;
-      alone = λ at body there. listed_claimed old.records at body (λ claimed. ⊎_elim
-          (λ t. listed_on old new added changes.onward old.records at t.0 body t.2 (kept.list.alone at t.0 t.1))
-          (changes.listed at body)
-          (changes.onward.came at body claimed there));
-      tail = kept.list.tail;
-    });
-    claims = subst (λ (p : List Claim × List Claim). IsPermutation p.0 (claims_of opened.pieces ++ p.1))
-        (λ i. (sym changes.claims i, sym (rows (λ (c : Actor). c.done.claimed) state.actors id a b mine refl) i)) kept.claims;
-    records = changes.records;
-    passed_over = passed_on shape.page opened old.pieces pieces (still_onward old new added changes.onward) kept.passed_over;
-    balanced = changes.balanced;
-    keys = λ entry there units. ⊎_elim (λ was. kept.keys entry was units) (λ own. changes.keys entry own units)
-        (row_from counted_of state.actors id b entry there);
-    taken_keys = λ t count there has. ⊎_elim (λ was. kept.taken_keys t count was has) (λ own. changes.taken_keys t count own has)
-        (row_from taken_of state.actors id b t there);
-    sums = changes.sums;
-    pool = sum_same units_of state.actors id a b mine refl ∙ kept.pool;
-    corrupt = subst (IsSetBy old.corrupt opened.corrupt) (sym (column (λ (c : Actor). c.done.spoiled) state.actors id a b mine refl)) kept.corrupt;
-    full = subst (IsSetBy old.full opened.full) (sym (column (λ (c : Actor). c.done.filled) state.actors id a b mine refl)) kept.full;
-    noticed = noticed_set old.corrupt state.actors id b (λ saw. noticed_there old.corrupt state.actors id a mine kept.noticed (changes.noticed saw)) kept.noticed;
-    roles = roles_set state.actors id a b mine role (not_opener shape opened state kept id a mine records) kept.roles;
-    first_noted = kept.first_noted;
-    answered = answered_set old.records state.actors id a b mine refl refl kept.answered;
-    cursors = cursors_set (order_of old) state.cursors state.actors id a b mine records refl kept.cursors;
-    standing = λ other c there. elim (at_set state.actors id other b c there) [
-      | inl t ↦ subst (λ (p : ℕ × Actor). StandsRight shape new p.0 p.1 p.1.hand.place) (λ i. (sym t.0 i, t.1 i)) changes.stands
-      | inr t ↦ stands_on shape old new other c c (grounds other t.0) (follows_itself c) c.hand.place (kept.standing other c t.1)
-    ];
-    each = λ other c there lives. elim (at_set state.actors id other b c there) [
-      | inl t ↦ subst (λ (p : ℕ × Actor). Fits shape new state.cursors actors kept.roles.opener p.0 p.1) (λ i. (sym t.0 i, t.1 i)) fits_mine
-      | inr t ↦ fits_else other c t.0 t.1 lives
-    ];
-  }
+  pub changes_on : KeptOn shape opened kept (record { words = words; cursors = state.cursors; actors = actors })
+  changes_on = (
+    record {
+      anatomy = new;
+      shown = changes.shown;
+      same = kept.same;
+      versions = kept.versions;
+      still = λ k p there.
+          let (q, here, same_at) = kept.still k p there in
+          let (r, now, still_at) = changes.still k q here in
+          (r, now, still_at ∙ same_at);
+      blocks = changes.blocks;
+      list = listed_set words opened new state.actors id a b mine refl (record {
+        linked = changes.linked;
+        once = kept.list.once;
+        standing = All-weaker (λ l. StandsAs old.pieces l l.made) (λ l. StandsAs pieces l l.made)
+            (λ l. stands_as_on old new added changes.onward l l.made) old.records kept.list.standing;
+        alone = λ at body there. listed_claimed old.records at body (λ claimed. ⊎_elim
+            (λ t. listed_on old new added changes.onward old.records at t.0 body t.2 (kept.list.alone at t.0 t.1))
+            (changes.listed at body)
+            (changes.onward.came at body claimed there));
+        tail = kept.list.tail;
+      });
+      claims = subst (λ (p : List Claim × List Claim). IsPermutation p.0 (claims_of opened.pieces ++ p.1))
+          (λ i. (sym changes.claims i, sym (rows (λ (c : Actor). c.done.claimed) state.actors id a b mine refl) i)) kept.claims;
+      records = changes.records;
+      passed_over = passed_on shape.page opened old.pieces pieces (still_onward old new added changes.onward) kept.passed_over;
+      balanced = changes.balanced;
+      keys = λ entry there units. ⊎_elim (λ was. kept.keys entry was units) (λ own. changes.keys entry own units)
+          (row_from counted_of state.actors id b entry there);
+      taken_keys = λ t count there has. ⊎_elim (λ was. kept.taken_keys t count was has) (λ own. changes.taken_keys t count own has)
+          (row_from taken_of state.actors id b t there);
+      sums = changes.sums.0;
+      pool = sum_same units_of state.actors id a b mine refl ∙ kept.pool;
+      corrupt = subst (IsSetBy old.corrupt opened.corrupt) (sym (column (λ (c : Actor). c.done.spoiled) state.actors id a b mine refl)) kept.corrupt;
+      full = subst (IsSetBy old.full opened.full) (sym (column (λ (c : Actor). c.done.filled) state.actors id a b mine refl)) kept.full;
+      noticed = noticed_set old.corrupt state.actors id b (λ saw. noticed_there old.corrupt state.actors id a mine kept.noticed (changes.noticed saw)) kept.noticed;
+      roles = roles_set state.actors id a b mine role (not_opener shape opened state kept id a mine records) kept.roles;
+      first_noted = kept.first_noted;
+      answered = answered_set old.records state.actors id a b mine refl refl kept.answered;
+      cursors = cursors_set (order_of old) state.cursors state.actors id a b mine records refl kept.cursors;
+      standing = λ other c there. elim (at_set state.actors id other b c there) [
+        | inl t ↦ subst (λ (p : ℕ × Actor). StandsRight shape new p.0 p.1 p.1.hand.place) (λ i. (sym t.0 i, t.1 i)) changes.stands
+        | inr t ↦ stands_on shape old new other c c (grounds other t.0) (follows_itself c) c.hand.place (kept.standing other c t.1)
+      ];
+      each = λ other c there lives. elim (at_set state.actors id other b c there) [
+        | inl t ↦ subst (λ (p : ℕ × Actor). Fits shape new state.cursors actors kept.roles.opener p.0 p.1) (λ i. (sym t.0 i, t.1 i)) fits_mine
+        | inr t ↦ fits_else other c t.0 t.1 lives
+      ];
+    },
+    rises_onward old new added changes.onward refl [] (sym (append-nil old.records)) (let same = changes.free in omega (arith, same))
+        (λ seen no_later. no_later) (λ set. set) (λ set. set),
+    changes.sums.1,
+  )

@@ -11,7 +11,8 @@ use Rattle.segment_invariant.proofs.Blocks.Places.{counter_within}
 use Rattle.segment_invariant.proofs.Frames.GoesOn.{not_opener}
 use Rattle.segment_invariant.proofs.Frames.Leads.{off_leads}
 use Rattle.segment_invariant.proofs.Frames.OneActor.{lives_on}
-use Rattle.segment_invariant.proofs.Frames.Onward.{Onward, RecordGoes, record_from, counts_from}
+use Rattle.segment_invariant.specs.Rises.{RecordGoes}
+use Rattle.segment_invariant.proofs.Frames.Onward.{Onward, record_from, counts_from}
 use Rattle.segment_invariant.proofs.Frames.Roles.{SameRole, SameRoles, role_kept, same_roles}
 use Rattle.segment_invariant.proofs.Frames.Together.{IsLater, moment, ended_began, each_began}
 

@@ -1,7 +1,7 @@
 -- A recorder turns to another place while one word of a published block becomes another, and has counted, taken and seen what it had.
 use Rattle.segment_invariant.proofs.Prelude.Std.{◌≡◌, ◌≢◌, ℕ, ◌+◌, ℤ, List, set, refl, sym, ap, ◌∙◌, arith, false, some, none, get_elem?, rows, row_in}
 use Rattle.segment_invariant.proofs.Prelude.Machine.{Dimensions, Actor, Place, Spent, SumLoaded, tally_units, tally_sum, tally_noted, counted_of, summed_of, noted_of, all_counted, all_summed, all_noted, all_taken, taken_units, taken_sum, taken_of, is_opener, State}
-use Rattle.segment_invariant.proofs.Prelude.Invariant.{Body, Anatomy, Stands, RecordsAreKept, StandsRight, FinalsAreExact, Invariant}
+use Rattle.segment_invariant.proofs.Prelude.Invariant.{Body, Anatomy, Stands, RecordsAreKept, StandsRight, FinalsAreExact, Invariant, KeptOn}
 use Rattle.segment_invariant.proofs.Frames.Ahead.{KeepsUp}
 use Rattle.segment_invariant.proofs.Frames.Anatomies.{calls_same}
 use Rattle.segment_invariant.proofs.Frames.Roles.{SameRoles}
@@ -80,7 +80,7 @@ module _ (shape : Dimensions) (opened : Anatomy) (state : State) (kept : Invaria
     }
 
     -- the state that is left is kept
-    pub places_on : Invariant shape opened (record { words = set state.words (at + j) v; cursors = state.cursors; actors = actors })
+    pub places_on : KeptOn shape opened kept (record { words = set state.words (at + j) v; cursors = state.cursors; actors = actors })
     places_on =
         let fits = kept.each id a mine lived in
         turned_on shape opened state kept at body then_is j v stands turns id a mine recorder lived deed (record {

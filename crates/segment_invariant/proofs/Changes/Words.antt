@@ -1,19 +1,20 @@
 -- One word of a published block becomes another, and the block goes on: what has then to be shown of the blocks.
 use Rattle.segment_invariant.proofs.Prelude.Std.{◌≡◌, ◌≢◌, ◌⊎◌, ℕ, ◌+◌, ◌<◌, ◌≤◌, ℤ, true, List, length, set, All, Contains, inl, inr, ⊎_elim, refl, sym, ap, ◌∙◌, subst, arith, length-set, false, slice_index, dite, ℕ_discrete, some, none, some-injective, some-ne-none, get_elem?, at_set, set_else, sum_same}
 use Rattle.segment_invariant.proofs.Prelude.Machine.{Dimensions, IsShown, stops, IsLinked, Entry, Actor, Portion, Own, Spent, SumLoaded, Seen, Behind, tally_units, counted_of, all_counted, all_taken, taken_units, taken_of, is_opener, State}
-use Rattle.segment_invariant.proofs.Prelude.Invariant.{Body, held, words_of, is_claimed, Piece, extent_of, Anatomy, layout_of, order_of, claims_of, free_of, Record, histogram, Stands, Sees, HasRecord, RecordsAreKept, StandsRight, HoldsOwn, CallsRight, HasKey, SumsAreNear, LooksBack, FinalsAreExact, StandStill, Invariant, summed_cost}
+use Rattle.segment_invariant.proofs.Prelude.Invariant.{Body, held, words_of, is_claimed, Piece, extent_of, Anatomy, layout_of, order_of, claims_of, free_of, Record, histogram, Stands, Sees, HasRecord, RecordsAreKept, StandsRight, HoldsOwn, CallsRight, HasKey, LooksBack, FinalsAreExact, StandStill, Invariant, KeptOn, summed_cost}
 use Rattle.std.proofs.lemmas.List.{get_or-set_other}
 use Rattle.list_core.proofs.Chains.{linked_beside}
 use Rattle.segment_invariant.proofs.Frames.Ahead.{KeepsUp}
 use Rattle.segment_invariant.proofs.Allocating.Claimers.{still_put, AllClaimedRight, right_put}
 use Rattle.segment_invariant.proofs.Blocks.Pieces.{one_index, one_piece, first_piece, piece_stored, free_with, claims_same, stands_beside, stands_here}
 use Rattle.segment_invariant.proofs.Blocks.Stops.{stop_open}
-use Rattle.segment_invariant.proofs.Frames.Onward.{GoesAs, goes_itself, Onward, sees_on}
+use Rattle.segment_invariant.specs.Rises.{GoesAs}
+use Rattle.segment_invariant.proofs.Frames.Onward.{goes_itself, Onward, sees_on}
 use Rattle.segment_invariant.proofs.Frames.Standing.{own_stays}
 use Rattle.segment_invariant.proofs.Changes.Changes.{changes_on}
 use Rattle.segment_invariant.proofs.Changes.Ledgers.{Balances, balanced_beside}
 use Rattle.segment_invariant.proofs.Changes.Others.{Deed, changed, changed_roles, alone_was, sees_no_more, looks_on}
-use Rattle.segment_invariant.proofs.Changes.Sums.{SameSum, sums_on}
+use Rattle.segment_invariant.proofs.Changes.Sums.{SameSum, SumsGoOn, sums_on}
 use Rattle.segment_invariant.proofs.Counting.Seen.{known_stands}
 use Rattle.segment_invariant.proofs.Frames.Together.{loaded_set}
 
@@ -135,8 +136,8 @@ module _ (shape : Dimensions) (opened : Anatomy) (state : State) (kept : Invaria
 
     -- and sums are near on, where none becomes another
     pub sums_turned : SameSum kept.anatomy.pieces turned → ((name : List ℕ) → summed_cost name (changed a d) ≡ summed_cost name a)
-        → SumsAreNear turned (set state.actors id (changed a d))
-    sums_turned same costs = sums_on kept.anatomy.pieces turned state.actors (set state.actors id (changed a d)) same
+        → SumsGoOn kept.anatomy.pieces turned state.actors (set state.actors id (changed a d))
+    sums_turned same costs = sums_on shape state.words kept.anatomy kept.shown turned state.actors (set state.actors id (changed a d)) same
         (loaded_set state.actors id a (changed a d) mine (λ reference sum loaded. absurd (unsummed reference sum loaded)))
         (λ name. let cost = sum_same (summed_cost name) state.actors id a (changed a d) mine (costs name) in omega (arith, cost)) kept.sums
 
@@ -184,7 +185,7 @@ module _ (shape : Dimensions) (opened : Anatomy) (state : State) (kept : Invaria
     pub counted : (name : List ℕ) (key : ℤ) → tally_units (counted_of a) name key ≤ tally_units (counted_of (changed a d)) name key
     pub keys : (entry : Entry) → Contains (counted_of (changed a d)) entry → 0 < entry.units → HasKey kept.anatomy.records entry.name entry.key
     pub taken_keys : (t : Portion) (count : ℤ × ℕ) → Contains (taken_of (changed a d)) t → Contains t.counts count → HasKey kept.anatomy.records t.name count.0
-    pub sums : SumsAreNear turned (set state.actors id (changed a d))
+    pub sums : SumsGoOn kept.anatomy.pieces turned state.actors (set state.actors id (changed a d))
     pub lives : d.place ≢ Spent
     pub stood : StandsRight shape behind id (changed a d) d.place
     pub sees : Sees behind state.cursors d.seen
@@ -197,7 +198,7 @@ module _ (shape : Dimensions) (opened : Anatomy) (state : State) (kept : Invaria
 
   -- so the state that is left is kept
   pub turned_on : (id : ℕ) (a : Actor) → get_elem? state.actors id ≡ some a → is_opener a.role ≡ false → a.hand.place ≢ Spent → (d : Deed) → Turned kept.roles.opener id a d
-      → Invariant shape opened (record { words = set state.words (at + j) v; cursors = state.cursors; actors = set state.actors id (changed a d) })
+      → KeptOn shape opened kept (record { words = set state.words (at + j) v; cursors = state.cursors; actors = set state.actors id (changed a d) })
   turned_on id a mine recorder lived d shows =
       let fits = kept.each id a mine lived in
       changes_on shape opened state kept id a mine recorder lived d turned (set state.words (at + j) v) (λ at body. ⊥) (record {

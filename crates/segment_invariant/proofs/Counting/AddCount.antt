@@ -1,7 +1,7 @@
 -- The units of the entry that is next are added to the count of their bucket: the invariant is kept, with what is learned.
 use Rattle.segment_invariant.proofs.Prelude.Std.{◌≡◌, ◌≢◌, Bool, true, false, if◌then◌else◌, ◌&&◌, ℕ, ◌+◌, ◌%◌, ◌^◌, ◌<◌, ◌≤◌, ℤ, List, [], ◌∷◌, ◌++◌, length, set, inl, refl, sym, ap, ◌∙◌, subst, arith, slice_index, int_eq, bytes_eq, set-set, get_or-set_same, All-contains, some, get_elem?}
 use Rattle.segment_invariant.proofs.Prelude.Machine.{Spec, buckets_of, Dimensions, word_at, EntryProgress, Actor, Known, Look, Spent, Idle, Looking, Seen, is_counted, is_bound, is_opener, add_count, counting_event, is_off, State}
-use Rattle.segment_invariant.proofs.Prelude.Invariant.{Record, Counts, counts, Anatomy, of_name, key_of_bucket, keyed, units_held, HasRecord, HasCounts, IsFirst, WasFixed, WasSingle, IsCountsOf, StandsRight, Invariant}
+use Rattle.segment_invariant.proofs.Prelude.Invariant.{Record, Counts, counts, Anatomy, of_name, key_of_bucket, keyed, units_held, HasRecord, HasCounts, IsFirst, WasFixed, WasSingle, IsCountsOf, StandsRight, Invariant, KeptOn}
 use Rattle.std.proofs.Math.Nat.{mod-eq_of_lt}
 use Rattle.alloc_core.proofs.Owners.{set_at}
 use Rattle.bucket_ranges.specs.declared.spec.Spec.TheVariants as spec
@@ -11,6 +11,7 @@ use Rattle.segment_invariant.proofs.Blocks.Places.{counter_within}
 use Rattle.segment_invariant.proofs.Frames.GoesOn.{happens}
 use Rattle.segment_invariant.proofs.Frames.SeesMore.{seer}
 use Rattle.segment_invariant.proofs.Frames.Shown.{Goes}
+use Rattle.segment_invariant.proofs.Frames.Rises.{kept_again}
 use Rattle.segment_invariant.proofs.Changes.Counts.{risen, risen_turns, risen_counts, keyed_risen}
 use Rattle.segment_invariant.proofs.Changes.Records.{counts_kept}
 use Rattle.segment_invariant.proofs.Changes.Words.{Turns, sums_beside}
@@ -159,9 +160,12 @@ module _ (shape : Dimensions) (opened : Anatomy) (state : State) (kept : Invaria
   abbrev between : State
   between = record { words = set state.words (look.counts + (4 + bucket)) v; cursors = state.cursors; actors = set state.actors id b }
 
-  kept_between : Invariant shape opened between
-  kept_between =
+  first_step : KeptOn shape opened kept between
+  first_step =
       units_counted shape opened state kept id a mine recorder unbound entry next uncounted look.counts (counts c) (counts more) (4 + bucket) v mounted turns shows
+
+  abbrev kept_between : Invariant shape opened between
+  kept_between = first_step.0
 
   mine_between : get_elem? between.actors id ≡ some b
   mine_between = set_at state.actors id a b mine
@@ -181,13 +185,14 @@ module _ (shape : Dimensions) (opened : Anatomy) (state : State) (kept : Invaria
   abbrev seen : Seen
   seen = record a.seen { counts = a.seen.counts ++ record { at = at; word = word_at between.words at } ∷ [] }
 
-  left : Invariant shape opened (record {
+  left : KeptOn shape opened kept (record {
     words = between.words;
     cursors = state.cursors;
     actors = set between.actors id (seer b Idle seen a.done.given a.done.lost);
   })
-  left = count_seen shape opened between kept_between id b mine_between recorder refl look right_between off.1 bucket is_key.0
-      (let some_units = has_units entry uncounted in omega (arith, word_between, some_units)) Idle refl (λ reference sum is. cc is) tt
+  left = kept_again shape opened state kept first_step
+      (count_seen shape opened between kept_between id b mine_between recorder refl look right_between off.1 bucket is_key.0
+      (let some_units = has_units entry uncounted in omega (arith, word_between, some_units)) Idle refl (λ reference sum is. cc is) tt)
 
   carry : v ≡ (word_at state.words at + units) % 2 ^ 64
   carry =
@@ -198,8 +203,8 @@ module _ (shape : Dimensions) (opened : Anatomy) (state : State) (kept : Invaria
   counted_at =
       let small = fits in
       let event = counting_event (add_count at units) in
-      happens opened.version state id a event (omega (arith, spot, there)) shape opened (
-        subst (λ (p : List ℕ × List Actor). Invariant shape opened (record { words = p.0; cursors = state.cursors; actors = p.1 }))
+      happens opened.version state id a event (omega (arith, spot, there)) shape opened kept (
+        subst (λ (p : List ℕ × List Actor). KeptOn shape opened kept (record { words = p.0; cursors = state.cursors; actors = p.1 }))
             (λ i. (
               set state.words (sym spot i) (carry i),
               (set-set state.actors id b (seer b Idle seen a.done.given a.done.lost) ∙ (λ j. set state.actors id (record a {

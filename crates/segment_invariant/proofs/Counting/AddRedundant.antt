@@ -1,7 +1,7 @@
 -- The units of the entry that is next are added to the redundant count of its histogram.
 use Rattle.segment_invariant.proofs.Prelude.Std.{◌≡◌, ◌≢◌, ℕ, ◌+◌, ◌%◌, ◌^◌, ◌<◌, ◌≤◌, pos, Bool, true, false, cond, not, ◌&&◌, List, [], ◌∷◌, ◌++◌, map, filter, length, set, Contains, inl, inr, ⊎_elim, refl, sym, ap, ◌∙◌, subst, arith, length-append, if◌then◌else◌, ◌==◌, drop, take, bytes_eq, +ℤ_idr, drop-append-le, length-map, get_or-set_same, All-contains, Contains-append_right, bytes_eq-Decides, some, none, get_elem?, at_from, sum_at_least, sum_same, contains_map}
 use Rattle.segment_invariant.proofs.Prelude.Machine.{Dimensions, word_at, buckets_of, EntryProgress, Entry, Actor, Known, Spent, Idle, Sighting, is_counted, is_summed, is_noted, has_ended, is_of, tally_sum, tally_noted, noted_among, is_bound, cost_of, cost_total, units_of, summed_of, noted_of, is_opener, counting_event, State}
-use Rattle.segment_invariant.proofs.Prelude.Invariant.{Record, Counts, Sample, histogram, counts, sample, Anatomy, layout_of, of_name, HasRecord, HasCounts, HasSample, WasCounter, LooksBack, summed_cost, Invariant, EventKeeps}
+use Rattle.segment_invariant.proofs.Prelude.Invariant.{Record, Counts, Sample, histogram, counts, sample, Anatomy, layout_of, of_name, HasRecord, HasCounts, HasSample, WasCounter, LooksBack, summed_cost, Invariant, KeptOn, EventKeeps}
 use Rattle.std.proofs.lemmas.List.Elements.{All-take}
 use Rattle.alloc_core.proofs.Layouts.{length_shown}
 use Rattle.segment_machine.specs.Entry.{summed_among}
@@ -166,7 +166,7 @@ module _ (shape : Dimensions) (opened : Anatomy) (state : State) (kept : Invaria
 
   -- ---- the state
 
-  pub units_added : Invariant shape opened (record { words = set state.words (known.reference + 13) v; cursors = state.cursors; actors = actors })
+  pub units_added : KeptOn shape opened kept (record { words = set state.words (known.reference + 13) v; cursors = state.cursors; actors = actors })
   units_added = amount_added shape opened state kept id a mine recorder unbound c d next refl known has r.sum v 13 v turns narrow (a.seen.counts ++ s ∷ []) refl
       (untouched_off c.counted c.summed) (λ is. counted) (λ noted. summed) amounts
       (λ name. (pos 0, sym (+ℤ_idr _), ap (λ entries. tally_sum entries name) summed_same ∙ sym (+ℤ_idr _)))
@@ -179,7 +179,7 @@ module _ (shape : Dimensions) (opened : Anatomy) (state : State) (kept : Invaria
       let more = noted_more name in
       let none_of : of_name r.name name units ≡ 0 = ap (λ (n : List ℕ). if bytes_eq n name then units else 0) called ∙ ap (λ (t : Bool). if t then units else 0) other in
       omega (arith, more, none_of))
-      (sums_on kept.anatomy.pieces new.pieces state.actors actors sum_stays (loaded_set state.actors id a b mine (λ at sum is. absurd (cc is)))
+      (sums_on shape state.words kept.anatomy kept.shown new.pieces state.actors actors sum_stays (loaded_set state.actors id a b mine (λ at sum is. absurd (cc is)))
       (λ name. let all = sum_same (summed_cost name) state.actors id a b mine (cost_same name) in omega (arith, all)) kept.sums)
       (λ sees. changes.sees_count new state.cursors a.seen s
       (known.reference, 13, histogram (with_amount r r.sum v), stands_now, refl, inr refl, omega arith)
@@ -247,11 +247,11 @@ module _ (shape : Dimensions) (opened : Anatomy) (state : State) (kept : Invaria
   pub noted_small : v ≤ 4294967295
   noted_small =
       let after : State = record { words = set state.words (known.reference + 13) v; cursors = state.cursors; actors = actors } in
-      let (w, first, there, name, many, keys) = knows_of shape opened after units_added id b (set_at state.actors id a b mine) recorder (λ e. cc e) known has in
-      let word = body_word shape opened after units_added known.reference 13 (histogram w) there (omega arith) in
+      let (w, first, there, name, many, keys) = knows_of shape opened after units_added.0 id b (set_at state.actors id a b mine) recorder (λ e. cc e) known has in
+      let word = body_word shape opened after units_added.0 known.reference 13 (histogram w) there (omega arith) in
       let is = get_or-set_same state.words (known.reference + 13) v 0 (word_within shape opened state kept known.reference 13 (histogram r) stands refl (omega arith)) in
-      let whole = whole_noted shape opened after units_added known.name w.spec known.reference w first there name in
-      let bound = noted_fits shape opened after units_added known.name in
+      let whole = whole_noted shape opened after units_added.0 known.name w.spec known.reference w first there name in
+      let bound = noted_fits shape opened after units_added.0 known.name in
       omega (arith, word, is, whole, bound)
 
   pub no_carry : (r.noted + units) % 2 ^ 64 ≡ v
@@ -271,8 +271,8 @@ add_redundant_kept at amount shape opened state id a kept mine recorder (unbound
     let whole = units_added shape opened state kept id a mine recorder unbound c next known has named counted summed unnoted in
     let small = noted_small shape opened state kept id a mine recorder unbound c next known has named counted summed unnoted in
     let carry = no_carry shape opened state kept id a mine recorder unbound c next known has named counted summed unnoted in
-    happens opened.version state id a (counting_event (add_redundant at amount)) (omega (arith, within, size, refers)) shape opened (
-      subst (λ (p : ℕ × ℕ × ℕ × ℕ × List EntryProgress). Invariant shape opened (record {
+    happens opened.version state id a (counting_event (add_redundant at amount)) (omega (arith, within, size, refers)) shape opened kept (
+      subst (λ (p : ℕ × ℕ × ℕ × ℕ × List EntryProgress). KeptOn shape opened kept (record {
         words = set state.words (p.0 + 13) p.1;
         cursors = state.cursors;
         actors = set state.actors id (record a {

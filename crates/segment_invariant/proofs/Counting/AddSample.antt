@@ -1,7 +1,7 @@
 -- The units of the entry that is next are added to the count of the first sample of their value.
 use Rattle.segment_invariant.proofs.Prelude.Std.{◌≡◌, ◌≢◌, Bool, true, false, if◌then◌else◌, ◌&&◌, ℕ, ◌+◌, ◌%◌, ◌^◌, ◌<◌, ◌≤◌, ℤ, List, [], ◌∷◌, ◌++◌, length, set, Contains, inl, inr, refl, sym, ap, ◌∙◌, subst, arith, int_eq, bytes_eq, set-set, get_or-set_same, Contains-append_right, some, get_elem?, split_among}
 use Rattle.segment_invariant.proofs.Prelude.Machine.{Dimensions, word_at, EntryProgress, Actor, Known, Spent, Idle, Seen, is_counted, is_bound, is_opener, MayTurn, add_count, counting_event, SawSample, IsFirstSample, State}
-use Rattle.segment_invariant.proofs.Prelude.Invariant.{Sample, sample, histogram, Listed, Anatomy, units_held, HasSample, IsValued, IsFirst, IsFirstOf, Invariant}
+use Rattle.segment_invariant.proofs.Prelude.Invariant.{Sample, sample, histogram, Listed, Anatomy, units_held, HasSample, IsValued, IsFirst, IsFirstOf, Invariant, KeptOn}
 use Rattle.std.proofs.Math.Nat.{mod-eq_of_lt}
 use Rattle.alloc_core.proofs.Owners.{set_at}
 use Rattle.bucket_ranges.specs.declared.spec.Spec.TheVariants as spec
@@ -14,6 +14,7 @@ use Rattle.segment_invariant.proofs.Frames.Answers.{first_one}
 use Rattle.segment_invariant.proofs.Frames.GoesOn.{happens}
 use Rattle.segment_invariant.proofs.Frames.SeesMore.{seer}
 use Rattle.segment_invariant.proofs.Frames.Shown.{Goes}
+use Rattle.segment_invariant.proofs.Frames.Rises.{kept_again}
 use Rattle.segment_invariant.proofs.Changes.Samples.{sample_kept, no_sample_was}
 use Rattle.segment_invariant.proofs.Changes.Words.{Turns, word_turns}
 use Rattle.segment_invariant.proofs.Counting.Bounds.{counted_fits}
@@ -132,8 +133,11 @@ module _ (shape : Dimensions) (opened : Anatomy) (state : State) (kept : Invaria
   abbrev between : State
   between = record { words = set state.words (at + 6) v; cursors = state.cursors; actors = set state.actors id b }
 
-  kept_between : Invariant shape opened between
-  kept_between = units_counted shape opened state kept id a mine recorder unbound entry next uncounted at (sample s) (sample more) 6 v stands turns shows
+  first_step : KeptOn shape opened kept between
+  first_step = units_counted shape opened state kept id a mine recorder unbound entry next uncounted at (sample s) (sample more) 6 v stands turns shows
+
+  abbrev kept_between : Invariant shape opened between
+  kept_between = first_step.0
 
   mine_between : get_elem? between.actors id ≡ some b
   mine_between = set_at state.actors id a b mine
@@ -154,13 +158,14 @@ module _ (shape : Dimensions) (opened : Anatomy) (state : State) (kept : Invaria
   abbrev seen : Seen
   seen = record a.seen { counts = a.seen.counts ++ record { at = at + 6; word = word_at between.words (at + 6) } ∷ [] }
 
-  left : Invariant shape opened (record {
+  left : KeptOn shape opened kept (record {
     words = between.words;
     cursors = state.cursors;
     actors = set between.actors id (seer b Idle seen a.done.given a.done.lost);
   })
-  left = sample_seen shape opened between kept_between id b mine_between recorder refl at known.reference entry.entry.key met.0 met.1 6 (inl refl) Idle refl
-      (λ reference sum is. cc is) tt
+  left = kept_again shape opened state kept first_step
+      (sample_seen shape opened between kept_between id b mine_between recorder refl at known.reference entry.entry.key met.0 met.1 6 (inl refl) Idle refl
+      (λ reference sum is. cc is) tt)
 
   carry : v ≡ (word_at state.words (at + 6) + units) % 2 ^ 64
   carry =
@@ -170,8 +175,8 @@ module _ (shape : Dimensions) (opened : Anatomy) (state : State) (kept : Invaria
   pub counted_at : Goes shape opened state kept id a mine recorder (counting_event (add_count (at + 6) units))
   counted_at =
       let small = fits in
-      happens opened.version state id a (counting_event (add_count (at + 6) units)) there shape opened (
-        subst (λ (p : List ℕ × List Actor). Invariant shape opened (record { words = p.0; cursors = state.cursors; actors = p.1 }))
+      happens opened.version state id a (counting_event (add_count (at + 6) units)) there shape opened kept (
+        subst (λ (p : List ℕ × List Actor). KeptOn shape opened kept (record { words = p.0; cursors = state.cursors; actors = p.1 }))
             (λ i. (
               set state.words (at + 6) (carry i),
               (set-set state.actors id b (seer b Idle seen a.done.given a.done.lost) ∙ (λ j. set state.actors id (record a {

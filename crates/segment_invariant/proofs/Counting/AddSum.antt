@@ -1,7 +1,7 @@
 -- The amount of the entry that is next is added to the sum of its histogram.
 use Rattle.segment_invariant.proofs.Prelude.Std.{◌≡◌, ◌≢◌, ℕ, zero, suc, ◌+◌, ◌*◌, ◌%◌, ◌^◌, ◌<◌, ◌≤◌, ℤ, pos, ◌+ℤ◌, ◌-ℤ◌, Bool, true, false, cond, not, ◌||◌, ◌&&◌, ◌⊎◌, ne_eqb, List, [], ◌∷◌, ◌++◌, map, filter, length, set, All, Contains, inl, inr, ⊎_elim, refl, sym, ap, ◌∙◌, subst, arith, length-append, if◌then◌else◌, unsigned_abs, ◌==◌, w64, cast_signed, cast_unsigned, int_eq, bytes_eq, +ℤ_idl, +ℤ_idr, Decides-int_eq, map-append, All-cons, All-nil, All-contains, filter-append, Contains-append_cases, Contains-append_right, bytes_eq-Decides, some, none, get_elem?, all_of, one_in, sum_beside, sum_same, contains_map}
 use Rattle.segment_invariant.proofs.Prelude.Machine.{Dimensions, EntryProgress, Entry, Actor, is_counted, is_summed, is_noted, is_of, tally_sum, tally_noted, noted_among, counting_event, add_sum, word_at, State, Cost, Known, Spent, Idle, is_bound, cost_of, units_of, summed_of, noted_of, is_opener}
-use Rattle.segment_invariant.proofs.Prelude.Invariant.{Record, histogram, Anatomy, layout_of, EventKeeps, HasRecord, summed_cost, IsSumOf, SumsAreNear, Invariant}
+use Rattle.segment_invariant.proofs.Prelude.Invariant.{Record, histogram, Anatomy, layout_of, EventKeeps, HasRecord, summed_cost, IsSumOf, SumsAreNear, Invariant, KeptOn}
 use Rattle.std.proofs.Common.{negsuc, neg_ℤ}
 use Rattle.std.proofs.Math.IntN.{+ℤ_assoc, +ℤ_comm, +ℤ_invr, neg_ℤ-+ℤ}
 use Rattle.std.proofs.lemmas.Int.{wrapping_add_onto, int_wrap_fits, fits_signed_from_abs}
@@ -17,6 +17,8 @@ use Rattle.segment_invariant.proofs.Counting.Amounts.{with_amount, turner_lives,
 use Rattle.segment_invariant.proofs.Changes.Words.{Turns, behind, came_from, word_turns}
 use Rattle.segment_invariant.specs.Ledger.{amount_of_name}
 use Rattle.segment_invariant.proofs.Frames.GoesOn.{happens}
+use Rattle.segment_invariant.specs.Rises.{SumsRise}
+use Rattle.segment_invariant.proofs.Frames.SumsRise.{no_distance, one_there}
 use Rattle.segment_invariant.proofs.Frames.Together.{LoadedBefore, loaded_set}
 use Rattle.segment_invariant.proofs.Blocks.Pieces.{piece_word}
 use Rattle.segment_invariant.proofs.Walking.Walks.{block_within}
@@ -296,6 +298,28 @@ module _ (shape : Dimensions) (opened : Anatomy) (state : State) (kept : Invaria
       (λ i. (sym is.0 i, one i)) (mine_near x y) first last)
       (came_from shape opened state kept known.reference (histogram r) (histogram (with_amount r sum r.noted)) 11 sum stands turns at none (histogram s) there)
 
+  -- it changed by no more than what is spent on it now
+  rising : SumsRise kept.anatomy.pieces new.pieces state.actors actors
+  rising = record {
+    costs = λ name. let costs = costs_more name in omega (arith, costs);
+    sums = λ at q s there now.
+        let one = one_there shape state.words kept.anatomy kept.shown at q in
+        let costs = costs_more q.name in
+        ⊎_elim
+        (λ was. let none_of = no_distance q.sum s.sum (ap (λ (z : Record). z.sum) (one s there was.0)) in omega (arith, none_of, costs))
+        (λ is.
+        let same : with_amount r sum r.noted ≡ s = cc (sym is.1) in
+        let before : q ≡ r = one r there (subst (λ (n : ℕ). HasRecord kept.anatomy.pieces n r) (sym is.0) stands) in
+        let (cost, held, few, front, behind_them) = holds in
+        let far = grown_near s0 amount s0 0 (2147483648 * cost) (let itself = no_distance r.sum r.sum refl in omega (arith, itself)) few in
+        let way : cast_signed w64 s.sum -ℤ cast_signed w64 q.sum ≡ (s0 +ℤ amount) -ℤ s0 =
+        λ i. (ap (λ (z : Record). cast_signed w64 z.sum) (sym same) ∙ sum_is) i -ℤ cast_signed w64 (before i).sum in
+        let spent = ap (λ (z : Record). cost_of a.units.held z.name) before in
+        let near_it = ap unsigned_abs way in
+        omega (arith, far, near_it, spent, held, costs))
+        (came_from shape opened state kept known.reference (histogram r) (histogram (with_amount r sum r.noted)) 11 sum stands turns at none (histogram s) now);
+  }
+
   -- its entries come to that much more
   sums_more : (name : List ℕ) → tally_sum (summed_of b) name ≡ tally_sum (summed_of a) name +ℤ amount_of_name r.name name amount
   sums_more name =
@@ -320,14 +344,14 @@ module _ (shape : Dimensions) (opened : Anatomy) (state : State) (kept : Invaria
       ∙ (ap (λ z. tally_sum (summed_of a) name +ℤ z) (ap (λ (n : List ℕ). if bytes_eq n name then amount else pos 0) called ∙ ap (λ (t : Bool). if t then amount else pos 0) other)
       ∙ +ℤ_idr (tally_sum (summed_of a) name))
 
-  pub sum_added : Invariant shape opened (record { words = set state.words (known.reference + 11) sum; cursors = state.cursors; actors = actors })
+  pub sum_added : KeptOn shape opened kept (record { words = set state.words (known.reference + 11) sum; cursors = state.cursors; actors = actors })
   sum_added = amount_added shape opened state kept id a mine recorder unbound c d next refl known has sum r.noted 11 sum turns narrow a.seen.counts refl
       (untouched_off c.counted c.noted) (λ summed. counted) (λ noted. refl) (λ summed. some_amount)
       (λ name. (amount_of_name r.name name amount, sum_held_more name, sums_more name))
       (λ name. let same = ap (λ entries. tally_noted entries name) noted_same in omega (arith, same))
       apart_nothing
       (λ name other. ap (λ entries. tally_noted entries name) noted_same)
-      near (λ sees. sees) (λ looks. looks)
+      (near, rising) (λ sees. sees) (λ looks. looks)
     where
       untouched_off : (x y : Bool) → (not x && not true && not y) ≡ false
       untouched_off true y = refl
@@ -344,8 +368,8 @@ add_sum_kept at amount shape opened state id a kept mine recorder (unbound, c, k
     ap (λ (n : ℕ). word_at state.words (n + 11)) (sym refers) ∙ piece_word shape state.words kept.anatomy kept.shown k _ 11 there (omega arith) in
     let (from, five, within) = block_within shape opened state kept known.reference (histogram r) (k, there) refl in
     let size = length_shown shape state.words (layout_of kept.anatomy) kept.shown in
-    happens opened.version state id a (counting_event (add_sum at amount)) (omega (arith, within, size, refers)) shape opened (
-      subst (λ (p : ℕ × ℕ × ℤ × List EntryProgress). Invariant shape opened (record {
+    happens opened.version state id a (counting_event (add_sum at amount)) (omega (arith, within, size, refers)) shape opened kept (
+      subst (λ (p : ℕ × ℕ × ℤ × List EntryProgress). KeptOn shape opened kept (record {
         words = set state.words (p.0 + 11) ((p.1 + cast_unsigned w64 p.2) % 2 ^ 64);
         cursors = state.cursors;
         actors = set state.actors id (record a { hand = record a.hand { place = Idle }; entries = record a.entries { running = p.3 } });

@@ -1,7 +1,7 @@
 -- An amount is added to the sum of a record, or units to its redundant count, for the entry that is next: the state that is left is kept.
 use Rattle.segment_invariant.proofs.Prelude.Std.{◌≡◌, ◌≢◌, ℕ, ◌+◌, ◌<◌, ◌^◌, ℤ, pos, ◌+ℤ◌, true, false, List, ◌++◌, set, Contains, refl, sym, ap, ◌∙◌, subst, arith, w64, cast_signed, +ℤ_idr, All-contains, some, get_elem?, rows, row_in}
 use Rattle.segment_invariant.proofs.Prelude.Machine.{Dimensions, EntryProgress, Entry, Spent, Idle, Actor, Known, Sighting, counted_among, is_counted, is_summed, is_of, tally_units, tally_sum, tally_noted, is_untouched, is_bound, counted_of, summed_of, noted_of, all_counted, taken_units, taken_of, is_opener, State}
-use Rattle.segment_invariant.proofs.Prelude.Invariant.{Record, histogram, Anatomy, of_name, moving_at, HasRecord, IsFirst, IsRightlyKnown, Sees, IsLawfulRecord, SumsAreNear, LooksBack, Invariant}
+use Rattle.segment_invariant.proofs.Prelude.Invariant.{Record, histogram, Anatomy, of_name, moving_at, HasRecord, IsFirst, IsRightlyKnown, Sees, IsLawfulRecord, LooksBack, Invariant, KeptOn}
 use Rattle.segment_invariant.specs.Ledger.{amount_of_name}
 use Rattle.segment_invariant.proofs.Lists.Countings.{sum_total, noted_total}
 use Rattle.list_lemmas.proofs.Elements.{rows_total}
@@ -9,6 +9,7 @@ use Rattle.segment_invariant.proofs.Frames.Ahead.{unbound_unbeaten}
 use Rattle.segment_invariant.proofs.Frames.Answers.{first_one}
 use Rattle.segment_invariant.proofs.Frames.OneActor.{rests_at}
 use Rattle.segment_invariant.proofs.Frames.Roles.{SameRoles}
+use Rattle.segment_invariant.proofs.Changes.Sums.{SumsGoOn}
 use Rattle.segment_invariant.proofs.Counting.Seen.{known_stands}
 use Rattle.segment_invariant.proofs.Counting.Running.{Next, passes_same}
 use Rattle.segment_invariant.proofs.Counting.Entries.{going, calls_next, finals_next}
@@ -89,10 +90,10 @@ module _ (shape : Dimensions) (opened : Anatomy) (state : State) (kept : Invaria
         (more_noted : (name : List ℕ) → of_name r.name name noted + tally_noted (noted_of a) name ≡ of_name r.name name r.noted + tally_noted (noted_of b) name)
         (sum_apart : (name : List ℕ) → is_of name c.entry ≡ false → tally_sum (summed_of b) name ≡ tally_sum (summed_of a) name)
         (noted_apart : (name : List ℕ) → is_of name c.entry ≡ false → tally_noted (noted_of b) name ≡ tally_noted (noted_of a) name)
-        (near : SumsAreNear new.pieces actors)
+        (near : SumsGoOn kept.anatomy.pieces new.pieces state.actors actors)
         (sees : Sees new state.cursors a.seen → Sees new state.cursors deed.seen)
         (looks : LooksBack new actors kept.roles.opener (changed a (sees_no_more a deed)) → LooksBack new actors kept.roles.opener b) where
-      pub amount_added : Invariant shape opened (record { words = set state.words (known.reference + j) v; cursors = state.cursors; actors = actors })
+      pub amount_added : KeptOn shape opened kept (record { words = set state.words (known.reference + j) v; cursors = state.cursors; actors = actors })
       amount_added =
           let fits = kept.each id a mine turner_lives in
           let records = record_kept shape opened state kept known.reference r (with_amount r sum noted) j v stands turns refl

@@ -1,7 +1,7 @@
 -- A recorder sees a count of a histogram, which is in use: it is 1 at least, so the single word is off.
 use Rattle.segment_invariant.proofs.Prelude.Std.{◌≡◌, ◌≢◌, Bool, true, false, ℕ, ◌+◌, ◌<◌, ◌≤◌, ℤ, List, [], ◌∷◌, ◌++◌, length, set, ⊎_elim, refl, sym, ap, ◌∙◌, subst, arith, length-append, slice_index, All-contains, All-push, some, get_elem?}
 use Rattle.segment_invariant.proofs.Prelude.Machine.{Dimensions, word_at, buckets_of, Actor, Look, Place, Spent, SumLoaded, Moving, Sighting, is_off, is_bound, is_opener, State}
-use Rattle.segment_invariant.proofs.Prelude.Invariant.{Record, Counts, Sample, counts, sample, Anatomy, key_of_bucket, HasRecord, HasCounts, HasSample, WasFixed, WasCounter, WasInUse, WasMet, IsCountsOf, StandsRight, Invariant}
+use Rattle.segment_invariant.proofs.Prelude.Invariant.{Record, Counts, Sample, counts, sample, Anatomy, key_of_bucket, HasRecord, HasCounts, HasSample, WasFixed, WasCounter, WasInUse, WasMet, IsCountsOf, StandsRight, Invariant, KeptOn}
 use Rattle.segment_invariant.specs.Invariant.{LooksRight}
 use Rattle.segment_invariant.proofs.Lists.FewTerms.{zero_index}
 use Rattle.segment_invariant.proofs.Blocks.Places.{counter_within}
@@ -95,7 +95,7 @@ module _ (shape : Dimensions) (opened : Anatomy) (state : State) (kept : Invaria
     -- the state is kept where it sees that count, and goes on to a place
     pub off_seen : (place : Place) → is_bound place ≡ false → ((reference : ℕ) (sum : ℤ) → place ≢ SumLoaded reference sum)
         → StandsRight shape kept.anatomy id (seer a place (record a.seen { counts = a.seen.counts ++ z ∷ [] }) a.done.given a.done.lost) place
-        → Invariant shape opened (record {
+        → KeptOn shape opened kept (record {
           words = state.words;
           cursors = state.cursors;
           actors = set state.actors id (seer a place (record a.seen { counts = a.seen.counts ++ z ∷ [] }) a.done.given a.done.lost);
@@ -121,7 +121,7 @@ module _ (shape : Dimensions) (opened : Anatomy) (state : State) (kept : Invaria
 
   pub count_seen : 1 ≤ word_at state.words at → (place : Place) → is_bound place ≡ false → ((reference : ℕ) (sum : ℤ) → place ≢ SumLoaded reference sum)
       → StandsRight shape kept.anatomy id (seer a place (record a.seen { counts = a.seen.counts ++ z ∷ [] }) a.done.given a.done.lost) place
-      → Invariant shape opened (record {
+      → KeptOn shape opened kept (record {
         words = state.words;
         cursors = state.cursors;
         actors = set state.actors id (seer a place (record a.seen { counts = a.seen.counts ++ z ∷ [] }) a.done.given a.done.lost);

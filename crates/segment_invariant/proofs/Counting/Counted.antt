@@ -1,7 +1,7 @@
 -- The units of the entry that is next are added to a count, in a counts block or a sample: the state that is left is kept.
 use Rattle.segment_invariant.proofs.Prelude.Std.{◌≡◌, ◌≢◌, ◌⊎◌, ℕ, zero, suc, ◌+◌, ◌≤◌, ℤ, pos, Bool, true, false, not, cond, ◌&&◌, ◌||◌, List, [], ◌∷◌, ◌++◌, map, filter, length, set, Contains, inl, inr, ⊎_elim, refl, sym, ap, ◌∙◌, subst, arith, if◌then◌else◌, ◌==◌, int_eq, +ℤ_idr, length-map, All-contains, Contains-append_left, Contains-append_right, Contains-append_cases, some, none, get_elem?, rows, row_in}
 use Rattle.segment_invariant.proofs.Prelude.Machine.{Dimensions, EntryProgress, Entry, Spent, Idle, Actor, is_counted, is_summed, is_noted, is_of, tally_units, tally_sum, tally_noted, is_bound, cost_of, counted_of, summed_of, noted_of, all_counted, taken_of, is_opener, SawSample, State}
-use Rattle.segment_invariant.proofs.Prelude.Invariant.{Body, Anatomy, units_held, marks_held, noted_held, Stands, IsFirst, IsFirstOf, RecordsAreKept, HasKey, summed_cost, Invariant}
+use Rattle.segment_invariant.proofs.Prelude.Invariant.{Body, Anatomy, units_held, marks_held, noted_held, Stands, IsFirst, IsFirstOf, RecordsAreKept, HasKey, summed_cost, Invariant, KeptOn}
 use Rattle.bucket_ranges.specs.declared.spec.Spec.TheVariants as spec
 use Rattle.segment_invariant.specs.Ledger.{sum_held, sum_mark_held}
 use Rattle.segment_invariant.proofs.Lists.Countings.{units_total}
@@ -130,7 +130,7 @@ module _ (shape : Dimensions) (opened : Anatomy) (state : State) (kept : Invaria
       pub met : (of : ℕ) → IsFirst kept.anatomy.records c.entry.name spec.Sparse of
           → (sample : ℕ) × IsFirstOf kept.anatomy.records of c.entry.key sample × Contains a.seen.chain sample × SawSample a.seen of c.entry.key sample
 
-    pub units_counted : CountedInto → Invariant shape opened (record { words = set state.words (at + j) v; cursors = state.cursors; actors = actors })
+    pub units_counted : CountedInto → KeptOn shape opened kept (record { words = set state.words (at + j) v; cursors = state.cursors; actors = actors })
     units_counted shows =
         let fits = kept.each id a mine lived in
         turned_on shape opened state kept at body then_is j v stands turns id a mine recorder lived deed (record {

@@ -40,7 +40,7 @@ module _ (shape : Dimensions) (opened : Anatomy) (state : State) (kept : Invaria
       let (r, first, there, named, many, keys) = knows_of shape opened state kept id a mine recorder turns.lived known has in
       let stands : HasRecord kept.anatomy.pieces h r = subst (λ (n : ℕ). HasRecord kept.anatomy.pieces n r) refers there in
       let (histogram_is, counts_are) = look_right shape kept.anatomy id a a.hand.place h (kept.standing id a mine) in
-      happens opened.version state id a (counting_event (load_counts h)) (word_within shape opened state kept h 8 (histogram r) stands refl (omega arith)) shape opened (
+      happens opened.version state id a (counting_event (load_counts h)) (word_within shape opened state kept h 8 (histogram r) stands refl (omega arith)) shape opened kept (
         loaded shape opened state kept id a mine recorder (h + 8) (next a (counting_event (load_counts h)) found)
             (words_seen shape opened state kept id a mine recorder unbound place turns.lives (λ reference sum is. cc is) turns.moves (sight_counts h found)
             (ended a.seen.ends (h + 8) (found == 0))

@@ -1,7 +1,7 @@
 -- A recorder sees more words that stay, as a counts reference: it goes on to a place, and no word of the segment changes.
 use Rattle.segment_invariant.proofs.Prelude.Std.{◌≡◌, ◌≢◌, ℕ, ◌+◌, ◌<◌, ◌≤◌, ℤ, List, ◌++◌, set, All, Contains, inl, inr, false, refl, ap, arith, All-contains, All-weaker, some, get_elem?, Some}
 use Rattle.segment_invariant.proofs.Prelude.Machine.{Dimensions, buckets_of, Actor, Known, Place, Spent, SumLoaded, Seen, Sighting, tally_units, all_counted, bucket_key, is_bound, is_opener, SawBucket, State}
-use Rattle.segment_invariant.proofs.Prelude.Invariant.{Anatomy, order_of, moving_at, WasFixed, WasMet, StandsRight, LooksBack, Invariant}
+use Rattle.segment_invariant.proofs.Prelude.Invariant.{Anatomy, order_of, moving_at, WasFixed, WasMet, StandsRight, LooksBack, Invariant, KeptOn}
 use Rattle.segment_invariant.proofs.Frames.Ahead.{ahead_at, unbound_unbeaten}
 use Rattle.segment_invariant.proofs.Frames.Books.{noticed_there}
 use Rattle.segment_invariant.proofs.Frames.SeesMore.{seer, near_on, given_on, later_itself, calls_more, sees_more}
@@ -53,7 +53,7 @@ module _ (shape : Dimensions) (opened : Anatomy) (state : State) (kept : Invaria
 
   -- the state that is left is kept
   pub words_seen : StandsRight shape kept.anatomy id b place
-      → Invariant shape opened (record { words = state.words; cursors = state.cursors; actors = set state.actors id b })
+      → KeptOn shape opened kept (record { words = state.words; cursors = state.cursors; actors = set state.actors id b })
   words_seen stands =
       let fits = kept.each id a mine lives in
       sees_more shape opened state kept id a mine recorder place with_words a.done.given a.done.lost lives free moves state.cursors

@@ -1,7 +1,7 @@
 -- An actor sees the count or the mark of a sample that it met, as it is: no word changes, and it goes on to a place.
 use Rattle.segment_invariant.proofs.Prelude.Std.{◌≡◌, ◌≢◌, ◌⊎◌, ℕ, ◌+◌, ◌<◌, ℤ, false, List, [], ◌∷◌, ◌++◌, set, Contains, ⊎_elim, refl, sym, ap, ◌∙◌, subst, arith, All-push, some, get_elem?}
 use Rattle.segment_invariant.proofs.Prelude.Machine.{Dimensions, word_at, Actor, Look, Place, Spent, SumLoaded, Moving, Seen, Sighting, is_bound, is_opener, SawSample, State}
-use Rattle.segment_invariant.proofs.Prelude.Invariant.{Sample, sample, Anatomy, moving_at, HasSample, WasCounter, WasInUse, WasMet, StandsRight, Invariant}
+use Rattle.segment_invariant.proofs.Prelude.Invariant.{Sample, sample, Anatomy, moving_at, HasSample, WasCounter, WasInUse, WasMet, StandsRight, Invariant, KeptOn}
 use Rattle.segment_invariant.proofs.Blocks.Places.{counter_within}
 use Rattle.segment_invariant.proofs.Frames.OneActor.{rests_at}
 use Rattle.segment_invariant.proofs.Frames.SeesMore.{seer, near_on}
@@ -37,7 +37,7 @@ module _ (shape : Dimensions) (opened : Anatomy) (state : State) (kept : Invaria
   -- the state that is left is kept
   pub sample_seen : (place : Place) → is_bound place ≡ false → ((reference : ℕ) (sum : ℤ) → place ≢ SumLoaded reference sum)
       → StandsRight shape kept.anatomy id (seer a place sees_sample a.done.given a.done.lost) place
-      → Invariant shape opened (record { words = state.words; cursors = state.cursors; actors = set state.actors id (seer a place sees_sample a.done.given a.done.lost) })
+      → KeptOn shape opened kept (record { words = state.words; cursors = state.cursors; actors = set state.actors id (seer a place sees_sample a.done.given a.done.lost) })
   sample_seen place free no_sum stood =
       let fits = kept.each id a mine lives in
       let moves : (name : List ℕ) (key : ℤ) → moving_at a name key place ≡ moving_at a name key a.hand.place =

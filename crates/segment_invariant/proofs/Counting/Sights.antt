@@ -1,7 +1,7 @@
 -- A word of the segment is loaded: the actor goes on to a place and sees it. What a counter is that is seen as it is now.
 use Rattle.segment_invariant.proofs.Prelude.Std.{◌≡◌, ◌≢◌, ℕ, ◌+◌, ◌<◌, ℤ, true, false, List, ◌++◌, length, set, All, refl, sym, ap, ◌∙◌, arith, length-append, some, none, get_elem?}
 use Rattle.segment_invariant.proofs.Prelude.Machine.{Dimensions, word_at, Actor, Place, Spent, Seen, Sighting, is_bound, is_opener, State}
-use Rattle.segment_invariant.proofs.Prelude.Invariant.{Body, Anatomy, counts, is_claimed, layout_of, order_of, words_of, moving_at, Stands, WasCounter, WasInUse, WasSingle, WasMet, SumsAreNear, StandsRight, LooksBack, Invariant}
+use Rattle.segment_invariant.proofs.Prelude.Invariant.{Body, Anatomy, counts, is_claimed, layout_of, order_of, words_of, moving_at, Stands, WasCounter, WasInUse, WasSingle, WasMet, SumsAreNear, StandsRight, LooksBack, Invariant, KeptOn}
 use Rattle.alloc_core.proofs.Layouts.{length_shown}
 use Rattle.segment_invariant.specs.Seen.{IsCounterIn}
 use Rattle.segment_invariant.proofs.Blocks.Places.{counter_within}
@@ -54,7 +54,7 @@ module _ (shape : Dimensions) (opened : Anatomy) (state : State) (kept : Invaria
     pub sees_on : SumsAreNear kept.anatomy.pieces (set state.actors id b) → All (WasSingle kept.anatomy.version kept.anatomy.pieces) singles
         → All (WasCounter kept.anatomy.pieces) counts → All (WasInUse kept.anatomy.pieces) counts → All (WasMet kept.anatomy.pieces a.seen) counts
         → StandsRight shape kept.anatomy id b place → LooksBack kept.anatomy state.actors kept.roles.opener b
-        → Invariant shape opened (record { words = state.words; cursors = state.cursors; actors = set state.actors id b })
+        → KeptOn shape opened kept (record { words = state.words; cursors = state.cursors; actors = set state.actors id b })
     sees_on near are_singles are_counters are_used are_met stands looks =
         let fits = kept.each id a mine lived in
         sees_more shape opened state kept id a mine records place saw a.done.given a.done.lost lived lives moves state.cursors (later_itself (order_of kept.anatomy) state.cursors)

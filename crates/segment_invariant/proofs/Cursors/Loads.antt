@@ -1,7 +1,7 @@
 -- A shared cursor is loaded.
 use Rattle.segment_invariant.proofs.Prelude.Std.{◌≡◌, ◌≢◌, ℕ, ◌<◌, ℤ, List, ◌++◌, length, set, refl, sym, subst, arith, false, slice_index, All-push, Contains-push, some, get_elem?, set-get_or}
 use Rattle.segment_invariant.proofs.Prelude.Machine.{Dimensions, IsStop, Actor, Given, Place, SumLoaded, Seen, Sighting, sight, State, Ready, is_opener}
-use Rattle.segment_invariant.proofs.Prelude.Invariant.{Anatomy, order_of, IsNoLater, Sees, LooksBack, Invariant}
+use Rattle.segment_invariant.proofs.Prelude.Invariant.{Anatomy, order_of, IsNoLater, Sees, LooksBack, Invariant, KeptOn}
 use Rattle.segment_machine.specs.declared.place.Place.TheVariants.{CursorLoaded}
 use Rattle.segment_machine.specs.Cursors.{load_cursor}
 use Rattle.segment_machine.specs.Event.{cursor_event}
@@ -44,8 +44,8 @@ module _ (shape : Dimensions) (opened : Anatomy) (state : State) (kept : Invaria
       let stop = cursor_stop cursor within in
       let s : Sighting = record { at = cursor; word = found } in
       let seen : Seen = record a.seen { cursors = a.seen.cursors ++ sight cursor found } in
-      happens_there opened.version state id a (cursor_event (load_cursor cursor)) cursor refl shape opened (
-        subst (λ (cursors : List ℕ). Invariant shape opened (record {
+      happens_there opened.version state id a (cursor_event (load_cursor cursor)) cursor refl shape opened kept (
+        subst (λ (cursors : List ℕ). KeptOn shape opened kept (record {
           words = state.words;
           cursors = cursors;
           actors = set state.actors id (seer a place seen a.done.given a.done.lost);

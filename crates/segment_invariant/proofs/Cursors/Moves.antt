@@ -1,7 +1,7 @@
 -- A shared cursor is moved on, or another actor was before.
 use Rattle.segment_invariant.proofs.Prelude.Std.{◌≡◌, ◌≢◌, ℕ, suc, ◌+◌, ◌<◌, ◌≤◌, ◌==◌, Bool, List, [], ◌∷◌, ◌++◌, map, length, set, take, All, Contains, inl, inr, ⊎_elim, refl, sym, ap, ◌∙◌, subst, arith, eq-eqb, ne_eqb, length-set, append-nil, false, slice_index, if◌then◌else◌, IsPermutation, map-append, All-push, All-contains, filter-append, Contains-permutation, IsPermutation-refl, dite, some, ℕ_discrete, get_elem?, set-get_or, at_set, rows, row_in, contains_at, at_from, index_at, below_length, contains_filter, contains_map}
 use Rattle.segment_invariant.proofs.Prelude.Machine.{Dimensions, stops, IsStop, IsLinked, Actor, Given, Spent, Idle, Seen, Sighting, is_opener, sight, State}
-use Rattle.segment_invariant.proofs.Prelude.Invariant.{Anatomy, order_of, IsNoLater, StandsRight, Invariant, is_beaten, IsAhead}
+use Rattle.segment_invariant.proofs.Prelude.Invariant.{Anatomy, order_of, IsNoLater, StandsRight, Invariant, KeptOn, is_beaten, IsAhead}
 use Rattle.std.proofs.Common.{length-take, get_or-take}
 use Rattle.std.proofs.Math.Seq.{take-suc}
 use Rattle.std.proofs.lemmas.List.{get_or-set_other}
@@ -107,8 +107,8 @@ module _ (shape : Dimensions) (opened : Anatomy) (state : State) (kept : Invaria
         let stop = cursor_stop shape opened state kept id a mine records cursor within in
         let s : Sighting = record { at = cursor; word = found } in
         let seen : Seen = record a.seen { cursors = a.seen.cursors ++ sight cursor found } in
-        happens_there opened.version state id a (cursor_event (move_cursor cursor old new)) cursor refl shape opened (
-          subst (λ (p : Bool × List ℕ). Invariant shape opened (record {
+        happens_there opened.version state id a (cursor_event (move_cursor cursor old new)) cursor refl shape opened kept (
+          subst (λ (p : Bool × List ℕ). KeptOn shape opened kept (record {
             words = state.words;
             cursors = p.1;
             actors = set state.actors id (after_cursor p.0 a cursor new found);
@@ -276,8 +276,8 @@ module _ (shape : Dimensions) (opened : Anatomy) (state : State) (kept : Invaria
           let s : Sighting = record { at = cursor; word = new } in
           let stop_new : IsStop order new = (suc place, stands.0.1, stands.0.3) in
           let many = length-set state.cursors cursor new in
-          happens_there opened.version state id a (cursor_event (move_cursor cursor old new)) cursor refl shape opened (
-            subst (λ (hits : Bool). Invariant shape opened (record {
+          happens_there opened.version state id a (cursor_event (move_cursor cursor old new)) cursor refl shape opened kept (
+            subst (λ (hits : Bool). KeptOn shape opened kept (record {
               words = state.words;
               cursors = set state.cursors cursor (if hits then new else found);
               actors = set state.actors id (after_cursor hits a cursor new found);

@@ -1,8 +1,9 @@
 -- What an invariant says of all actors together, and of the blocks: the books of a segment.
 use Rattle.segment_invariant.proofs.Prelude.Std.{◌≡◌, ◌≢◌, ◌⊎◌, ℕ, ◌<◌, ◌≤◌, Bool, true, ◌||◌, ⊎_elim, ℤ, List, ◌++◌, map, take, length, set, inl, inr, sym, ap, ◌∙◌, subst, false, sum_by, slice_index, IsPermutation, some, get_elem?, flat_map, Contains, All, IsPermutation-refl, Contains-permutation, at_set, at_map, rows}
 use Rattle.segment_invariant.proofs.Prelude.Machine.{Dimensions, IsShown, stops, Entry, Spent, Actor, Portion, Given, cost_of, all_counted, all_taken, all_published, units_of, is_opener, State}
-use Rattle.segment_invariant.proofs.Prelude.Invariant.{Piece, Anatomy, layout_of, order_of, claims_of, listed, noted_held, all_held, ClaimedRight, HasKey, RecordsAreKept, SumsAreNear, IsSetBy, StandStill, RolesAreKept, StandsRight, Fits, Invariant}
+use Rattle.segment_invariant.proofs.Prelude.Invariant.{Piece, Anatomy, layout_of, order_of, claims_of, listed, noted_held, all_held, ClaimedRight, HasKey, RecordsAreKept, SumsAreNear, IsSetBy, StandStill, RolesAreKept, StandsRight, Fits, Invariant, KeptOn}
 use Rattle.std.proofs.lemmas.List.Sorted.{IsPermutation-trans, IsPermutation-sym, IsPermutation-append_right, IsPermutation-map}
+use Rattle.segment_invariant.specs.Rises.{Rises, SumsRise}
 use Rattle.segment_invariant.proofs.Frames.Answers.{answered_by}
 use Rattle.segment_machine.specs.Actor.{given_by, all_given, all_names, all_owed}
 use Rattle.segment_invariant.specs.Ledger.{IsBalanced}
@@ -77,33 +78,38 @@ pub kept_by : (shape : Dimensions) (opened anatomy : Anatomy) (words cursors : L
     → ((id : ℕ) (a : Actor) → get_elem? actors id ≡ some a → All (λ g. Contains (order_of anatomy) g.reference) a.done.given)
     → ((id : ℕ) (a : Actor) → get_elem? actors id ≡ some a → StandsRight shape anatomy id a a.hand.place)
     → ((id : ℕ) (a : Actor) → get_elem? actors id ≡ some a → a.hand.place ≢ Spent → Fits shape anatomy cursors actors roles.opener id a)
-    → Invariant shape opened (record { words = words; cursors = cursors; actors = actors })
-kept_by shape opened anatomy words cursors actors books roles first_noted ordered given standing each = record {
-  anatomy = anatomy;
-  shown = books.shown;
-  same = books.same;
-  versions = books.versions;
-  still = books.still;
-  blocks = books.blocks;
-  list = books.list;
-  claims = books.claims;
-  records = books.records;
-  passed_over = books.passed_over;
-  balanced = books.balanced;
-  keys = books.keys;
-  taken_keys = books.taken_keys;
-  sums = books.sums;
-  pool = books.pool;
-  corrupt = books.corrupt;
-  full = books.full;
-  noticed = books.noticed;
-  roles = roles;
-  first_noted = first_noted;
-  answered = books.answered;
-  cursors = record { stand = books.stand; ordered = ordered; given = given };
-  standing = standing;
-  each = each;
-}
+    → {old : State} (kept : Invariant shape opened old) → Rises kept.anatomy anatomy → SumsRise kept.anatomy.pieces anatomy.pieces old.actors actors
+    → KeptOn shape opened kept (record { words = words; cursors = cursors; actors = actors })
+kept_by shape opened anatomy words cursors actors books roles first_noted ordered given standing each kept rises sums = (
+  record {
+    anatomy = anatomy;
+    shown = books.shown;
+    same = books.same;
+    versions = books.versions;
+    still = books.still;
+    blocks = books.blocks;
+    list = books.list;
+    claims = books.claims;
+    records = books.records;
+    passed_over = books.passed_over;
+    balanced = books.balanced;
+    keys = books.keys;
+    taken_keys = books.taken_keys;
+    sums = books.sums;
+    pool = books.pool;
+    corrupt = books.corrupt;
+    full = books.full;
+    noticed = books.noticed;
+    roles = roles;
+    first_noted = first_noted;
+    answered = books.answered;
+    cursors = record { stand = books.stand; ordered = ordered; given = given };
+    standing = standing;
+    each = each;
+  },
+  rises,
+  sums,
+)
 
 -- the list is kept where others published the same
 listed_by : (words : List ℕ) (opened anatomy : Anatomy) (old new : List Actor) → IsPermutation (all_published new) (all_published old)

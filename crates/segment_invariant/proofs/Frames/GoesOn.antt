@@ -1,7 +1,7 @@
 -- A state is kept where one actor goes on, and at most one of the blocks in the making changes.
 use Rattle.segment_invariant.proofs.Prelude.Std.{true≢false, ◌≡◌, ◌≢◌, ℕ, ◌<◌, Bool, List, ◌++◌, map, length, set, take, drop, All, Contains, inl, inr, refl, sym, ap, ◌∙◌, subst, subst₂, length-set, false, true, take-append_seam, get_or_append_left, IsPermutation, flat_map, All-weaker, some, some-injective, get_elem?, at_set}
 use Rattle.segment_invariant.proofs.Prelude.Machine.{Dimensions, word_at, IsShown, Behind, IsStop, IsLinked, Actor, Own, Spent, State, Event, spot, next, Learned, is_opener}
-use Rattle.segment_invariant.proofs.Prelude.Invariant.{found_at, Body, plain, Piece, Anatomy, layout_of, order_of, free_of, claims_of, Stands, IsNoLater, Sees, StandsRight, HoldsOwn, CallsRight, LooksBack, Fits, IsSetBy, ClaimedRight, StandStill, Invariant, IsAhead}
+use Rattle.segment_invariant.proofs.Prelude.Invariant.{found_at, Body, plain, histogram, Piece, Anatomy, layout_of, order_of, free_of, claims_of, Stands, IsNoLater, Sees, StandsRight, HoldsOwn, CallsRight, LooksBack, Fits, IsSetBy, ClaimedRight, StandStill, Invariant, KeptOn, IsAhead}
 use Rattle.std.proofs.Math.Seq.{drop-append_seam}
 use Rattle.std.proofs.lemmas.List.{set-append_left}
 use Rattle.segment_invariant.proofs.Frames.Ahead.{ahead_later}
@@ -18,6 +18,8 @@ use Rattle.segment_invariant.proofs.Frames.OneActor.{Doing, doing, TurnsTo, Same
 use Rattle.segment_invariant.proofs.Frames.Anatomies.{balanced_along, list_along, records_along, sums_along, names_along, fits_along, grounds_along}
 use Rattle.segment_invariant.proofs.Frames.Growth.{reshaped, Stays}
 use Rattle.segment_invariant.proofs.Frames.PassedOver.{still_there, passed_on}
+use Rattle.segment_invariant.proofs.Frames.Rises.{rises_reshaped}
+use Rattle.segment_invariant.proofs.Frames.SumsRise.{sums_come}
 
 -- What has to be shown where an actor goes on to a doing: of the blocks and the words that are then there, and of the actor itself.
 pub record Goes (shape : Dimensions) (opened : Anatomy) (state : State) (old new : Anatomy) (opener : Actor) (id : ℕ) (a : Actor) (d : Doing) (words : List ℕ) : Type 0 where
@@ -36,6 +38,7 @@ pub record Goes (shape : Dimensions) (opened : Anatomy) (state : State) (old new
   pub corrupt : IsSetBy new.corrupt opened.corrupt (map (λ a. a.done.spoiled) (set state.actors id (doing a d)))
   pub full : IsSetBy new.full opened.full (map (λ a. a.done.filled) (set state.actors id (doing a d)))
   pub flagged : old.corrupt ≡ true → new.corrupt ≡ true
+  pub filled : old.full ≡ true → new.full ≡ true
   pub stands : StandsRight shape new id (doing a d) d.place
   pub sees : Sees new state.cursors (doing a d).seen
   pub ahead : IsAhead (order_of new) new.tail state.cursors d.place d.beaten a.done.lost
@@ -118,37 +121,42 @@ module _ (shape : Dimensions) (opened : Anatomy) (state : State) (kept : Invaria
         (r, now, still_at ∙ same_at)
 
     -- the state that is left is kept
-    pub goes_on : Invariant shape opened (record { words = words; cursors = state.cursors; actors = actors })
-    goes_on = record {
-      anatomy = behind;
-      shown = goes.shown;
-      same = kept.same;
-      versions = kept.versions;
-      still = still_all;
-      blocks = goes.blocks;
-      list = listed_set words opened behind state.actors id a (doing a d) mine goes.published
-          (list_along before pieces spare corrupt full tail goes.stays state.words words opened state.actors goes.linked goes.tail kept.list);
-      claims = goes.claims;
-      records = records_along before pieces spare corrupt full tail goes.stays shape.page kept.records;
-      passed_over = passed_on shape.page opened before.pieces pieces (still_there before.pieces pieces goes.stays) kept.passed_over;
-      balanced = balanced before.version opened.pieces pieces state.actors actors (same_sums state.actors actors same)
-          (balanced_along before pieces spare corrupt full tail goes.stays opened.pieces state.actors kept.balanced);
-      keys = λ entry there. kept.keys entry (subst (λ entries. Contains entries entry) same.counted there);
-      taken_keys = λ t count there. kept.taken_keys t count (subst (λ taken. Contains taken t) same.taken there);
-      sums = sums_near pieces state.actors actors (same_sums state.actors actors same) same.loaded
-          (sums_along before pieces spare corrupt full tail goes.stays state.actors kept.sums);
-      pool = same.units ∙ kept.pool;
-      corrupt = goes.corrupt;
-      full = goes.full;
-      noticed = λ seen. goes.flagged
-          (noticed_set before.corrupt state.actors id (doing a d) (noticed_there before.corrupt state.actors id a mine kept.noticed) kept.noticed seen);
-      roles = roles_set state.actors id a (doing a d) mine (same_role a d turns) not_opener kept.roles;
-      first_noted = kept.first_noted;
-      answered = answered_set before.records state.actors id a (doing a d) mine refl goes.owed kept.answered;
-      cursors = cursors_set (order_of before) state.cursors state.actors id a (doing a d) mine records refl kept.cursors;
-      standing = stands_all;
-      each = fits_all;
-    }
+    pub goes_on : KeptOn shape opened kept (record { words = words; cursors = state.cursors; actors = actors })
+    goes_on = (
+      record {
+        anatomy = behind;
+        shown = goes.shown;
+        same = kept.same;
+        versions = kept.versions;
+        still = still_all;
+        blocks = goes.blocks;
+        list = listed_set words opened behind state.actors id a (doing a d) mine goes.published
+            (list_along before pieces spare corrupt full tail goes.stays state.words words opened state.actors goes.linked goes.tail kept.list);
+        claims = goes.claims;
+        records = records_along before pieces spare corrupt full tail goes.stays shape.page kept.records;
+        passed_over = passed_on shape.page opened before.pieces pieces (still_there before.pieces pieces goes.stays) kept.passed_over;
+        balanced = balanced before.version opened.pieces pieces state.actors actors (same_sums state.actors actors same)
+            (balanced_along before pieces spare corrupt full tail goes.stays opened.pieces state.actors kept.balanced);
+        keys = λ entry there. kept.keys entry (subst (λ entries. Contains entries entry) same.counted there);
+        taken_keys = λ t count there. kept.taken_keys t count (subst (λ taken. Contains taken t) same.taken there);
+        sums = sums_near pieces state.actors actors (same_sums state.actors actors same) same.loaded
+            (sums_along before pieces spare corrupt full tail goes.stays state.actors kept.sums);
+        pool = same.units ∙ kept.pool;
+        corrupt = goes.corrupt;
+        full = goes.full;
+        noticed = λ seen. goes.flagged
+            (noticed_set before.corrupt state.actors id (doing a d) (noticed_there before.corrupt state.actors id a mine kept.noticed) kept.noticed seen);
+        roles = roles_set state.actors id a (doing a d) mine (same_role a d turns) not_opener kept.roles;
+        first_noted = kept.first_noted;
+        answered = answered_set before.records state.actors id a (doing a d) mine refl goes.owed kept.answered;
+        cursors = cursors_set (order_of before) state.cursors state.actors id a (doing a d) mine records refl kept.cursors;
+        standing = stands_all;
+        each = fits_all;
+      },
+      rises_reshaped before pieces spare corrupt full tail goes.stays (goes.free (free_of before) (inl refl)) goes.tail_later goes.flagged goes.filled,
+      sums_come shape state.words before kept.shown pieces state.actors actors (same_sums state.actors actors same).costs
+          (λ at s there. (s, goes.stays.back at (histogram s) there, refl)),
+    )
 
 -- ---- an event at a word of the segment
 
@@ -191,9 +199,10 @@ module _ (version : ℕ) (state : State) (id : ℕ) (a : Actor) (event : Event) 
   }
 
   -- so what is kept behind it is kept
-  pub happens : (shape : Dimensions) (opened : Anatomy) → Invariant shape opened (after_word version state id a event) × Learned a event (word_at state.words at)
-      → Invariant shape opened (happened version state id a event) × Learned a event (found_at state event)
-  happens shape opened (kept, learned) = (
-    subst (Invariant shape opened) (sym state_is) kept,
+  pub happens : (shape : Dimensions) (opened : Anatomy) (was : Invariant shape opened state)
+      → KeptOn shape opened was (after_word version state id a event) × Learned a event (word_at state.words at)
+      → KeptOn shape opened was (happened version state id a event) × Learned a event (found_at state event)
+  happens shape opened was (kept, learned) = (
+    subst (KeptOn shape opened was) (sym state_is) kept,
     subst (Learned a event) (sym found_word) learned,
   )

@@ -7,9 +7,10 @@ use Rattle.std.specs.Prelude as std
 use Rattle.list_core.specs.Chain.{AreNeighbours}
 use Rattle.list_core.proofs.Prefixes.{prefix_of_prefix}
 use Rattle.segment_invariant.specs.Ledger.{all_amounts}
+use Rattle.segment_invariant.specs.Rises.{GoesAs}
 use Rattle.segment_invariant.specs.Seen.{HasPlain, IsReachedAt, AreNoLater}
 use Rattle.segment_invariant.proofs.Frames.Standing.{Grounds}
-use Rattle.segment_invariant.proofs.Frames.Onward.{GoesAs, goes_itself, Onward, stands_as_on, sees_on}
+use Rattle.segment_invariant.proofs.Frames.Onward.{goes_itself, Onward, stands_as_on, sees_on}
 
 -- ---- the next of a block
 

@@ -6,6 +6,7 @@ use Rattle.std.specs.Prelude as std
 use Rattle.std.proofs.lemmas.List.{get_or-append_right}
 use Rattle.segment_machine.specs.declared.actor.Made.TheVariants as made
 use Rattle.segment_invariant.specs.Body.{spec_field}
+use Rattle.segment_invariant.specs.Rises.{RecordGoes, CountsGo, SampleGoes, GoesAs}
 use Rattle.segment_invariant.specs.Seen.{IsFixedIn, IsCounterIn, AreNoLater}
 use Rattle.segment_invariant.specs.Invariant.{IsOnList}
 use Rattle.segment_invariant.proofs.Blocks.Places.{counter_within}
@@ -14,49 +15,11 @@ use Rattle.segment_image.specs.declared.layout.TheConstants.{CLAIMED_COOKIE}
 
 -- ---- a block that goes on
 
--- a record goes on as another: what was given to its maker stays, and its counts reference once it has one; its single word leads on; its
--- mark and its redundant count rise
-pub record RecordGoes (version : ℕ) (r s : Record) : Type 0 where
-  pub is : s ≡ record r {
-    next = s.next;
-    counts = s.counts;
-    single = s.single;
-    mark = s.mark;
-    sum = s.sum;
-    sum_mark = s.sum_mark;
-    noted = s.noted;
-  }
-  pub counts : r.counts ≢ 0 → s.counts ≡ r.counts
-  pub single : Leads version (buckets_of r.spec) r.single s.single
-  pub mark : r.mark ≤ s.mark
-  pub noted : r.noted ≤ s.noted
-
 -- once the single word is off it stays
 pub off_stays : (version : ℕ) (r s : Record) → RecordGoes version r s → is_off r.single ≡ true → s.single ≡ r.single
 off_stays version r s goes off = sym (off_leads version (buckets_of r.spec) r.single s.single off goes.single)
 
--- so does a counts block: its counts and marks rise
-pub record CountsGo (c d : Counts) : Type 0 where
-  pub is : d ≡ record c { units = d.units; marks = d.marks }
-  pub long : (length d.units ≡ length c.units) × (length d.marks ≡ length c.marks)
-  pub rise : (i : ℕ) → slice_index (words_of (counts c)) i ≤ slice_index (words_of (counts d)) i
-
--- and a sample
-pub record SampleGoes (s t : Sample) : Type 0 where
-  pub is : t ≡ record s { next = t.next; units = t.units; mark = t.mark }
-  pub units : s.units ≤ t.units
-  pub mark : s.mark ≤ t.mark
-
--- a block goes on as one of its kind
-abbrev pub GoesAs : ℕ → Body → Body → Type 0
-GoesAs version (histogram r) body = (s : Record) × (body ≡ histogram s) × RecordGoes version r s
-GoesAs version (counts c) body = (d : Counts) × (body ≡ counts d) × CountsGo c d
-GoesAs version (sample s) body = (t : Sample) × (body ≡ sample t) × SampleGoes s t
-GoesAs version (other size tag next payload) body = (n : ℕ) × (body ≡ other size tag n payload)
-GoesAs version (queue next) body = body ≡ queue next
-GoesAs version (plain words) body = body ≡ plain words
-GoesAs version (held block) body = body ≡ held block
-
+-- a block goes on as itself
 pub record_goes_itself : (version : ℕ) (r : Record) → RecordGoes version r r
 record_goes_itself version r = record { is = refl; counts = λ there. refl; single = inl refl; mark = omega arith; noted = omega arith }
 

@@ -1,7 +1,7 @@
 -- A state is kept where one actor goes on to a place, sees more, and no word of the segment changes.
 use Rattle.segment_invariant.proofs.Prelude.Std.{◌≡◌, ◌≢◌, ℕ, ◌+◌, ◌-◌, ◌<◌, ◌≤◌, ℤ, List, ◌++◌, length, set, take, drop, Contains, inl, inr, refl, sym, ap, ◌∙◌, subst, arith, false, true, take-append_seam, slice_index, IsPermutation, Some, All-weaker, some, get_elem?, at_set, set_else, rows, column, sum_same}
 use Rattle.segment_invariant.proofs.Prelude.Machine.{Dimensions, IsLinked, Actor, Portion, Claim, Given, Entry, Place, Spent, SumLoaded, Seen, tally_units, tally_sum, tally_noted, counted_of, summed_of, noted_of, units_of, all_counted, all_taken, taken_units, taken_sum, word_seen, taken_of, is_opener, State, Event, spot, next, Learned}
-use Rattle.segment_invariant.proofs.Prelude.Invariant.{found_at, Anatomy, order_of, claims_of, moving_at, IsNoLater, Sees, SumsAreNear, CallsRight, LooksBack, IsSetBy, StandsRight, IsAhead, Fits, Invariant, summed_cost}
+use Rattle.segment_invariant.proofs.Prelude.Invariant.{found_at, Anatomy, order_of, claims_of, moving_at, IsNoLater, Sees, SumsAreNear, CallsRight, LooksBack, IsSetBy, StandsRight, IsAhead, Fits, Invariant, KeptOn, summed_cost}
 use Rattle.std.proofs.Math.Seq.{drop-append_seam}
 use Rattle.std.proofs.lemmas.List.{set-append_right, get_or-append_right}
 use Rattle.segment_machine.specs.State.{memory}
@@ -14,6 +14,8 @@ use Rattle.segment_invariant.proofs.Frames.Books.{cursors_set, listed_set, notic
 use Rattle.segment_invariant.proofs.Frames.Deeds.{SameSums}
 use Rattle.segment_invariant.proofs.Frames.GoesOn.{not_opener}
 use Rattle.segment_invariant.proofs.Frames.OneActor.{living_at}
+use Rattle.segment_invariant.proofs.Frames.Rises.{rises_itself}
+use Rattle.segment_invariant.proofs.Frames.SumsRise.{sums_rest}
 use Rattle.segment_invariant.proofs.Frames.Roles.{SameRole, role_kept, stood_set, roles_set, fits_beside}
 use Rattle.segment_invariant.proofs.Frames.Together.{balanced, sums_near, loaded_set}
 use Rattle.segment_invariant.proofs.Frames.Anew.{calls_anew, sees_anew}
@@ -162,34 +164,38 @@ module _ (shape : Dimensions) (opened : Anatomy) (state : State) (kept : Invaria
     ]
 
     -- the state that is left is kept
-    pub sees_more : Invariant shape opened (record { words = state.words; cursors = cursors; actors = actors })
-    sees_more = record {
-      anatomy = kept.anatomy;
-      shown = kept.shown;
-      same = kept.same;
-      versions = kept.versions;
-      still = kept.still;
-      blocks = kept.blocks;
-      list = listed_set state.words opened kept.anatomy state.actors id a b mine refl kept.list;
-      claims = subst (λ (claims : List Claim). IsPermutation (claims_of kept.anatomy.pieces) (claims_of opened.pieces ++ claims))
-          (sym (rows (λ (a : Actor). a.done.claimed) state.actors id a b mine refl)) kept.claims;
-      records = kept.records;
-      passed_over = kept.passed_over;
-      balanced = balanced kept.anatomy.version opened.pieces kept.anatomy.pieces state.actors actors same kept.balanced;
-      keys = λ entry there. kept.keys entry (subst (λ (entries : List Entry). Contains entries entry) counted there);
-      taken_keys = λ t count there. kept.taken_keys t count (subst (λ (list : List Portion). Contains list t) taken there);
-      sums = near;
-      pool = sum_same units_of state.actors id a b mine refl ∙ kept.pool;
-      corrupt = subst (IsSetBy kept.anatomy.corrupt opened.corrupt) (sym (column (λ (a : Actor). a.done.spoiled) state.actors id a b mine refl)) kept.corrupt;
-      full = subst (IsSetBy kept.anatomy.full opened.full) (sym (column (λ (a : Actor). a.done.filled) state.actors id a b mine refl)) kept.full;
-      noticed = noticed_set kept.anatomy.corrupt state.actors id b notices kept.noticed;
-      roles = roles_set state.actors id a b mine role not_first kept.roles;
-      first_noted = kept.first_noted;
-      answered = answered_set kept.anatomy.records state.actors id a b mine refl refl kept.answered;
-      cursors = gave;
-      standing = stands_all;
-      each = fits_all;
-    }
+    pub sees_more : KeptOn shape opened kept (record { words = state.words; cursors = cursors; actors = actors })
+    sees_more = (
+      record {
+        anatomy = kept.anatomy;
+        shown = kept.shown;
+        same = kept.same;
+        versions = kept.versions;
+        still = kept.still;
+        blocks = kept.blocks;
+        list = listed_set state.words opened kept.anatomy state.actors id a b mine refl kept.list;
+        claims = subst (λ (claims : List Claim). IsPermutation (claims_of kept.anatomy.pieces) (claims_of opened.pieces ++ claims))
+            (sym (rows (λ (a : Actor). a.done.claimed) state.actors id a b mine refl)) kept.claims;
+        records = kept.records;
+        passed_over = kept.passed_over;
+        balanced = balanced kept.anatomy.version opened.pieces kept.anatomy.pieces state.actors actors same kept.balanced;
+        keys = λ entry there. kept.keys entry (subst (λ (entries : List Entry). Contains entries entry) counted there);
+        taken_keys = λ t count there. kept.taken_keys t count (subst (λ (list : List Portion). Contains list t) taken there);
+        sums = near;
+        pool = sum_same units_of state.actors id a b mine refl ∙ kept.pool;
+        corrupt = subst (IsSetBy kept.anatomy.corrupt opened.corrupt) (sym (column (λ (a : Actor). a.done.spoiled) state.actors id a b mine refl)) kept.corrupt;
+        full = subst (IsSetBy kept.anatomy.full opened.full) (sym (column (λ (a : Actor). a.done.filled) state.actors id a b mine refl)) kept.full;
+        noticed = noticed_set kept.anatomy.corrupt state.actors id b notices kept.noticed;
+        roles = roles_set state.actors id a b mine role not_first kept.roles;
+        first_noted = kept.first_noted;
+        answered = answered_set kept.anatomy.records state.actors id a b mine refl refl kept.answered;
+        cursors = gave;
+        standing = stands_all;
+        each = fits_all;
+      },
+      rises_itself kept.anatomy,
+      sums_rest shape state.words kept.anatomy kept.shown state.actors actors same.costs,
+    )
 
 -- ---- an event at a shared cursor
 
@@ -232,10 +238,10 @@ module _ (version : ℕ) (state : State) (id : ℕ) (a : Actor) (event : Event) 
       }
 
   -- so what is kept behind it is kept
-  pub happens_there : (shape : Dimensions) (opened : Anatomy)
-      → Invariant shape opened (after_cursor_word version state id a event cursor) × Learned a event (slice_index state.cursors cursor)
-      → Invariant shape opened (happened version state id a event) × Learned a event (found_at state event)
-  happens_there shape opened (kept, learned) = (
-    subst (Invariant shape opened) (sym state_is) kept,
+  pub happens_there : (shape : Dimensions) (opened : Anatomy) (was : Invariant shape opened state)
+      → KeptOn shape opened was (after_cursor_word version state id a event cursor) × Learned a event (slice_index state.cursors cursor)
+      → KeptOn shape opened was (happened version state id a event) × Learned a event (found_at state event)
+  happens_there shape opened was (kept, learned) = (
+    subst (KeptOn shape opened was) (sym state_is) kept,
     subst (Learned a event) (sym found_cursor) learned,
   )

@@ -1,7 +1,7 @@
 -- The amount of a running entry may become known: what holds is kept.
 use Rattle.segment_invariant.proofs.Prelude.Std.{◌≡◌, ◌≢◌, ◌⊎◌, ℕ, ◌+◌, ◌*◌, ◌≤◌, ℤ, pos, Bool, true, false, true≢false, cond, not, List, [], ◌∷◌, ◌++◌, map, length, set, All, Contains, inl, inr, ⊎_elim, refl, sym, ap, ◌∙◌, subst, arith, length-append, if◌then◌else◌, ◌==◌, ◌+ℤ◌, unsigned_abs, filter, int_eq, +ℤ_idl, Decides-int_eq, map-append, All-contains, All-push, filter-append, Contains-append_left, Contains-append_right, Contains-push, some, get_elem?, at_longer, one_in, below_length, contains_mapped}
 use Rattle.segment_invariant.proofs.Prelude.Machine.{Entry, EntryProgress, Spent, Actor, is_counted, is_summed, is_noted, has_ended, is_of, tally_units, tally_sum, tally_noted, cost_of, cost_total, change_last, is_untouched}
-use Rattle.segment_invariant.proofs.Prelude.Invariant.{StandsRight, summed_cost, IsQuiet, Invariant, NoteKeeps}
+use Rattle.segment_invariant.proofs.Prelude.Invariant.{StandsRight, summed_cost, IsQuiet, KeptOn, NoteKeeps}
 use Rattle.atomic_table.proofs.Lists.{at_last}
 use Rattle.segment_invariant.proofs.Frames.Answers.{answered_set}
 use Rattle.segment_machine.specs.Entry.{AreWithin}
@@ -208,7 +208,7 @@ amounts_kept amount shape opened state id a kept mine records ((before, last, ru
     let changed : change_last f a.entries.running ≡ n.running = ap (change_last f) runs ∙ last_changed f before last in
     let lived : a.hand.place ≢ Spent = λ is_spent.
     not_empty before [] last (sym runs ∙ ap (λ (a : Actor). a.entries.running) (subst (StandsRight shape kept.anatomy id a) is_spent (kept.standing id a mine))) in
-    subst (λ (running : List EntryProgress). Invariant shape opened (record state { actors = set state.actors id (record a { entries = record a.entries { running = running } }) })) (sym changed)
+    subst (λ (running : List EntryProgress). KeptOn shape opened kept (record state { actors = set state.actors id (record a { entries = record a.entries { running = running } }) })) (sym changed)
     (notes_on shape opened state kept id a mine records n lived counts (takes_nothing a n) (λ name key. refl) (λ known has. has)
     (answered_set kept.anatomy.records state.actors id a (noting a n) mine refl refl)
     (λ fit.

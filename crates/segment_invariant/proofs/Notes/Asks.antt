@@ -1,7 +1,7 @@
 -- An actor notes what a block of its own is to hold: what holds is kept, since the words of the block are those that they were.
 use Rattle.segment_invariant.proofs.Prelude.Std.{◌≡◌, ℕ, ◌+◌, ◌==◌, List, set, refl, sym, ap, ◌∙◌, subst, eq-eqb, eqb-true, arith, Some, some, set-get_or, at_from, all_at}
 use Rattle.segment_invariant.proofs.Prelude.Machine.{word_at, Made, Own}
-use Rattle.segment_invariant.proofs.Prelude.Invariant.{held, HoldsOwn, Invariant, NoteKeeps}
+use Rattle.segment_invariant.proofs.Prelude.Invariant.{held, HoldsOwn, KeptOn, NoteKeeps}
 use Rattle.segment_machine.specs.Calls.{change_own}
 use Rattle.segment_machine.specs.Note.{asks}
 use Rattle.segment_invariant.proofs.Blocks.Pieces.{piece_word}
@@ -20,6 +20,6 @@ asks_kept at made shape opened state id a kept mine records (x, has, place, unas
     piece_word shape state.words kept.anatomy kept.shown is.stands.0 (record { at = x.at; owner = some id; body = held x }) 0 is.stands.1 (omega arith) in
     let same : set state.words (x.at + 0) x.size ≡ state.words =
     ap (set state.words (x.at + 0)) (sym word) ∙ set-get_or state.words (x.at + 0) 0 in
-    subst (λ (s : List ℕ × List Own). Invariant shape opened (record { words = s.0; cursors = state.cursors; actors = set state.actors id (record a { hand = record a.hand { own = s.1 } }) }))
+    subst (λ (s : List ℕ × List Own). KeptOn shape opened kept (record { words = s.0; cursors = state.cursors; actors = set state.actors id (record a { hand = record a.hand { own = s.1 } }) }))
     (λ e. (same e, sym changed e))
     (fills shape opened state kept id a mine records i x y 0 x.size there refl refl is.tagged refl (omega arith) is.room is.ends refl)

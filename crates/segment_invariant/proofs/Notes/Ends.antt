@@ -1,7 +1,7 @@
 -- A call that counts may note that it has ended, accepted or refused: what holds is kept.
 use Rattle.segment_invariant.proofs.Prelude.Std.{◌≡◌, ◌≢◌, ◌⊎◌, ℕ, ◌+◌, ◌-◌, ◌≤◌, Bool, true, false, cond, List, [], ◌∷◌, ◌++◌, map, length, drop, take, All, Contains, inl, inr, ⊎_elim, refl, sym, ap, ◌∙◌, subst, arith, append-nil, append_assoc, length-append, take-append-drop, set, pos, if◌then◌else◌, ◌==◌, filter, map-append, drop-append-le, All-nil, All-contains, All-append, Contains-append_right, Contains-append_cases, sum_by-append, sum_by-cons, bytes_eq, some, get_elem?, none_at, all_of, contains_map}
 use Rattle.segment_invariant.proofs.Prelude.Machine.{Dimensions, Entry, EntryProgress, Spent, Actor, Cost, is_counted, is_summed, has_ended, is_of, tally_units, tally_sum, tally_noted, counted_among, noted_among, log_of, cost_of, cost_total, is_bound, is_opener, is_untouched, noted, State}
-use Rattle.segment_invariant.proofs.Prelude.Invariant.{Anatomy, CallsRight, summed_cost, IsQuiet, Invariant, NoteKeeps}
+use Rattle.segment_invariant.proofs.Prelude.Invariant.{Anatomy, CallsRight, summed_cost, IsQuiet, Invariant, KeptOn, NoteKeeps}
 use Rattle.std.proofs.Math.Seq.{take-nil}
 use Rattle.std.proofs.lemmas.List.{take-append-le}
 use Rattle.segment_invariant.proofs.Frames.Answers.{answered_set}
@@ -69,7 +69,7 @@ module _ (a : Actor) (share : ℕ) (spent : List Cost) (ended : List EntryProgre
       (running : (c : EntryProgress) → Contains a.entries.running c → Contains ended c ⊎ (is_untouched c ≡ true)) (idle : a.entries.running ≡ [] → ended ≡ [])
       (pays : (anatomy : Anatomy) → CallsRight anatomy a → (name : List ℕ) → tally_noted (map (λ (c : EntryProgress). c.entry) ended) name ≤ cost_of spent name) where
     ends_with : (shape : Dimensions) (opened : Anatomy) (state : State) (id : ℕ) (kept : Invariant shape opened state) (mine : get_elem? state.actors id ≡ some a)
-        → is_opener a.role ≡ false → a.hand.place ≢ Spent → Invariant shape opened (record state { actors = set state.actors id (noting a gone) })
+        → is_opener a.role ≡ false → a.hand.place ≢ Spent → KeptOn shape opened kept (record state { actors = set state.actors id (noting a gone) })
     ends_with shape opened state id kept mine records lived =
         let longer = ap length (log_more a ended) in
         let long = length-append (log_of a) (map (λ (c : EntryProgress). c.entry) ended) in

@@ -1,7 +1,7 @@
 -- An actor may note that a `hist` was answered, where that is a histogram of the segment: what holds is kept.
 use Rattle.segment_invariant.proofs.Prelude.Std.{⊎_elim, ◌≡◌, ◌≢◌, ℕ, ◌==◌, ℤ, Bool, not, List, [], ◌∷◌, ◌++◌, map, length, set, Contains, refl, sym, ap, ◌∙◌, subst, eq-eqb, arith, false, if◌then◌else◌, Option, Some, map-append, All-push, Contains-append_left, dite, some, ℕ_discrete, get_elem?, bytes_eq, filter}
 use Rattle.segment_invariant.proofs.Prelude.Machine.{Dimensions, Place, Spent, Actor, Known, known_at, is_opener, State, noted}
-use Rattle.segment_invariant.proofs.Prelude.Invariant.{Anatomy, moving_at, IsRightlyKnown, StandsRight, Invariant}
+use Rattle.segment_invariant.proofs.Prelude.Invariant.{Anatomy, moving_at, IsRightlyKnown, StandsRight, Invariant, KeptOn}
 use Rattle.std.proofs.lemmas.List.Elements.{All-filter}
 use Rattle.std.proofs.lemmas.Map.Made.{Contains-tail}
 use Rattle.segment_invariant.proofs.Frames.Answers.{answered_knows}
@@ -50,7 +50,7 @@ module _ (a : Actor) (known : Known) where
 
   pub knows_one_more : (shape : Dimensions) (opened : Anatomy) (state : State) (id : ℕ) (kept : Invariant shape opened state) → get_elem? state.actors id ≡ some a
       → is_opener a.role ≡ false → a.hand.place ≢ Spent → IsRightlyKnown kept.anatomy known
-      → Invariant shape opened (record state { actors = set state.actors id (noted a (knows known)) })
+      → KeptOn shape opened kept (record state { actors = set state.actors id (noted a (knows known)) })
   knows_one_more shape opened state id kept mine records lived right =
       notes_on shape opened state kept id a mine records knower lived knows_counts (takes_nothing a knower)
       (λ name key. moves_still shape kept.anatomy id name key a.hand.place (kept.standing id a mine))

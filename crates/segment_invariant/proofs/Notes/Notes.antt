@@ -1,7 +1,7 @@
 -- A state is kept where an actor notes something in its own record, and the words stay.
 use Rattle.segment_invariant.proofs.Prelude.Std.{◌≡◌, ◌≢◌, ◌⊎◌, ℕ, ◌+◌, ◌<◌, ◌≤◌, ℤ, Bool, false, ◌||◌, fold, List, [], ◌++◌, set, Contains, inl, inr, refl, sym, ap, ◌∙◌, subst, subst₂, arith, IsPermutation, some, get_elem?, at_set, set_else, ◌+ℤ◌, none_in, rows, row_in, column, sum_same, sum_beside}
 use Rattle.segment_invariant.proofs.Prelude.Machine.{Dimensions, Entry, EntryProgress, Spent, Actor, Portion, Answered, Claim, Cost, Known, Taken, tally_units, tally_sum, tally_noted, counted_of, summed_of, noted_of, units_of, taken_units, taken_sum, all_counted, all_taken, taken_of, is_opener, State}
-use Rattle.segment_invariant.proofs.Prelude.Invariant.{Anatomy, order_of, claims_of, moving_at, summed_cost, StandsRight, Fits, HasKey, Invariant}
+use Rattle.segment_invariant.proofs.Prelude.Invariant.{Anatomy, order_of, claims_of, moving_at, summed_cost, StandsRight, Fits, HasKey, Invariant, KeptOn}
 use Rattle.segment_invariant.specs.Invariant.{AreAnswered}
 use Rattle.list_lemmas.proofs.Elements.{rows_total, row_from}
 use Rattle.segment_invariant.proofs.Lists.Countings.{units_total, sum_total, noted_total}
@@ -12,6 +12,8 @@ use Rattle.segment_invariant.proofs.Frames.Deeds.{SameSums}
 use Rattle.segment_invariant.proofs.Frames.Standing.{grounds_itself, stands_on}
 use Rattle.segment_invariant.proofs.Frames.Together.{loaded_set, balanced, sums_near}
 use Rattle.segment_invariant.proofs.Frames.Roles.{SameRole, stood_set, roles_set, fits_beside}
+use Rattle.segment_invariant.proofs.Frames.Rises.{rises_itself}
+use Rattle.segment_invariant.proofs.Frames.SumsRise.{sums_rest}
 use Rattle.segment_invariant.proofs.Lists.Portions.{taken_total, taken_sum_total}
 
 -- ---- what changes of an actor that notes something
@@ -170,31 +172,35 @@ module _ (shape : Dimensions) (opened : Anatomy) (state : State) (kept : Invaria
         ]
 
         -- the state with that note is kept
-        pub notes_on : Invariant shape opened (record state { actors = noters })
-        notes_on = record {
-          anatomy = kept.anatomy;
-          shown = kept.shown;
-          same = kept.same;
-          versions = kept.versions;
-          still = kept.still;
-          blocks = kept.blocks;
-          list = listed_set state.words opened kept.anatomy state.actors id a later mine refl kept.list;
-          claims = subst (λ (claimed : List Claim). IsPermutation (claims_of kept.anatomy.pieces) (claims_of opened.pieces ++ claimed))
-              (sym (rows (λ (a : Actor). a.done.claimed) state.actors id a later mine refl)) kept.claims;
-          records = kept.records;
-          passed_over = kept.passed_over;
-          balanced = balanced kept.anatomy.version opened.pieces kept.anatomy.pieces state.actors noters sums kept.balanced;
-          keys = keys;
-          taken_keys = taken_keys;
-          sums = sums_near kept.anatomy.pieces state.actors noters sums (loaded_set state.actors id a later mine (λ at sum is. is)) kept.sums;
-          pool = sum_same units_of state.actors id a later mine counts.units ∙ kept.pool;
-          corrupt = kept.corrupt ∙ ap (λ set. opened.corrupt || fold ◌||◌ false set) (sym (column (λ (a : Actor). a.done.spoiled) state.actors id a later mine refl));
-          full = kept.full ∙ ap (λ set. opened.full || fold ◌||◌ false set) (sym (column (λ (a : Actor). a.done.filled) state.actors id a later mine refl));
-          noticed = noticed_set kept.anatomy.corrupt state.actors id later (noticed_there kept.anatomy.corrupt state.actors id a mine kept.noticed) kept.noticed;
-          roles = roles_set state.actors id a later mine role not_first kept.roles;
-          first_noted = kept.first_noted;
-          answered = answers kept.answered;
-          cursors = cursors_set (order_of kept.anatomy) state.cursors state.actors id a later mine records refl kept.cursors;
-          standing = standing;
-          each = each;
-        }
+        pub notes_on : KeptOn shape opened kept (record state { actors = noters })
+        notes_on = (
+          record {
+            anatomy = kept.anatomy;
+            shown = kept.shown;
+            same = kept.same;
+            versions = kept.versions;
+            still = kept.still;
+            blocks = kept.blocks;
+            list = listed_set state.words opened kept.anatomy state.actors id a later mine refl kept.list;
+            claims = subst (λ (claimed : List Claim). IsPermutation (claims_of kept.anatomy.pieces) (claims_of opened.pieces ++ claimed))
+                (sym (rows (λ (a : Actor). a.done.claimed) state.actors id a later mine refl)) kept.claims;
+            records = kept.records;
+            passed_over = kept.passed_over;
+            balanced = balanced kept.anatomy.version opened.pieces kept.anatomy.pieces state.actors noters sums kept.balanced;
+            keys = keys;
+            taken_keys = taken_keys;
+            sums = sums_near kept.anatomy.pieces state.actors noters sums (loaded_set state.actors id a later mine (λ at sum is. is)) kept.sums;
+            pool = sum_same units_of state.actors id a later mine counts.units ∙ kept.pool;
+            corrupt = kept.corrupt ∙ ap (λ set. opened.corrupt || fold ◌||◌ false set) (sym (column (λ (a : Actor). a.done.spoiled) state.actors id a later mine refl));
+            full = kept.full ∙ ap (λ set. opened.full || fold ◌||◌ false set) (sym (column (λ (a : Actor). a.done.filled) state.actors id a later mine refl));
+            noticed = noticed_set kept.anatomy.corrupt state.actors id later (noticed_there kept.anatomy.corrupt state.actors id a mine kept.noticed) kept.noticed;
+            roles = roles_set state.actors id a later mine role not_first kept.roles;
+            first_noted = kept.first_noted;
+            answered = answers kept.answered;
+            cursors = cursors_set (order_of kept.anatomy) state.cursors state.actors id a later mine records refl kept.cursors;
+            standing = standing;
+            each = each;
+          },
+          rises_itself kept.anatomy,
+          sums_rest shape state.words kept.anatomy kept.shown state.actors noters sums.costs,
+        )

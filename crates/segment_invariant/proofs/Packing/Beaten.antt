@@ -1,7 +1,7 @@
 -- An exchange of a single word came too late: no word changes, and its actor sees the word that was there.
 use Rattle.segment_invariant.proofs.Prelude.Std.{◌≡◌, ◌≢◌, Bool, false, ◌==◌, if◌then◌else◌, ℕ, ◌+◌, ℤ, List, [], ◌∷◌, ◌++◌, set, None, inl, refl, sym, ap, ◌∙◌, subst, arith, All-push, some, get_elem?}
 use Rattle.segment_invariant.proofs.Prelude.Machine.{Dimensions, word_at, Actor, Known, Look, Place, Spent, Idle, Looking, SumLoaded, Moving, Seen, Sighting, is_bound, Buckets, is_opener, packing_event, Ready, look_of, pack, disable, after_pack, after_disable, State}
-use Rattle.segment_invariant.proofs.Prelude.Invariant.{Record, histogram, Anatomy, order_of, moving_at, HasRecord, WasSingle, StandsRight, Invariant}
+use Rattle.segment_invariant.proofs.Prelude.Invariant.{Record, histogram, Anatomy, order_of, moving_at, HasRecord, WasSingle, StandsRight, Invariant, KeptOn}
 use Rattle.segment_calls.specs.Form.{off_word}
 use Rattle.segment_invariant.proofs.Frames.GoesOn.{happens}
 use Rattle.segment_invariant.proofs.Frames.OneActor.{rests_at}
@@ -25,14 +25,14 @@ module _ (shape : Dimensions) (opened : Anatomy) (state : State) (kept : Invaria
   pub now_seen : (place : Place) → place ≢ Spent → ((name : List ℕ) (key : ℤ) → moving_at a name key place ≡ moving_at a name key a.hand.place)
       → ((reference : ℕ) (sum : ℤ) → place ≢ SumLoaded reference sum) → KeepsUp a.hand.place place
       → (word : ℕ) → word_at state.words (h + 9) ≡ word → StandsRight shape kept.anatomy id (with_sight place word) place
-      → Invariant shape opened (record { words = state.words; cursors = state.cursors; actors = set state.actors id (with_sight place word) })
+      → KeptOn shape opened kept (record { words = state.words; cursors = state.cursors; actors = set state.actors id (with_sight place word) })
   now_seen place lives moves no_sum up found is stood =
       let fits = kept.each id a mine lived in
       let (r, first, there, named, many, keys) = knows_of shape opened state kept id a mine recorder lived known buckets.0 in
       let stands : HasRecord kept.anatomy.pieces h r = subst (λ (n : ℕ). HasRecord kept.anatomy.pieces n r) buckets.1 there in
       let word : r.single ≡ found = sym (body_word shape opened state kept h 9 (histogram r) stands (omega arith)) ∙ is in
       let y : Sighting = record { at = h + 9; word = r.single } in
-      subst (λ (n : ℕ). Invariant shape opened (record {
+      subst (λ (n : ℕ). KeptOn shape opened kept (record {
         words = state.words;
         cursors = state.cursors;
         actors = set state.actors id (with_sight place n);
@@ -77,7 +77,7 @@ module _ (shape : Dimensions) (opened : Anatomy) (state : State) (kept : Invaria
   -- the state is kept where it sees the single word as it is, and goes on to a place
   pub single_seen : (place : Place) → is_bound place ≡ false → ((reference : ℕ) (sum : ℤ) → place ≢ SumLoaded reference sum)
       → ((word : ℕ) → StandsRight shape kept.anatomy id (seer a place (sees_single word) a.done.given a.done.lost) place)
-      → Invariant shape opened (record {
+      → KeptOn shape opened kept (record {
         words = state.words;
         cursors = state.cursors;
         actors = set state.actors id (seer a place (sees_single (word_at state.words (h + 9))) a.done.given a.done.lost);
@@ -99,8 +99,8 @@ module _ (shape : Dimensions) (opened : Anatomy) (state : State) (kept : Invaria
       let unbound = ap is_bound placed in
       let lives : a.hand.place ≢ Spent = λ spent. cc (sym placed ∙ spent) in
       let (r, stands, word) = the_record shape opened state kept id a mine recorder unbound h known buckets in
-      happens opened.version state id a (packing_event (pack h old new)) (word_within shape opened state kept h 9 (histogram r) stands refl (omega arith)) shape opened (
-        subst (λ (b : Bool). Invariant shape opened (record {
+      happens opened.version state id a (packing_event (pack h old new)) (word_within shape opened state kept h 9 (histogram r) stands refl (omega arith)) shape opened kept (
+        subst (λ (b : Bool). KeptOn shape opened kept (record {
           words = set state.words (h + 9) (if b then new else found);
           cursors = state.cursors;
           actors = set state.actors id (after_pack b a h new found);
@@ -120,8 +120,8 @@ module _ (shape : Dimensions) (opened : Anatomy) (state : State) (kept : Invaria
       let (r, stands, word) = the_record shape opened state kept id a mine recorder unbound h known buckets in
       let (histogram_is, counts_are) = look_right shape kept.anatomy id a a.hand.place h (kept.standing id a mine) in
       let place : Place = Looking (record (look_of a.hand.place h) { single = None }) in
-      happens opened.version state id a (packing_event (disable h old)) (word_within shape opened state kept h 9 (histogram r) stands refl (omega arith)) shape opened (
-        subst (λ (b : Bool). Invariant shape opened (record {
+      happens opened.version state id a (packing_event (disable h old)) (word_within shape opened state kept h 9 (histogram r) stands refl (omega arith)) shape opened kept (
+        subst (λ (b : Bool). KeptOn shape opened kept (record {
           words = set state.words (h + 9) (if b then off_word opened.version old else found);
           cursors = state.cursors;
           actors = set state.actors id (after_disable b a h old found);

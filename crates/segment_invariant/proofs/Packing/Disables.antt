@@ -1,7 +1,7 @@
 -- A single word is disabled, or frozen: the invariant is kept, with what is learned. First the word changes, and then its actor sees it.
 use Rattle.segment_invariant.proofs.Prelude.Std.{◌≡◌, ◌≢◌, Bool, true, false, ◌&&◌, ◌==◌, nat_lt, if◌then◌else◌, ℕ, ◌+◌, ◌<◌, ◌≤◌, ℤ, pos, max, List, [], ◌∷◌, ◌++◌, length, set, All, Contains, Option, Some, None, ⊎_elim, refl, sym, ap, ◌∙◌, subst, arith, true≢false, eqb-true, eq-eqb, unwrap_or, int_eq, bytes_eq, +ℤ_idr, and_parts, eqb-false, ltb-true, ltb-false, set-set, get_or-set_same, All-contains, All-weaker, Contains-push, some, get_elem?, at_from}
 use Rattle.segment_invariant.proofs.Prelude.Machine.{Dimensions, word_at, SingleWord, Spec, buckets_of, single_of, packed_bucket, Actor, Known, Look, Place, Spent, Looking, SumLoaded, Moving, taken_units, known_at, bucket_key, Buckets, taken_of, is_opener, look_of, packing_event, Ready, is_off, units_in, disable, after_disable, State}
-use Rattle.segment_invariant.proofs.Prelude.Invariant.{Record, Counts, histogram, Anatomy, EventKeeps, form_at, of_name, at_bucket, key_of_bucket, units_held, moving_at, HasRecord, IsFirst, WasFixed, WasInUse, is_beaten, IsLawfulRecord, IsCountsOf, StandsRight, Invariant}
+use Rattle.segment_invariant.proofs.Prelude.Invariant.{Record, Counts, histogram, Anatomy, EventKeeps, form_at, of_name, at_bucket, key_of_bucket, units_held, moving_at, HasRecord, IsFirst, WasFixed, WasInUse, is_beaten, IsLawfulRecord, IsCountsOf, StandsRight, Invariant, KeptOn}
 use Rattle.std.proofs.lemmas.Bool.{and_cases}
 use Rattle.alloc_core.proofs.Owners.{set_at}
 use Rattle.segment_machine.specs.Actor.{known_buckets}
@@ -30,6 +30,7 @@ use Rattle.segment_invariant.proofs.Packing.Loads.{learns_single}
 use Rattle.segment_invariant.proofs.Packing.OffForms.{Disabling, disabling, few_buckets}
 use Rattle.segment_invariant.proofs.Packing.Packs.{with_single}
 use Rattle.segment_invariant.proofs.Frames.Anew.{lawful_anew, counts_anew}
+use Rattle.segment_invariant.proofs.Frames.Rises.{kept_again}
 
 -- ---- the record with its word off
 
@@ -179,8 +180,11 @@ module _ (shape : Dimensions) (opened : Anatomy) (state : State) (kept : Invaria
       up = λ free. subst (λ (p : Place). is_beaten p ≡ false) (sym placed) refl;
     }
 
-    kept_between : Invariant shape opened between
-    kept_between = places_on shape opened state kept h (histogram r) (histogram s) 9 v stands turns id a mine recorder lives (turn unseen) shows
+    first_step : KeptOn shape opened kept between
+    first_step = places_on shape opened state kept h (histogram r) (histogram s) 9 v stands turns id a mine recorder lives (turn unseen) shows
+
+    abbrev kept_between : Invariant shape opened between
+    kept_between = first_step.0
 
     mine_between : get_elem? between.actors id ≡ some b
     mine_between = set_at state.actors id a b mine
@@ -188,8 +192,9 @@ module _ (shape : Dimensions) (opened : Anatomy) (state : State) (kept : Invaria
     abbrev c : Actor
     c = seer b (turn looked) (record a.seen { singles = a.seen.singles ++ record { at = h + 9; word = v } ∷ [] }) a.done.given a.done.lost
 
-    left : Invariant shape opened (record { words = between.words; cursors = state.cursors; actors = set between.actors id c })
-    left = now_seen shape opened between kept_between id b mine_between recorder (alive unseen) h asked buckets (turn looked) (alive looked) (moves b) (no_sum looked) keeps_up
+    left : KeptOn shape opened kept (record { words = between.words; cursors = state.cursors; actors = set between.actors id c })
+    left = kept_again shape opened state kept first_step
+        (now_seen shape opened between kept_between id b mine_between recorder (alive unseen) h asked buckets (turn looked) (alive looked) (moves b) (no_sum looked) keeps_up
         v (get_or-set_same state.words (h + 9) v 0 there)
         (goes_on kept_between.anatomy c (kept_between.standing id b mine_between) refl (record {
           known = right.known;
@@ -197,7 +202,7 @@ module _ (shape : Dimensions) (opened : Anatomy) (state : State) (kept : Invaria
           single = λ w is. subst (λ (n : ℕ). Contains (a.seen.singles ++ record { at = h + 9; word = v } ∷ []) (record { at = h + 9; word = n })) (cc is)
               (Contains-push a.seen.singles (record { at = h + 9; word = v }));
           counts = right.counts;
-        }))
+        })))
 
     -- so the event keeps what holds, where that is the place behind it
     went : turn looked ≡ after_disabling a.segment.version (look_of a.hand.place h) old (form_seen a h old) → Goes shape opened state kept id a mine recorder (packing_event (disable h old))
@@ -205,13 +210,13 @@ module _ (shape : Dimensions) (opened : Anatomy) (state : State) (kept : Invaria
         let fits = kept.each id a mine lives in
         let same : v ≡ off_word opened.version old = (λ i. off_word (kept.same.0 i) (found.3 i)) in
         let seen_as : v ≡ off_word a.segment.version old = (λ i. off_word (sym fits.versioned i) (found.3 i)) in
-        happens opened.version state id a (packing_event (disable h old)) there shape opened (
-          subst (λ (test : Bool). Invariant shape opened (record {
+        happens opened.version state id a (packing_event (disable h old)) there shape opened kept (
+          subst (λ (test : Bool). KeptOn shape opened kept (record {
             words = set state.words (h + 9) (if test then off_word opened.version old else word_at state.words (h + 9));
             cursors = state.cursors;
             actors = set state.actors id (after_disable test a h old (word_at state.words (h + 9)));
           })) (sym (eq-eqb (word_at state.words (h + 9)) old is_old))
-              (subst (λ (p : List ℕ × List Actor). Invariant shape opened (record { words = p.0; cursors = state.cursors; actors = p.1 }))
+              (subst (λ (p : List ℕ × List Actor). KeptOn shape opened kept (record { words = p.0; cursors = state.cursors; actors = p.1 }))
               (λ i. (
                 set state.words (h + 9) (same i),
                 (set-set state.actors id b c ∙ (λ j. set state.actors id (record a {

@@ -1,7 +1,7 @@
 -- A single word is loaded.
 use Rattle.segment_invariant.proofs.Prelude.Std.{◌≡◌, ◌≢◌, ℕ, ◌+◌, Bool, true, false, ◌==◌, [], ◌∷◌, ◌++◌, set, Contains, Some, None, inl, refl, sym, ◌∙◌, subst, arith, eqb-true, if◌then◌else◌, All-push, All-contains, Contains-push, some, get_elem?}
 use Rattle.segment_invariant.proofs.Prelude.Machine.{Dimensions, word_at, single_of, Actor, Look, Place, Spent, Looking, Sighting, look_of, Leads, State, load_single, packing_event, Ready, next, is_opener}
-use Rattle.segment_invariant.proofs.Prelude.Invariant.{histogram, Anatomy, HasRecord, WasSingle, StandsRight, Invariant, EventKeeps}
+use Rattle.segment_invariant.proofs.Prelude.Invariant.{histogram, Anatomy, HasRecord, WasSingle, StandsRight, Invariant, KeptOn, EventKeeps}
 use Rattle.segment_machine.specs.Calls.{nothing_of}
 use Rattle.segment_machine.specs.Packing.{IsSingleOf}
 use Rattle.segment_invariant.proofs.Frames.GoesOn.{happens}
@@ -53,9 +53,9 @@ module _ (shape : Dimensions) (opened : Anatomy) (state : State) (kept : Invaria
       let y : Sighting = record { at = h + 9; word = r.single } in
       let (histogram_is, counts_are) = look_right shape kept.anatomy id a a.hand.place h (kept.standing id a mine) in
       let lawful = kept.records.lawful h r stands in
-      happens opened.version state id a (packing_event (load_single h)) (word_within shape opened state kept h 9 (histogram r) stands refl (omega arith)) shape opened (
+      happens opened.version state id a (packing_event (load_single h)) (word_within shape opened state kept h 9 (histogram r) stands refl (omega arith)) shape opened kept (
         loaded shape opened state kept id a mine records (h + 9) (next a (packing_event (load_single h)) (word_at state.words (h + 9)))
-            (subst (λ (n : ℕ). Invariant shape opened (record {
+            (subst (λ (n : ℕ). KeptOn shape opened kept (record {
               words = state.words;
               cursors = state.cursors;
               actors = set state.actors id (next a (packing_event (load_single h)) n);

@@ -1,7 +1,7 @@
 -- A counts block is mounted, and no other was first: the invariant is kept, with what is learned.
 use Rattle.segment_invariant.proofs.Prelude.Std.{◌≡◌, ◌≢◌, Bool, true, false, ◌==◌, if◌then◌else◌, ℕ, ◌+◌, ◌*◌, ◌<◌, ◌≤◌, List, [], ◌∷◌, ◌++◌, length, set, All, Contains, None, inr, refl, sym, ap, ◌∙◌, subst, arith, eqb-true, ne_eqb, set-set, get_or-set_same, All-contains, All-weaker, Contains-push, some, get_elem?, row_in}
 use Rattle.segment_invariant.proofs.Prelude.Machine.{Behind, Dimensions, word_at, Spec, Sparse, buckets_of, spec_fields, Actor, Known, Own, Look, Spent, Idle, Looking, Sighting, is_bound, has_buckets, Buckets, counted_of, taken_of, is_opener, sight_counts, packing_event, Ready, mount_counts, after_mount, State}
-use Rattle.segment_invariant.proofs.Prelude.Invariant.{Record, Counts, histogram, counts, held, Piece, Anatomy, HasRecord, IsFirst, IsRightlyKnown, WasFixed, HoldsOwn, Invariant, EventKeeps}
+use Rattle.segment_invariant.proofs.Prelude.Invariant.{Record, Counts, histogram, counts, held, Piece, Anatomy, HasRecord, IsFirst, IsRightlyKnown, WasFixed, HoldsOwn, Invariant, KeptOn, EventKeeps}
 use Rattle.alloc_core.proofs.Owners.{set_at}
 use Rattle.segment_machine.specs.Calls.{without}
 use Rattle.segment_invariant.specs.Seen.{HasOwn}
@@ -15,6 +15,7 @@ use Rattle.segment_invariant.proofs.Frames.OneActor.{Doing, doing_of, SameDeeds,
 use Rattle.segment_invariant.proofs.Frames.Onward.{sees_on}
 use Rattle.segment_invariant.proofs.Frames.Shown.{Goes}
 use Rattle.segment_invariant.proofs.Frames.Together.{balanced, finals}
+use Rattle.segment_invariant.proofs.Frames.Rises.{kept_again}
 use Rattle.segment_invariant.proofs.Lists.Ends.{all_without, distinct_filter}
 use Rattle.segment_invariant.proofs.Counting.Learned.{counts_stay}
 use Rattle.segment_invariant.proofs.Counting.Loaded.{counts_found, counts_within, counts_fixed}
@@ -97,8 +98,8 @@ module _ (shape : Dimensions) (opened : Anatomy) (state : State) (kept : Invaria
   abbrev between : State
   between = record { words = set state.words (h + 8) own.at; cursors = state.cursors; actors = actors }
 
-  kept_between : Invariant shape opened between
-  kept_between =
+  first_step : KeptOn shape opened kept between
+  first_step =
       let fits = kept.each id a mine lives in
       let calls = fits.calls in
       let onward = mounted.onward shape opened state kept id h r own stands unmounted holds tag bare room in
@@ -125,7 +126,7 @@ module _ (shape : Dimensions) (opened : Anatomy) (state : State) (kept : Invaria
         counted = λ name key. omega arith;
         keys = λ entry there. kept.keys entry (row_in counted_of state.actors id a entry mine there);
         taken_keys = λ t count there. kept.taken_keys t count (row_in taken_of state.actors id a t mine there);
-        sums = sums_on kept.anatomy.pieces pieces state.actors actors (sums_same shape opened state kept id h r own stands unmounted holds tag bare room) same.loaded
+        sums = sums_on shape state.words kept.anatomy kept.shown pieces state.actors actors (sums_same shape opened state kept id h r own stands unmounted holds tag bare room) same.loaded
             (λ name. let costs = same.costs name in omega (arith, costs)) kept.sums;
         lives = λ spent. cc spent;
         stands = tt;
@@ -146,6 +147,9 @@ module _ (shape : Dimensions) (opened : Anatomy) (state : State) (kept : Invaria
             (is_later state.actors actors kept.roles same.roles) (λ taking. alone_was state.actors actors kept.roles same.roles b b refl refl)
             fits.finals;
       })
+
+  abbrev kept_between : Invariant shape opened between
+  kept_between = first_step.0
 
   -- ---- it sees the reference
 
@@ -174,17 +178,18 @@ module _ (shape : Dimensions) (opened : Anatomy) (state : State) (kept : Invaria
       (counts_fixed shape opened between kept_between id b mine_between (λ spent. cc spent) h known buckets)
 
   -- the state that is left is kept
-  pub mount_left : (found : ℕ) → Invariant shape opened (record {
+  pub mount_left : (found : ℕ) → KeptOn shape opened kept (record {
     words = set state.words (h + 8) own.at;
     cursors = state.cursors;
     actors = set state.actors id (after_mount true a h own.at found);
   })
   mount_left found =
-      subst (λ (list : List Actor). Invariant shape opened (record { words = between.words; cursors = state.cursors; actors = list }))
+      subst (λ (list : List Actor). KeptOn shape opened kept (record { words = between.words; cursors = state.cursors; actors = list }))
       (set-set state.actors id b (after_mount true a h own.at found))
+      (kept_again shape opened state kept first_step
       (words_seen shape opened between kept_between id b mine_between recorder refl (Looking look) (λ is. cc is) (λ reference sum is. cc is)
       (λ name key. refl) (sight_counts h own.at) a.seen.ends fixed
-      (record { known = known; knows = buckets; single = λ w is. absurd (cc is); counts = λ some_there. saw }))
+      (record { known = known; knows = buckets; single = λ w is. absurd (cc is); counts = λ some_there. saw })))
 
 module _ (shape : Dimensions) (opened : Anatomy) (state : State) (kept : Invariant shape opened state) (id : ℕ) (a : Actor)
     (mine : get_elem? state.actors id ≡ some a) (recorder : is_opener a.role ≡ false) where
@@ -203,8 +208,8 @@ module _ (shape : Dimensions) (opened : Anatomy) (state : State) (kept : Invaria
       let bucketed : r.spec ≢ Sparse = λ sparse.
       let kind : knows.first_spec ≡ Sparse = sym (one r.spec knows.first_spec known.reference known.reference first knows.first).1 ∙ sparse in
       not_sparse known.spec buckets.2 (sparse_same known.spec (sym knows.same.0 ∙ ap spec_fields kind)) in
-      happens opened.version state id a (packing_event (mount_counts h at)) (word_within shape opened state kept h 8 (histogram r) stands refl (omega arith)) shape opened (
-        subst (λ (p : Bool × ℕ). Invariant shape opened (record {
+      happens opened.version state id a (packing_event (mount_counts h at)) (word_within shape opened state kept h 8 (histogram r) stands refl (omega arith)) shape opened kept (
+        subst (λ (p : Bool × ℕ). KeptOn shape opened kept (record {
           words = set state.words (h + 8) (if p.0 then p.1 else found);
           cursors = state.cursors;
           actors = set state.actors id (after_mount p.0 a h p.1 found);

@@ -1,7 +1,7 @@
 -- A counts block is mounted: where another was first, its actor sees the counts that are there.
 use Rattle.segment_invariant.proofs.Prelude.Std.{◌≡◌, ◌≢◌, Bool, false, ◌==◌, if◌then◌else◌, ℕ, ◌+◌, List, [], ◌∷◌, ◌++◌, set, Contains, None, refl, sym, ap, ◌∙◌, subst, arith, eq-eqb, true≢false, All-contains, Contains-push, some, none, get_elem?}
 use Rattle.segment_invariant.proofs.Prelude.Machine.{Dimensions, word_at, Actor, Own, Look, Spent, Sighting, is_bound, is_opener, sight_counts, packing_event, Ready, mount_counts, after_mount, State}
-use Rattle.segment_invariant.proofs.Prelude.Invariant.{Record, histogram, counts, held, Anatomy, HasRecord, HasCounts, HoldsOwn, Invariant}
+use Rattle.segment_invariant.proofs.Prelude.Invariant.{Record, histogram, counts, held, Anatomy, HasRecord, HasCounts, HoldsOwn, Invariant, KeptOn}
 use Rattle.segment_machine.specs.declared.place.Place.TheVariants.{Losing}
 use Rattle.segment_invariant.proofs.Blocks.Pieces.{one_stands}
 use Rattle.segment_invariant.proofs.Frames.GoesOn.{happens}
@@ -41,8 +41,8 @@ module _ (shape : Dimensions) (opened : Anatomy) (state : State) (kept : Invaria
       let saw : Contains (a.seen.words ++ sight_counts h found) (record { at = h + 8; word = found }) =
       subst (λ (more : List Sighting). Contains (a.seen.words ++ more) (record { at = h + 8; word = found })) (sym sighted)
       (Contains-push a.seen.words (record { at = h + 8; word = found })) in
-      happens opened.version state id a (packing_event (mount_counts h at)) (word_within shape opened state kept h 8 (histogram r) stands refl (omega arith)) shape opened (
-        subst (λ (b : Bool). Invariant shape opened (record {
+      happens opened.version state id a (packing_event (mount_counts h at)) (word_within shape opened state kept h 8 (histogram r) stands refl (omega arith)) shape opened kept (
+        subst (λ (b : Bool). KeptOn shape opened kept (record {
           words = set state.words (h + 8) (if b then at else found);
           cursors = state.cursors;
           actors = set state.actors id (after_mount b a h at found);

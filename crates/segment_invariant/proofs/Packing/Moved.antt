@@ -1,7 +1,7 @@
 -- The units that a recorder took out of a single word are added to the count of their bucket: the invariant is kept, with what is learned.
 use Rattle.segment_invariant.proofs.Prelude.Std.{◌≡◌, ◌≢◌, Bool, true, false, if◌then◌else◌, ℕ, ◌+◌, ◌%◌, ◌^◌, ◌<◌, ◌≤◌, ℤ, pos, List, [], ◌∷◌, ◌++◌, length, set, Option, Some, refl, sym, ap, ◌∙◌, subst, arith, slice_index, int_eq, bytes_eq, +ℤ_idr, set-set, get_or-set_same, All-contains, some, get_elem?, at_from}
 use Rattle.segment_invariant.proofs.Prelude.Machine.{Dimensions, word_at, Spec, buckets_of, single_of, packed_bucket, Actor, Known, Look, Place, Spent, Looking, Moving, Seen, bucket_key, is_opener, back, packing_event, Ready, is_off, add_moved, State}
-use Rattle.segment_invariant.proofs.Prelude.Invariant.{Record, Counts, counts, Anatomy, of_name, key_of_bucket, keyed, units_held, moving_at, HasRecord, HasCounts, WasFixed, is_beaten, IsCountsOf, StandsRight, Invariant}
+use Rattle.segment_invariant.proofs.Prelude.Invariant.{Record, Counts, counts, Anatomy, of_name, key_of_bucket, keyed, units_held, moving_at, HasRecord, HasCounts, WasFixed, is_beaten, IsCountsOf, StandsRight, Invariant, KeptOn}
 use Rattle.std.proofs.Math.Nat.{mod-eq_of_lt}
 use Rattle.alloc_core.proofs.Owners.{set_at}
 use Rattle.segment_invariant.specs.Ledger.{moving_of}
@@ -12,6 +12,7 @@ use Rattle.segment_invariant.proofs.Frames.GoesOn.{happens}
 use Rattle.segment_invariant.proofs.Frames.Shown.{Goes}
 use Rattle.segment_invariant.proofs.Blocks.Places.{counter_within}
 use Rattle.segment_invariant.proofs.Frames.SeesMore.{seer}
+use Rattle.segment_invariant.proofs.Frames.Rises.{kept_again}
 use Rattle.segment_invariant.proofs.Changes.Others.{deed_of, changed}
 use Rattle.segment_invariant.proofs.Counting.Sights.{word_within}
 use Rattle.segment_invariant.proofs.Changes.Counts.{risen, risen_turns, risen_counts, keyed_risen}
@@ -162,8 +163,11 @@ module _ (shape : Dimensions) (opened : Anatomy) (state : State) (kept : Invaria
   abbrev between : State
   between = record { words = set state.words (look.counts + (4 + bucket)) v; cursors = state.cursors; actors = set state.actors id b }
 
-  kept_between : Invariant shape opened between
-  kept_between = places_on shape opened state kept look.counts (counts c) (counts more) (4 + bucket) v mounted turns id a mine recorder lives place shows
+  first_step : KeptOn shape opened kept between
+  first_step = places_on shape opened state kept look.counts (counts c) (counts more) (4 + bucket) v mounted turns id a mine recorder lives place shows
+
+  abbrev kept_between : Invariant shape opened between
+  kept_between = first_step.0
 
   mine_between : get_elem? between.actors id ≡ some b
   mine_between = set_at state.actors id a b mine
@@ -191,14 +195,15 @@ module _ (shape : Dimensions) (opened : Anatomy) (state : State) (kept : Invaria
   abbrev seen : Seen
   seen = record a.seen { counts = a.seen.counts ++ record { at = at; word = word_at between.words at } ∷ [] }
 
-  left : Invariant shape opened (record {
+  left : KeptOn shape opened kept (record {
     words = between.words;
     cursors = state.cursors;
     actors = set between.actors id (seer b place seen a.done.given a.done.lost);
   })
-  left = count_seen shape opened between kept_between id b mine_between recorder refl look right_between stood.2 bucket below
+  left = kept_again shape opened state kept first_step
+      (count_seen shape opened between kept_between id b mine_between recorder refl look right_between stood.2 bucket below
       (let some_units = stood.3 in omega (arith, word_between, some_units)) place refl (λ reference sum is. cc is)
-      right
+      right)
 
   carry : v ≡ (word_at state.words at + units) % 2 ^ 64
   carry =
@@ -209,8 +214,8 @@ module _ (shape : Dimensions) (opened : Anatomy) (state : State) (kept : Invaria
   moved_at =
       let small = fits in
       let event = packing_event (add_moved look.counts bucket units) in
-      happens opened.version state id a event (omega (arith, spot, there)) shape opened (
-        subst (λ (p : List ℕ × List Actor). Invariant shape opened (record { words = p.0; cursors = state.cursors; actors = p.1 }))
+      happens opened.version state id a event (omega (arith, spot, there)) shape opened kept (
+        subst (λ (p : List ℕ × List Actor). KeptOn shape opened kept (record { words = p.0; cursors = state.cursors; actors = p.1 }))
             (λ i. (
               set state.words (sym spot i) (carry i),
               (set-set state.actors id b (seer b place seen a.done.given a.done.lost) ∙ (λ j. set state.actors id (record a {

@@ -1,7 +1,7 @@
 -- Units of the entry that is next are packed into the single word of its histogram: the invariant is kept, with what is learned.
 use Rattle.segment_invariant.proofs.Prelude.Std.{◌≡◌, ◌≢◌, ◌⊎◌, ℕ, ◌+◌, ◌<◌, ◌≤◌, ℤ, Bool, true, false, ◌&&◌, ◌==◌, if◌then◌else◌, Option, Some, List, [], ◌∷◌, ◌++◌, length, set, inl, ⊎_elim, refl, sym, ap, ◌∙◌, subst, arith, eqb-true, slice_index, max, int_eq, bytes_eq, set-set, get_or-set_same, some, get_elem?}
 use Rattle.segment_invariant.proofs.Prelude.Machine.{Dimensions, word_at, buckets_of, single_of, packed_bucket, units_packed, Actor, Known, EntryProgress, Spent, Idle, is_bound, Buckets, is_opener, is_counted, packing_event, Ready, is_off, units_in, pack, after_pack, State}
-use Rattle.segment_invariant.proofs.Prelude.Invariant.{Record, Counts, histogram, Anatomy, EventKeeps, form_at, of_name, key_of_bucket, at_bucket, units_held, marks_held, HasRecord, IsFirst, IsLawfulRecord, IsCountsOf, Invariant}
+use Rattle.segment_invariant.proofs.Prelude.Invariant.{Record, Counts, histogram, Anatomy, EventKeeps, form_at, of_name, key_of_bucket, at_bucket, units_held, marks_held, HasRecord, IsFirst, IsLawfulRecord, IsCountsOf, Invariant, KeptOn}
 use Rattle.alloc_core.proofs.Owners.{set_at}
 use Rattle.bucket_ranges.specs.declared.spec.Spec.TheVariants as spec
 use Rattle.segment_machine.specs.Calls.{IsKeyOfBucket}
@@ -23,6 +23,7 @@ use Rattle.segment_invariant.proofs.Packing.Beaten.{single_seen, pack_beaten}
 use Rattle.segment_invariant.proofs.Packing.Forms.{units_most, Packing, packing}
 use Rattle.segment_invariant.proofs.Packing.Loads.{learns_single}
 use Rattle.segment_invariant.proofs.Frames.Anew.{lawful_anew, counts_anew}
+use Rattle.segment_invariant.proofs.Frames.Rises.{kept_again}
 use Rattle.segment_invariant.proofs.Consistency.Books.{one_first}
 
 -- ---- the record with another single word
@@ -207,8 +208,11 @@ module _ (shape : Dimensions) (opened : Anatomy) (state : State) (kept : Invaria
   abbrev between : State
   between = record { words = set state.words (h + 9) new; cursors = state.cursors; actors = set state.actors id b }
 
-  kept_between : Invariant shape opened between
-  kept_between = units_counted shape opened state kept id a mine recorder unbound entry next uncounted h (histogram r) (histogram s) 9 new stands turns shows
+  first_step : KeptOn shape opened kept between
+  first_step = units_counted shape opened state kept id a mine recorder unbound entry next uncounted h (histogram r) (histogram s) 9 new stands turns shows
+
+  abbrev kept_between : Invariant shape opened between
+  kept_between = first_step.0
 
   there : h + 9 < length state.words
   there = word_within shape opened state kept h 9 (histogram r) stands refl (omega arith)
@@ -216,20 +220,21 @@ module _ (shape : Dimensions) (opened : Anatomy) (state : State) (kept : Invaria
   word_between : word_at between.words (h + 9) ≡ new
   word_between = get_or-set_same state.words (h + 9) new 0 there
 
-  left : Invariant shape opened (record {
+  left : KeptOn shape opened kept (record {
     words = between.words;
     cursors = state.cursors;
     actors = set between.actors id (seer b Idle (record a.seen { singles = a.seen.singles ++ record { at = h + 9; word = word_at between.words (h + 9) } ∷ [] }) a.done.given a.done.lost);
   })
-  left = single_seen shape opened between kept_between id b (set_at state.actors id a b mine) recorder refl h known buckets Idle refl (λ reference sum is. cc is) (λ word. tt)
+  left = kept_again shape opened state kept first_step
+      (single_seen shape opened between kept_between id b (set_at state.actors id a b mine) recorder refl h known buckets Idle refl (λ reference sum is. cc is) (λ word. tt))
 
   -- the state is kept
-  pub units_packed_on : Invariant shape opened (record {
+  pub units_packed_on : KeptOn shape opened kept (record {
     words = set state.words (h + 9) new;
     cursors = state.cursors;
     actors = set state.actors id (after_pack true a h new (word_at state.words (h + 9)));
   })
-  units_packed_on = subst (λ (actors : List Actor). Invariant shape opened (record { words = between.words; cursors = state.cursors; actors = actors }))
+  units_packed_on = subst (λ (actors : List Actor). KeptOn shape opened kept (record { words = between.words; cursors = state.cursors; actors = actors }))
       (set-set state.actors id b _ ∙ (λ i. set state.actors id (record a {
         hand = record a.hand { place = Idle };
         entries = record a.entries { running = sym (next.changed as_counted) i };
@@ -253,8 +258,8 @@ module _ (shape : Dimensions) (opened : Anatomy) (state : State) (kept : Invaria
       let still = ap is_off same ∙ on in
       let packed = subst (λ (w : ℕ). IsPacking bucket c.entry.units w new) (sym same) packs in
       happens opened.version state id a (packing_event (pack h old new))
-      (within_words shape opened state kept id a mine recorder unbound c next uncounted h known buckets named bucket keyed new still packed) shape opened (
-        subst (λ (b : Bool). Invariant shape opened (record {
+      (within_words shape opened state kept id a mine recorder unbound c next uncounted h known buckets named bucket keyed new still packed) shape opened kept (
+        subst (λ (b : Bool). KeptOn shape opened kept (record {
           words = set state.words (h + 9) (if b then new else word);
           cursors = state.cursors;
           actors = set state.actors id (after_pack b a h new word);

@@ -1,7 +1,7 @@
 -- A counts block that is not needed is purged: its type becomes 0, and its call looks on.
 use Rattle.segment_invariant.proofs.Prelude.Std.{◌≡◌, ℕ, ◌+◌, ◌==◌, List, set, refl, sym, ap, ◌∙◌, subst, arith, eq-eqb, eqb-true, false, some, get_elem?, at_from, all_at}
 use Rattle.segment_invariant.proofs.Prelude.Machine.{Dimensions, Actor, Own, Place, Looking, State, purge_block, packing_event, Ready, back, is_opener}
-use Rattle.segment_invariant.proofs.Prelude.Invariant.{Anatomy, layout_of, StandsRight, HoldsOwn, is_beaten, Invariant}
+use Rattle.segment_invariant.proofs.Prelude.Invariant.{Anatomy, layout_of, StandsRight, HoldsOwn, is_beaten, Invariant, KeptOn}
 use Rattle.alloc_core.proofs.Layouts.{length_shown}
 use Rattle.segment_machine.specs.Calls.{change_own}
 use Rattle.segment_invariant.proofs.Frames.GoesOn.{happens}
@@ -24,8 +24,8 @@ module _ (shape : Dimensions) (opened : Anatomy) (state : State) (kept : Invaria
       let size = length_shown shape state.words (layout_of kept.anatomy) kept.shown in
       let within = is.placed.within in
       let room = is.room in
-      happens opened.version state id a (packing_event (purge_block at)) (omega (arith, place, size, within, room)) shape opened (
-        subst (λ (s : ℕ × List Own × Place). Invariant shape opened (record {
+      happens opened.version state id a (packing_event (purge_block at)) (omega (arith, place, size, within, room)) shape opened kept (
+        subst (λ (s : ℕ × List Own × Place). KeptOn shape opened kept (record {
           words = set state.words (s.0 + 2) 0;
           cursors = state.cursors;
           actors = set state.actors id (record a { hand = record { place = s.2; own = s.1 } });

@@ -1,7 +1,7 @@
 -- Each event of the list keeps what holds, and its actor learns that it found the end or a record.
 use Rattle.segment_invariant.proofs.Prelude.Std.{◌≡◌, ℕ, ◌+◌, Bool, set, refl, sym, subst, arith, eq-eqb, false, Some, if◌then◌else◌, some, dite, ℕ_discrete, get_elem?, at_from}
 use Rattle.segment_invariant.proofs.Prelude.Machine.{Dimensions, word_at, Actor, Made, Own, State, store_own_next, load_tail, link, move_tail, after_link, publishing_event, Ready, is_opener}
-use Rattle.segment_invariant.proofs.Prelude.Invariant.{Anatomy, Invariant}
+use Rattle.segment_invariant.proofs.Prelude.Invariant.{Anatomy, Invariant, KeptOn}
 use Rattle.segment_machine.specs.declared.actor.Made.TheVariants.{Histogram, Sample}
 use Rattle.segment_machine.specs.declared.place.Place.TheVariants.{TailLoaded}
 use Rattle.segment_machine.specs.Made.{IsPayload}
@@ -38,8 +38,8 @@ module _ (shape : Dimensions) (opened : Anatomy) (state : State) (kept : Invaria
       let (i, there) = at_from a.hand.own own waits.0 in
       let is_stop = stop shape opened state kept id a mine records tail own given placed i there waits.1 asked ends in
       let lives = (turns shape opened state kept id a mine records tail own given placed i there waits.1 asked ends).lived in
-      happens opened.version state id a (publishing_event (link tail at)) (stop_within shape opened state kept tail is_stop) shape opened (
-        subst (λ (p : Bool × ℕ). Invariant shape opened (record {
+      happens opened.version state id a (publishing_event (link tail at)) (stop_within shape opened state kept tail is_stop) shape opened kept (
+        subst (λ (p : Bool × ℕ). KeptOn shape opened kept (record {
           words = set state.words (tail + 3) (if p.0 then p.1 else found);
           cursors = state.cursors;
           actors = set state.actors id (after_link p.0 a tail p.1 found);

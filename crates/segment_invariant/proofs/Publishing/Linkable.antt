@@ -1,7 +1,7 @@
 -- What a link publishes: a record without counts, a record with its counts block, or a sample.
 use Rattle.segment_invariant.proofs.Prelude.Std.{◌≡◌, ◌⊎◌, ℕ, ◌+◌, ◌*◌, ◌≤◌, ℤ, true, List, [], ◌∷◌, ◌++◌, length, replicate, set, Contains, inl, inr, ⊎_elim, refl, sym, ap, ◌∙◌, subst, arith, false, slice_index, Some, None, w64, cast_unsigned, All-contains, Contains-push, some, none, get_elem?}
 use Rattle.segment_invariant.proofs.Prelude.Machine.{Dimensions, word_at, IsShown, Spec, Linear, Boolean, Custom, Sparse, buckets_of, spec_fault, spec_fields, spec_ranges, Actor, Known, Made, Own, AreNameWords, State, after_link, is_opener}
-use Rattle.segment_invariant.proofs.Prelude.Invariant.{Record, Sample, Body, held, histogram, sample, Piece, Listed, Anatomy, layout_of, form_at, HasRecord, HasSample, IsFirst, IsRightlyKnown, StandsAs, IsLawfulRecord, CountsNothing, HoldsOwn, Invariant}
+use Rattle.segment_invariant.proofs.Prelude.Invariant.{Record, Sample, Body, held, histogram, sample, Piece, Listed, Anatomy, layout_of, form_at, HasRecord, HasSample, IsFirst, IsRightlyKnown, StandsAs, IsLawfulRecord, CountsNothing, HoldsOwn, Invariant, KeptOn}
 use Rattle.bucket_ranges.specs.Reading.{is_name, is_i32}
 use Rattle.segment_machine.specs.declared.actor.Made.TheVariants as made
 use Rattle.segment_machine.specs.declared.place.Place.TheVariants.{TailLoaded}
@@ -36,7 +36,7 @@ module _ (shape : Dimensions) (opened : Anatomy) (state : State) (kept : Invaria
 
   -- the state with the record on the list
   abbrev pub Onward : Type 0
-  Onward = Invariant shape opened (record {
+  Onward = KeptOn shape opened kept (record {
     words = set state.words (tail + 3) own.at;
     cursors = state.cursors;
     actors = set state.actors id (after_link true a tail own.at 12);

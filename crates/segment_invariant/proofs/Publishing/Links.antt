@@ -2,7 +2,7 @@
 -- published, and all that holds is kept.
 use Rattle.segment_invariant.proofs.Prelude.Std.{◌≡◌, ◌≢◌, ℕ, suc, ◌+◌, ◌≤◌, ℤ, Bool, true, false, List, [], ◌∷◌, ◌++◌, map, length, set, All, Contains, IsPermutation, inl, inr, ⊎_elim, refl, sym, ap, ◌∙◌, subst, arith, append_assoc, Some, map-append, All-weaker, All-push, Contains-append_left, Contains-append_right, IsPermutation-refl, some, none, some-injective, some-ne-none, get_elem?, at_set, at_longer, rows, column, at_from, below_length, index_at, all_at, row_in}
 use Rattle.segment_invariant.proofs.Prelude.Machine.{Dimensions, word_at, IsShown, Behind, Spec, IsStop, IsLinked, Place, Known, Portion, Entry, Actor, Claim, Given, Made, Own, Published, Spent, all_published, is_opener, State}
-use Rattle.segment_invariant.proofs.Prelude.Invariant.{Record, Counts, Sample, Body, queue, plain, held, histogram, counts, sample, other, words_of, is_claimed, Piece, extent_of, Listed, listed, Anatomy, layout_of, order_of, free_of, claims_of, Stands, Sees, IsRecordNamed, IsValued, IsNoLater, StandsAs, StandsRight, HoldsOwn, Fits, IsSetBy, ClaimedRight, Invariant, IsAhead, is_beaten}
+use Rattle.segment_invariant.proofs.Prelude.Invariant.{Record, Counts, Sample, Body, queue, plain, held, histogram, counts, sample, other, words_of, is_claimed, Piece, extent_of, Listed, listed, Anatomy, layout_of, order_of, free_of, claims_of, Stands, Sees, IsRecordNamed, IsValued, IsNoLater, StandsAs, StandsRight, HoldsOwn, Fits, IsSetBy, ClaimedRight, Invariant, KeptOn, IsAhead, is_beaten}
 use Rattle.std.proofs.lemmas.List.{take-append-le}
 use Rattle.std.proofs.lemmas.List.Sorted.{IsPermutation-sym, IsPermutation-trans, IsPermutation-append, IsPermutation-map}
 use Rattle.list_core.specs.Chain.{AreNeighbours}
@@ -27,11 +27,13 @@ use Rattle.segment_invariant.proofs.Frames.Books.{cursors_set, noticed_there, no
 use Rattle.segment_invariant.proofs.Frames.Roles.{roles_set}
 use Rattle.segment_invariant.proofs.Frames.GoesOn.{not_opener}
 use Rattle.segment_invariant.proofs.Allocating.Claimers.{still_put, right_put}
-use Rattle.segment_invariant.proofs.Frames.Growth.{grounds_grow, stands_as_grows, with_next, next_claimed, beside_next, Grows, stop_at, longer_by, stop_grows, no_later_grows, sees_grow, grows_on}
+use Rattle.segment_invariant.proofs.Frames.Growth.{grounds_grow, stands_as_grows, record_came, with_next, next_claimed, beside_next, Grows, stop_at, longer_by, stop_grows, no_later_grows, sees_grow, grows_on}
 use Rattle.segment_invariant.proofs.Frames.GrowthOfActors.{saw_itself}
 use Rattle.segment_invariant.proofs.Frames.Standing.{own_stays, follows_itself, stands_on}
 use Rattle.segment_invariant.proofs.Frames.GrowthOfRecords.{AddedRight, records_grow, key_grows, sums_grow}
 use Rattle.segment_invariant.proofs.Frames.GrowthOfStates.{loaded_record, fits_on}
+use Rattle.segment_invariant.proofs.Frames.Rises.{rises_onward}
+use Rattle.segment_invariant.proofs.Frames.SumsRise.{one_there, sums_same}
 use Rattle.segment_invariant.proofs.Lists.Ends.{snoc_split, distinct_filter, all_without, own_found, published_is}
 use Rattle.segment_invariant.proofs.Walking.Walks.{stop_stands, stop_within}
 use Rattle.segment_invariant.proofs.Blocks.Published.{SameHeld, next_held, unclaimed_held, holdings_set, holdings_both, next_stays, next_came, next_owned, next_was_owned, Publishes}
@@ -429,58 +431,66 @@ module _ (shape : Dimensions) (opened : Anatomy) (state : State) (kept : Invaria
         fits_on shape opened state kept new added grows who b (doing_of b) here lives (saw_itself b) (sees_now b fits.sees) (ahead_now b.hand.place b.done.beaten b.done.lost fits.ahead)
         (own_stays shape anatomy new who (λ x stands. others_stay who x.at (held x) ne stands) b.hand.own fits.own) fits.apart fits.owes
 
-    pub links_on : Invariant shape opened (record { words = words'; cursors = state.cursors; actors = actors' })
-    links_on = record {
-      anatomy = new;
-      shown = publishes.shown words' stored.shown;
-      same = kept.same;
-      first_noted = kept.first_noted;
-      answered = answered_now;
-      versions = kept.versions;
-      still = λ k p here.
-          let (q, now, same_at) = kept.still k p here in
-          let (r, next, turned_at) = still_put anatomy.pieces stored.index stored.piece stored.turned stored.there stored.place k q now in
-          let (s, last, still_at) = publishes.still k r next in
-          (s, last, still_at ∙ (turned_at ∙ same_at));
-      blocks = publishes.blocks (right_put anatomy.pieces stored.index stored.turned stored.right kept.blocks);
-      list = list_now;
-      claims = subst (λ (p : List Claim × List Claim). IsPermutation p.0 (claims_of opened.pieces ++ p.1))
-          (λ j. (
-            sym (publishes.claims ∙ claims_same anatomy.pieces stored.index stored.piece stored.turned stored.there stored.claimed stored.place stored.long) j,
-            sym (rows (λ (b : Actor). b.done.claimed) state.actors id a (doing a d) mine refl) j,
-          )) kept.claims;
-      records = records_grow shape.page anatomy new added grows adds.right kept.list.standing kept.list.alone kept.records;
-      passed_over = passed_on shape.page opened anatomy.pieces pieces (still_onward anatomy new added (grows_on anatomy new added grows)) kept.passed_over;
-      balanced = balanced anatomy.version opened.pieces pieces state.actors actors' (same_sums state.actors actors' same)
-          (balanced_same anatomy.version opened.pieces anatomy.pieces pieces state.actors
-          (holdings_both anatomy.version anatomy.pieces halfway.pieces pieces
-          (holdings_set anatomy.version anatomy.pieces stored.index stored.piece stored.turned stored.there stored.held) publishes.holdings)
-          kept.balanced);
-      keys = λ entry has units. key_grows anatomy new added grows entry.name entry.key
-          (kept.keys entry (subst (λ (entries : List Entry). Contains entries entry) same.counted has) units);
-      taken_keys = λ t count has counted. key_grows anatomy new added grows t.name count.0
-          (kept.taken_keys t count (subst (λ (taken : List Portion). Contains taken t) same.taken has) counted);
-      sums = sums_near pieces state.actors actors' (same_sums state.actors actors' same) same.loaded
-          (sums_grow anatomy new added grows state.actors
-          (λ who b reference sum here is. loaded_record shape opened state kept who b reference sum here is)
-          (λ at r new_one. let nothing = adds.right.nothing at r new_one in (nothing.3, nothing.4)) kept.sums);
-      pool = same.units ∙ kept.pool;
-      corrupt = subst (IsSetBy anatomy.corrupt opened.corrupt) (sym (column (λ (b : Actor). b.done.spoiled) state.actors id a (doing a d) mine refl)) kept.corrupt;
-      full = subst (IsSetBy anatomy.full opened.full) (sym (column (λ (b : Actor). b.done.filled) state.actors id a (doing a d) mine refl)) kept.full;
-      noticed = noticed_set anatomy.corrupt state.actors id (doing a d) (noticed_there anatomy.corrupt state.actors id a mine kept.noticed) kept.noticed;
-      roles = roles_set state.actors id a (doing a d) mine (same_role a d turns) (not_opener shape opened state kept id a mine records) kept.roles;
-      cursors = subst (λ (chain : List ℕ). CursorsAreKept chain state.cursors actors') (sym order_is)
-          (cursors_set (order_of anatomy ++ own.at ∷ []) state.cursors state.actors id a (doing a d) mine records refl
-          (cursors_grow words' (order_of anatomy) (own.at ∷ []) state.cursors state.actors through.0 kept.cursors));
-      standing = λ who b here. elim (at_set state.actors id who (doing a d) b here) [
-        | inl t ↦ subst (λ (p : ℕ × Actor). StandsRight shape new p.0 p.1 p.1.hand.place) (λ j. (sym t.0 j, t.1 j))
-            (subst (λ (chain : List ℕ). AreNeighbours chain tail own.at) (sym order_is) through.1)
-        | inr t ↦ stands_on shape anatomy new who b b (grounds_grow anatomy new added grows who (λ at words. others_stay who at (plain words) t.0))
-            (follows_itself b) b.hand.place (kept.standing who b t.1)
-      ];
-      each = λ who b here lives. fits_same state.actors actors' same shape new state.cursors kept.roles.opener who b kept.roles.stands
-          (elim (at_set state.actors id who (doing a d) b here) [
-            | inl t ↦ subst (λ (p : ℕ × Actor). Fits shape new state.cursors state.actors kept.roles.opener p.0 p.1) (λ j. (sym t.0 j, t.1 j)) fits_mine
-            | inr t ↦ fits_else who b t.0 t.1 lives
-          ]);
-    }
+    pub links_on : KeptOn shape opened kept (record { words = words'; cursors = state.cursors; actors = actors' })
+    links_on = (
+      record {
+        anatomy = new;
+        shown = publishes.shown words' stored.shown;
+        same = kept.same;
+        first_noted = kept.first_noted;
+        answered = answered_now;
+        versions = kept.versions;
+        still = λ k p here.
+            let (q, now, same_at) = kept.still k p here in
+            let (r, next, turned_at) = still_put anatomy.pieces stored.index stored.piece stored.turned stored.there stored.place k q now in
+            let (s, last, still_at) = publishes.still k r next in
+            (s, last, still_at ∙ (turned_at ∙ same_at));
+        blocks = publishes.blocks (right_put anatomy.pieces stored.index stored.turned stored.right kept.blocks);
+        list = list_now;
+        claims = subst (λ (p : List Claim × List Claim). IsPermutation p.0 (claims_of opened.pieces ++ p.1))
+            (λ j. (
+              sym (publishes.claims ∙ claims_same anatomy.pieces stored.index stored.piece stored.turned stored.there stored.claimed stored.place stored.long) j,
+              sym (rows (λ (b : Actor). b.done.claimed) state.actors id a (doing a d) mine refl) j,
+            )) kept.claims;
+        records = records_grow shape.page anatomy new added grows adds.right kept.list.standing kept.list.alone kept.records;
+        passed_over = passed_on shape.page opened anatomy.pieces pieces (still_onward anatomy new added (grows_on anatomy new added grows)) kept.passed_over;
+        balanced = balanced anatomy.version opened.pieces pieces state.actors actors' (same_sums state.actors actors' same)
+            (balanced_same anatomy.version opened.pieces anatomy.pieces pieces state.actors
+            (holdings_both anatomy.version anatomy.pieces halfway.pieces pieces
+            (holdings_set anatomy.version anatomy.pieces stored.index stored.piece stored.turned stored.there stored.held) publishes.holdings)
+            kept.balanced);
+        keys = λ entry has units. key_grows anatomy new added grows entry.name entry.key
+            (kept.keys entry (subst (λ (entries : List Entry). Contains entries entry) same.counted has) units);
+        taken_keys = λ t count has counted. key_grows anatomy new added grows t.name count.0
+            (kept.taken_keys t count (subst (λ (taken : List Portion). Contains taken t) same.taken has) counted);
+        sums = sums_near pieces state.actors actors' (same_sums state.actors actors' same) same.loaded
+            (sums_grow anatomy new added grows state.actors
+            (λ who b reference sum here is. loaded_record shape opened state kept who b reference sum here is)
+            (λ at r new_one. let nothing = adds.right.nothing at r new_one in (nothing.3, nothing.4)) kept.sums);
+        pool = same.units ∙ kept.pool;
+        corrupt = subst (IsSetBy anatomy.corrupt opened.corrupt) (sym (column (λ (b : Actor). b.done.spoiled) state.actors id a (doing a d) mine refl)) kept.corrupt;
+        full = subst (IsSetBy anatomy.full opened.full) (sym (column (λ (b : Actor). b.done.filled) state.actors id a (doing a d) mine refl)) kept.full;
+        noticed = noticed_set anatomy.corrupt state.actors id (doing a d) (noticed_there anatomy.corrupt state.actors id a mine kept.noticed) kept.noticed;
+        roles = roles_set state.actors id a (doing a d) mine (same_role a d turns) (not_opener shape opened state kept id a mine records) kept.roles;
+        cursors = subst (λ (chain : List ℕ). CursorsAreKept chain state.cursors actors') (sym order_is)
+            (cursors_set (order_of anatomy ++ own.at ∷ []) state.cursors state.actors id a (doing a d) mine records refl
+            (cursors_grow words' (order_of anatomy) (own.at ∷ []) state.cursors state.actors through.0 kept.cursors));
+        standing = λ who b here. elim (at_set state.actors id who (doing a d) b here) [
+          | inl t ↦ subst (λ (p : ℕ × Actor). StandsRight shape new p.0 p.1 p.1.hand.place) (λ j. (sym t.0 j, t.1 j))
+              (subst (λ (chain : List ℕ). AreNeighbours chain tail own.at) (sym order_is) through.1)
+          | inr t ↦ stands_on shape anatomy new who b b (grounds_grow anatomy new added grows who (λ at words. others_stay who at (plain words) t.0))
+              (follows_itself b) b.hand.place (kept.standing who b t.1)
+        ];
+        each = λ who b here lives. fits_same state.actors actors' same shape new state.cursors kept.roles.opener who b kept.roles.stands
+            (elim (at_set state.actors id who (doing a d) b here) [
+              | inl t ↦ subst (λ (p : ℕ × Actor). Fits shape new state.cursors state.actors kept.roles.opener p.0 p.1) (λ j. (sym t.0 j, t.1 j)) fits_mine
+              | inr t ↦ fits_else who b t.0 t.1 lives
+            ]);
+      },
+      rises_onward anatomy new added (grows_on anatomy new added grows) refl (l ∷ []) refl (let same = free_is in omega (arith, same))
+          (λ seen. no_later_grows anatomy new added grows seen anatomy.tail) (λ set. set) (λ set. set),
+      sums_same anatomy.pieces pieces state.actors actors' (same_sums state.actors actors' same).costs (λ at r s here now. ⊎_elim
+          (λ t. ap (λ (z : Record). z.sum) (one_there shape state.words anatomy kept.shown at r t.0 here t.2) ∙ ap (λ (z : Record). z.sum) (sym t.3))
+          (λ new_one. absurd (grows.apart at at 0 0 (histogram s) (histogram r) new_one here (omega arith) (omega arith) refl))
+          (record_came anatomy new added grows at s now)),
+    )

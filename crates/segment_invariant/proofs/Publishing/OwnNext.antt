@@ -1,7 +1,7 @@
 -- The next of a block of one's own is stored: it waits for its link.
 use Rattle.segment_invariant.proofs.Prelude.Std.{◌≡◌, ℕ, ◌+◌, ◌==◌, List, set, inr, refl, sym, ◌∙◌, subst, arith, eq-eqb, eqb-true, false, some, get_elem?, at_from, all_at}
 use Rattle.segment_invariant.proofs.Prelude.Machine.{Dimensions, Actor, Own, State, store_own_next, publishing_event, Ready, is_opener}
-use Rattle.segment_invariant.proofs.Prelude.Invariant.{Anatomy, layout_of, HoldsOwn, Invariant}
+use Rattle.segment_invariant.proofs.Prelude.Invariant.{Anatomy, layout_of, HoldsOwn, Invariant, KeptOn}
 use Rattle.alloc_core.proofs.Layouts.{length_shown}
 use Rattle.segment_machine.specs.Calls.{change_own}
 use Rattle.segment_invariant.proofs.Frames.GoesOn.{happens}
@@ -22,8 +22,8 @@ module _ (shape : Dimensions) (opened : Anatomy) (state : State) (kept : Invaria
       let size = length_shown shape state.words (layout_of kept.anatomy) kept.shown in
       let within = is.placed.within in
       let room = is.room in
-      happens opened.version state id a (publishing_event (store_own_next at)) (omega (arith, place, size, within, room)) shape opened (
-        subst (λ (s : ℕ × List Own). Invariant shape opened (record {
+      happens opened.version state id a (publishing_event (store_own_next at)) (omega (arith, place, size, within, room)) shape opened kept (
+        subst (λ (s : ℕ × List Own). KeptOn shape opened kept (record {
           words = set state.words (s.0 + 3) 12;
           cursors = state.cursors;
           actors = set state.actors id (record a { hand = record a.hand { own = s.1 } });

@@ -50,7 +50,7 @@ module _ (shape : Dimensions) (opened : Anatomy) (state : State) (kept : Invaria
       let found : ℕ = word_at state.words 8 in
       let turns = turns_unbound a (TailLoaded found) unbound refl in
       let fits = kept.each id a mine turns.lived in
-      happens opened.version state id a (publishing_event load_tail) eight_within shape opened (
+      happens opened.version state id a (publishing_event load_tail) eight_within shape opened kept (
         loaded shape opened state kept id a mine records 8 (next a (publishing_event load_tail) found)
             (looks_on shape opened state kept id a mine records (TailLoaded found) a.done.beaten (a.seen.tails ++ found ∷ []) a.seen.chain a.seen.ends a.seen.words turns
             (saw_no_more (TailLoaded found) a.done.beaten a.hand.own (a.seen.tails ++ found ∷ []) turns) kept.anatomy.tail state.words kept.shown kept.list.linked kept.list.tail
@@ -124,7 +124,7 @@ module _ (shape : Dimensions) (opened : Anatomy) (state : State) (kept : Invaria
       let (stop, later) = onward old new near in
       let turns = turns_plain a Idle plain refl in
       let fits = kept.each id a mine turns.lived in
-      happens opened.version state id a (publishing_event (move_tail old new)) eight_within shape opened (
+      happens opened.version state id a (publishing_event (move_tail old new)) eight_within shape opened kept (
         looks_on shape opened state kept id a mine records Idle a.done.beaten (a.seen.tails ++ v ∷ []) a.seen.chain a.seen.ends a.seen.words turns
             (saw_no_more Idle a.done.beaten a.hand.own (a.seen.tails ++ v ∷ []) turns) v (set state.words 8 v)
             (shown_tail shape state.words (layout_of kept.anatomy) v kept.shown)
@@ -159,7 +159,7 @@ module _ (shape : Dimensions) (opened : Anatomy) (state : State) (kept : Invaria
       let turns = turns_plain a (Beaten tail found) (ap is_plain placed) refl in
       let fits = kept.each id a mine turns.lived in
       let by : Bool → Type 0 = λ b. after_is shape opened state kept id a mine records (tail + 3) (if b then at else found) (after_link b a tail at found) in
-      happens opened.version state id a (publishing_event (link tail at)) (stop_within shape opened state kept tail stop) shape opened (
+      happens opened.version state id a (publishing_event (link tail at)) (stop_within shape opened state kept tail stop) shape opened kept (
         subst by (sym (ne_eqb found 12 other))
             (loaded shape opened state kept id a mine records (tail + 3) (after_link false a tail at found)
             (looks_on shape opened state kept id a mine records (Beaten tail found) (a.done.beaten + 1) a.seen.tails a.seen.chain a.seen.ends a.seen.words turns

@@ -1,7 +1,7 @@
 -- A recorder that is joined keeps what holds.
-use Rattle.segment_invariant.proofs.Prelude.Std.{◌≡◌, ◌≢◌, ℕ, ◌+◌, Bool, true, true≢false, List, [], ◌++◌, map, set, length, refl, sym, ap, ◌∙◌, subst, subst₂, append_assoc, append-nil, arith, false, if◌then◌else◌, some, get_elem?, Contains, All, map-append, All-nil, All-append, set_else, set_here, none_at, sum_beside, below_length}
+use Rattle.segment_invariant.proofs.Prelude.Std.{◌≡◌, ◌≢◌, ℕ, ◌+◌, Bool, true, true≢false, List, [], ◌++◌, map, set, length, inl, refl, sym, ap, ◌∙◌, subst, subst₂, append_assoc, append-nil, arith, false, if◌then◌else◌, some, get_elem?, Contains, All, map-append, All-nil, All-append, set_else, set_here, none_at, sum_beside, below_length}
 use Rattle.segment_invariant.proofs.Prelude.Machine.{Dimensions, Entry, EntryProgress, Spent, SumLoaded, Actor, Moment, Answered, Given, is_bound, log_of, is_opener, made_of, offered_of, outstanding_of, State}
-use Rattle.segment_invariant.proofs.Prelude.Invariant.{IsWithinCounts, plain, Anatomy, order_of, is_living, RolesAreKept, StandsRight, Fits, Invariant, IsRightlyKnown}
+use Rattle.segment_invariant.proofs.Prelude.Invariant.{IsWithinCounts, plain, histogram, Anatomy, order_of, is_living, RolesAreKept, StandsRight, Fits, Invariant, KeptOn, IsRightlyKnown}
 use Rattle.std.proofs.lemmas.List.Elements.{All-map}
 use Rattle.segment_invariant.proofs.Frames.Answers.{owes_more}
 use Rattle.segment_machine.specs.Seats.{MayJoin, joined, spent, shifted, shifted_answers}
@@ -15,7 +15,9 @@ use Rattle.segment_invariant.proofs.Frames.Deeds.{Deeds, deeds_set, sums_of}
 use Rattle.segment_invariant.proofs.Frames.Together.{LoadedBefore}
 use Rattle.segment_invariant.proofs.Frames.Books.{GivenInOrder, books_of, books_by, kept_by}
 use Rattle.segment_invariant.proofs.Frames.Roles.{no_recorder, opens_nothing, Stood, AllStood, still_younger, still_apart, still_eldest, opens_first, fits_beside}
-use Rattle.segment_invariant.proofs.Recorders.PassedBlocks.{handed, stays_passed, stands_left, books_passed, sees_passed, names_passed, calls_passed, fits_passed}
+use Rattle.segment_invariant.proofs.Frames.Rises.{rises_reshaped}
+use Rattle.segment_invariant.proofs.Frames.SumsRise.{sums_come}
+use Rattle.segment_invariant.proofs.Recorders.PassedBlocks.{handed, free_passed, stays_passed, stands_left, books_passed, sees_passed, names_passed, calls_passed, fits_passed}
 use Rattle.segment_invariant.proofs.Recorders.Joined.{Joins, joined_deeds, joined_sees, joined_calls}
 use Rattle.segment_invariant.proofs.Recorders.Finals.{joined_finals, joined_own, joined_apart}
 
@@ -215,12 +217,16 @@ module _ (shape : Dimensions) (opened : Anatomy) (old : State) (kept : Invariant
       (λ stands. absurd (cc stands))
       (λ k c past front is stands. (k, c, is, stands))
 
-  pub join_kept : Invariant shape opened (record old { actors = merged })
+  pub join_kept : KeptOn shape opened kept (record old { actors = merged })
   unfolding roles
   join_kept = kept_by shape opened anatomy old.words old.cursors merged
       (books_passed other 0 kept.anatomy shape opened old.words old.cursors merged
       (books_by shape opened kept.anatomy old.words old.cursors old.actors merged deeds loaded (books_of shape opened old kept)))
-      roles kept.first_noted ordered given standing each
+      roles kept.first_noted ordered given standing each kept
+      (rises_reshaped kept.anatomy anatomy.pieces anatomy.spare anatomy.corrupt anatomy.full anatomy.tail (stays_passed other 0 kept.anatomy.pieces)
+      (inl (sym (free_passed other 0 kept.anatomy))) (λ seen no_later. no_later) (λ set. set) (λ set. set))
+      (sums_come shape old.words kept.anatomy kept.shown anatomy.pieces old.actors merged (sums_of old.actors merged deeds).costs
+      (λ at s there. (s, (stays_passed other 0 kept.anatomy.pieces).back at (histogram s) there, refl)))
 
 pub joins_keep : JoinsKeep
 joins_keep shape opened old new id other kept joining =
@@ -228,9 +234,9 @@ joins_keep shape opened old new id other kept joining =
     let b = joining.1 in
     let may = joining.5 in
     let opener = opens_first old.actors kept.roles id a joining.3 may.1 in
-    subst (Invariant shape opened) (sym joining.6)
+    subst (KeptOn shape opened kept) (sym joining.6)
     (subst₂
-    (λ (k : ℕ) (c : Actor). Invariant shape opened (record old { actors = set (set old.actors k (joined c b)) other spent }))
+    (λ (k : ℕ) (c : Actor). KeptOn shape opened kept (record old { actors = set (set old.actors k (joined c b)) other spent }))
     (sym opener.0) opener.1
     (join_kept shape opened old kept other b
     (λ e. joining.2 (opener.0 ∙ e)) joining.4 (subst (λ (c : Actor). MayJoin c b) (sym opener.1) may)))

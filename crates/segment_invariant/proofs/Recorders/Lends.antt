@@ -1,7 +1,7 @@
 -- Units that are offered, lent, poured out of a purse or given back keep what holds: of actors only their shares become other ones, and what an opener offers.
 use Rattle.segment_invariant.proofs.Prelude.Std.{Bool, true≢false, ◌≡◌, ◌≢◌, ℕ, suc, ◌+◌, ◌-◌, ◌≤◌, true, false, ◌||◌, fold, List, [], ◌∷◌, ◌++◌, map, length, set, inl, inr, refl, sym, ap, ◌∙◌, subst, subst₂, sum_by, arith, length-set, some, some-injective, get_elem?, if◌then◌else◌, IsPermutation, flat_map, Contains, All, IsPermutation-refl, sum_by-cons, at_set, set_else, set_here, sum_beside, below_length}
 use Rattle.segment_invariant.proofs.Prelude.Machine.{Dimensions, Spent, SumLoaded, Actor, tally_sum, counted_of, summed_of, noted_of, taken_sum, units_of, taken_of, is_opener, made_of, offered_of, State, purse}
-use Rattle.segment_invariant.proofs.Prelude.Invariant.{Anatomy, order_of, moving_at, is_living, summed_cost, RolesAreKept, StandsRight, Fits, Invariant}
+use Rattle.segment_invariant.proofs.Prelude.Invariant.{Anatomy, order_of, moving_at, is_living, summed_cost, RolesAreKept, StandsRight, Fits, Invariant, KeptOn}
 use Rattle.segment_machine.specs.declared.actor.Role.{Role}
 use Rattle.segment_machine.specs.Actor.{given_by}
 use Rattle.segment_machine.specs.Seats.{offering, giver, getter, spent}
@@ -12,6 +12,8 @@ use Rattle.segment_invariant.proofs.Frames.GoesOn.{not_opener}
 use Rattle.segment_invariant.proofs.Frames.Together.{LoadedBefore}
 use Rattle.segment_invariant.proofs.Frames.Books.{GivenInOrder, books_of, books_by, kept_by}
 use Rattle.segment_invariant.proofs.Frames.Roles.{same_living, Stood, AllStood, still_younger, still_apart, still_eldest, opens_first, still_heirs, fits_beside}
+use Rattle.segment_invariant.proofs.Frames.Rises.{rises_itself}
+use Rattle.segment_invariant.proofs.Frames.SumsRise.{sums_rest}
 use Rattle.segment_invariant.proofs.Recorders.Shares.{OffersAnew, sharing, shared_fits}
 use Rattle.segment_invariant.proofs.Frames.Standing.{grounds_itself, stands_on}
 
@@ -172,14 +174,15 @@ module _ (shape : Dimensions) (opened : Anatomy) (old : State) (kept : Invariant
   loaded at sum = each_shared (λ k c. c.hand.place ≡ SumLoaded at sum → (j : ℕ) × (d : Actor) × (get_elem? old.actors j ≡ some d) × (d.hand.place ≡ SumLoaded at sum))
       (λ k a s o there offers spent stands. (k, a, there, stands))
 
-  pub shared_kept : Invariant shape opened (record old { actors = new })
+  pub shared_kept : KeptOn shape opened kept (record old { actors = new })
   unfolding roles
   shared_kept = kept_by shape opened kept.anatomy old.words old.cursors new
       (books_by shape opened kept.anatomy old.words old.cursors old.actors new deeds loaded (books_of shape opened old kept))
       roles kept.first_noted
       (each_shared (λ k c. is_opener c.role ≡ false → GivenInOrder (order_of kept.anatomy) c.done.given) (λ k a s o at offers spent records. kept.cursors.ordered k a at (sym offers.opener ∙ records)))
       (each_shared (λ k c. All (λ g. Contains (order_of kept.anatomy) g.reference) c.done.given) (λ k a s o at offers spent. kept.cursors.given k a at))
-      standing each
+      standing each kept (rises_itself kept.anatomy)
+      (sums_rest shape old.words kept.anatomy kept.shown old.actors new (sums_of old.actors new deeds).costs)
 
 -- ---- units go from one to the other
 
@@ -196,7 +199,7 @@ module _ (shape : Dimensions) (opened : Anatomy) (old : State) (kept : Invariant
   lent = set (set old.actors 0 lender) other borrower
 
   -- the one opener and a recorder that lives have other shares, and all have as many units as before
-  pub moved_kept : Invariant shape opened (record old { actors = lent })
+  pub moved_kept : KeptOn shape opened kept (record old { actors = lent })
   moved_kept =
       let opener : Actor = kept.roles.opener in
       let behind = set_else old.actors 0 other lender (λ e. apart (sym e)) ∙ there in
@@ -217,15 +220,15 @@ module _ (shape : Dimensions) (opened : Anatomy) (old : State) (kept : Invariant
 -- the one that opens is the first
 module _ (shape : Dimensions) (opened : Anatomy) (old : State) (kept : Invariant shape opened old) (id other : ℕ) (a : Actor) (stands : get_elem? old.actors id ≡ some a)
     (opens : is_opener a.role ≡ true) (x : Actor → Actor) (y : Actor) where
-  first_kept : (((id ≡ 0) × (kept.roles.opener ≡ a)) → Invariant shape opened (record old { actors = set (set old.actors 0 (x kept.roles.opener)) other y }))
-      → Invariant shape opened (record old { actors = set (set old.actors id (x a)) other y })
+  first_kept : (((id ≡ 0) × (kept.roles.opener ≡ a)) → KeptOn shape opened kept (record old { actors = set (set old.actors 0 (x kept.roles.opener)) other y }))
+      → KeptOn shape opened kept (record old { actors = set (set old.actors id (x a)) other y })
   first_kept keeps =
       let opener = opens_first old.actors kept.roles id a stands opens in
-      subst₂ (λ (k : ℕ) (c : Actor). Invariant shape opened (record old { actors = set (set old.actors k (x c)) other y })) (sym opener.0) opener.1 (keeps opener)
+      subst₂ (λ (k : ℕ) (c : Actor). KeptOn shape opened kept (record old { actors = set (set old.actors k (x c)) other y })) (sym opener.0) opener.1 (keeps opener)
 
 pub lends_keep : LendsKeep
 lends_keep shape opened old new id other units kept (a, b, apart, stands, there, (opens, records, live, enough), is) =
-    subst (Invariant shape opened) (sym is)
+    subst (KeptOn shape opened kept) (sym is)
     (first_kept shape opened old kept id other a stands opens (λ c. giver c units) (getter b units)
     (λ opener.
     let share = ap (λ (c : Actor). c.units.share) opener.1 in
@@ -235,7 +238,7 @@ lends_keep shape opened old new id other units kept (a, b, apart, stands, there,
 
 pub returns_keep : ReturnsKeep
 returns_keep shape opened old new id other units kept (a, b, apart, stands, there, (opens, records, live, enough), is) =
-    subst (Invariant shape opened) (sym is)
+    subst (KeptOn shape opened kept) (sym is)
     (first_kept shape opened old kept id other a stands opens (λ c. getter c units) (giver b units)
     (λ opener.
     let offers = kept.roles.offers in
@@ -263,7 +266,7 @@ module _ (shape : Dimensions) (opened : Anatomy) (old : State) (kept : Invariant
   nor_other : other ≢ 0
   nor_other = not_opener shape opened old kept other c there (ap (λ (a : Actor). is_opener a.role) carries)
 
-  pub pour_kept : Invariant shape opened (record old { actors = poured })
+  pub pour_kept : KeptOn shape opened kept (record old { actors = poured })
   pour_kept =
       let opener : Actor = kept.roles.opener in
       let now = sum_beside units_of (set old.actors id richer) other c spent (set_else old.actors id other richer (λ e. apart (sym e)) ∙ there) in
@@ -283,7 +286,7 @@ module _ (shape : Dimensions) (opened : Anatomy) (old : State) (kept : Invariant
 
 pub pours_keep : PoursKeep
 pours_keep shape opened old new id other kept (b, c, apart, stands, there, (records, live, carries), is) =
-    subst (Invariant shape opened) (sym is) (pour_kept shape opened old kept id other b c apart stands there records carries)
+    subst (KeptOn shape opened kept) (sym is) (pour_kept shape opened old kept id other b c apart stands there records carries)
 
 -- ---- units are offered
 
@@ -296,8 +299,8 @@ offers_keep shape opened old new id units kept (a, stands, (idle, opens, enough)
     let all = sum_beside units_of old.actors 0 opener later kept.roles.stands in
     let anew : OffersAnew opener.role later.role =
     record { opener = sym kept.roles.opens; made = refl; outstanding = refl; recorder = λ records. absurd (true≢false (sym kept.roles.opens ∙ records)) } in
-    subst (Invariant shape opened) (sym is)
-    (subst₂ (λ (k : ℕ) (c : Actor). Invariant shape opened (record old { actors = set old.actors k (offering c units) })) (sym front) same
+    subst (KeptOn shape opened kept) (sym is)
+    (subst₂ (λ (k : ℕ) (c : Actor). KeptOn shape opened kept (record old { actors = set old.actors k (offering c units) })) (sym front) same
     (shared_kept shape opened old kept (set old.actors 0 later)
     (record {
       long = length-set old.actors 0 later;

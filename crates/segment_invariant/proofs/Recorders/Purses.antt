@@ -1,7 +1,7 @@
 -- A purse that an opener fills keeps what holds: it is one actor more, which has units and nothing else.
 use Rattle.segment_invariant.proofs.Prelude.Std.{◌≡◌, ◌≢◌, ℕ, ◌-◌, ◌≤◌, Bool, true, true≢false, List, [], ◌∷◌, ◌++◌, set, refl, sym, ap, subst, subst₂, arith, if◌then◌else◌, some, get_elem?, flat_map, sum_by-append, IsPermutation-refl, sum_beside}
 use Rattle.segment_invariant.proofs.Prelude.Machine.{Dimensions, Spent, Actor, all_counted, all_noted, all_published, all_taken, made_of, offered_of, outstanding_of, State, purse}
-use Rattle.segment_invariant.proofs.Prelude.Invariant.{Anatomy, is_living, RolesAreKept, Fits, Invariant}
+use Rattle.segment_invariant.proofs.Prelude.Invariant.{Anatomy, is_living, RolesAreKept, Fits, Invariant, KeptOn}
 use Rattle.std.proofs.Math.Bool.{or-false}
 use Rattle.segment_machine.specs.Actor.{all_given, all_names, all_owed}
 use Rattle.segment_machine.specs.Seats.{MayFill, lender}
@@ -10,6 +10,8 @@ use Rattle.list_lemmas.proofs.Maps.{each_of_more}
 use Rattle.segment_invariant.proofs.Frames.Deeds.{Deeds, deeds_more, sums_of}
 use Rattle.segment_invariant.proofs.Frames.Books.{books_of, books_by, kept_by}
 use Rattle.segment_invariant.proofs.Frames.Roles.{no_recorder, opens_nothing, AllStood, Stood, still_younger, still_apart, still_eldest, still_heirs, opens_first, fits_beside}
+use Rattle.segment_invariant.proofs.Frames.Rises.{rises_itself}
+use Rattle.segment_invariant.proofs.Frames.SumsRise.{sums_rest}
 use Rattle.segment_invariant.proofs.Recorders.Shares.{opener_fits}
 use Rattle.segment_invariant.proofs.Recorders.Newcomers.{Comes, comes}
 
@@ -93,17 +95,18 @@ module _ (shape : Dimensions) (opened : Anatomy) (old : State) (kept : Invariant
       (λ live. absurd (live refl))
       (λ k c within front at live. beside k c (kept.each k c at live))
 
-  pub fill_kept : Invariant shape opened (record old { actors = more })
+  pub fill_kept : KeptOn shape opened kept (record old { actors = more })
   unfolding roles
   fill_kept = kept_by shape opened kept.anatomy old.words old.cursors more
       (books_by shape opened kept.anatomy old.words old.cursors old.actors more deeds came.loaded (books_of shape opened old kept))
-      roles kept.first_noted came.ordered came.given came.standing each
+      roles kept.first_noted came.ordered came.given came.standing each kept (rises_itself kept.anatomy)
+      (sums_rest shape old.words kept.anatomy kept.shown old.actors more (sums_of old.actors more deeds).costs)
 
 pub fills_keep : FillsKeep
 fills_keep shape opened old new id kept (a, stands, may, is) =
     let opener = opens_first old.actors kept.roles id a stands may.1 in
-    subst (Invariant shape opened) (sym is)
+    subst (KeptOn shape opened kept) (sym is)
     (subst₂
-    (λ (k : ℕ) (c : Actor). Invariant shape opened (record old { actors = set old.actors k (lender c) ++ purse (offered_of c.role) ∷ [] }))
+    (λ (k : ℕ) (c : Actor). KeptOn shape opened kept (record old { actors = set old.actors k (lender c) ++ purse (offered_of c.role) ∷ [] }))
     (sym opener.0) opener.1
     (fill_kept shape opened old kept (subst MayFill (sym opener.1) may)))

@@ -1,7 +1,7 @@
 -- A recorder that is made keeps what holds.
 use Rattle.segment_invariant.proofs.Prelude.Std.{◌≡◌, ◌≢◌, ◌⊎◌, ℕ, ◌+◌, ◌-◌, ◌<◌, ◌≤◌, Bool, true, ◌&&◌, true≢false, List, [], ◌∷◌, ◌++◌, map, set, length, inl, inr, ⊎_elim, refl, sym, ap, ◌∙◌, subst, subst₂, append-nil, arith, drop, pos, if◌then◌else◌, slice_index, some, get_elem?, flat_map, Contains, All, and_parts, All-nil, All-contains, Contains-append_left, Contains-append_right, Contains-append_cases, sum_by-append, IsPermutation-refl, none_in, none_at, contains_filter, sum_at_least, sum_beside, contains_map, contains_mapped}
 use Rattle.segment_invariant.proofs.Prelude.Machine.{Dimensions, IsStop, Entry, EntryProgress, Spent, Actor, Sighting, is_counted, is_summed, is_noted, has_ended, counted_among, log_of, counted_of, all_counted, all_noted, all_published, all_taken, made_of, offered_of, outstanding_of, State}
-use Rattle.segment_invariant.proofs.Prelude.Invariant.{IsWithinCounts, Anatomy, order_of, IsRightlyKnown, is_living, HoldsOwn, CallsRight, IsAlone, LooksBack, FinalsAreExact, RolesAreKept, Fits, Invariant}
+use Rattle.segment_invariant.proofs.Prelude.Invariant.{IsWithinCounts, Anatomy, order_of, IsRightlyKnown, is_living, HoldsOwn, CallsRight, IsAlone, LooksBack, FinalsAreExact, RolesAreKept, Fits, Invariant, KeptOn}
 use Rattle.std.proofs.Math.Bool.{or-false, or_self}
 use Rattle.std.proofs.lemmas.List.{drop_all}
 use Rattle.segment_invariant.proofs.Frames.Ahead.{ahead_anew, reached_stop}
@@ -14,6 +14,8 @@ use Rattle.segment_invariant.proofs.Frames.Deeds.{Deeds, deeds_more, sums_of}
 use Rattle.segment_invariant.proofs.Frames.Together.{IsLater, fits}
 use Rattle.segment_invariant.proofs.Frames.Books.{books_of, books_by, kept_by}
 use Rattle.segment_invariant.proofs.Frames.Roles.{no_recorder, opens_nothing, opens_first}
+use Rattle.segment_invariant.proofs.Frames.Rises.{rises_itself}
+use Rattle.segment_invariant.proofs.Frames.SumsRise.{sums_rest}
 use Rattle.segment_invariant.proofs.Recorders.Shares.{opener_fits}
 use Rattle.segment_invariant.proofs.Recorders.Newcomers.{Comes, comes}
 
@@ -263,19 +265,20 @@ module _ (shape : Dimensions) (opened : Anatomy) (old : State) (kept : Invariant
       opener_lives : opener.hand.place ≢ Spent
       opener_lives e = cc (sym kept.roles.idle ∙ e)
 
-  pub split_kept : Invariant shape opened (record old { actors = split })
+  pub split_kept : KeptOn shape opened kept (record old { actors = split })
   unfolding roles
   split_kept = kept_by shape opened kept.anatomy old.words old.cursors split
       (books_by shape opened kept.anatomy old.words old.cursors old.actors split deeds came.loaded (books_of shape opened old kept))
-      roles kept.first_noted came.ordered came.given came.standing each
+      roles kept.first_noted came.ordered came.given came.standing each kept (rises_itself kept.anatomy)
+      (sums_rest shape old.words kept.anatomy kept.shown old.actors split (sums_of old.actors split deeds).costs)
 
 pub splits_keep : SplitsKeep
 splits_keep shape opened old new id kept splitting =
     let a = splitting.0 in
     let may = splitting.2 in
     let opener = opens_first old.actors kept.roles id a splitting.1 may.1 in
-    subst (Invariant shape opened) (sym splitting.3)
+    subst (KeptOn shape opened kept) (sym splitting.3)
     (subst₂
-    (λ (k : ℕ) (c : Actor). Invariant shape opened (record old { actors = set old.actors k (parent c) ++ newcomer c ∷ [] }))
+    (λ (k : ℕ) (c : Actor). KeptOn shape opened kept (record old { actors = set old.actors k (parent c) ++ newcomer c ∷ [] }))
     (sym opener.0) opener.1
     (split_kept shape opened old kept (subst MaySplit (sym opener.1) may)))

@@ -1,7 +1,7 @@
 -- A count is loaded: of a bucket, or of a sample that was met.
 use Rattle.segment_invariant.proofs.Prelude.Std.{◌≡◌, ◌≢◌, ℕ, ◌+◌, ◌-◌, ◌<◌, ℤ, true, false, [], ◌∷◌, ◌++◌, set, Contains, inl, inr, refl, sym, ap, ◌∙◌, subst, arith, All-contains, Contains-push, some, get_elem?}
 use Rattle.segment_invariant.proofs.Prelude.Machine.{Dimensions, word_at, buckets_of, Actor, Known, Look, Place, Spent, Looking, Moving, CountLoaded, Sighting, is_bound, Buckets, is_opener, is_off, SawSample, State, load_count, taking_event, Ready, next}
-use Rattle.segment_invariant.proofs.Prelude.Invariant.{sample, Anatomy, WasSingle, StandsRight, Invariant}
+use Rattle.segment_invariant.proofs.Prelude.Invariant.{sample, Anatomy, WasSingle, StandsRight, Invariant, KeptOn}
 use Rattle.segment_machine.specs.declared.place.Place.TheVariants.{SampleLoaded}
 use Rattle.segment_machine.specs.Actor.{Sparse}
 use Rattle.segment_machine.specs.Taking.{at_count, is_looking}
@@ -50,9 +50,9 @@ module _ (shape : Dimensions) (opened : Anatomy) (state : State) (kept : Invaria
         (All-contains (WasSingle kept.anatomy.version kept.anatomy.pieces) a.seen.singles _ (kept.each id a mine lives).sees.singles (right.single word single_is)) refl stands in
         let r_off : is_off r.single ≡ true = sym (ap is_off (off_leads kept.anatomy.version (buckets_of r.spec) word r.single word_off leads.1)) ∙ word_off in
         happens opened.version state id a (taking_event (load_count at))
-        (count_there shape opened state kept id a mine records unbound look knows some_counts bucket below) shape opened (
+        (count_there shape opened state kept id a mine records unbound look knows some_counts bucket below) shape opened kept (
           loaded shape opened state kept id a mine records at (next a (taking_event (load_count at)) found)
-              (subst (λ (p : Place). Invariant shape opened (record {
+              (subst (λ (p : Place). KeptOn shape opened kept (record {
                 words = state.words;
                 cursors = state.cursors;
                 actors = set state.actors id (seer a p (record a.seen { counts = a.seen.counts ++ record { at = at; word = found } ∷ [] }) a.done.given a.done.lost);
@@ -75,9 +75,9 @@ module _ (shape : Dimensions) (opened : Anatomy) (state : State) (kept : Invaria
         let most = sample_most shape opened state kept reference s stands in
         let bound = counted_fits shape opened state kept s.name s.value in
         let back : reference + 6 - 6 ≡ reference = omega arith in
-        happens opened.version state id a (taking_event (load_count at)) (word_within shape opened state kept reference 6 (sample s) stands refl (omega arith)) shape opened (
+        happens opened.version state id a (taking_event (load_count at)) (word_within shape opened state kept reference 6 (sample s) stands refl (omega arith)) shape opened kept (
           loaded shape opened state kept id a mine records at (next a (taking_event (load_count at)) found)
-              (subst (λ (p : Place). Invariant shape opened (record {
+              (subst (λ (p : Place). KeptOn shape opened kept (record {
                 words = state.words;
                 cursors = state.cursors;
                 actors = set state.actors id (seer a p (record a.seen { counts = a.seen.counts ++ z ∷ [] }) a.done.given a.done.lost);

@@ -1,7 +1,7 @@
 -- Sums and redundant counts are loaded. A recorder sees a counter of a record.
 use Rattle.segment_invariant.proofs.Prelude.Std.{◌≡◌, ◌≢◌, ℕ, ◌+◌, ◌<◌, ℤ, false, List, [], ◌∷◌, ◌++◌, set, inl, inr, refl, sym, ap, ◌∙◌, subst, arith, ⊎_elim, w64, cast_signed, All-push, Contains-append_left, some, get_elem?, at_set, sum_same}
 use Rattle.segment_invariant.proofs.Prelude.Machine.{Dimensions, word_at, Actor, Look, Place, Spent, Idle, Looking, Moving, CountLoaded, SumLoaded, Sighting, is_bound, is_opener, State, load_sum, load_redundant, taking_event, Ready, next}
-use Rattle.segment_invariant.proofs.Prelude.Invariant.{Record, histogram, Anatomy, Sample, sample, HasRecord, WasCounter, WasInUse, WasMet, HasSample, StandsRight, SumsAreNear, IsSumOf, summed_cost, Invariant}
+use Rattle.segment_invariant.proofs.Prelude.Invariant.{Record, histogram, Anatomy, Sample, sample, HasRecord, WasCounter, WasInUse, WasMet, HasSample, StandsRight, SumsAreNear, IsSumOf, summed_cost, Invariant, KeptOn}
 use Rattle.segment_machine.specs.declared.place.Place.TheVariants.{FlagsLoaded, FreeLoaded, Raised, Sized, Marked, TailLoaded, Beaten, Linked, Losing, SampleLoaded, CursorLoaded, BehindCursor}
 use Rattle.segment_invariant.specs.Seen.{IsCounterIn}
 use Rattle.segment_invariant.proofs.Blocks.Places.{counter_within}
@@ -69,7 +69,7 @@ module _ (shape : Dimensions) (opened : Anatomy) (state : State) (kept : Invaria
         (omega (arith, low)) same in
         absurd (cc bodies)
 
-    pub counter_seen : Invariant shape opened (record {
+    pub counter_seen : KeptOn shape opened kept (record {
       words = state.words;
       cursors = state.cursors;
       actors = set state.actors id (seer a place (record a.seen { counts = a.seen.counts ++ z ∷ [] }) a.done.given a.done.lost);
@@ -105,7 +105,7 @@ module _ (shape : Dimensions) (opened : Anatomy) (state : State) (kept : Invaria
       let word = body_word shape opened state kept h 13 (histogram r) stands (omega arith) in
       let whole = whole_noted shape opened state kept known.name r.spec known.reference r first there named in
       let bound = noted_fits shape opened state kept known.name in
-      happens opened.version state id a (taking_event (load_redundant h)) (word_within shape opened state kept h 13 (histogram r) stands refl (omega arith)) shape opened (
+      happens opened.version state id a (taking_event (load_redundant h)) (word_within shape opened state kept h 13 (histogram r) stands refl (omega arith)) shape opened kept (
         loaded shape opened state kept id a mine records at (next a (taking_event (load_redundant h)) found)
             (counter_seen h 13 r stands (inr refl) unbound a.hand.place unbound (kept.standing id a mine) (λ reference sum is. is)),
         omega (arith, word, whole, bound),
@@ -124,7 +124,7 @@ module _ (shape : Dimensions) (opened : Anatomy) (state : State) (kept : Invaria
       let (r, first, there, named, many, keys) = knows_of shape opened state kept id a mine records lives known has in
       let stands : HasRecord kept.anatomy.pieces h r = subst (λ (n : ℕ). HasRecord kept.anatomy.pieces n r) refers there in
       let word = body_word shape opened state kept h 11 (histogram r) stands (omega arith) in
-      happens opened.version state id a (taking_event (load_sum h)) (word_within shape opened state kept h 11 (histogram r) stands refl (omega arith)) shape opened (
+      happens opened.version state id a (taking_event (load_sum h)) (word_within shape opened state kept h 11 (histogram r) stands refl (omega arith)) shape opened kept (
         loaded shape opened state kept id a mine records (h + 11) (next a (taking_event (load_sum h)) found)
             (sees_on shape opened state kept id a mine records place a.seen.singles a.seen.counts unbound refl
             (λ name key. sym (rests_at a name key a.hand.place (still unbound)))

@@ -1,7 +1,7 @@
 -- A mark of a counts block rises: the block goes on. What a recorder knows of a mark that has loaded a count, and that it sees the mark.
 use Rattle.segment_invariant.proofs.Prelude.Std.{◌≡◌, ◌≢◌, true, false, ℕ, suc, ◌+◌, ◌-◌, ◌<◌, ◌≤◌, List, [], ◌∷◌, ◌++◌, length, set, Some, ⊎_elim, refl, sym, ap, ◌∙◌, subst, arith, length-append, length-set, slice_index, get_or-set_same, All-contains, All-push, dite, some, ℕ_discrete, get_elem?}
 use Rattle.segment_invariant.proofs.Prelude.Machine.{Dimensions, word_at, buckets_of, packed_bucket, Actor, Look, Spent, Looking, Moving, Seen, Sighting, is_bound, is_opener, is_off, State}
-use Rattle.segment_invariant.proofs.Prelude.Invariant.{Record, Counts, Sample, counts, sample, Anatomy, form_at, HasRecord, HasCounts, HasSample, WasCounter, WasInUse, WasSingle, WasMet, IsCountsOf, Invariant}
+use Rattle.segment_invariant.proofs.Prelude.Invariant.{Record, Counts, Sample, counts, sample, Anatomy, form_at, HasRecord, HasCounts, HasSample, WasCounter, WasInUse, WasSingle, WasMet, IsCountsOf, Invariant, KeptOn}
 use Rattle.std.proofs.lemmas.List.{get_or-set_other, set-append_left, set-append_right}
 use Rattle.segment_invariant.specs.Body.{counts_words}
 use Rattle.segment_invariant.specs.Invariant.{LoadedOff}
@@ -137,7 +137,7 @@ module _ (shape : Dimensions) (opened : Anatomy) (state : State) (kept : Invaria
         absurd (cc bodies)
 
     -- so the state is kept where it sees that mark and looks on
-    pub mark_seen : Invariant shape opened (record {
+    pub mark_seen : KeptOn shape opened kept (record {
       words = state.words;
       cursors = state.cursors;
       actors = set state.actors id (seer a (Looking look) saw a.done.given a.done.lost);

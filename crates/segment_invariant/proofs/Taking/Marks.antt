@@ -1,7 +1,7 @@
 -- The mark of a bucket is raised to the count that was loaded: the invariant is kept, with what is learned.
 use Rattle.segment_invariant.proofs.Prelude.Std.{◌≡◌, ◌≢◌, Bool, true, false, if◌then◌else◌, ℕ, ◌+◌, ◌-◌, max, ◌<◌, ◌≤◌, ℤ, List, [], ◌∷◌, ◌++◌, length, set, Option, Some, inl, refl, sym, ap, ◌∙◌, subst, arith, slice_index, int_eq, bytes_eq, set-set, get_or-set_same, All-contains, some, get_elem?}
 use Rattle.segment_invariant.proofs.Prelude.Machine.{Dimensions, word_at, Spec, SingleWord, buckets_of, single_of, packed_bucket, is_packed_bucket, Actor, Known, Taken, Look, Place, Spent, Looking, CountLoaded, is_bound, bucket_key, known_at, all_counted, all_taken, taken_units, is_opener, back, change_last, tally_units, taking_event, is_off, State, raise_mark}
-use Rattle.segment_invariant.proofs.Prelude.Invariant.{Record, Counts, counts, Anatomy, of_name, form_at, key_of_bucket, keyed, marks_held, HasRecord, HasCounts, IsFirst, WasFixed, WasCounter, IsCountsOf, StandsRight, Invariant, is_beaten}
+use Rattle.segment_invariant.proofs.Prelude.Invariant.{Record, Counts, counts, Anatomy, of_name, form_at, key_of_bucket, keyed, marks_held, HasRecord, HasCounts, IsFirst, WasFixed, WasCounter, IsCountsOf, StandsRight, Invariant, KeptOn, is_beaten}
 use Rattle.alloc_core.proofs.Owners.{set_at}
 use Rattle.segment_machine.specs.Calls.{form_seen}
 use Rattle.segment_machine.specs.Taking.{take_units, taken_key, Takes}
@@ -13,6 +13,7 @@ use Rattle.segment_invariant.proofs.Consistency.Marks.{packed_is}
 use Rattle.segment_invariant.proofs.Frames.GoesOn.{happens}
 use Rattle.segment_invariant.proofs.Frames.SeesMore.{seer}
 use Rattle.segment_invariant.proofs.Frames.Shown.{Goes}
+use Rattle.segment_invariant.proofs.Frames.Rises.{kept_again}
 use Rattle.segment_invariant.proofs.Changes.Counts.{keyed_risen}
 use Rattle.segment_invariant.proofs.Changes.Records.{counts_kept}
 use Rattle.segment_invariant.proofs.Changes.Words.{Turns, sums_beside}
@@ -165,8 +166,8 @@ module _ (shape : Dimensions) (opened : Anatomy) (state : State) (kept : Invaria
   abbrev between : State
   between = record { words = set state.words (look.counts + i) v; cursors = state.cursors; actors = set state.actors id d }
 
-  kept_between : Invariant shape opened between
-  kept_between = takes_kept shape opened state kept look.counts (counts c) (counts more) i v mounted turns id a mine recorder lives known takes.0 front last takes.3.2
+  first_step : KeptOn shape opened kept between
+  first_step = takes_kept shape opened state kept look.counts (counts c) (counts more) i v mounted turns id a mine recorder lives known takes.0 front last takes.3.2
       takes.3.3 key least m (Looking look) (record {
         records = counts_kept shape opened state kept look.counts c more i v mounted turns refl (λ at z there refers is.
             let owner : at ≡ look.histogram = sym is.mine ∙ of_it.mine in
@@ -185,6 +186,9 @@ module _ (shape : Dimensions) (opened : Anatomy) (state : State) (kept : Invaria
         stood = off.0;
         up = λ free. subst (λ (p : Place). is_beaten p ≡ false) (sym placed) refl;
       })
+
+  abbrev kept_between : Invariant shape opened between
+  kept_between = first_step.0
 
   mine_between : get_elem? between.actors id ≡ some d
   mine_between = set_at state.actors id a d mine
@@ -219,12 +223,13 @@ module _ (shape : Dimensions) (opened : Anatomy) (state : State) (kept : Invaria
       let units = its.4.units in
       omega (arith, many, kind, units)
 
-  left : Invariant shape opened (record {
+  left : KeptOn shape opened kept (record {
     words = between.words;
     cursors = state.cursors;
     actors = set between.actors id (seer d (Looking look) (record a.seen { counts = a.seen.counts ++ record { at = at; word = word_at between.words at } ∷ [] }) a.done.given a.done.lost);
   })
-  left = mark_seen shape opened between kept_between id d mine_between recorder refl look off_between bucket stood.1 at spot_between
+  left = kept_again shape opened state kept first_step
+      (mark_seen shape opened between kept_between id d mine_between recorder refl look off_between bucket stood.1 at spot_between)
 
   carry : v ≡ max (word_at state.words at) least
   carry = raised_is m least ∙ ap (λ (n : ℕ). max n least) (sym found_is)
@@ -233,8 +238,8 @@ module _ (shape : Dimensions) (opened : Anatomy) (state : State) (kept : Invaria
   key_is = sym (ap (taken_key a) placed ∙ named_it.4)
 
   raised_at : Goes shape opened state kept id a mine recorder (taking_event (raise_mark at least))
-  raised_at = happens opened.version state id a (taking_event (raise_mark at least)) (let below = there in omega (arith, spot, below)) shape opened (
-    subst (λ (p : List ℕ × List Actor). Invariant shape opened (record { words = p.0; cursors = state.cursors; actors = p.1 }))
+  raised_at = happens opened.version state id a (taking_event (raise_mark at least)) (let below = there in omega (arith, spot, below)) shape opened kept (
+    subst (λ (p : List ℕ × List Actor). KeptOn shape opened kept (record { words = p.0; cursors = state.cursors; actors = p.1 }))
         (λ i. (
           set state.words (sym spot i) (carry i),
           (set-set state.actors id d (seer d (Looking look) (record a.seen { counts = a.seen.counts ++ record { at = at; word = word_at between.words at } ∷ [] }) a.done.given a.done.lost)

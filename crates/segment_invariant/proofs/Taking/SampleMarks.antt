@@ -1,7 +1,7 @@
 -- The mark of a sample is raised to the count that was loaded: the invariant is kept, with what is learned.
 use Rattle.segment_invariant.proofs.Prelude.Std.{◌≡◌, ◌≢◌, Bool, true, false, if◌then◌else◌, ℕ, ◌+◌, ◌-◌, max, ◌<◌, ◌≤◌, ℤ, List, [], ◌∷◌, ◌++◌, length, set, Contains, Some, inl, inr, refl, sym, ap, ◌∙◌, subst, arith, unwrap_or, w64, cast_signed, int_eq, bytes_eq, set-set, get_or-set_same, All-contains, dite, some, ℕ_discrete, get_elem?}
 use Rattle.segment_invariant.proofs.Prelude.Machine.{Dimensions, word_at, Actor, Known, Taken, Place, Spent, Idle, word_seen, all_counted, all_taken, taken_units, is_opener, back, change_last, tally_units, taking_event, SawSample, State, raise_mark}
-use Rattle.segment_invariant.proofs.Prelude.Invariant.{Sample, sample, histogram, Anatomy, of_name, marks_held, HasSample, IsFirst, IsFirstOf, WasCounter, StandsRight, HasKey, Invariant, is_beaten}
+use Rattle.segment_invariant.proofs.Prelude.Invariant.{Sample, sample, histogram, Anatomy, of_name, marks_held, HasSample, IsFirst, IsFirstOf, WasCounter, StandsRight, HasKey, Invariant, KeptOn, is_beaten}
 use Rattle.std.specs.Prelude as std
 use Rattle.alloc_core.proofs.Owners.{set_at}
 use Rattle.bucket_ranges.specs.declared.spec.Spec.TheVariants as spec
@@ -14,6 +14,7 @@ use Rattle.segment_invariant.proofs.Consistency.Firsts.{record_of_first}
 use Rattle.segment_invariant.proofs.Frames.GoesOn.{happens}
 use Rattle.segment_invariant.proofs.Frames.SeesMore.{seer}
 use Rattle.segment_invariant.proofs.Frames.Shown.{Goes}
+use Rattle.segment_invariant.proofs.Frames.Rises.{kept_again}
 use Rattle.segment_invariant.proofs.Changes.Samples.{sample_kept, no_sample_was}
 use Rattle.segment_invariant.proofs.Changes.Words.{Turns, word_turns}
 use Rattle.segment_invariant.proofs.Counting.AddSample.{one_sample}
@@ -156,8 +157,8 @@ module _ (shape : Dimensions) (opened : Anatomy) (state : State) (kept : Invaria
   abbrev between : State
   between = record { words = set state.words (at + 7) v; cursors = state.cursors; actors = set state.actors id d }
 
-  kept_between : Invariant shape opened between
-  kept_between = takes_kept shape opened state kept at (sample s) (sample more) 7 v stands turns id a mine recorder lives known takes.0 front last takes.3.2
+  first_step : KeptOn shape opened kept between
+  first_step = takes_kept shape opened state kept at (sample s) (sample more) 7 v stands turns id a mine recorder lives known takes.0 front last takes.3.2
       takes.3.3 s.value least s.mark Idle (record {
         records =
             let lawful = kept.records.valued at s stands in
@@ -180,6 +181,9 @@ module _ (shape : Dimensions) (opened : Anatomy) (state : State) (kept : Invaria
         up = λ free. subst (λ (p : Place). is_beaten p ≡ false) (sym placed) refl;
       })
 
+  abbrev kept_between : Invariant shape opened between
+  kept_between = first_step.0
+
   mine_between : get_elem? between.actors id ≡ some d
   mine_between = set_at state.actors id a d mine
 
@@ -194,12 +198,13 @@ module _ (shape : Dimensions) (opened : Anatomy) (state : State) (kept : Invaria
   word_between : word_at between.words (at + 7) ≡ v
   word_between = get_or-set_same state.words (at + 7) v 0 there
 
-  left : Invariant shape opened (record {
+  left : KeptOn shape opened kept (record {
     words = between.words;
     cursors = state.cursors;
     actors = set between.actors id (seer d Idle (record a.seen { counts = a.seen.counts ++ record { at = at + 7; word = word_at between.words (at + 7) } ∷ [] }) a.done.given a.done.lost);
   })
-  left = sample_seen shape opened between kept_between id d mine_between recorder refl at of value met saw 7 (inr refl) Idle refl (λ reference sum is. cc is) tt
+  left = kept_again shape opened state kept first_step
+      (sample_seen shape opened between kept_between id d mine_between recorder refl at of value met saw 7 (inr refl) Idle refl (λ reference sum is. cc is) tt)
 
   carry : v ≡ max (word_at state.words (at + 7)) least
   carry = raised_is s.mark least ∙ ap (λ (n : ℕ). max n least) (sym found_is)
@@ -208,8 +213,8 @@ module _ (shape : Dimensions) (opened : Anatomy) (state : State) (kept : Invaria
   key_is = found.2 ∙ (sym (ap (λ (word : std.Option ℕ). cast_signed w64 (unwrap_or word 0)) saw.2 ∙ value_word value saw.3) ∙ sym (ap (taken_key a) placed))
 
   raised_at : Goes shape opened state kept id a mine recorder (taking_event (raise_mark (at + 7) least))
-  raised_at = happens opened.version state id a (taking_event (raise_mark (at + 7) least)) there shape opened (
-    subst (λ (p : List ℕ × List Actor). Invariant shape opened (record { words = p.0; cursors = state.cursors; actors = p.1 }))
+  raised_at = happens opened.version state id a (taking_event (raise_mark (at + 7) least)) there shape opened kept (
+    subst (λ (p : List ℕ × List Actor). KeptOn shape opened kept (record { words = p.0; cursors = state.cursors; actors = p.1 }))
         (λ i. (
           set state.words (at + 7) (carry i),
           (set-set state.actors id d (seer d Idle (record a.seen { counts = a.seen.counts ++ record { at = at + 7; word = word_at between.words (at + 7) } ∷ [] }) a.done.given a.done.lost)

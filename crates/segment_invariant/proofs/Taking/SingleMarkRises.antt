@@ -2,7 +2,7 @@
 -- sees it.
 use Rattle.segment_invariant.proofs.Prelude.Std.{◌≡◌, ◌≢◌, Bool, true, false, if◌then◌else◌, ℕ, ◌+◌, ◌-◌, max, ◌<◌, ◌≤◌, ℤ, List, [], ◌∷◌, ◌++◌, length, set, Option, Some, inl, refl, sym, ap, ◌∙◌, subst, arith, slice_index, int_eq, bytes_eq, Decides-int_eq, set-set, get_or-set_same, dite, some, ℕ_discrete, get_elem?}
 use Rattle.segment_invariant.proofs.Prelude.Machine.{Dimensions, word_at, Spec, buckets_of, packed_bucket, units_packed, Actor, Known, Taken, Look, Spent, Looking, is_bound, all_counted, all_taken, taken_units, is_opener, back, change_last, tally_units, taking_event, units_in, State, raise_single_mark}
-use Rattle.segment_invariant.proofs.Prelude.Invariant.{Record, Counts, histogram, Anatomy, of_name, form_at, key_of_bucket, at_bucket, keyed, marks_held, all_held, HasRecord, HasCounts, IsFirst, is_beaten, IsLawfulRecord, IsCountsOf, Invariant}
+use Rattle.segment_invariant.proofs.Prelude.Invariant.{Record, Counts, histogram, Anatomy, of_name, form_at, key_of_bucket, at_bucket, keyed, marks_held, all_held, HasRecord, HasCounts, IsFirst, is_beaten, IsLawfulRecord, IsCountsOf, Invariant, KeptOn}
 use Rattle.alloc_core.proofs.Owners.{set_at}
 use Rattle.bucket_ranges.specs.declared.spec.Spec.TheVariants as spec
 use Rattle.segment_machine.specs.Taking.{take_units, single_key, Takes}
@@ -23,6 +23,7 @@ use Rattle.segment_invariant.proofs.Taking.Knowns.{TakesOf, takes_of}
 use Rattle.segment_invariant.proofs.Taking.Loads.{counter_seen}
 use Rattle.segment_invariant.proofs.Taking.Takes.{b, takes_kept, raised_is}
 use Rattle.segment_invariant.proofs.Frames.Anew.{lawful_anew, counts_anew}
+use Rattle.segment_invariant.proofs.Frames.Rises.{kept_again}
 
 -- ---- the record with another single mark
 
@@ -151,8 +152,8 @@ module _ (shape : Dimensions) (opened : Anatomy) (state : State) (kept : Invaria
   abbrev between : State
   between = record { words = set state.words (h + 10) v; cursors = state.cursors; actors = set state.actors id d }
 
-  kept_between : Invariant shape opened between
-  kept_between = takes_kept shape opened state kept h (histogram r) (histogram s) 10 v has turns id a mine recorder lives known takes.0 front last takes.3.2 takes.3.3
+  first_step : KeptOn shape opened kept between
+  first_step = takes_kept shape opened state kept h (histogram r) (histogram s) 10 v has turns id a mine recorder lives known takes.0 front last takes.3.2 takes.3.3
       key least m (Looking look) (record {
         records = record_kept shape opened state kept h r s 10 v has turns refl
             (marked_lawful version shape.page h r bucket v raises.packs (kept.records.lawful h r has))
@@ -174,6 +175,9 @@ module _ (shape : Dimensions) (opened : Anatomy) (state : State) (kept : Invaria
         up = λ free. unbeaten;
       })
 
+  abbrev kept_between : Invariant shape opened between
+  kept_between = first_step.0
+
   mine_between : get_elem? between.actors id ≡ some d
   mine_between = set_at state.actors id a d mine
 
@@ -188,24 +192,24 @@ module _ (shape : Dimensions) (opened : Anatomy) (state : State) (kept : Invaria
   word_between : word_at between.words (h + 10) ≡ v
   word_between = get_or-set_same state.words (h + 10) v 0 there
 
-  left : Invariant shape opened (record {
+  left : KeptOn shape opened kept (record {
     words = between.words;
     cursors = state.cursors;
     actors = set between.actors id
         (seer d (Looking look) (record a.seen { counts = a.seen.counts ++ record { at = h + 10; word = word_at between.words (h + 10) } ∷ [] }) a.done.given a.done.lost);
   })
-  left =
-      let (q, first, stands, named, many, keys) = knows_of shape opened between kept_between id d mine_between recorder (λ spent. cc spent) known takes.1 in
+  left = kept_again shape opened state kept first_step
+      (let (q, first, stands, named, many, keys) = knows_of shape opened between kept_between id d mine_between recorder (λ spent. cc spent) known takes.1 in
       counter_seen shape opened between kept_between id d mine_between recorder h 10 q (subst (λ (n : ℕ). HasRecord kept_between.anatomy.pieces n q) takes.2 stands)
       (inl refl) refl (Looking look) refl right
-      (λ reference sum is. is)
+      (λ reference sum is. is))
 
   carry : v ≡ max (word_at state.words (h + 10)) least
   carry = raised_is m least ∙ ap (λ (n : ℕ). max n least) (sym found_is)
 
   pub raised_at : Goes shape opened state kept id a mine recorder (taking_event (raise_single_mark h least))
-  raised_at = happens opened.version state id a (taking_event (raise_single_mark h least)) there shape opened (
-    subst (λ (p : List ℕ × List Actor). Invariant shape opened (record { words = p.0; cursors = state.cursors; actors = p.1 }))
+  raised_at = happens opened.version state id a (taking_event (raise_single_mark h least)) there shape opened kept (
+    subst (λ (p : List ℕ × List Actor). KeptOn shape opened kept (record { words = p.0; cursors = state.cursors; actors = p.1 }))
         (λ i. (
           set state.words (h + 10) (carry i),
           (set-set state.actors id d

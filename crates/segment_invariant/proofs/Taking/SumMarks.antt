@@ -1,7 +1,7 @@
 -- The sum mark is swapped for the sum that was loaded.
 use Rattle.segment_invariant.proofs.Prelude.Std.{◌≡◌, ◌≢◌, ℕ, ◌+◌, ◌-◌, ◌*◌, ◌^◌, ◌<◌, ◌≤◌, ℤ, pos, ◌+ℤ◌, ◌-ℤ◌, Bool, true, false, if◌then◌else◌, List, [], ◌∷◌, ◌++◌, length, take, drop, set, Contains, inl, inr, ⊎_elim, refl, sym, ap, ◌∙◌, subst, arith, length-append, append-nil, map, unsigned_abs, w64, cast_signed, cast_unsigned, bytes_eq, +ℤ_idl, +ℤ_idr, take-append_seam, to_z-of_z, All-contains, Contains-append_left, Contains-append_right, Contains-append_cases, bytes_eq-Decides, some, none, get_elem?, rows, row_in, one_in, below_length, sum_same}
 use Rattle.segment_invariant.proofs.Prelude.Machine.{Dimensions, word_at, Entry, Actor, Portion, Known, Moment, Taken, Spent, Idle, SumLoaded, change_last, tally_units, tally_sum, tally_noted, counted_of, summed_of, noted_of, taken_units, taken_sum, all_counted, all_summed, all_noted, all_taken, cost_of, taken_of, portion_of, is_opener, State, swap_sum_mark, taking_event}
-use Rattle.segment_invariant.proofs.Prelude.Invariant.{Record, histogram, Anatomy, HasRecord, IsFirst, IsRightlyKnown, IsLawfulRecord, IsAlone, IsSumOf, SumsAreNear, summed_cost, FinalsAreExact, Invariant, HasKey, is_beaten, EventKeeps}
+use Rattle.segment_invariant.proofs.Prelude.Invariant.{Record, histogram, Anatomy, HasRecord, IsFirst, IsRightlyKnown, IsLawfulRecord, IsAlone, IsSumOf, SumsAreNear, summed_cost, FinalsAreExact, Invariant, KeptOn, HasKey, is_beaten, EventKeeps}
 use Rattle.std.proofs.Common.{neg_ℤ}
 use Rattle.std.proofs.Math.Facts.{Fits-of_z}
 use Rattle.std.proofs.Math.IntN.{+ℤ_assoc, +ℤ_comm, +ℤ_invr}
@@ -16,7 +16,9 @@ use Rattle.segment_invariant.proofs.Frames.Anatomies.{calls_same}
 use Rattle.segment_invariant.proofs.Frames.Answers.{first_one}
 use Rattle.segment_invariant.proofs.Frames.GoesOn.{happens}
 use Rattle.segment_invariant.proofs.Frames.OneActor.{rests_at}
+use Rattle.segment_invariant.specs.Rises.{SumsRise}
 use Rattle.segment_invariant.proofs.Frames.Roles.{SameRoles}
+use Rattle.segment_invariant.proofs.Frames.SumsRise.{sums_come}
 use Rattle.segment_invariant.proofs.Frames.Together.{loaded_set, moment, ended_began}
 use Rattle.segment_invariant.proofs.Changes.Ledgers.{rows_beside, amounts_moved}
 use Rattle.segment_invariant.proofs.Changes.Others.{Deed, deed_of, changed, changed_roles, alone_was, is_later}
@@ -250,6 +252,17 @@ module _ (shape : Dimensions) (opened : Anatomy) (state : State) (kept : Invaria
       omega (arith, bound, costs))
       (came_from shape opened state kept known.reference (histogram r) (histogram (with_mark r v)) 12 v stands turns at none (histogram s) there)
 
+  -- the sum itself stays
+  rising : SumsRise kept.anatomy.pieces new.pieces state.actors actors
+  rising = sums_come shape state.words kept.anatomy kept.shown new.pieces state.actors actors
+      (λ name. let costs = sum_same (summed_cost name) state.actors id a b mine refl in omega (arith, costs))
+      (λ at s there. ⊎_elim
+      (λ was. (s, was.0, refl))
+      (λ is.
+      let same : with_mark r v ≡ s = cc (sym is.1) in
+      (r, subst (λ (n : ℕ). HasRecord kept.anatomy.pieces n r) (sym is.0) stands, ap (λ (z : Record). z.sum) same))
+      (came_from shape opened state kept known.reference (histogram r) (histogram (with_mark r v)) 12 v stands turns at none (histogram s) there))
+
   -- ---- deltas and snapshots
 
   abbrev opener : Actor
@@ -338,7 +351,7 @@ module _ (shape : Dimensions) (opened : Anatomy) (state : State) (kept : Invaria
 
   -- ---- all of it
 
-  sum_marked : Invariant shape opened (record { words = set state.words (known.reference + 12) v; cursors = state.cursors; actors = actors })
+  sum_marked : KeptOn shape opened kept (record { words = set state.words (known.reference + 12) v; cursors = state.cursors; actors = actors })
   sum_marked =
       let fits = kept.each id a mine lived in
       let calls = calls_same kept.anatomy new a refl fits.calls in
@@ -369,7 +382,7 @@ module _ (shape : Dimensions) (opened : Anatomy) (state : State) (kept : Invaria
             (λ old. was_taken p (portion_first a.deltas.first_taken a.deltas.taken p old) count among)
             (λ (t, is_there, is). subst (λ (p : Portion). Contains p.counts count → HasKey kept.anatomy.records p.name count.0) is (swapped_keys t is_there count) among)
             (portion_from a.deltas.first_taken d.taken p there);
-        sums = near;
+        sums = (near, rising);
         lives = λ e. cc e;
         stood = tt;
         sees = sees_turned shape opened state kept known.reference (histogram r) (histogram (with_mark r v)) 12 v stands turns a.seen fits.sees;
@@ -404,8 +417,8 @@ sum_mark_swapped h sum shape opened state id a kept mine recorder (known, (takin
     let within = word_within shape opened state kept known.reference 12 (histogram r) there refl (omega arith) in
     let loaded : IsSumOf state.actors known.reference r sum = inr (inr (inr (id, a, mine, here))) in
     let mark : IsSumOf state.actors known.reference r (cast_signed w64 (word_at state.words (h + 12))) = inr (inr (inl (ap (cast_signed w64) found))) in
-    happens opened.version state id a (taking_event (swap_sum_mark h sum)) (subst (λ (n : ℕ). n + 12 < length state.words) refers within) shape opened (
-      subst (λ (p : ℕ × List Taken). Invariant shape opened (record {
+    happens opened.version state id a (taking_event (swap_sum_mark h sum)) (subst (λ (n : ℕ). n + 12 < length state.words) refers within) shape opened kept (
+      subst (λ (p : ℕ × List Taken). KeptOn shape opened kept (record {
         words = set state.words (p.0 + 12) (cast_unsigned w64 sum);
         cursors = state.cursors;
         actors = set state.actors id (record a { hand = record a.hand { place = Idle }; deltas = record a.deltas { taken = p.1 } });

@@ -1,7 +1,7 @@
 -- A mark rises, and the delta of its recorder takes the units between: what was taken of a key, and the state that is left.
 use Rattle.segment_invariant.proofs.Prelude.Std.{◌≡◌, ◌≢◌, ◌⊎◌, ℕ, ◌+◌, ◌-◌, max, ◌≤◌, ℤ, pos, ◌+ℤ◌, Bool, true, false, nat_lt, if◌then◌else◌, List, [], ◌∷◌, ◌++◌, set, Contains, inl, inr, ⊎_elim, refl, sym, ap, ◌∙◌, subst, arith, bytes_eq, int_eq, +ℤ_idr, ltb-false, Decides-int_eq, Contains-append_cases, sum_by-append, sum_by-cons, bytes_eq-Decides, some, none, get_elem?, rows, row_in, one_in, none_in}
 use Rattle.segment_invariant.proofs.Prelude.Machine.{Dimensions, Actor, Portion, Known, Taken, Look, Place, Spent, SumLoaded, Moving, tally_units, counted_of, summed_of, noted_of, units_listed, taken_units, taken_sum, all_counted, all_summed, all_noted, all_taken, taken_of, portion_of, is_opener, State}
-use Rattle.segment_invariant.proofs.Prelude.Invariant.{Body, Anatomy, of_name, units_held, marks_held, noted_held, Stands, RecordsAreKept, StandsRight, HasKey, Invariant}
+use Rattle.segment_invariant.proofs.Prelude.Invariant.{Body, Anatomy, of_name, units_held, marks_held, noted_held, Stands, RecordsAreKept, StandsRight, HasKey, Invariant, KeptOn}
 use Rattle.segment_machine.specs.Taking.{take_units}
 use Rattle.segment_invariant.specs.Ledger.{amount_of_name, sum_held, sum_mark_held}
 use Rattle.segment_invariant.proofs.Frames.Ahead.{KeepsUp}
@@ -177,7 +177,7 @@ module _ (shape : Dimensions) (opened : Anatomy) (state : State) (kept : Invaria
             (further_from a.deltas.taken front last taken_is f refl refl t there)
 
     -- the state that is left is kept
-    pub takes_kept : Invariant shape opened (record { words = set state.words (at + j) v; cursors = state.cursors; actors = actors })
+    pub takes_kept : KeptOn shape opened kept (record { words = set state.words (at + j) v; cursors = state.cursors; actors = actors })
     takes_kept =
         let fits = kept.each id a mine lived in
         turned_on shape opened state kept at body then_is j v stands turns id a mine recorder lived deed (record {

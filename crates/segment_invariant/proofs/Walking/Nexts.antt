@@ -137,7 +137,7 @@ module _ (shape : Dimensions) (opened : Anatomy) (state : State) (kept : Invaria
         counts = λ known word named has. has;
         loaded = turns.sums;
       } in
-      happens opened.version state id a (walking_event (load_next at)) (stop_within shape opened state kept at stop) shape opened (
+      happens opened.version state id a (walking_event (load_next at)) (stop_within shape opened state kept at stop) shape opened kept (
         loaded shape opened state kept id a mine records (at + 3) (next a (walking_event (load_next at)) found)
             (looks_on shape opened state kept id a mine records place a.done.beaten a.seen.tails chain ends a.seen.words turns more kept.anatomy.tail state.words
             kept.shown kept.list.linked kept.list.tail (λ seen before. before)

@@ -1,7 +1,7 @@
 -- Events that put nothing on the list: the tail is loaded and moved on, a next is loaded, and a link finds another record.
 use Rattle.segment_invariant.proofs.Prelude.Std.{◌≡◌, ◌≢◌, ◌⊎◌, ℕ, zero, suc, ◌+◌, ◌<◌, ◌≤◌, ◌==◌, true, List, ◌++◌, length, set, get_or, All, inl, inr, refl, sym, ap, ◌∙◌, subst, arith, eq-eqb, false, Some, None, nat_le, IsPermutation, le-leb, and_from, length-map, All-weaker, some, none, get_elem?, at_map, rows, column, index_at, all_at}
 use Rattle.segment_invariant.proofs.Prelude.Machine.{Dimensions, word_at, IsShown, Behind, is_reference, IsStop, IsLinked, IsPrefix, Actor, Claim, Own, Made, Sighting, Place, Spent, State, is_opener}
-use Rattle.segment_invariant.proofs.Prelude.Invariant.{Body, histogram, sample, other, words_of, is_claimed, Piece, Listed, Anatomy, layout_of, order_of, free_of, claims_of, Stands, WasFixed, IsNoLater, Sees, WasMet, StandsAs, StandsRight, HoldsOwn, IsSetBy, StandStill, Invariant, IsAhead}
+use Rattle.segment_invariant.proofs.Prelude.Invariant.{Body, histogram, sample, other, words_of, is_claimed, Piece, Listed, Anatomy, layout_of, order_of, free_of, claims_of, Stands, WasFixed, IsNoLater, Sees, WasMet, StandsAs, StandsRight, HoldsOwn, IsSetBy, StandStill, Invariant, KeptOn, IsAhead}
 use Rattle.std.specs.Prelude as std
 use Rattle.std.proofs.lemmas.Bool.{or_left, or_right}
 use Rattle.alloc_core.proofs.Layouts.{length_shown}
@@ -117,7 +117,7 @@ module _ (shape : Dimensions) (opened : Anatomy) (state : State) (kept : Invaria
         → All (WasFixed pieces) words
         → All (HoldsOwn shape pieces id) own
         → ((i j : ℕ) (x y : Own) → get_elem? own i ≡ some x → get_elem? own j ≡ some y → x.at ≡ y.at → i ≡ j)
-        → Invariant shape opened (record { words = words'; cursors = state.cursors; actors = set state.actors id (doing a (walking place beaten own tails chain ends words)) })
+        → KeptOn shape opened kept (record { words = words'; cursors = state.cursors; actors = set state.actors id (doing a (walking place beaten own tails chain ends words)) })
     walks_on place beaten own tails chain ends words turns more pieces present words' stays others still blocks claims free shown linked stop later ahead stands prefix no_later fixed holds apart =
         let d : Doing = walking place beaten own tails chain ends words in
         let new : Anatomy = reshaped anatomy pieces anatomy.spare anatomy.corrupt anatomy.full present in
@@ -156,6 +156,7 @@ module _ (shape : Dimensions) (opened : Anatomy) (state : State) (kept : Invaria
           corrupt = subst (IsSetBy anatomy.corrupt opened.corrupt) (sym (column (λ (b : Actor). b.done.spoiled) state.actors id a (doing a d) mine refl)) kept.corrupt;
           full = subst (IsSetBy anatomy.full opened.full) (sym (column (λ (b : Actor). b.done.filled) state.actors id a (doing a d) mine refl)) kept.full;
           flagged = λ set. set;
+          filled = λ set. set;
           stands = stands;
           sees = sees;
           ahead = ahead;
@@ -178,7 +179,7 @@ module _ (shape : Dimensions) (opened : Anatomy) (state : State) (kept : Invaria
         → IsPrefix chain order
         → AreNoLater order tails present
         → All (WasFixed anatomy.pieces) words
-        → Invariant shape opened (record { words = words'; cursors = state.cursors; actors = set state.actors id (doing a (walking place beaten a.hand.own tails chain ends words)) })
+        → KeptOn shape opened kept (record { words = words'; cursors = state.cursors; actors = set state.actors id (doing a (walking place beaten a.hand.own tails chain ends words)) })
     looks_on place beaten tails chain ends words turns more present words' shown linked stop later ahead stands prefix no_later fixed =
         let fits = kept.each id a mine turns.lived in
         walks_on place beaten a.hand.own tails chain ends words turns more anatomy.pieces present words' (stays_same anatomy.pieces)

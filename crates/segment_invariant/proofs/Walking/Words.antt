@@ -145,7 +145,7 @@ module _ (shape : Dimensions) (opened : Anatomy) (state : State) (kept : Invaria
               no_counts a at (subst (IsFixed a at) eight known_fixed))) ∙ seen;
           loaded = turns.sums;
         } in
-        happens opened.version state id a (walking_event (load_published at index)) (omega (arith, lt, size, within)) shape opened (
+        happens opened.version state id a (walking_event (load_published at index)) (omega (arith, lt, size, within)) shape opened kept (
           loaded shape opened state kept id a mine records (at + index) (next a (walking_event (load_published at index)) found)
               (looks_on shape opened state kept id a mine records a.hand.place a.done.beaten a.seen.tails a.seen.chain a.seen.ends words turns more anatomy.tail state.words
               kept.shown kept.list.linked kept.list.tail (λ seen before. before) fits.ahead

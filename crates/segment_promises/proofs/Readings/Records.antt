@@ -84,7 +84,7 @@ module _ (shape : Dimensions) (opened : Anatomy) (state : State) (kept : Invaria
       let pool = kept.pool in
       le-ltb 9223372034707292160 (unsigned_abs (x -ℤ y)) (omega (arith, close, few, pool))
 
-  small : (x : ℤ) → IsSumOf state.actors at r x → is_beyond x ≡ false
+  pub small : (x : ℤ) → IsSumOf state.actors at r x → is_beyond x ≡ false
   small x is = subst (λ (z : ℤ). is_beyond z ≡ false) (+ℤ_idr x) (near x (pos 0) is (inl refl))
 
   pub sum_is_right : is_bad_record_sum state.words at ≡ false

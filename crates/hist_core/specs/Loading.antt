@@ -1,0 +1,114 @@
+-- The word that the next event of an actor loads, where it is a load.
+use Rattle.std.specs.Prelude.{ℕ, ◌+◌, ◌^◌, ◌&&◌, nat_lt, if◌then◌else◌, Option, Some, None}
+use mathlib.Core.Option as maybe
+use mathlib.Core.Option.{some, none}
+use lib.ListN.{get_elem?}
+use Rattle.segment_image.specs.declared.layout.TheConstants.{BLOCK_HEADER, BLOCK_NEXT, BLOCK_TYPE, HISTOGRAM_COUNTS, HISTOGRAM_REDUNDANT, HISTOGRAM_SINGLE, HISTOGRAM_SUM, SAMPLE_COUNT, SAMPLE_HISTOGRAM, SAMPLE_VALUE}
+use Rattle.alloc_core.specs.Event.Access.{load}
+use Rattle.alloc_core.specs.Load.{load_of}
+use Rattle.alloc_core.specs.Alloc as alloc
+use Rattle.list_core.specs.Publish as publish
+use Rattle.hist_core.specs.declared.making.MakingStage.{MakingStage}
+use Rattle.hist_core.specs.declared.making.MakingStage.TheVariants as making
+use Rattle.hist_core.specs.declared.sampling.Sampling.{Sampling}
+use Rattle.hist_core.specs.declared.sampling.SamplingStage.{SamplingStage}
+use Rattle.hist_core.specs.declared.sampling.SamplingStage.TheVariants as sampling
+use Rattle.hist_core.specs.declared.add.Add.{Add}
+use Rattle.hist_core.specs.declared.add.AddStage.{AddStage}
+use Rattle.hist_core.specs.declared.add.AddStage.TheVariants as adding
+use Rattle.hist_core.specs.declared.hist.Hist.{Hist}
+use Rattle.hist_core.specs.declared.hist.HistStage.{HistStage}
+use Rattle.hist_core.specs.declared.hist.HistStage.TheVariants as asking
+use Rattle.hist_core.specs.declared.delta_call.DeltaStage.{DeltaStage}
+use Rattle.hist_core.specs.declared.delta_call.DeltaStage.TheVariants as taking
+use Rattle.hist_core.specs.declared.snapshot_call.SnapshotStage.{SnapshotStage}
+use Rattle.hist_core.specs.declared.snapshot_call.SnapshotStage.TheVariants as viewing
+use Rattle.hist_core.specs.declared.actor_run.Running.{Running}
+use Rattle.hist_core.specs.declared.actor_run.Running.TheVariants as runs
+use Rattle.hist_core.specs.declared.actor_run.ActorRun.{ActorRun}
+use Rattle.hist_core.specs.declared.world_state.WorldState.{WorldState}
+use Rattle.hist_core.specs.Hist.{compared_index}
+use Rattle.hist_core.specs.Walk.{spot_of}
+
+-- a load of this word
+abbrev pub loads : ℕ → Option ℕ
+loads at = load_of (Some (load at))
+
+-- of a record that is being made: where it claims its words, and where it goes on the list
+abbrev pub making_load : MakingStage → Option ℕ
+making_load (making.Allocating allocation) = load_of (alloc.next_event allocation)
+making_load (making.Filling at index) = None
+making_load (making.Publishing publishing) = load_of (publish.next_event publishing)
+
+-- a search for a sample: the next of where its walk stands; the type, the histogram and the value of the record there; or where it makes one
+abbrev pub sampling_load : Sampling → SamplingStage → Option ℕ
+sampling_load s sampling.Walking = loads (s.walk + BLOCK_NEXT)
+sampling_load s (sampling.LoadingType at) = loads (at + BLOCK_TYPE)
+sampling_load s (sampling.LoadingHistogram at) = loads (at + SAMPLE_HISTOGRAM)
+sampling_load s (sampling.LoadingValue at of) = loads (at + SAMPLE_VALUE)
+sampling_load s (sampling.Making m) = making_load m.stage
+
+-- an `add`: the single word, the counts reference, or where it claims words or looks for a sample
+abbrev pub add_load : Add → AddStage → Option ℕ
+add_load add adding.LoadingSingle = loads (add.histogram + HISTOGRAM_SINGLE)
+add_load add adding.LoadingCounts = loads (add.histogram + HISTOGRAM_COUNTS)
+add_load add adding.SeekingCounts = loads (add.histogram + HISTOGRAM_COUNTS)
+add_load add (adding.LoadingAgain counts) = loads (add.histogram + HISTOGRAM_SINGLE)
+add_load add (adding.Allocating allocation) = load_of (alloc.next_event allocation)
+add_load add (adding.Sampling s) = sampling_load s s.stage
+add_load add _ = None
+
+-- the word of a record that is compared as number k; no record has so many that a number or a name has 2^60 words
+abbrev pub compared_load : Hist → ℕ → Option ℕ
+compared_load hist k =
+    if nat_lt k (2 ^ 60) && nat_lt hist.letters (2 ^ 60) then loads (hist.reference + compared_index hist.letters k) else None
+
+-- a `hist`: the next of where its walk stands, a word of the record there, or where it makes its record
+abbrev pub hist_load : Hist → HistStage → Option ℕ
+hist_load hist asking.Walking = loads (hist.walk + BLOCK_NEXT)
+hist_load hist (asking.Comparing same) = compared_load hist same
+hist_load hist (asking.Making m) = making_load m.stage
+
+-- a `delta` of a histogram: the single word, the counts reference, a count, the words of its walk, the count of a sample, or the sum
+abbrev pub delta_load : ℕ → DeltaStage → Option ℕ
+delta_load histogram taking.LoadingSingle = loads (histogram + HISTOGRAM_SINGLE)
+delta_load histogram (taking.LoadingCounts packed kept) = loads (histogram + HISTOGRAM_COUNTS)
+delta_load histogram (taking.LoadingCount mounted bucket) = loads (mounted.counts + (BLOCK_HEADER + bucket))
+delta_load histogram (taking.Walking walk) = loads (spot_of histogram walk)
+delta_load histogram (taking.LoadingSample at value) = loads (at + SAMPLE_COUNT)
+delta_load histogram taking.LoadingSum = loads (histogram + HISTOGRAM_SUM)
+delta_load histogram _ = None
+
+-- a `snapshot` of a histogram: the same, and the redundant count
+abbrev pub snapshot_load : ℕ → SnapshotStage → Option ℕ
+snapshot_load histogram viewing.LoadingSingle = loads (histogram + HISTOGRAM_SINGLE)
+snapshot_load histogram (viewing.LoadingCounts packed kept) = loads (histogram + HISTOGRAM_COUNTS)
+snapshot_load histogram (viewing.LoadingCount mounted bucket) = loads (mounted.counts + (BLOCK_HEADER + bucket))
+snapshot_load histogram (viewing.Walking walk) = loads (spot_of histogram walk)
+snapshot_load histogram (viewing.LoadingSample at value) = loads (at + SAMPLE_COUNT)
+snapshot_load histogram viewing.LoadingSum = loads (histogram + HISTOGRAM_SUM)
+snapshot_load histogram (viewing.LoadingRedundant sum) = loads (histogram + HISTOGRAM_REDUNDANT)
+
+-- a `batch`: that of the item which it counts next
+abbrev pub item_load : maybe.Option Add → Option ℕ
+item_load none = None
+item_load (some add) = add_load add add.stage
+
+-- a running call
+abbrev pub running_load : Option Running → Option ℕ
+running_load (Some (runs.Hist hist)) = hist_load hist hist.stage
+running_load (Some (runs.Add add)) = add_load add add.stage
+running_load (Some (runs.Batch batch)) = item_load (get_elem? batch.items.items batch.added)
+running_load (Some (runs.Delta delta_call fresh)) = delta_load delta_call.histogram delta_call.stage
+running_load (Some (runs.Snapshot snapshot_call)) = snapshot_load snapshot_call.histogram snapshot_call.stage
+running_load (Some runs.SetCorrupt) = None
+running_load None = None
+
+-- an actor; one that is not there does nothing
+abbrev pub run_load : maybe.Option ActorRun → Option ℕ
+run_load none = None
+run_load (some actor_run) = running_load actor_run.running
+
+-- of an actor of a world: the word
+abbrev pub next_load : WorldState → ℕ → Option ℕ
+next_load world_state actor = run_load (get_elem? world_state.actor_runs.items actor)

@@ -33,7 +33,7 @@ fn length_of(front: &[u8]) -> Option<u64> {
     Some(8 * (ahead as u64 + size))
 }
 
-impl<F: Read + Seek> Part<F> {
+impl<F: Read + Seek + Drop> Part<F> {
     /// Goes to a byte of a file, and reads as many bytes there as tell how long the segment is. If none begins there, the part has these
     /// bytes alone.
     pub fn of(alloc: Global, mut file: F, at: u64) -> io::Result<Part<F>> {

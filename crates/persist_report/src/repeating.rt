@@ -43,13 +43,14 @@ pub enum Division {
 }
 
 // A line with the time, to the second.
+#[derive(Drop)]
 struct TimeLine {
     time: Timestamp,
     is_comment: bool,
 }
 
 impl fmt::Display for TimeLine {
-    fn fmt(&self, f: &mut fmt::Formatter<'_>) -> fmt::Result {
+    fn fmt<W: fmt::Write>(&self, f: &mut fmt::Formatter<W>) -> fmt::Result {
         let mark = if self.is_comment { "# " } else { "" };
         writeln!(f, "{mark}{}", self.time)
     }

@@ -19,12 +19,15 @@ import subprocess
 import tempfile
 from collections.abc import Iterator, Sequence
 
-from support import forge, layout, plain_look, plain_reader, tracer
+from support import forge, layout, plain_look, plain_reader, plain_show, tracer
 from support.program import EXAMPLE, ROOT, Answer, Case, Word, answer, content, difference, fault, untried
 
 PROGRAM = "persist_report"
 LOOKS = 100
 STOOD = b"what stood there before"
+# The first histogram of the example, and its units, which are also its redundant count.
+FIRST_NAME, FIRST_UNITS = b"request.ms", 70
+HISTOGRAM_TAG, HISTOGRAM_REDUNDANT = 1, 13
 # A word of a header that no running program changes is damaged in so many of the copies.
 DAMAGED = 0.1
 
@@ -152,6 +155,25 @@ def repeated(program: pathlib.Path, closed: pathlib.Path, look: bytes, folder: p
     yield "show --every on a terminal", None if screen == 2 * (clear + text) else f"it came {screen!r}"
 
 
+def meanwhile(program: pathlib.Path, folder: pathlib.Path, closed: pathlib.Path) -> Iterator[Case]:
+    """`show --live` marks the histogram whose units are not its redundant count; no other text does, and no look."""
+    words = list(layout.words_of(closed.read_bytes()))
+    record = next(at for at in range(len(words)) if words[at + 1 : at + 3] == [forge.BLOCK_COOKIE, HISTOGRAM_TAG])
+    for count in (FIRST_UNITS - 1, FIRST_UNITS + 1):
+        words[record + HISTOGRAM_REDUNDANT] = count
+        file = folder / "meanwhile"
+        file.write_bytes(layout.data_of(words))
+        text = plain_show.text_of(file.read_bytes())
+        assert text.count(FIRST_NAME + b"\n") == 1
+        marked = text.replace(FIRST_NAME + b"\n", FIRST_NAME + b"\n  counted meanwhile\n")
+        yield f"{count} counted once more, show", difference(Answer(text), answer(program, ["show", file]))
+        yield f"{count} counted once more, show --live", difference(Answer(marked), answer(program, ["show", file, "--live"]))
+        for form in ("--list", "--html"):
+            wanted = answer(program, ["show", file, form])
+            came = answer(program, ["show", file, form, "--live"])
+            yield f"{count} counted once more, {form}", difference(wanted, came)
+
+
 def cases(program: pathlib.Path, options: argparse.Namespace) -> Iterator[Case]:
     closed = ROOT / "examples" / "crash.img"
     look = layout.data_of(plain_look.look_of(*[layout.words_of(closed.read_bytes())] * 3))
@@ -160,6 +182,7 @@ def cases(program: pathlib.Path, options: argparse.Namespace) -> Iterator[Case]:
         yield "standard output", difference(Answer(look), answer(program, ["look", closed]))
         yield from live(program, closed, look)
         yield from repeated(program, closed, look, folder)
+        yield from meanwhile(program, folder, closed)
         yield "version 1", difference(fault("Adopt OldVersion", 3), answer(program, ["look", EXAMPLE]))
         refused = dataclasses.replace(answer(program, ["look", "-"]), error=b"")
         yield "standard input", difference(Answer(status=2), refused)

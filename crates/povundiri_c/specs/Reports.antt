@@ -27,6 +27,7 @@ style_asked width = record {
   is_log = false;
   shows_all = false;
   shows_redundant = false;
+  marks_meanwhile = false;
 }
 
 -- the metrics of a reading with this prefix, without labels of all lines

@@ -35,6 +35,7 @@ fn style_of(width: u16) -> Style
         is_log: false,
         shows_all: false,
         shows_redundant: false,
+        marks_meanwhile: false,
     }
 }
 

@@ -186,6 +186,12 @@ abbrev pub redundant_line : Style → Histogram → List ℕ
 redundant_line style hist =
     if style.shows_redundant && not (hist.redundant == units_of hist) then redundant_text style.is_human hist.redundant else []
 
+-- the line that marks a histogram as counted in while it was looked at, where that is asked for: its redundant count is not its
+-- units
+abbrev pub meanwhile_line : Style → Histogram → List ℕ
+meanwhile_line style hist =
+    if style.marks_meanwhile && not (hist.redundant == units_of hist) then codes "  counted meanwhile\n" else []
+
 -- what the lines of a histogram have in common
 abbrev pub frame_of : Histogram → Frame
 frame_of hist = record {
@@ -203,6 +209,7 @@ abbrev pub histogram_text : Style → Histogram → List ℕ
 histogram_text style hist =
     hist.name
     ++ codes "\n"
+    ++ meanwhile_line style hist
     ++ number_lines style.is_human hist
     ++ row_lines style (frame_of hist) (shown_rows (shows_all_of style.shows_all hist) (rows_of hist))
     ++ left_out_line style.is_human (left_out_rows (shows_all_of style.shows_all hist) (rows_of hist))

@@ -1,9 +1,9 @@
-//! The line of the redundant count of a histogram.
+//! The lines of a histogram whose redundant count is not its units.
 
 ghost use Rattle.std.specs.Prelude.{◌≡◌, ◌++◌, OnOk};
 ghost use Rattle.image_reader.specs.Readable.{IsReadable};
 ghost use Rattle.image_reader.specs.Views.{histogram_view};
-ghost use Rattle.reading_shows.specs.Showing.{redundant_line, redundant_text};
+ghost use Rattle.reading_shows.specs.Showing.{meanwhile_line, redundant_line, redundant_text};
 
 use crate::style::Style;
 use image_reader::HistReading;
@@ -32,6 +32,22 @@ pub(crate) fn put_redundant(
 {
     if style.shows_redundant && hist.redundant != units(hist) {
         put_redundant_text(text, style.is_human, hist.redundant)?;
+    }
+    Ok(())
+}
+
+// Puts the line that marks a histogram as counted in meanwhile, where it is asked for and the redundant count differs from the
+// units.
+pub(crate) fn put_meanwhile(
+    text: &mut Vec<u8>,
+    style: Style,
+    hist: &HistReading,
+) -> Result<(), AllocError>
+    requires { IsReadable (histogram_view hist.now) }
+    ensures { OnOk result (text.new.items ≡ text.old.items ++ meanwhile_line style (histogram_view hist.now)) }
+{
+    if style.marks_meanwhile && hist.redundant != units(hist) {
+        text.extend_from_slice(b"  counted meanwhile\n")?;
     }
     Ok(())
 }

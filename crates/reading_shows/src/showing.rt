@@ -11,7 +11,7 @@ use crate::ending::put_ending;
 use crate::heading::put_numbers;
 use crate::lines::{put_left_out, put_rows};
 use crate::most::pick;
-use crate::redundant::put_redundant;
+use crate::redundant::{put_meanwhile, put_redundant};
 use crate::style::{Style, frame_of, shows_all_of};
 use image_reader::{HistReading, Reading};
 use reading_texts::rows_of;
@@ -31,6 +31,7 @@ fn put_histogram(
     let rows = rows.as_slice();
     text.extend_from_slice(hist.name.as_slice())?;
     text.extend_from_slice(b"\n")?;
+    put_meanwhile(text, style, hist)?;
     put_numbers(text, style.is_human, hist, rows)?;
     let picked = pick(alloc, shows_all_of(style.shows_all, hist), rows)?;
     put_rows(
@@ -66,7 +67,8 @@ fn put_histograms(
 /// quantiles and a bar for each bucket that has units, or for each of the 20 values of a sparse one with the most
 /// units, unless the style shows all; then the flags that are set and the bad records. Of the values of a sparse
 /// histogram that are left out one line says how many they are, and what units they have together. Where the style shows
-/// redundant counts, one more line says that of a histogram whose units it is not. The one error is that memory runs out.
+/// redundant counts, one more line says that of a histogram whose units it is not; where it marks these, a line behind the name
+/// does so. The one error is that memory runs out.
 pub fn show_text(
     alloc: Global,
     reading: &Reading,

@@ -26,6 +26,9 @@ pub struct Style {
     pub shows_all: bool,
     /// Whether a line says how many units are counted once more, where these are not all.
     pub shows_redundant: bool,
+    /// Whether a line marks each histogram whose units are not its redundant count: in a look at a running segment its counts
+    /// may not be of one moment.
+    pub marks_meanwhile: bool,
 }
 
 // What the rows of a histogram have in common.

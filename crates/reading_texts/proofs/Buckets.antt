@@ -69,7 +69,7 @@ value_behind counts i count within is =
     get_or-map (λ (c : ℤ × ℕ). c.0 +ℤ pos 1) counts i count (pos 0) within ∙ ap (λ (c : ℤ × ℕ). c.0 +ℤ pos 1) (sym is)
 
 -- what has ranges is not sparse
-not_sparse : (spec : Spec) → is_sparse spec ≡ false → spec ≡ Sparse → ⊥
+pub not_sparse : (spec : Spec) → is_sparse spec ≡ false → spec ≡ Sparse → ⊥
 not_sparse spec ranged e = absurd (cc)
 
 -- what stands behind the buckets of a histogram with ranges is not below 0

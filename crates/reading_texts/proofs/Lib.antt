@@ -1,6 +1,14 @@
 pub mod Adding
 pub mod Ascending
 pub mod Buckets
+pub mod ExportSeries
+pub mod FamilySeries
 pub mod FamilyTexts
 pub mod Filtered
+pub mod LabelSets
+pub mod NameParts
+pub mod Pairs
+pub mod ReadHists
 pub mod Rendered
+pub mod RowLabels
+pub mod RowSeries

@@ -1,11 +1,11 @@
 -- Samples as lines, and labels whose values need no escapes.
-use Rattle.std.proofs.Common.{◌≡◌, ◌∙◌, ℕ, suc, ◌+◌, ◌-◌, ◌^◌, ◌<◌, ◌≤◌, List, [], ◌∷◌, ◌++◌, length, map, refl, ap, sym, append_assoc, arith, cond, ltb, true, false}
+use Rattle.std.proofs.Common.{◌≡◌, ◌∙◌, ℕ, suc, ◌^◌, ◌<◌, ◌≤◌, List, [], ◌∷◌, ◌++◌, map, refl, ap, sym, append_assoc, arith}
 use Rattle.std.specs.Prelude.{codes, ℤ, pos, negsuc, ◌-ℤ◌}
 use Rattle.std.specs.Char.{digit_value}
 use Rattle.std.specs.Fmt.{decimal, signed_decimal}
 use Rattle.std.specs.Int.Signed.{mag}
 use Rattle.std.specs.List.{flat_map}
-use Rattle.std.specs.Str.Parse.{AllDigits, IsNumeral}
+use Rattle.std.specs.Str.Parse.{AllDigits}
 use Rattle.std.proofs.lemmas.Bool.Decides.{nat_tests}
 use Rattle.std.proofs.lemmas.Fmt.{decimal_is_IsNumeral}
 use Rattle.std.proofs.lemmas.List.{append-nil}
@@ -16,7 +16,7 @@ use Rattle.reading_texts.specs.declared.rows.HistRow.{HistRow}
 use Rattle.reading_texts.specs.Rows.{units_of}
 use Rattle.reading_texts.specs.Labels.{quoted, value_byte}
 use Rattle.reading_texts.specs.Lines.{bucket_line, value_line, total_line, total_lines}
-use Rattle.reading_texts.specs.Exporting.{joined, MetricSample, label_text, next_label_text, inner_text, labels_text, sample_text, bucket_sample, infinite_sample, total_sample, total_samples, value_sample}
+use Rattle.reading_texts.specs.Exporting.{joined, next_label_text, inner_text, sample_text, bucket_sample, infinite_sample, total_sample, total_samples, value_sample}
 
 -- ---- digits
 

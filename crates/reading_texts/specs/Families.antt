@@ -147,6 +147,12 @@ families_by_name prefix line_labels members reading =
     flat_map (families_with prefix line_labels members) (first_of_each same_family members)
     ++ bad_family prefix line_labels reading ∷ flag_family prefix line_labels reading ∷ []
 
+-- these are the families of a reading, with such names of metrics, and with these labels on all lines
+abbrev pub AreFamiliesByName : List ℕ → List (List ℕ × List ℕ) → Reading → List MetricFamily → Type 0
+AreFamiliesByName prefix line_labels reading families =
+    (hists : List Histogram) × AreSortedByName hists reading
+    × (families ≡ families_by_name prefix line_labels (map (member_of line_labels) hists) reading)
+
 -- the text of a reading, with such names of metrics and these labels on all lines: that of its families, none of which clashes
 pub record IsFamiliesTextOf (prefix : List ℕ) (line_labels : List (List ℕ × List ℕ)) (reading : Reading) (text : List ℕ) : Type 0 where
   pub hists : List Histogram

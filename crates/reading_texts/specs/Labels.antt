@@ -1,5 +1,5 @@
 -- Labels of metrics: which keys they may have, and those that the name of a histogram has in itself.
-use Rattle.std.specs.Prelude.{Bool, true, false, not, ◌==◌, ◌||◌, ◌&&◌, nat_lt, if◌then◌else◌, ℕ, ◌-◌, List, [], ◌∷◌, ◌++◌, length, map, take, slice_index, codes}
+use Rattle.std.specs.Prelude.{Bool, true, false, not, ◌==◌, ◌||◌, ◌&&◌, nat_lt, if◌then◌else◌, ℕ, ◌-◌, List, [], ◌∷◌, length, map, take, slice_index, codes}
 use Rattle.std.specs.Char.{is_ascii_alphabetic, is_ascii_digit}
 use Rattle.std.specs.Cmp.Lexicographic.{slice_cmp}
 use Rattle.std.specs.Ordering.{nat_cmp, is_lt}

@@ -10,3 +10,4 @@ pub mod Lines
 pub mod Families
 pub mod FamilyLines
 pub mod Members
+pub mod Series

@@ -1,13 +1,16 @@
 //! The text of a reading for what scrapes metrics: the Prometheus text format, version 0.0.4.
 
-ghost use Rattle.std.specs.Prelude.{◌≡◌, ◌++◌, ◌≤ℤ◌, ◌-ℤ◌, All, IfOk, OnOk, pos, map};
+ghost use Rattle.std.specs.Prelude.{◌≡◌, ◌++◌, ◌≤ℤ◌, ◌-ℤ◌, All, IfOk, List, OnOk, pos, map, true, ℕ};
 ghost use Rattle.std.specs.Fmt.{decimal};
 ghost use Rattle.std.specs.List.{flat_map};
+ghost use Rattle.segment_image.specs.declared.head.SegmentHead.{SegmentHead};
+ghost use Rattle.bucket_ranges.specs.Reading.{IsReading};
 ghost use Rattle.image_reader.specs.Views.{histogram_view, reading_view};
 ghost use Rattle.image_reader.specs.Readable.{IsReadable};
-ghost use Rattle.reading_texts.specs.Labels.{label_view};
+ghost use Rattle.reading_texts.specs.Labels.{label_view, are_line_labels as are_line_labels_of};
+ghost use Rattle.reading_texts.specs.Series.{IsTextOfDistinctSeries};
 ghost use Rattle.reading_texts.specs.Lines.{row_line, bucket_line, value_line, total_line, total_lines};
-ghost use Rattle.reading_texts.specs.Exporting.{heading_text, family_text, sample_text, inner_text, labels_text, labels_of, ranged_samples, sparse_samples, flag_sample, units_family, sparse_family, bad_family, flag_family, bad_records as bad_records_of, total_sample, flag_value as value_of_flag, IsExportOf};
+ghost use Rattle.reading_texts.specs.Exporting.{heading_text, family_text, sample_text, inner_text, labels_text, labels_of, ranged_samples, sparse_samples, flag_sample, units_family, sparse_family, bad_family, flag_family, bad_records as bad_records_of, total_sample, flag_value as value_of_flag, AreFamiliesOf, IsExportOf};
 
 use crate::labels::{Label, put_label, put_labels, read_name, text_of_name};
 use crate::order::in_order;
@@ -405,7 +408,8 @@ fn put_sparse_total(
 /// one if [`is_prefix`](crate::is_prefix) says so, and all lines get these labels, which they may have if
 /// [`are_line_labels`](crate::are_line_labels) says so.
 ///
-/// The text is exactly the one that is defined. The one error is that memory runs out.
+/// The text is exactly the one that is defined [text]. If the reading is that of words and all lines may have these labels, then
+/// no two lines are of one series: of one name of a metric and one set of labels [series]. The one error is that memory runs out.
 pub fn export_text(
     alloc: Global,
     reading: &Reading,
@@ -413,7 +417,8 @@ pub fn export_text(
     line_labels: &[Label<'_>],
 ) -> Result<Vec<u8>, AllocError>
     requires { All IsReadable (map histogram_view reading.now.hists.items) }
-    ensures { IfOk result (λ text. IsExportOf prefix.now (map label_view line_labels.now) (reading_view reading.now) text.items) }
+    ensures text { IfOk result (λ text. IsExportOf prefix.now (map label_view line_labels.now) (reading_view reading.now) text.items) }
+    ensures series { (words : List ℕ) → (head : SegmentHead) → IsReading words head (reading_view reading.now) → are_line_labels_of (map label_view line_labels.now) ≡ true → IfOk result (λ text. IsTextOfDistinctSeries (AreFamiliesOf prefix.now (map label_view line_labels.now) (reading_view reading.now)) text.items) }
 {
     let hists = in_order(alloc, reading)?;
     let mut text = Vec::new(alloc);

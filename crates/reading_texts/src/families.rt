@@ -1,13 +1,15 @@
 //! The text of a reading for what scrapes metrics, with a family for each histogram, named after it.
 
-ghost use Rattle.std.specs.Prelude.{◌≡◌, ◌++◌, All, IfOk, IfErr, OnOk, None, map};
+ghost use Rattle.std.specs.Prelude.{◌≡◌, ◌++◌, All, IfOk, IfErr, List, OnOk, None, map, true, ℕ};
 ghost use Rattle.std.specs.List.{flat_map, list_any};
-ghost use Rattle.bucket_ranges.specs.Reading.{first_of_each};
+ghost use Rattle.segment_image.specs.declared.head.SegmentHead.{SegmentHead};
+ghost use Rattle.bucket_ranges.specs.Reading.{IsReading, first_of_each};
 ghost use Rattle.image_reader.specs.Views.{histogram_view, reading_view};
 ghost use Rattle.image_reader.specs.Readable.{IsReadable};
-ghost use Rattle.reading_texts.specs.Labels.{label_view};
+ghost use Rattle.reading_texts.specs.Labels.{label_view, are_line_labels as are_line_labels_of};
+ghost use Rattle.reading_texts.specs.Series.{IsTextOfDistinctSeries};
 ghost use Rattle.reading_texts.specs.Members.{member_view, IsClashOf, IsCauseIn};
-ghost use Rattle.reading_texts.specs.Families.{same_family as same_family_of, first_clash as first_clash_of, IsFamiliesTextOf};
+ghost use Rattle.reading_texts.specs.Families.{same_family as same_family_of, first_clash as first_clash_of, AreFamiliesByName, IsFamiliesTextOf};
 ghost use Rattle.reading_texts.specs.FamilyLines.{lines_with};
 
 use crate::exporting::{put_bad, put_flags};
@@ -89,9 +91,11 @@ fn check_clashes(alloc: Global, members: &[Member<'_>]) -> Result<(), FamilyFaul
 /// letters and digits of ASCII. A prefix is one if [`is_prefix`](crate::is_prefix) says so, and all lines get these labels,
 /// which they may have if [`are_line_labels`](crate::are_line_labels) says so.
 ///
-/// The text is exactly the one that is defined, and then no two histograms clash [text]. `Clash` comes only with the names of
-/// the first that clash [clash]: two of one family that are of two kinds or have the same labels, or two of which one's family
-/// is named as a metric of the other, or one whose family is one of the segment. Else memory runs out.
+/// The text is exactly the one that is defined, and then no two histograms clash [text]. If the reading is that of words and all
+/// lines may have these labels, then no two lines are of one series: of one name of a metric and one set of labels [series].
+/// `Clash` comes only with the names of the first that clash [clash]: two of one family that are of two kinds or have the same
+/// labels, or two of which one's family is named as a metric of the other, or one whose family is one of the segment. Else
+/// memory runs out.
 pub fn families_text(
     alloc: Global,
     reading: &Reading,
@@ -100,6 +104,7 @@ pub fn families_text(
 ) -> Result<Vec<u8>, FamilyFault>
     requires { All IsReadable (map histogram_view reading.now.hists.items) }
     ensures text { IfOk result (λ text. IsFamiliesTextOf prefix.now (map label_view line_labels.now) (reading_view reading.now) text.items) }
+    ensures series { (words : List ℕ) → (head : SegmentHead) → IsReading words head (reading_view reading.now) → are_line_labels_of (map label_view line_labels.now) ≡ true → IfOk result (λ text. IsTextOfDistinctSeries (AreFamiliesByName prefix.now (map label_view line_labels.now) (reading_view reading.now)) text.items) }
     ensures clash { IfErr result (IsCauseIn (map label_view line_labels.now) (reading_view reading.now)) }
 {
     let hists = in_order(alloc, reading)?;

@@ -172,6 +172,7 @@ pub fn show_task<'a>(
         is_log: show.get_flag("log"),
         shows_all: show.get_flag("all"),
         shows_redundant: explains,
+        marks_meanwhile: show.get_flag("live"),
     };
     Ok(Task::Show {
         file: show.get_str("FILE"),

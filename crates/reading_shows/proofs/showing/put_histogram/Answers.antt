@@ -19,6 +19,7 @@ returns c =
     let named = rw c.as_slice.ensures.value at c.in_ok-extend_from_slice.ensures.items in
     let lines = rw (c.frame_of.ensures, c.as_slice-2.ensures.value, shown) at c.in_ok-put_rows.ensures in
     let others = rw (c.as_slice-3.ensures.value, left_out) at c.in_ok-put_left_out.ensures in
-    let numbers = written-both _ _ _ (written-both _ _ _ named c.in_ok-extend_from_slice-2.ensures.items) c.in_ok-put_numbers.ensures in
+    let marked = written-both _ _ _ (written-both _ _ _ named c.in_ok-extend_from_slice-2.ensures.items) c.in_ok-put_meanwhile.ensures in
+    let numbers = written-both _ _ _ marked c.in_ok-put_numbers.ensures in
     let rest = written-both _ _ _ (written-both _ _ _ numbers lines) others in
     written-both _ _ _ (written-both _ _ _ rest c.in_ok-put_redundant.ensures) c.in_ok-extend_from_slice-3.ensures.items

@@ -1,11 +1,10 @@
-use Rattle.std.proofs.Common.{◌∙◌, ◌<◌, [], ◌∷◌, ◌++◌, ap, sym, arith, rules}
+use Rattle.std.proofs.Common.{◌∙◌, [], ◌∷◌, ◌++◌, ap, sym, arith, rules}
 use mir.Syntax.{w64}
 use mir.Val.{SFits}
 use Rattle.std.specs.Prelude.{codes}
 use Rattle.std.specs.Fmt.{decimal, signed_decimal}
 use Rattle.std.proofs.lemmas.Int.{to_z-of_z}
 use Rattle.std.proofs.lemmas.List.{append-nil}
-use Rattle.std.specs.Int.Signed.{mag}
 use Rattle.std.proofs.lemmas.Int.{ints}
 use Rattle.reading_texts.specs.Labels.{quoted}
 use Rattle.reading_texts.proofs.Adding.{joined-more}

@@ -1,4 +1,4 @@
-use Rattle.std.proofs.Common.{◌≡◌, ◌∙◌, [], ◌∷◌, ◌++◌, ap, sym, map}
+use Rattle.std.proofs.Common.{◌∙◌, [], ◌∷◌, ◌++◌, ap, sym, map}
 use Rattle.std.specs.Prelude.{codes}
 use Rattle.image_reader.specs.Views.{histogram_view}
 use Rattle.reading_texts.specs.Labels.{label_view}

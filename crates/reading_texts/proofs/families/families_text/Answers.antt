@@ -1,13 +1,15 @@
-use Rattle.std.proofs.Common.{◌∙◌, ◌++◌, List, map, ap}
+use Rattle.std.proofs.Common.{◌∙◌, ◌++◌, List, map, ap, refl}
 use Rattle.std.specs.List.{flat_map}
 use Rattle.std.proofs.lemmas.List.Sorted.{All-permutation, IsPermutation-sym}
 use Rattle.bucket_ranges.specs.Reading.{Histogram, first_of_each}
 use Rattle.image_reader.specs.Views.{histogram_view, reading_view}
 use Rattle.image_reader.specs.Readable.{IsReadable}
 use Rattle.reading_texts.specs.Labels.{label_view}
-use Rattle.reading_texts.specs.Families.{FamilyMember, member_of, same_family}
+use Rattle.reading_texts.specs.Families.{FamilyMember, families_by_name, member_of, same_family}
 use Rattle.reading_texts.specs.FamilyLines.{lines_with}
 use Rattle.reading_texts.proofs.Adding.{written-behind}
+use Rattle.reading_texts.proofs.FamilySeries.{clear-once}
+use Rattle.reading_texts.proofs.ReadHists.{AreRead-from, AreRead-sorted}
 use Rattle.reading_texts.proofs.FamilyTexts.{are_members, readable_members, families-are}
 use Rattle.reading_texts.proofs.families.families_text.Goals as goal
 
@@ -35,3 +37,17 @@ returns-clause-text c =
       none_clashes = rw (c.deref-2.ensures.value, are) at c.in_ok-check_clashes.ensures.none;
       is = flags ∙ families-are prefix line_labels members (reading_view c.args.reading.now) (are_members line_labels hists);
     }
+
+pub returns-clause-series : goal.returns-clause-series
+returns-clause-series c = λ words head is lawful.
+    let text = returns-clause-text c in
+    let reading = reading_view c.args.reading.now in
+    let line_labels = map label_view c.args.line_labels.now in
+    let members : List FamilyMember = map (member_of line_labels) text.hists in
+    let read = AreRead-sorted text.hists reading text.sorted (AreRead-from words head reading is) in
+    let readable = All-permutation IsReadable reading.hists text.hists (IsPermutation-sym text.hists reading.hists text.sorted.same) c.requires in (
+      families_by_name c.args.prefix.now line_labels members reading,
+      (text.hists, text.sorted, refl),
+      text.is,
+      clear-once c.args.prefix.now line_labels text.hists reading lawful read readable text.none_clashes,
+    )

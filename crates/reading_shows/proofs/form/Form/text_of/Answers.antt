@@ -7,7 +7,7 @@ pub returns-in-Rows : goal.returns-in-Rows
 returns-in-Rows c = rw c.in-Rows.is c.table_text.ensures
 
 pub returns-in-Export : goal.returns-in-Export
-returns-in-Export c = rw c.in-Export.is (rw c.as_bytes.ensures.value at c.export_text.ensures)
+returns-in-Export c = rw c.in-Export.is (rw c.as_bytes.ensures.value at c.export_text.ensures.text)
 
 pub returns-in-Show : goal.returns-in-Show
 returns-in-Show c = rw c.in-Show.is c.show_text.ensures

@@ -167,7 +167,8 @@ def meanwhile(program: pathlib.Path, folder: pathlib.Path, closed: pathlib.Path)
         assert text.count(FIRST_NAME + b"\n") == 1
         marked = text.replace(FIRST_NAME + b"\n", FIRST_NAME + b"\n  counted meanwhile\n")
         yield f"{count} counted once more, show", difference(Answer(text), answer(program, ["show", file]))
-        yield f"{count} counted once more, show --live", difference(Answer(marked), answer(program, ["show", file, "--live"]))
+        came = answer(program, ["show", file, "--live"])
+        yield f"{count} counted once more, show --live", difference(Answer(marked), came)
         for form in ("--list", "--html"):
             wanted = answer(program, ["show", file, form])
             came = answer(program, ["show", file, form, "--live"])

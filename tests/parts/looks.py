@@ -166,13 +166,13 @@ def meanwhile(program: pathlib.Path, folder: pathlib.Path, closed: pathlib.Path)
         text = plain_show.text_of(file.read_bytes())
         assert text.count(FIRST_NAME + b"\n") == 1
         marked = text.replace(FIRST_NAME + b"\n", FIRST_NAME + b"\n  counted meanwhile\n")
-        yield f"{count} counted once more, show", difference(Answer(text), answer(program, ["show", file]))
-        came = answer(program, ["show", file, "--live"])
-        yield f"{count} counted once more, show --live", difference(Answer(marked), came)
+        choices: list[tuple[list[str], bytes]] = [([], text), (["--live"], marked)]
+        for options, wanted in choices:
+            came = answer(program, ["show", file, *options])
+            yield f"{count} counted once more, {options}", difference(Answer(wanted), came)
         for form in ("--list", "--html"):
-            wanted = answer(program, ["show", file, form])
             came = answer(program, ["show", file, form, "--live"])
-            yield f"{count} counted once more, {form}", difference(wanted, came)
+            yield f"{count} counted once more, {form}", difference(answer(program, ["show", file, form]), came)
 
 
 def cases(program: pathlib.Path, options: argparse.Namespace) -> Iterator[Case]:

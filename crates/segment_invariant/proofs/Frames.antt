@@ -5,6 +5,7 @@ pub mod Answers
 pub mod Books
 pub mod Deeds
 pub mod GoesOn
+pub mod LaidOut
 pub mod Leads
 pub mod Onward
 pub mod Growth

@@ -4,6 +4,7 @@ pub mod Seen
 pub mod Rises
 pub mod Consistent
 pub mod Invariant
+pub mod Words
 pub mod Keeps
 pub mod Examples
 pub mod Accounts

@@ -5,8 +5,8 @@
 //! than what is spent on them (`SumsRise`). A kept state is consistent: its totals, marks and sums are what actors did. The
 //! laws are in `laws`, the definitions in `specs/`: what is consistent by the words and the actors alone (`Consistent`);
 //! what each block is (`Body`), what blocks hold and actors did (`Ledger`), what was seen (`Seen`), all that holds
-//! (`Invariant`), how it goes on (`Rises`), and that it is kept (`Keeps`). Worked examples are in `Examples`, `Accounts` and
-//! `Refused`.
+//! (`Invariant`), what that says of the words alone (`Words`), how it goes on (`Rises`), and that it is kept (`Keeps`).
+//! Worked examples are in `Examples`, `Accounts` and `Refused`.
 #![tactic(auto)]
 
 pub mod laws;

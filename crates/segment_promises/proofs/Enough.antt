@@ -6,6 +6,7 @@ use Rattle.segment_invariant.proofs.Prelude.Invariant.{Anatomy, IsFirst, IsFirst
 use native.Mathlib.Decide.{dec_le}
 use Rattle.bucket_ranges.specs.declared.spec.Spec.TheVariants as spec
 use Rattle.list_lemmas.proofs.Maps.{contains_take}
+use Rattle.segment_invariant.proofs.Frames.LaidOut.{laid_out}
 use Rattle.segment_invariant.proofs.Lists.Tallies.{tally_at}
 use Rattle.segment_invariant.proofs.Consistency.Firsts.{sample_of_first}
 use Rattle.segment_promises.specs.Deltas.{HadSample, HasBuckets, HasValues}
@@ -98,7 +99,7 @@ module _ (shape : Dimensions) (opened : Anatomy) (state : State) (kept : Invaria
 
       value_seen : (value : ℤ) (n : ℕ) → HadSample kept.anatomy.records a known value n → n ≤ units value
       value_seen value n (at, first, had) =
-          let (x, (stands, of_it, valued)) = sample_of_first shape opened state kept known.reference value at first in
+          let (x, (stands, of_it, valued)) = sample_of_first shape opened state.words (laid_out shape opened state kept) known.reference value at first in
           let sighting : Sighting = record { at = at + 6; word = n } in
           let there : Contains a.seen.counts sighting = contains_take a.since.counts a.seen.counts sighting had in
           let met = All-contains (WasMet kept.anatomy.pieces a.seen) a.seen.counts sighting fits.sees.met there at x stands (inl refl) in

@@ -1,4 +1,5 @@
 pub mod Amounts
+pub mod Blocks
 pub mod Bounds
 pub mod Buckets
 pub mod Counts
@@ -8,6 +9,7 @@ pub mod Finds
 pub mod Firsts
 pub mod Heads
 pub mod Joined
+pub mod Kept
 pub mod Keys
 pub mod Later
 pub mod LaterSums

@@ -1,5 +1,5 @@
--- What the words of a segment read as, by the definition of a reading: whenever everything stops, and after the joins. For both
--- versions, all four kinds of histograms, and every opening.
+-- What the words of a segment read as, by the definition of a reading: whoever wrote them, whenever everything stops, and after the joins.
+-- For both versions, all four kinds of histograms, and every opening.
 pub use Rattle.image_rules.specs.Adoption.{HasNoFault}
 use Rattle.std.specs.Prelude.{◌≡◌, ◌↔◌, ℕ, ◌+◌, ◌<◌, ◌≤◌, ◌||◌, ℤ, List, ◌++◌, map, Some}
 use Rattle.std.specs.List.{zip, flat_map, Contains}
@@ -20,9 +20,10 @@ use Rattle.segment_machine.specs.Actor.{log_of, all_counted, all_summed, all_not
 use Rattle.segment_machine.specs.State.{State}
 use Rattle.segment_machine.specs.Reached.{IsJoined}
 use Rattle.segment_invariant.specs.Body.{Listed, Anatomy}
-use Rattle.segment_invariant.specs.Ledger.{key_of_bucket, noted_held, all_held, all_moving}
+use Rattle.segment_invariant.specs.Ledger.{key_of_bucket, units_held, marks_held, sum_held, sum_mark_held, noted_held, all_held, all_amounts, all_moving}
 use Rattle.segment_invariant.specs.Seen.{IsFirst}
 use Rattle.segment_invariant.specs.Invariant.{Invariant, IsSetBy, IsSetWhereSeen}
+use Rattle.segment_invariant.specs.Words.{WordsAreKept}
 
 -- ---- what is read of a histogram
 
@@ -42,7 +43,7 @@ noted_at_opening opened name = all_held (noted_held name) opened.pieces
 abbrev pub begun_of : Actor → List Entry
 begun_of a = log_of a ++ map (λ c. c.entry) a.entries.running
 
--- ---- whenever everything stops
+-- ---- words, whoever wrote them
 
 -- of each name that is on the list exactly one histogram is read: the first record of the name, with the spec that its maker was given
 pub record ReadsNames (records : List Listed) (reading : Reading) : Type 0 where
@@ -50,6 +51,25 @@ pub record ReadsNames (records : List Listed) (reading : Reading) : Type 0 where
   pub read : (name : List ℕ) (kind : Spec) (at : ℕ) → IsFirst records name kind at
       → (h : Histogram) × Contains reading.hists h × (h.name ≡ name)
   pub once : (i j : ℕ) (g h : Histogram) → get_elem? reading.hists i ≡ some g → get_elem? reading.hists j ≡ some h → g.name ≡ h.name → i ≡ j
+
+-- What is read of a histogram is what the blocks hold of its name: of each key the units and the mark, the sum, the redundant count and
+-- the sum mark.
+pub record ReadsBlocks (anatomy : Anatomy) (h : Histogram) : Type 0 where
+  pub units : (key : ℤ) → units_read h key ≡ all_held (units_held anatomy.version h.name key) anatomy.pieces
+  pub marks : (key : ℤ) → mark_read h key ≡ all_held (marks_held anatomy.version h.name key) anatomy.pieces
+  pub sum : h.sum ≡ all_amounts (sum_held h.name) anatomy.pieces
+  pub redundant : h.redundant ≡ all_held (noted_held h.name) anatomy.pieces
+  pub sum_mark : h.sum_mark ≡ all_amounts (sum_mark_held h.name) anatomy.pieces
+
+-- Words of which all holds that the invariant says of the words alone read as exactly the histograms on their list, each once, with what
+-- their blocks hold, and without a bad record. No state need have these words.
+abbrev pub WordsRead : Type 0
+WordsRead = (shape : Dimensions) (opened : Anatomy) (words : List ℕ) (reading : Reading) → (kept : WordsAreKept shape opened words)
+    → IsReading words (head_of words) reading
+    → HasNoFault reading × ReadsNames kept.laid.anatomy.records reading
+    × ((h : Histogram) → Contains reading.hists h → ReadsBlocks kept.laid.anatomy h)
+
+-- ---- whenever everything stops
 
 -- Of each key the units are those that were counted, less those in transit. So every unit of an ended call is there but these, and
 -- none is there whose call had not begun. Only the packed bucket, and only in version 1, has units in transit.

@@ -6,7 +6,7 @@ ghost use Rattle.segment_promises.specs.States.{ReachedStatesFollow, StatesRise,
 ghost use Rattle.segment_promises.specs.Follows.{StepsFollow, TablesOpen, TablesClose, TablesFollow, TablesAnnounce, TablesOffer, TablesSplit, TablesJoin, TablesFill, TablesPour};
 ghost use Rattle.segment_promises.specs.Tallies.{PartsAddUp, TalliesAreCounts};
 ghost use Rattle.segment_promises.specs.Deltas.{FinalDeltasTakeAll, LoneDeltasTakeAll, FinalSnapshotsAreExact, SnapshotsStayBelow, DeltasTakeAccepted, SnapshotsSeeAccepted};
-ghost use Rattle.segment_promises.specs.Reads.{StoppedReads, JoinedReads};
+ghost use Rattle.segment_promises.specs.Reads.{WordsRead, StoppedReads, JoinedReads};
 ghost use Rattle.segment_promises.specs.Refusals.{RefusedAddsFew};
 ghost use Rattle.segment_promises.specs.Spoilers.{SpoilersClaimNothing};
 ghost use Rattle.segment_promises.specs.Lists.{LinksAppend, ChainsAreLinks, WalksGiveAll, CursorsKeepOrder, CursorsGiveFronts, CursorsGiveAll, NamesAreFirst, OthersDiffer};
@@ -100,6 +100,17 @@ pub fn tables_pour<S>()
 /// The tallies of the parts of a list by number modulo n add up to that of the list.
 pub fn parts_add_up()
     ensures { PartsAddUp }
+{}
+
+/// Words of which all holds that the invariant says of the words alone read without a fault, even if no state has them.
+///
+/// - No record is bad, and the list does not stop.
+/// - Of each name that is on the list exactly one histogram is read: the first record of the name, with the spec that its
+///   maker was given.
+/// - Of each key the units and the mark that are read are those that the blocks hold of it, and so are the sum, the
+///   redundant count and the sum mark.
+pub fn words_read()
+    ensures { WordsRead }
 {}
 
 /// Of any kept state: whenever everything stops, the words read as exactly the published histograms, with all units

@@ -3,6 +3,7 @@ use Rattle.segment_invariant.proofs.Prelude.Std.{◌≡◌, ℕ, ◌+◌, List, 
 use Rattle.segment_invariant.proofs.Prelude.Machine.{Dimensions, head_of, field_at, IsChain, all_noted, tally_noted, State}
 use Rattle.segment_invariant.proofs.Prelude.Invariant.{IsHistogram, Anatomy, order_of, Invariant}
 use Rattle.segment_invariant.specs.Keeps.{KeptSumsAreAmounts, opening_of}
+use Rattle.segment_invariant.proofs.Frames.LaidOut.{laid_out}
 use Rattle.segment_invariant.proofs.Consistency.Records.{record_word}
 use Rattle.segment_invariant.proofs.Consistency.Firsts.{first_of_name}
 use Rattle.segment_invariant.proofs.Consistency.Sums.{sum_is, noted_is}
@@ -18,9 +19,9 @@ module _ (shape : Dimensions) (opened : Anatomy) (state : State) (opens : Opens 
       → (Contains front at → field_at state.words at 13 ≡ field_at before at 13 + tally_noted (all_noted state.actors) name)
       × (¬ (Contains front at) → field_at state.words at 13 ≡ tally_noted (all_noted state.actors) name)
   redundant front name at chain is =
-      let (kind, r, first, (has, named, specified)) = first_of_name shape opened state kept name at is in
+      let (kind, r, first, (has, named, specified)) = first_of_name shape opened state.words (laid_out shape opened state kept) name at is in
       let word = record_word shape state.words kept.anatomy kept.shown at r 13 has (omega arith) in
-      let held = noted_is shape opened state kept name kind at r first has named in
+      let held = noted_is shape opened state.words (laid_out shape opened state kept) name kind at r first has named in
       let balance = kept.balanced.noted name in
       let order : front ≡ order_of opened = front_is shape opened opens front chain in (
         λ there.
@@ -34,8 +35,8 @@ module _ (shape : Dimensions) (opened : Anatomy) (state : State) (opens : Opens 
 pub sums_are_amounts : KeptSumsAreAmounts
 sums_are_amounts shape opened state opens kept = record {
   sum = λ name at is.
-      let (kind, r, first, (has, named, specified)) = first_of_name shape opened state kept name at is in
+      let (kind, r, first, (has, named, specified)) = first_of_name shape opened state.words (laid_out shape opened state kept) name at is in
       ap (cast_signed w64) (record_word shape state.words kept.anatomy kept.shown at r 11 has (omega arith))
-      ∙ (sym (sum_is shape opened state kept name kind at r first has named) ∙ kept.balanced.sums name);
+      ∙ (sym (sum_is shape opened state.words (laid_out shape opened state kept) name kind at r first has named) ∙ kept.balanced.sums name);
   redundant = redundant shape opened state (opens_as shape opened opens) kept;
 }

@@ -1,4 +1,4 @@
--- What the blocks of a kept segment hold of a bucket, and of a sparse value: of the records of a name only the first counts, with its
+-- What the blocks of words that are laid out hold of a bucket, and of a sparse value: of the records of a name only the first counts, with its
 -- counts block and its first samples.
 use Rattle.segment_invariant.proofs.Prelude.Std.{◌≡◌, ◌≢◌, ◌⊎◌, Bool, true, false, if◌then◌else◌, ℕ, zero, suc, ◌+◌, ◌<◌, ℤ, List, ◌∷◌, length, refl, sym, ap, subst, ◌∙◌, arith, Option, Some, None, slice_index, ◌==◌, range_with_len, int_eq, eqb-true, eqb-false, ne_eqb, Decides-int_eq, some, none, some-injective, some-ne-none, get_elem?, at_from, split_at, first_longer}
 use Rattle.segment_invariant.proofs.Prelude.Machine.{Dimensions, Spec, buckets_of, spec_fault, packed_bucket, State, units_in}
@@ -6,10 +6,12 @@ use Rattle.segment_invariant.proofs.Prelude.Invariant.{Record, Counts, Sample, B
 use Rattle.bucket_ranges.specs.declared.spec.Spec.TheVariants as spec
 use Rattle.segment_machine.specs.declared.actor.Made.TheVariants as made
 use Rattle.list_lemmas.proofs.Firsts.{first_unique}
+use Rattle.segment_invariant.specs.Words.{AreLaid}
+use Rattle.segment_invariant.proofs.Frames.LaidOut.{laid_out}
 use Rattle.segment_invariant.proofs.Blocks.Pieces.{one_piece, one_stands}
-use Rattle.segment_invariant.proofs.Lists.FewTerms.{sum_one, sum_pair}
+use Rattle.segment_invariant.proofs.Lists.FewTerms.{sum_none, sum_one, sum_pair}
 use Rattle.segment_invariant.proofs.Consistency.Blocks.{claimed_piece}
-use Rattle.segment_invariant.proofs.Consistency.Firsts.{record_of_first}
+use Rattle.segment_invariant.proofs.Consistency.Firsts.{record_of_first, first_value_there}
 use Rattle.segment_invariant.proofs.Consistency.Keys.{key_test, at_no_bucket, no_units, no_packed}
 use Rattle.segment_invariant.proofs.Consistency.Sums.{of_mine, nothing_of, published_at, other_nothing}
 
@@ -103,30 +105,34 @@ module _ (version : ℕ) (name : List ℕ) (key : ℤ) (holds : Body → ℕ) (p
       by_value false is nothing = refl
   nothing_held (other size tag next payload) record_is counts_are sample_is = book.of_other size tag next payload
 
--- ---- a kept state
+-- ---- the first of a name
 
-module _ (shape : Dimensions) (opened : Anatomy) (state : State) (kept : Invariant shape opened state) where
+module _ (records : List Listed) where
+  abbrev made_of : ℕ → List ℕ → Spec → Listed
+  made_of at name kind = record { reference = at; made = Some (made.Histogram name kind) }
+
+  -- a name has one first record, with one spec
+  pub same_first : (name : List ℕ) (kind kind' : Spec) (at place : ℕ) → IsFirst records name kind at → IsFirst records name kind' place
+      → (at ≡ place) × (kind ≡ kind')
+  same_first name kind kind' at place first second =
+      let same = first_unique (IsRecordNamed name) records (made_of at name kind) (made_of place name kind') first second in
+      (ap (λ (l : Listed). l.reference) same, cc (ap (λ (l : Listed). l.made) same))
+
+-- ---- words that are laid out
+
+module _ (shape : Dimensions) (opened : Anatomy) (words : List ℕ) (kept : AreLaid shape opened words) where
   abbrev pieces : List Piece
   pieces = kept.anatomy.pieces
 
   abbrev records : List Listed
   records = kept.anatomy.records
 
-  abbrev made_of : ℕ → List ℕ → Spec → Listed
-  made_of at name kind = record { reference = at; made = Some (made.Histogram name kind) }
-
-  -- a name has one first record, and that one name
-  pub one_first : (name : List ℕ) (kind kind' : Spec) (at place : ℕ) → IsFirst records name kind at → IsFirst records name kind' place
-      → (at ≡ place) × (kind ≡ kind')
-  one_first name kind kind' at place first second =
-      let same = first_unique (IsRecordNamed name) records (made_of at name kind) (made_of place name kind') first second in
-      (ap (λ (l : Listed). l.reference) same, cc (ap (λ (l : Listed). l.made) same))
-
-  pub one_name : (name mine : List ℕ) (kind kind' : Spec) (at : ℕ) → IsFirst records name kind at → IsFirst records mine kind' at → name ≡ mine
-  one_name name mine kind kind' at first second =
-      let (r, (has, named, specified)) = record_of_first shape opened state kept name kind at first in
-      let (q, (stands, its, sorted)) = record_of_first shape opened state kept mine kind' at second in
-      let bodies = (one_stands shape state.words kept.anatomy kept.shown at none none (histogram r) (histogram q) has stands).1 in
+  -- a place that is the first of two names has one name
+  pub same_name : (name mine : List ℕ) (kind kind' : Spec) (at : ℕ) → IsFirst records name kind at → IsFirst records mine kind' at → name ≡ mine
+  same_name name mine kind kind' at first second =
+      let (r, (has, named, specified)) = record_of_first shape opened words kept name kind at first in
+      let (q, (stands, its, sorted)) = record_of_first shape opened words kept mine kind' at second in
+      let bodies = (one_stands shape words kept.anatomy kept.shown at none none (histogram r) (histogram q) has stands).1 in
       let same : r ≡ q = cc bodies in
       sym named ∙ (ap (λ (r : Record). r.name) same ∙ its)
 
@@ -146,12 +152,12 @@ module _ (shape : Dimensions) (opened : Anatomy) (state : State) (kept : Invaria
     counts_of : (j : ℕ) (p : Piece) (c : Counts) → get_elem? pieces j ≡ some p → p.body ≡ counts c → c.name ≡ name
         → r.counts ≡ p.at
     counts_of j p c there is mine =
-        let here = published_at shape opened state kept j p (counts c) there is refl (λ block e. cc e) in
+        let here = published_at shape opened words kept j p (counts c) there is refl (λ block e. cc e) in
         let (q, stands, leads) = kept.records.named p.at c here in
         let some_counts : q.counts ≢ 0 =
-        λ none_there. let from = (claimed_piece shape state.words kept.anatomy kept.shown kept.blocks here.0 _ here.1 refl).from in omega (arith, from, none_there, leads) in
+        λ none_there. let from = (claimed_piece shape words kept.anatomy kept.shown kept.blocks here.0 _ here.1 refl).from in omega (arith, from, none_there, leads) in
         let (d, mounted, of_it) = kept.records.mounted c.of q stands some_counts in
-        let same_body : counts d ≡ counts c = (one_stands shape state.words kept.anatomy kept.shown p.at none none (counts d) (counts c)
+        let same_body : counts d ≡ counts c = (one_stands shape words kept.anatomy kept.shown p.at none none (counts d) (counts c)
         (subst (λ (at : ℕ). HasCounts pieces at d) leads mounted) here).1 in
         let same : d ≡ c = cc same_body in
         let its_name : q.name ≡ name = sym of_it.named ∙ (ap (λ (c : Counts). c.name) same ∙ mine) in
@@ -160,7 +166,7 @@ module _ (shape : Dimensions) (opened : Anatomy) (state : State) (kept : Invaria
         by_place : (q : Record) → HasRecord pieces c.of q → q.counts ≡ p.at → q.name ≡ name → q.counts ≢ 0
             → (b : Bool) → (b ≡ true → c.of ≡ at) → (b ≡ false → c.of ≢ at) → r.counts ≡ p.at
         by_place q stands leads its_name some_counts true same apart =
-            let bodies : histogram q ≡ histogram r = (one_stands shape state.words kept.anatomy kept.shown at none none (histogram q) (histogram r)
+            let bodies : histogram q ≡ histogram r = (one_stands shape words kept.anatomy kept.shown at none none (histogram q) (histogram r)
             (subst (λ (at : ℕ). HasRecord pieces at q) (same refl) stands) has).1 in
             let equal : q ≡ r = cc bodies in
             sym (ap (λ (r : Record). r.counts) equal) ∙ leads
@@ -174,14 +180,14 @@ module _ (shape : Dimensions) (opened : Anatomy) (state : State) (kept : Invaria
       record_nothing : (j : ℕ) (p : Piece) → get_elem? pieces j ≡ some p → j ≢ has.0 → (q : Record) → p.body ≡ histogram q → q.name ≡ name
           → at_bucket q.spec key (packed_bucket (form_at kept.anatomy.version q)) (packed q) ≡ 0
       record_nothing j p there apart q is mine =
-          let nothing = book.no_packed q (other_nothing shape opened state kept name kind at r first has j p there apart q is mine) in
+          let nothing = book.no_packed q (other_nothing shape opened words kept name kind at r first has j p there apart q is mine) in
           ap (at_bucket q.spec key (packed_bucket (form_at kept.anatomy.version q))) nothing ∙ at_no_bucket q.spec key (packed_bucket (form_at kept.anatomy.version q))
 
       no_sample : r.spec ≢ spec.Sparse → (j : ℕ) (p : Piece) → get_elem? pieces j ≡ some p → (s : Sample) → p.body ≡ sample s → s.name ≡ name → ⊥
       no_sample bucketed j p there s is mine =
-          let here = published_at shape opened state kept j p (sample s) there is refl (λ block e. cc e) in
+          let here = published_at shape opened words kept j p (sample s) there is refl (λ block e. cc e) in
           let its = subst (λ (name : List ℕ). IsFirst records name spec.Sparse s.of) mine (sample_first p.at s here) in
-          bucketed (specified ∙ (one_first name kind spec.Sparse at s.of first its).1)
+          bucketed (specified ∙ (same_first records name kind spec.Sparse at s.of first its).1)
 
       held_alone : holds (histogram r) ≡ at_bucket r.spec key (packed_bucket (form_at kept.anatomy.version r)) (packed r)
       held_alone = book.of_record r ∙ of_mine r.name name _ named
@@ -194,8 +200,8 @@ module _ (shape : Dimensions) (opened : Anatomy) (state : State) (kept : Invaria
           (λ j p there apart. nothing_held kept.anatomy.version name key holds packed buckets valued book p.body
           (record_nothing j p there apart)
           (λ c is mine.
-          let here = published_at shape opened state kept j p (counts c) there is refl (λ block e. cc e) in
-          let from = (claimed_piece shape state.words kept.anatomy kept.shown kept.blocks here.0 _ here.1 refl).from in
+          let here = published_at shape opened words kept j p (counts c) there is refl (λ block e. cc e) in
+          let from = (claimed_piece shape words kept.anatomy kept.shown kept.blocks here.0 _ here.1 refl).from in
           let its = counts_of j p c there is mine in
           absurd (omega (arith, from, its, unmounted)))
           (λ s is mine _. absurd (no_sample bucketed j p there s is mine)))
@@ -209,40 +215,64 @@ module _ (shape : Dimensions) (opened : Anatomy) (state : State) (kept : Invaria
           let whole = sum_pair (λ p. holds p.body) pieces has.0 mounted.0 _ _ apart has.1 mounted.1
           (λ j p there others. nothing_held kept.anatomy.version name key holds packed buckets valued book p.body
           (record_nothing j p there others.0)
-          (λ d is mine. absurd (others.1 (one_piece shape state.words kept.anatomy kept.shown j mounted.0 p _ there mounted.1 (sym (counts_of j p d there is mine))).0))
+          (λ d is mine. absurd (others.1 (one_piece shape words kept.anatomy kept.shown j mounted.0 p _ there mounted.1 (sym (counts_of j p d there is mine))).0))
           (λ s is mine _. absurd (no_sample bucketed j p there s is mine))) in
           let its = book.of_counts c ∙ of_mine c.name name _ (its_name ∙ named) in
           omega (arith, whole, held_alone, its)
+
+      -- of a sparse histogram nothing but a sample of the key holds anything
+      sparse_nothing : r.spec ≡ spec.Sparse → (j : ℕ) (p : Piece) → get_elem? pieces j ≡ some p
+          → ((s : Sample) → HasSample pieces p.at s → s.of ≡ at → s.value ≡ key → valued s ≡ 0) → holds p.body ≡ 0
+      sparse_nothing sparse j p there each = by_place (j == has.0) (eqb-true j has.0) (eqb-false j has.0)
+        where
+          by_place : (b : Bool) → (b ≡ true → j ≡ has.0) → (b ≡ false → j ≢ has.0) → holds p.body ≡ 0
+          by_place true same others =
+              let lawful = (kept.records.lawful at r has).sparse sparse in
+              let empty = no_packed kept.anatomy.version (buckets_of r.spec) r.single kept.versions lawful.1 in
+              ap (λ (p : Piece). holds p.body) (some-injective _ _ (sym there ∙ (ap (get_elem? pieces) (same refl) ∙ has.1)))
+              ∙ (held_alone ∙ ap (λ (packed_one : Option ℕ). at_bucket r.spec key packed_one (packed r)) empty)
+          by_place false same others =
+              nothing_held kept.anatomy.version name key holds packed buckets valued book p.body
+              (record_nothing j p there (others refl))
+              (λ c is mine.
+              let here = published_at shape opened words kept j p (counts c) there is refl (λ block e. cc e) in
+              let from = (claimed_piece shape words kept.anatomy kept.shown kept.blocks here.0 _ here.1 refl).from in
+              let unmounted = ((kept.records.lawful at r has).sparse sparse).0 in
+              let its = counts_of j p c there is mine in
+              absurd (omega (arith, from, its, unmounted)))
+              (λ s is mine value.
+              let here = published_at shape opened words kept j p (sample s) there is refl (λ block e. cc e) in
+              let its = subst (λ (name : List ℕ). IsFirst records name spec.Sparse s.of) mine (sample_first p.at s here) in
+              each s here (sym (same_first records name kind spec.Sparse at s.of first its).0) value)
 
       -- of a sparse value its first sample has all
       pub value_held : r.spec ≡ spec.Sparse → (place : ℕ) (s : Sample) → IsFirstOf records at key place → (stands : HasSample pieces place s)
           → s.of ≡ at → s.value ≡ key → all_held holds pieces ≡ valued s
       value_held sparse place s first_value stands of_it is_value =
           let its_first = subst (λ (at : ℕ). IsFirst records s.name spec.Sparse at) of_it (sample_first place s stands) in
-          let its_name : s.name ≡ name = one_name s.name name spec.Sparse kind at its_first first in
-          let lawful = (kept.records.lawful at r has).sparse sparse in
-          let empty = no_packed kept.anatomy.version (buckets_of r.spec) r.single kept.versions lawful.1 in
-          let first_is : holds (histogram r) ≡ 0 = held_alone ∙ ap (λ (packed_one : Option ℕ). at_bucket r.spec key packed_one (packed r)) empty in
+          let its_name : s.name ≡ name = same_name s.name name spec.Sparse kind at its_first first in
           sum_one (λ p. holds p.body) pieces stands.0 _ stands.1
-          (λ j p there apart. by_place lawful.0 first_is j p there apart (j == has.0) (eqb-true j has.0) (eqb-false j has.0))
+          (λ j p there apart. sparse_nothing sparse j p there (λ t here same_histogram same_value.
+          book.no_value t (kept.records.later_samples p.at place t here
+          (subst (λ (v : ℕ × ℤ). IsFirstOf records v.0 v.1 place) (λ i. (sym same_histogram i, sym same_value i)) first_value)
+          (λ e. apart (one_piece shape words kept.anatomy kept.shown j stands.0 p _ there stands.1 (sym e)).0))))
           ∙ (book.of_sample s ∙ (of_mine s.name name _ its_name ∙ ap (λ (b : Bool). if b then valued s else 0) ((Decides-int_eq s.value key).1 is_value)))
-        where
-          by_place : r.counts ≡ 0 → holds (histogram r) ≡ 0 → (j : ℕ) (p : Piece) → get_elem? pieces j ≡ some p → j ≢ stands.0
-              → (b : Bool) → (b ≡ true → j ≡ has.0) → (b ≡ false → j ≢ has.0) → holds p.body ≡ 0
-          by_place unmounted first_is j p there apart true same others =
-              ap (λ (p : Piece). holds p.body) (some-injective _ _ (sym there ∙ (ap (get_elem? pieces) (same refl) ∙ has.1))) ∙ first_is
-          by_place unmounted first_is j p there apart false same others =
-              nothing_held kept.anatomy.version name key holds packed buckets valued book p.body
-              (record_nothing j p there (others refl))
-              (λ c is mine.
-              let here = published_at shape opened state kept j p (counts c) there is refl (λ block e. cc e) in
-              let from = (claimed_piece shape state.words kept.anatomy kept.shown kept.blocks here.0 _ here.1 refl).from in
-              let its = counts_of j p c there is mine in
-              absurd (omega (arith, from, its, unmounted)))
-              (λ t is mine value.
-              let here = published_at shape opened state kept j p (sample t) there is refl (λ block e. cc e) in
-              let its = subst (λ (name : List ℕ). IsFirst records name spec.Sparse t.of) mine (sample_first p.at t here) in
-              let same_histogram : t.of ≡ at = sym (one_first name kind spec.Sparse at t.of first its).0 in
-              book.no_value t (kept.records.later_samples p.at place t here
-              (subst (λ (v : ℕ × ℤ). IsFirstOf records v.0 v.1 place) (λ i. (sym same_histogram i, sym value i)) first_value)
-              (λ e. apart (one_piece shape state.words kept.anatomy kept.shown j stands.0 p _ there stands.1 (sym e)).0)))
+
+      -- and of one that has no sample nothing is held
+      pub value_absent : r.spec ≡ spec.Sparse → (¬ ((place : ℕ) × IsFirstOf records at key place)) → all_held holds pieces ≡ 0
+      value_absent sparse absent =
+          sum_none (λ p. holds p.body) pieces (λ j p there _. sparse_nothing sparse j p there (λ s here same_histogram same_value.
+          let (place, its) = first_value_there records s.of s.value _ (kept.list.alone p.at (sample s) here) refl in
+          absurd (absent (place, subst (λ (v : ℕ × ℤ). IsFirstOf records v.0 v.1 place) (λ i. (same_histogram i, same_value i)) its))))
+
+-- ---- a kept state
+
+module _ (shape : Dimensions) (opened : Anatomy) (state : State) (kept : Invariant shape opened state) where
+  -- so it is in a kept state
+  pub one_first : (name : List ℕ) (kind kind' : Spec) (at place : ℕ) → IsFirst kept.anatomy.records name kind at → IsFirst kept.anatomy.records name kind' place
+      → (at ≡ place) × (kind ≡ kind')
+  one_first = same_first kept.anatomy.records
+
+  pub one_name : (name mine : List ℕ) (kind kind' : Spec) (at : ℕ) → IsFirst kept.anatomy.records name kind at → IsFirst kept.anatomy.records mine kind' at
+      → name ≡ mine
+  one_name = same_name shape opened state.words (laid_out shape opened state kept)

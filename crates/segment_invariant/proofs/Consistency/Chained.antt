@@ -40,7 +40,7 @@ module _ (shape : Dimensions) (opened : Anatomy) (state : State) (kept : Invaria
   record_block : (at : ℕ) → Contains chain at
       → (k : ℕ) × (p : Piece) × (get_elem? anatomy.pieces k ≡ some p) × (is_claimed p.body ≡ true) × (p.at ≡ at)
   record_block at there =
-      let (l, among, place, standing) = listed_there words opened anatomy state.actors at kept.list there in
+      let (l, among, place, standing) = listed_there anatomy at kept.list.standing there in
       stands l l.made at standing place
     where
       stands : (l : Listed) (made : std.Option Made) (at : ℕ) → StandsAs anatomy.pieces l made → l.reference ≡ at

@@ -1,12 +1,13 @@
--- The records of a kept state have lawful forms: those in which somebody counts or nobody has, and those that are passed over.
+-- Records among words that are laid out have lawful forms: those in which somebody counts or nobody has, and those that are passed over.
 use Rattle.segment_invariant.proofs.Prelude.Std.{◌≡◌, ◌≢◌, Bool, true, false, ◌&&◌, nat_le, ℕ, ◌+◌, ◌-◌, ◌*◌, ◌<◌, ◌≤◌, List, ◌++◌, length, All, Contains, inl, inr, refl, sym, ap, subst, ◌∙◌, arith, length-append, ◌==◌, slice_index, eqb-true, eqb-false, eq-eqb, and_from, le-leb}
-use Rattle.segment_invariant.proofs.Prelude.Machine.{Dimensions, head_of, field_at, is_block, buckets_of, record_buckets, record_single, packed_bucket, State, is_off, units_in}
-use Rattle.segment_invariant.proofs.Prelude.Invariant.{Record, Counts, record_words, histogram, counts, Listed, Anatomy, order_of, form_at, HasRecord, IsLawfulRecord, IsCountsOf, IsPassedOver, Invariant}
+use Rattle.segment_invariant.proofs.Prelude.Machine.{Dimensions, head_of, field_at, is_block, buckets_of, record_buckets, record_single, packed_bucket, is_off, units_in}
+use Rattle.segment_invariant.proofs.Prelude.Invariant.{Record, Counts, record_words, histogram, counts, Listed, Anatomy, order_of, form_at, HasRecord, IsLawfulRecord, IsCountsOf, IsPassedOver}
 use Rattle.std.proofs.lemmas.Bool.{cases_lt, or_left, or_right}
 use Rattle.bucket_ranges.specs.Reading.{has_counts}
 use Rattle.segment_invariant.specs.Consistent.{HasForm}
 use Rattle.segment_invariant.specs.Body.{counts_words}
 use Rattle.segment_invariant.specs.Seen.{HoldsAs}
+use Rattle.segment_invariant.specs.Words.{AreLaid}
 use Rattle.segment_invariant.proofs.Lists.FewTerms.{zero_index}
 use Rattle.segment_invariant.proofs.Blocks.Pieces.{piece_word}
 use Rattle.segment_machine.proofs.SmallNumbers.{below_three}
@@ -126,24 +127,24 @@ module _ (words : List ℕ) (page version at : ℕ) (r : Record) (tells : TellsR
         (λ j. field_at words (reference j) (4 + tells.many j + i)) ∙ (told_mark words version at r c there of_it i below ∙ of_it.packed i here);
   }
 
--- ---- a kept state
+-- ---- words that are laid out
 
-module _ (shape : Dimensions) (opened : Anatomy) (state : State) (kept : Invariant shape opened state) where
+module _ (shape : Dimensions) (opened : Anatomy) (words : List ℕ) (kept : AreLaid shape opened words) where
   -- its words tell each record
-  pub tells_record : (at : ℕ) (r : Record) → HasRecord kept.anatomy.pieces at r → TellsRecord state.words shape.page kept.anatomy.version at r
+  pub tells_record : (at : ℕ) (r : Record) → HasRecord kept.anatomy.pieces at r → TellsRecord words shape.page kept.anatomy.version at r
   tells_record at r has =
       let lawful = kept.records.lawful at r has in
       record {
         lawful = lawful;
-        word = λ j below. record_word shape state.words kept.anatomy kept.shown at r j has below;
-        many = buckets_are shape state.words kept.anatomy kept.shown kept.anatomy.version at r has lawful;
-        form = form_is shape state.words kept.anatomy kept.shown kept.anatomy.version at r has lawful kept.anatomy.version;
+        word = λ j below. record_word shape words kept.anatomy kept.shown at r j has below;
+        many = buckets_are shape words kept.anatomy kept.shown kept.anatomy.version at r has lawful;
+        form = form_is shape words kept.anatomy kept.shown kept.anatomy.version at r has lawful kept.anatomy.version;
         counts = λ some_there.
             let (c, (k, there), of_it) = kept.records.mounted at r has some_there in (
               c,
               record {
-                block = lawful_piece shape state.words kept.anatomy kept.shown kept.blocks k _ there refl;
-                word = λ j below. piece_word shape state.words kept.anatomy kept.shown k _ j there below;
+                block = lawful_piece shape words kept.anatomy kept.shown kept.blocks k _ there refl;
+                word = λ j below. piece_word shape words kept.anatomy kept.shown k _ j there below;
               },
               of_it,
             );
@@ -151,47 +152,47 @@ module _ (shape : Dimensions) (opened : Anatomy) (state : State) (kept : Invaria
       }
 
   -- a block that holds what counts would tells them
-  pub tells_counts : (at : ℕ) (c : Counts) → HoldsAs kept.anatomy.pieces at (counts c) → TellsCounts state.words at c
+  pub tells_counts : (at : ℕ) (c : Counts) → HoldsAs kept.anatomy.pieces at (counts c) → TellsCounts words at c
   tells_counts at c holds =
-      let (k, there) = told_stands shape opened state kept at (counts c) holds in
+      let (k, there) = told_stands shape opened words kept at (counts c) holds in
       record {
-        block = lawful_piece shape state.words kept.anatomy kept.shown kept.blocks holds.4.0 _ holds.4.1 refl;
+        block = lawful_piece shape words kept.anatomy kept.shown kept.blocks holds.4.0 _ holds.4.1 refl;
         word = λ j below.
-            piece_word shape state.words (told shape opened state kept at (counts c) holds) (told_shown shape opened state kept at (counts c) holds) k _ j there below;
+            piece_word shape words (told shape opened words kept at (counts c) holds) (told_shown shape opened words kept at (counts c) holds) k _ j there below;
       }
 
   -- and each record that is passed over
   pub tells_passed : (front : List Listed) (at : ℕ) (r : Record) → IsPassedOver kept.anatomy.version shape.page kept.anatomy.pieces front at r
-      → TellsRecord state.words shape.page kept.anatomy.version at r
+      → TellsRecord words shape.page kept.anatomy.version at r
   tells_passed front at r over =
-      let anatomy = told shape opened state kept at (histogram r) over.stands in
-      let shown = told_shown shape opened state kept at (histogram r) over.stands in
-      let has = told_stands shape opened state kept at (histogram r) over.stands in
+      let anatomy = told shape opened words kept at (histogram r) over.stands in
+      let shown = told_shown shape opened words kept at (histogram r) over.stands in
+      let has = told_stands shape opened words kept at (histogram r) over.stands in
       record {
         lawful = over.lawful;
-        word = λ j below. record_word shape state.words anatomy shown at r j has below;
-        many = buckets_are shape state.words anatomy shown kept.anatomy.version at r has over.lawful;
-        form = form_is shape state.words anatomy shown kept.anatomy.version at r has over.lawful kept.anatomy.version;
+        word = λ j below. record_word shape words anatomy shown at r j has below;
+        many = buckets_are shape words anatomy shown kept.anatomy.version at r has over.lawful;
+        form = form_is shape words anatomy shown kept.anatomy.version at r has over.lawful kept.anatomy.version;
         counts = λ some_there.
             let (c, holds, of_it, bounded) = over.counted some_there in (c, tells_counts r.counts c holds, of_it);
         packed = over.packed;
       }
 
   -- so they tell each record on the list
-  pub tells_listed : (at : ℕ) → Contains (order_of kept.anatomy) at → field_at state.words at 2 ≡ 1
-      → (r : Record) × TellsRecord state.words shape.page kept.anatomy.version at r
-  tells_listed at there one = elim (record_on_list shape opened state kept at there one) [
+  pub tells_listed : (at : ℕ) → Contains (order_of kept.anatomy) at → field_at words at 2 ≡ 1
+      → (r : Record) × TellsRecord words shape.page kept.anatomy.version at r
+  tells_listed at there one = elim (record_on_list shape opened words kept at there one) [
     | inl (l, name, kind, r, among, place, made, (has, named, specified)) ↦ (r, tells_record at r has)
     | inr (l, front, r, among, nothing, over) ↦ (r, tells_passed front at r over.0)
   ]
 
-  pub counts_are : (at : ℕ) (r : Record) → HasRecord kept.anatomy.pieces at r → has_counts state.words (head_of state.words) at ≡ true
-  counts_are at r has = told_counts state.words shape.page kept.anatomy.version at r (tells_record at r has)
+  pub counts_are : (at : ℕ) (r : Record) → HasRecord kept.anatomy.pieces at r → has_counts words (head_of words) at ≡ true
+  counts_are at r has = told_counts words shape.page kept.anatomy.version at r (tells_record at r has)
 
-  pub formed_as : (at : ℕ) (r : Record) → HasRecord kept.anatomy.pieces at r → HasForm opened.version state.words at
-  formed_as at r has = subst (λ (v : ℕ). HasForm v state.words at) kept.same.0 (told_form state.words shape.page kept.anatomy.version at r (tells_record at r has))
+  pub formed_as : (at : ℕ) (r : Record) → HasRecord kept.anatomy.pieces at r → HasForm opened.version words at
+  formed_as at r has = subst (λ (v : ℕ). HasForm v words at) kept.same (told_form words shape.page kept.anatomy.version at r (tells_record at r has))
 
   pub passed_as : (front : List Listed) (at : ℕ) (r : Record) → IsPassedOver kept.anatomy.version shape.page kept.anatomy.pieces front at r
-      → HasForm opened.version state.words at
+      → HasForm opened.version words at
   passed_as front at r over =
-      subst (λ (v : ℕ). HasForm v state.words at) kept.same.0 (told_form state.words shape.page kept.anatomy.version at r (tells_passed front at r over))
+      subst (λ (v : ℕ). HasForm v words at) kept.same (told_form words shape.page kept.anatomy.version at r (tells_passed front at r over))

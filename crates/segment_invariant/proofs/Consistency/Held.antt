@@ -7,6 +7,7 @@ use Rattle.std.proofs.lemmas.Bool.{cases_lt}
 use Rattle.segment_machine.specs.declared.actor.Made.TheVariants as made
 use Rattle.segment_invariant.specs.Consistent.{IsSample, HoldsNothing}
 use Rattle.segment_invariant.specs.Seen.{HoldsAs}
+use Rattle.segment_invariant.proofs.Frames.LaidOut.{laid_out}
 use Rattle.segment_invariant.proofs.Blocks.Pieces.{piece_word, one_stands}
 use Rattle.segment_invariant.proofs.Consistency.Records.{record_word, listed_there}
 use Rattle.segment_invariant.proofs.Consistency.Specs.{buckets_are}
@@ -31,11 +32,11 @@ module _ (shape : Dimensions) (opened : Anatomy) (state : State) (kept : Invaria
   pub counts_nothing : (at : ℕ) (c : Counts) (n i : ℕ) → HasCounts kept.anatomy.pieces at c → length c.units ≡ n → length c.marks ≡ n
       → All (λ n. n ≡ 0) c.units → All (λ n. n ≡ 0) c.marks → i < 2 * n → field_at state.words at (4 + i) ≡ 0
   counts_nothing at c n i has units marks no_units no_marks below = elim (cases_lt i n) [
-    | inl low ↦ count_word shape opened state kept at c i has (omega (arith, units, low)) ∙ zero_index c.units i no_units
+    | inl low ↦ count_word shape opened state.words (laid_out shape opened state kept) at c i has (omega (arith, units, low)) ∙ zero_index c.units i no_units
     | inr high ↦
         let place : 4 + i ≡ 4 + n + (i - n) = omega (arith, high) in
         ap (field_at state.words at) place
-        ∙ (mark_word shape opened state kept at c n (i - n) has units (omega (arith, marks, high, below)) ∙ zero_index c.marks (i - n) no_marks)
+        ∙ (mark_word shape opened state.words (laid_out shape opened state kept) at c n (i - n) has units (omega (arith, marks, high, below)) ∙ zero_index c.marks (i - n) no_marks)
   ]
 
 -- ---- on the list
@@ -52,11 +53,11 @@ module _ (shape : Dimensions) (opened : Anatomy) (state : State) (kept : Invaria
   -- no two records name one counts block
   pub own_counts : (a b : ℕ) → Contains (order_of kept.anatomy) a → Contains (order_of kept.anatomy) b → field_at state.words a 2 ≡ 1 → field_at state.words b 2 ≡ 1
       → field_at state.words a 8 ≢ 0 → field_at state.words a 8 ≡ field_at state.words b 8 → a ≡ b
-  own_counts a b there here one also some_there same = elim (record_on_list shape opened state kept a there one) [
+  own_counts a b there here one also some_there same = elim (record_on_list shape opened state.words (laid_out shape opened state kept) a there one) [
     | inl (l, name, kind, r, among, place, made, (has, named, specified)) ↦
         let first = counts_ref shape opened state kept a r has in
         let (c, mounted, of_it) = kept.records.mounted a r has (λ e. some_there (first ∙ e)) in
-        elim (record_on_list shape opened state kept b here also) [
+        elim (record_on_list shape opened state.words (laid_out shape opened state kept) b here also) [
           | inl (m, mine, sort, q, within, spot, given, (stands, called, sorted)) ↦
               let second = counts_ref shape opened state kept b q stands in
               let equal : q.counts ≡ r.counts = sym second ∙ (sym same ∙ first) in
@@ -64,20 +65,20 @@ module _ (shape : Dimensions) (opened : Anatomy) (state : State) (kept : Invaria
               let one_block = counts_there shape opened state kept r.counts c d mounted (subst (λ (at : ℕ). HasCounts kept.anatomy.pieces at d) equal also_mounted) in
               sym of_it.mine ∙ (ap (λ (c : Counts). c.of) one_block ∙ of_other.mine)
           | inr (m, front, q, within, nothing, over) ↦
-              let second = passed_word shape opened state kept front b q over.0 8 (omega arith) in
+              let second = passed_word shape opened state.words (laid_out shape opened state kept) front b q over.0 8 (omega arith) in
               let (d, holds, of_other, bounded) = over.0.counted (λ e. some_there (same ∙ (second ∙ e))) in
               absurd (counts_apart r.counts q.counts c (counts d) mounted holds (sym first ∙ (same ∙ second)))
         ]
     | inr (l, front, r, among, none_there, over) ↦
-        let first = passed_word shape opened state kept front a r over.0 8 (omega arith) in
-        elim (record_on_list shape opened state kept b here also) [
+        let first = passed_word shape opened state.words (laid_out shape opened state kept) front a r over.0 8 (omega arith) in
+        elim (record_on_list shape opened state.words (laid_out shape opened state kept) b here also) [
           | inl (m, mine, sort, q, within, spot, given, (stands, called, sorted)) ↦
               let second = counts_ref shape opened state kept b q stands in
               let (d, mounted, of_other) = kept.records.mounted b q stands (λ e. some_there (same ∙ (second ∙ e))) in
               let (c, holds, of_it, bounded) = over.0.counted (λ e. some_there (first ∙ e)) in
               absurd (counts_apart q.counts r.counts d (counts c) mounted holds (sym second ∙ (sym same ∙ first)))
           | inr (m, before, q, within, nothing, others) ↦
-              let second = passed_word shape opened state kept before b q others.0 8 (omega arith) in
+              let second = passed_word shape opened state.words (laid_out shape opened state kept) before b q others.0 8 (omega arith) in
               kept.passed_over.apart a b _ _ over.2 others.2 (λ e. some_there (first ∙ e)) (sym first ∙ (same ∙ second))
         ]
   ]
@@ -85,7 +86,7 @@ module _ (shape : Dimensions) (opened : Anatomy) (state : State) (kept : Invaria
   -- a counts block is no record
   pub counts_unlisted : (at : ℕ) (c : Counts) → HasCounts kept.anatomy.pieces at c → ¬ (Contains (order_of kept.anatomy) at)
   counts_unlisted at c stands there =
-      let (l, among, place, standing) = listed_there state.words opened kept.anatomy state.actors at kept.list there in
+      let (l, among, place, standing) = listed_there kept.anatomy at kept.list.standing there in
       by_made l l.made standing place
     where
       differs : (body : Body) → (counts c ≢ body) → Stands kept.anatomy.pieces at none body → ⊥
@@ -100,10 +101,10 @@ module _ (shape : Dimensions) (opened : Anatomy) (state : State) (kept : Invaria
           differs (other size tag next payload) (λ e. cc e) (subst (λ (at : ℕ). Stands kept.anatomy.pieces at none (other size tag next payload)) place here)
 
   -- nor is that of a record that is passed over
-  passed_unlisted : (front : List Listed) (at : ℕ) (r : Record) (body : Body) → PassedOver shape opened state kept front at r
+  passed_unlisted : (front : List Listed) (at : ℕ) (r : Record) (body : Body) → PassedOver shape opened state.words (laid_out shape opened state kept) front at r
       → HoldsAs kept.anatomy.pieces r.counts body → ¬ (Contains (order_of kept.anatomy) r.counts)
   passed_unlisted front at r body over (size, tag, next, payload, here, same) there =
-      let (l, among, place, standing) = listed_there state.words opened kept.anatomy state.actors r.counts kept.list there in
+      let (l, among, place, standing) = listed_there kept.anatomy r.counts kept.list.standing there in
       by_made l l.made refl standing among place
     where
       differs : (body : Body) → (other size tag next payload ≢ body) → Stands kept.anatomy.pieces r.counts none body → ⊥
@@ -118,13 +119,13 @@ module _ (shape : Dimensions) (opened : Anatomy) (state : State) (kept : Invaria
       by_made l None given standing among place =
           let is : l ≡ record { reference = r.counts; made = None } = λ i. record { reference = place i; made = given i } in
           kept.passed_over.unlisted at (record r { next = over.1 }) over.2
-          (in_opening shape opened state kept r.counts (subst (Contains kept.anatomy.records) is among))
+          (in_opening shape opened state.words (laid_out shape opened state kept) r.counts (subst (Contains kept.anatomy.records) is among))
 
   -- the counts that a record names are a claimed block, and no record
   pub counts_named : (at : ℕ) → Contains (order_of kept.anatomy) at → field_at state.words at 2 ≡ 1 → field_at state.words at 8 ≢ 0
       → ((body : Body) × Stands kept.anatomy.pieces (field_at state.words at 8) none body × (is_claimed body ≡ true))
       × (¬ (Contains (order_of kept.anatomy) (field_at state.words at 8)))
-  counts_named at there one some_there = elim (record_on_list shape opened state kept at there one) [
+  counts_named at there one some_there = elim (record_on_list shape opened state.words (laid_out shape opened state kept) at there one) [
     | inl (l, name, kind, r, among, place, made, (has, named, specified)) ↦
         let names_it = counts_ref shape opened state kept at r has in
         let (c, here, of_it) = kept.records.mounted at r has (λ e. some_there (names_it ∙ e)) in (
@@ -132,7 +133,7 @@ module _ (shape : Dimensions) (opened : Anatomy) (state : State) (kept : Invaria
           subst (λ (at : ℕ). ¬ (Contains (order_of kept.anatomy) at)) (sym names_it) (counts_unlisted r.counts c here),
         )
     | inr (l, front, r, among, nothing, over) ↦
-        let names_it = passed_word shape opened state kept front at r over.0 8 (omega arith) in
+        let names_it = passed_word shape opened state.words (laid_out shape opened state kept) front at r over.0 8 (omega arith) in
         let (c, holds, of_it, bounded) = over.0.counted (λ e. some_there (names_it ∙ e)) in
         let (size, tag, next, payload, here, same) = holds in (
           (other size tag next payload, subst (λ (at : ℕ). Stands kept.anatomy.pieces at none (other size tag next payload)) (sym names_it) here, refl),
@@ -155,11 +156,11 @@ module _ (shape : Dimensions) (opened : Anatomy) (state : State) (kept : Invaria
       → IsSample state.words (order_of kept.anatomy) (field_at state.words at 4) (sample_value state.words at) place → place ≢ at
       → (field_at state.words at 6 ≡ 0) × (field_at state.words at 7 ≡ 0)
   later_sample at place there three is apart =
-      let (l, among, spot, standing) = listed_there state.words opened kept.anatomy state.actors at kept.list there in
-      let (s, made, (stands, mine, valued)) = given_value shape opened state kept l (field_at state.words at 4) (sample_value state.words at) among
+      let (l, among, spot, standing) = listed_there kept.anatomy at kept.list.standing there in
+      let (s, made, (stands, mine, valued)) = given_value shape opened state.words (laid_out shape opened state kept) l (field_at state.words at 4) (sample_value state.words at) among
       (subst (λ (p : ℕ). field_at state.words p 2 ≡ 3) (sym spot) three, ap (λ (p : ℕ). field_at state.words p 4) spot, ap (sample_value state.words) spot) in
       let here = subst (λ (at : ℕ). Stands kept.anatomy.pieces at none (sample s)) spot stands in
-      let (t, first, has) = first_of_value shape opened state kept (field_at state.words at 4) (sample_value state.words at) place is in
+      let (t, first, has) = first_of_value shape opened state.words (laid_out shape opened state kept) (field_at state.words at 4) (sample_value state.words at) place is in
       let nothing = kept.records.later_samples at place s here
       (subst (λ (p : ℕ × ℤ). IsFirstOf kept.anatomy.records p.0 p.1 place) (λ j. (sym mine j, sym valued j)) first) apart in (
         piece_word shape state.words kept.anatomy kept.shown here.0 _ 6 here.1 (omega arith) ∙ nothing.0,
@@ -170,8 +171,8 @@ module _ (shape : Dimensions) (opened : Anatomy) (state : State) (kept : Invaria
   pub later_record : (at place : ℕ) (r : Record) → HasRecord kept.anatomy.pieces at r → IsHistogram state.words (order_of kept.anatomy) (name_of state.words at) place
       → place ≢ at → (kind : Spec) × IsFirst kept.anatomy.records r.name kind place × CountsNothing r
   later_record at place r has is apart =
-      let (kind, q, first, its) = first_of_name shape opened state kept (name_of state.words at) place is in
-      let mine : name_of state.words at ≡ r.name = (is_named shape opened state kept at r has).1 in
+      let (kind, q, first, its) = first_of_name shape opened state.words (laid_out shape opened state kept) (name_of state.words at) place is in
+      let mine : name_of state.words at ≡ r.name = (is_named shape opened state.words (laid_out shape opened state kept) at r has).1 in
       let here = subst (λ (name : List ℕ). IsFirst kept.anatomy.records name kind place) mine first in
       (kind, here, kept.records.later at place r kind has here apart)
 

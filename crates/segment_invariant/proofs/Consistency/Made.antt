@@ -13,6 +13,7 @@ use Rattle.bucket_ranges.proofs.Customs.{is_custom-from_checks, length-distinct,
 use Rattle.segment_machine.specs.declared.actor.Made.TheVariants as made
 use Rattle.segment_invariant.specs.Consistent.{HoldsMade, HasForm, CountsStill, HoldsNothing, RecordsHold, all_claims, places_of}
 use Rattle.segment_invariant.specs.Keeps.{KeptRecordsHold, opening_of}
+use Rattle.segment_invariant.proofs.Frames.LaidOut.{laid_out}
 use Rattle.segment_invariant.proofs.Blocks.Pieces.{piece_word}
 use Rattle.segment_invariant.proofs.Consistency.Chained.{claimed_at}
 use Rattle.segment_invariant.proofs.Consistency.Opened.{Opens, opens_as, front_is}
@@ -115,11 +116,11 @@ module _ (shape : Dimensions) (opened : Anatomy) (state : State) (kept : Invaria
   -- what a record of the list holds
   holds_given : (l : Listed) → Contains kept.anatomy.records l → (m : Made) → l.made ≡ Some m → HoldsMade state.words (order_of kept.anatomy) l.reference m
   holds_given l there (made.Histogram name kind) is =
-      let (r, has, named, specified) = subst (StandsAs kept.anatomy.pieces l) is (standing_of shape opened state kept l there) in
+      let (r, has, named, specified) = subst (StandsAs kept.anatomy.pieces l) is (standing_of shape opened state.words (laid_out shape opened state kept) l there) in
       subst (λ (p : List ℕ × Spec). HoldsMade state.words (order_of kept.anatomy) l.reference (made.Histogram p.0 p.1)) (λ j. (named j, specified j))
       (holds_histogram shape opened state kept l.reference r has)
   holds_given l there (made.Sample of value) is =
-      let (s, has, mine, valued) = subst (StandsAs kept.anatomy.pieces l) is (standing_of shape opened state kept l there) in
+      let (s, has, mine, valued) = subst (StandsAs kept.anatomy.pieces l) is (standing_of shape opened state.words (laid_out shape opened state kept) l there) in
       let right = kept.records.valued l.reference s has in
       let sized = right.sized in
       let size = piece_word shape state.words kept.anatomy kept.shown has.0 _ 0 has.1 (omega arith) in
@@ -129,12 +130,12 @@ module _ (shape : Dimensions) (opened : Anatomy) (state : State) (kept : Invaria
       split ∙ ap (λ (m : Option Made). front ++ record { reference = l.reference; made = m } ∷ behind) is in
       let (name, (xs, ys, before, none_first, given), its_name) = kept.records.sampled front behind l.reference of value here in
       let first : IsFirst kept.anatomy.records s.name spec.Sparse of =
-      subst (IsFirst kept.anatomy.records s.name spec.Sparse) mine (sample_first shape opened state kept l.reference s has) in
-      let histogram_is = name_of_first shape opened state kept s.name spec.Sparse of first in
-      let (kind, r, again, (stands, called, sorted)) = first_of_name shape opened state kept s.name of histogram_is in
+      subst (IsFirst kept.anatomy.records s.name spec.Sparse) mine (sample_first shape opened state.words (laid_out shape opened state kept) l.reference s has) in
+      let histogram_is = name_of_first shape opened state.words (laid_out shape opened state kept) s.name spec.Sparse of first in
+      let (kind, r, again, (stands, called, sorted)) = first_of_name shape opened state.words (laid_out shape opened state kept) s.name of histogram_is in
       let sparse : r.spec ≡ spec.Sparse = sorted ∙ (one_first shape opened state kept s.name kind spec.Sparse of of again first).1 in
       let references = λ (records : List Listed). map (λ (l : Listed). l.reference) records in
-      let says = is_sample_of shape opened state kept l.reference s has in (
+      let says = is_sample_of shape opened state.words (laid_out shape opened state kept) l.reference s has in (
         (says.0, says.1 ∙ mine, says.2 ∙ valued),
         omega (arith, size, sized),
         subst (λ (v : ℤ). reading.is_i32 v ≡ true) valued right.valued,
@@ -143,7 +144,7 @@ module _ (shape : Dimensions) (opened : Anatomy) (state : State) (kept : Invaria
           references front,
           references behind,
           histogram_is,
-          kind_word shape opened state kept of r stands ∙ ap (λ (kind : Spec). slice_index (spec_fields kind) 0 == 4) sparse,
+          kind_word shape opened state.words (laid_out shape opened state kept) of r stands ∙ ap (λ (kind : Spec). slice_index (spec_fields kind) 0 == 4) sparse,
           ap references split ∙ map-append (λ (l : Listed). l.reference) front (l ∷ behind),
           subst (λ (list : List ℕ). Contains list of) (sym (ap references before ∙ map-append (λ (l : Listed). l.reference) xs _))
               (Contains-append_right (references xs) (of ∷ references ys) of (0, omega arith, refl)),
@@ -182,7 +183,7 @@ module _ (shape : Dimensions) (opened : Anatomy) (state : State) (opens : Opens 
       → (Contains front at → CountsStill before state.words at) × (¬ (Contains front at) → HoldsNothing state.words at)
   later front at other chain there one is apart =
       let order : front ≡ order_of opened = front_is shape opened opens front chain in
-      elim (record_on_list shape opened state kept at there one) [
+      elim (record_on_list shape opened state.words (laid_out shape opened state kept) at there one) [
         | inl (l, name, kind, r, among, place, made, (has, named, specified)) ↦ (
           λ inside. later_still shape opened state opens kept at other r has is apart (subst (λ (list : List ℕ). Contains list at) order inside),
           λ absent. holds_nothing shape state.words kept.anatomy kept.shown at r has (later_record shape opened state kept at other r has is apart).2,
@@ -196,9 +197,9 @@ module _ (shape : Dimensions) (opened : Anatomy) (state : State) (opens : Opens 
 
   -- each record of the list has a lawful form
   formed : (at : ℕ) → Contains (order_of kept.anatomy) at → field_at state.words at 2 ≡ 1 → HasForm opened.version state.words at
-  formed at there one = elim (record_on_list shape opened state kept at there one) [
-    | inl (l, name, kind, r, among, place, made, (has, named, specified)) ↦ formed_as shape opened state kept at r has
-    | inr (l, front, r, among, nothing, over) ↦ passed_as shape opened state kept front at r over.0
+  formed at there one = elim (record_on_list shape opened state.words (laid_out shape opened state kept) at there one) [
+    | inl (l, name, kind, r, among, place, made, (has, named, specified)) ↦ formed_as shape opened state.words (laid_out shape opened state kept) at r has
+    | inr (l, front, r, among, nothing, over) ↦ passed_as shape opened state.words (laid_out shape opened state kept) front at r over.0
   ]
 
   hold : RecordsHold before first state.words state.actors (order_of kept.anatomy)

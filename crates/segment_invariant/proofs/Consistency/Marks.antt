@@ -6,6 +6,8 @@ use Rattle.bucket_ranges.specs.declared.spec.Spec.TheVariants as spec
 use Rattle.bucket_ranges.specs.Reading.{count_at, mark_at}
 use Rattle.segment_invariant.specs.Consistent.{key_at, units_taken}
 use Rattle.segment_invariant.specs.Keeps.{KeptMarksAreTaken}
+use Rattle.segment_invariant.specs.Words.{AreLaid}
+use Rattle.segment_invariant.proofs.Frames.LaidOut.{laid_out}
 use Rattle.segment_invariant.proofs.Blocks.Places.{counter_within}
 use Rattle.segment_invariant.proofs.Blocks.Pieces.{piece_word}
 use Rattle.segment_invariant.proofs.Consistency.Records.{record_word}
@@ -67,26 +69,26 @@ module _ (words : List ℕ) (page version at : ℕ) (r : Record) (tells : TellsR
           ∙ told_count words version at r c there of_it i below in
           subst (λ (n : ℕ). r.mark ≤ max (n + units_packed (form_at version r) i) 65535) (sym count) (of_it.mark one i packed)
 
--- ---- a kept state
+-- ---- words that are laid out
 
-module _ (shape : Dimensions) (opened : Anatomy) (state : State) (kept : Invariant shape opened state) where
+module _ (shape : Dimensions) (opened : Anatomy) (words : List ℕ) (kept : AreLaid shape opened words) where
   abbrev form : Record → Option SingleWord
   form r = form_at kept.anatomy.version r
 
   -- a bucket's mark is what blocks hold of its key
   pub mark_held : (name : List ℕ) (kind : Spec) (at : ℕ) (r : Record) → IsFirst kept.anatomy.records name kind at → HasRecord kept.anatomy.pieces at r
       → r.name ≡ name → r.spec ≡ kind → r.spec ≢ spec.Sparse → (i : ℕ) → i < buckets_of r.spec
-      → mark_of kept.anatomy.version state.words at i ≡ all_held (marks_held kept.anatomy.version name (key_of_bucket r.spec i)) kept.anatomy.pieces
+      → mark_of kept.anatomy.version words at i ≡ all_held (marks_held kept.anatomy.version name (key_of_bucket r.spec i)) kept.anatomy.pieces
   mark_held name kind at r first has named specified bucketed i below = words_say ∙ by_counts (r.counts == 0) (eqb-true r.counts 0) (eqb-false r.counts 0)
     where
-      words_say : mark_of kept.anatomy.version state.words at i ≡ mark_at state.words r.counts (buckets_of r.spec) (form r) r.mark i
+      words_say : mark_of kept.anatomy.version words at i ≡ mark_at words r.counts (buckets_of r.spec) (form r) r.mark i
       words_say =
           let lawful = kept.records.lawful at r has in
-          let counts_ref = record_word shape state.words kept.anatomy kept.shown at r 8 has (omega arith) in
-          let mark = record_word shape state.words kept.anatomy kept.shown at r 10 has (omega arith) in
-          let single = form_is shape state.words kept.anatomy kept.shown kept.anatomy.version at r has lawful kept.anatomy.version in
-          let many = buckets_are shape state.words kept.anatomy kept.shown kept.anatomy.version at r has lawful in
-          (λ j. mark_at state.words (counts_ref j) (many j) (single j) (mark j) i)
+          let counts_ref = record_word shape words kept.anatomy kept.shown at r 8 has (omega arith) in
+          let mark = record_word shape words kept.anatomy kept.shown at r 10 has (omega arith) in
+          let single = form_is shape words kept.anatomy kept.shown kept.anatomy.version at r has lawful kept.anatomy.version in
+          let many = buckets_are shape words kept.anatomy kept.shown kept.anatomy.version at r has lawful in
+          (λ j. mark_at words (counts_ref j) (many j) (single j) (mark j) i)
 
       packed : at_bucket r.spec (key_of_bucket r.spec i) (packed_bucket (form r)) r.mark ≡ (if is_packed_bucket (form r) i then r.mark else 0)
       packed = packed_mark r.spec (kept.records.lawful at r has).lawful bucketed i below (form r) r.mark
@@ -98,30 +100,33 @@ module _ (shape : Dimensions) (opened : Anatomy) (state : State) (kept : Invaria
       either false mark rest none_there = omega arith
 
       by_counts : (b : Bool) → (b ≡ true → r.counts ≡ 0) → (b ≡ false → r.counts ≢ 0)
-          → mark_at state.words r.counts (buckets_of r.spec) (form r) r.mark i
+          → mark_at words r.counts (buckets_of r.spec) (form r) r.mark i
           ≡ all_held (marks_held kept.anatomy.version name (key_of_bucket r.spec i)) kept.anatomy.pieces
       by_counts true none_there some_there =
-          ap (λ (counts_ref : ℕ). mark_at state.words counts_ref (buckets_of r.spec) (form r) r.mark i) (none_there refl)
-          ∙ sym (bucket_alone shape opened state kept name kind at r first has named specified (key_of_bucket r.spec i) _ _ _ _
+          ap (λ (counts_ref : ℕ). mark_at words counts_ref (buckets_of r.spec) (form r) r.mark i) (none_there refl)
+          ∙ sym (bucket_alone shape opened words kept name kind at r first has named specified (key_of_bucket r.spec i) _ _ _ _
           (marks_book kept.anatomy.version name (key_of_bucket r.spec i)) bucketed (none_there refl) ∙ packed)
       by_counts false none_there some_there =
           let (c, mounted, of_it) = kept.records.mounted at r has (some_there refl) in
           let long : length c.marks ≡ buckets_of r.spec = of_it.marks in
-          let all = bucket_mounted shape opened state kept name kind at r first has named specified (key_of_bucket r.spec i) _ _ _ _
+          let all = bucket_mounted shape opened words kept name kind at r first has named specified (key_of_bucket r.spec i) _ _ _ _
           (marks_book kept.anatomy.version name (key_of_bucket r.spec i)) bucketed c mounted of_it.named in
           let one = ap (λ (kind : Spec). keyed kind (key_of_bucket r.spec i) c.marks) of_it.same
           ∙ keyed_one r.spec c.marks i (kept.records.lawful at r has).lawful bucketed long below in
-          let word = ap (λ (b : Bool). if b then 0 else field_at state.words r.counts (4 + buckets_of r.spec + i)) (ne_eqb r.counts 0 (some_there refl))
-          ∙ mark_word shape opened state kept r.counts c (buckets_of r.spec) i mounted of_it.units (omega (arith, below, long)) in
+          let word = ap (λ (b : Bool). if b then 0 else field_at words r.counts (4 + buckets_of r.spec + i)) (ne_eqb r.counts 0 (some_there refl))
+          ∙ mark_word shape opened words kept r.counts c (buckets_of r.spec) i mounted of_it.units (omega (arith, below, long)) in
           let says = ap (λ (rest : ℕ). if is_packed_bucket (form r) i then r.mark else rest) word in
           let parts = either (is_packed_bucket (form r) i) r.mark (slice_index c.marks i) (λ passes. of_it.packed i (packed_is (form r) i passes)) in
           omega (arith, says, parts, all, packed, one)
 
   -- in version 1 the single mark is at most the greater of its bucket's total and 65,535
   pub mark_bound : (at : ℕ) (r : Record) → HasRecord kept.anatomy.pieces at r → kept.anatomy.version ≡ 1 → (i : ℕ) → packed_bucket (form r) ≡ Some i
-      → r.mark ≤ max (total_of kept.anatomy.version state.words at i) 65535
-  mark_bound at r has = told_bound state.words shape.page kept.anatomy.version at r (tells_record shape opened state kept at r has)
+      → r.mark ≤ max (total_of kept.anatomy.version words at i) 65535
+  mark_bound at r has = told_bound words shape.page kept.anatomy.version at r (tells_record shape opened words kept at r has)
 
+-- ---- a kept state
+
+module _ (shape : Dimensions) (opened : Anatomy) (state : State) (kept : Invariant shape opened state) where
   -- a counter that was seen is at most the present one
   seen_within : (s : Sighting) → WasCounter kept.anatomy.pieces s → s.word ≤ word_at state.words s.at
   seen_within s (at, i, body, stands, place, counter, most) =
@@ -132,21 +137,21 @@ module _ (shape : Dimensions) (opened : Anatomy) (state : State) (kept : Invaria
 pub marks_are_taken : KeptMarksAreTaken
 marks_are_taken shape opened state kept = record {
   buckets = λ name at i is plain below.
-      let (kind, r, first, (has, named, specified)) = first_of_name shape opened state kept name at is in
+      let (kind, r, first, (has, named, specified)) = first_of_name shape opened state.words (laid_out shape opened state kept) name at is in
       let right = kept.records.lawful at r has in
-      let bucketed = bucketed_kind r.spec (sym (kind_word shape opened state kept at r has) ∙ plain) in
+      let bucketed = bucketed_kind r.spec (sym (kind_word shape opened state.words (laid_out shape opened state kept) at r has) ∙ plain) in
       let within : i < buckets_of r.spec = subst (λ (n : ℕ). i < n) (buckets_are shape state.words kept.anatomy kept.shown kept.anatomy.version at r has right) below in
-      let held = mark_held shape opened state kept name kind at r first has named specified bucketed i within in
+      let held = mark_held shape opened state.words (laid_out shape opened state kept) name kind at r first has named specified bucketed i within in
       let key = key_is shape state.words kept.anatomy kept.shown kept.anatomy.version at r has right i in
       let taken : mark_of opened.version state.words at i ≡ units_taken state.actors name (key_at state.words at i) =
       ap (λ (v : ℕ). mark_of v state.words at i) (sym kept.same.0)
       ∙ (held ∙ (kept.balanced.marks name (key_of_bucket r.spec i) ∙ ap (units_taken state.actors name) (sym key))) in
       (taken, subst (λ (n : ℕ). n ≤ tally_units (all_counted state.actors) name (key_at state.words at i)) (sym taken) (kept.balanced.taken name (key_at state.words at i)));
   values = λ name at place value is sparse first_value.
-      let (kind, r, first, (has, named, specified)) = first_of_name shape opened state kept name at is in
-      let sparse_spec = sparse_kind r.spec (sym (kind_word shape opened state kept at r has) ∙ sparse) in
-      let (s, first_of, (stands, of_it, valued)) = first_of_value shape opened state kept at value place first_value in
-      let held = value_held shape opened state kept name kind at r first has named specified value _ _ _ _
+      let (kind, r, first, (has, named, specified)) = first_of_name shape opened state.words (laid_out shape opened state kept) name at is in
+      let sparse_spec = sparse_kind r.spec (sym (kind_word shape opened state.words (laid_out shape opened state kept) at r has) ∙ sparse) in
+      let (s, first_of, (stands, of_it, valued)) = first_of_value shape opened state.words (laid_out shape opened state kept) at value place first_value in
+      let held = value_held shape opened state.words (laid_out shape opened state kept) name kind at r first has named specified value _ _ _ _
       (marks_book kept.anatomy.version name value) sparse_spec place s first_of stands of_it valued in
       let mark = piece_word shape state.words kept.anatomy kept.shown stands.0 _ 7 stands.1 (omega arith) in
       let units = piece_word shape state.words kept.anatomy kept.shown stands.0 _ 6 stands.1 (omega arith) in
@@ -154,20 +159,20 @@ marks_are_taken shape opened state kept = record {
       (mark ∙ (sym held ∙ kept.balanced.marks name value), omega (arith, mark, units, most));
   placed = λ t count among counted. placed shape opened state kept t.name count.0 (kept.taken_keys t count among counted);
   unpacked = λ at there one empty.
-      let (r, tells) = tells_listed shape opened state kept at there one in
+      let (r, tells) = tells_listed shape opened state.words (laid_out shape opened state kept) at there one in
       let here : packed_bucket (form_at kept.anatomy.version r) ≡ None =
       sym (ap packed_bucket tells.form) ∙ (ap (λ (v : ℕ). packed_bucket (record_single v state.words at)) kept.same.0 ∙ empty) in
       tells.word 10 (omega arith) ∙ tells.lawful.unpacked here;
   packed = λ at i there one first packed.
-      let (r, tells) = tells_listed shape opened state kept at there one in
+      let (r, tells) = tells_listed shape opened state.words (laid_out shape opened state kept) at there one in
       let here : packed_bucket (form_at kept.anatomy.version r) ≡ Some i =
       sym (ap packed_bucket tells.form) ∙ (ap (λ (v : ℕ). packed_bucket (record_single v state.words at)) kept.same.0 ∙ packed) in
       let bound = told_bound state.words shape.page kept.anatomy.version at r tells (kept.same.0 ∙ first) i here in
       subst (λ (p : ℕ × ℕ). p.0 ≤ max (total_of p.1 state.words at i) 65535) (λ j. (sym (tells.word 10 (omega arith)) j, kept.same.0 j)) bound;
   sum = λ name at is.
-      let (kind, r, first, (has, named, specified)) = first_of_name shape opened state kept name at is in
+      let (kind, r, first, (has, named, specified)) = first_of_name shape opened state.words (laid_out shape opened state kept) name at is in
       ap (cast_signed w64) (record_word shape state.words kept.anatomy kept.shown at r 12 has (omega arith))
-      ∙ (sym (sum_mark_is shape opened state kept name kind at r first has named) ∙ kept.balanced.sum_marks name);
+      ∙ (sym (sum_mark_is shape opened state.words (laid_out shape opened state kept) name kind at r first has named) ∙ kept.balanced.sum_marks name);
   seen = λ who a there lives. All-weaker (WasCounter kept.anatomy.pieces) (λ s. s.word ≤ word_at state.words s.at)
       (seen_within shape opened state kept) a.seen.counts (kept.each who a there lives).sees.counters;
   snapshots = λ who a there lives. (kept.each who a there lives).snapshots;

@@ -7,6 +7,7 @@ use Rattle.list_core.proofs.Chains.{linked_of}
 use Rattle.segment_machine.specs.declared.actor.Made.TheVariants as made
 use Rattle.segment_invariant.specs.Seen.{HoldsAs}
 use Rattle.segment_invariant.specs.Keeps.{IsOpening}
+use Rattle.segment_invariant.proofs.Frames.LaidOut.{laid_out}
 use Rattle.segment_invariant.proofs.Consistency.Chained.{chained}
 use Rattle.segment_invariant.proofs.Consistency.PassedOver.{told, told_shown, told_stands}
 use Rattle.segment_invariant.proofs.Consistency.Specs.{buckets_are}
@@ -41,12 +42,12 @@ of_kept shape opened state kept = record {
   blocks = kept.blocks;
   chained = subst (λ (words : List ℕ). IsChain words (head_of words) (order_of kept.anatomy)) kept.shown.shows (chained shape opened state kept);
   standing = kept.list.standing;
-  listed = λ j p r there is. kept.list.alone p.at (histogram r) (published_at shape opened state kept j p (histogram r) there is refl (λ block e. cc e));
-  noted = λ name kind at r first has named. noted_is shape opened state kept name kind at r first has named;
+  listed = λ j p r there is. kept.list.alone p.at (histogram r) (published_at shape opened state.words (laid_out shape opened state kept) j p (histogram r) there is refl (λ block e. cc e));
+  noted = λ name kind at r first has named. noted_is shape opened state.words (laid_out shape opened state kept) name kind at r first has named;
   later = kept.records.later;
   many = λ at r holds lawful. subst (λ (words : List ℕ). record_buckets words at ≡ buckets_of r.spec) kept.shown.shows
-      (buckets_are shape state.words (told shape opened state kept at (histogram r) holds) (told_shown shape opened state kept at (histogram r) holds)
-      kept.anatomy.version at r (told_stands shape opened state kept at (histogram r) holds) lawful);
+      (buckets_are shape state.words (told shape opened state.words (laid_out shape opened state kept) at (histogram r) holds) (told_shown shape opened state.words (laid_out shape opened state kept) at (histogram r) holds)
+      kept.anatomy.version at r (told_stands shape opened state.words (laid_out shape opened state kept) at (histogram r) holds) lawful);
 }
 
 pub opens_as : (shape : Dimensions) (opened : Anatomy) → IsOpening shape opened → Opens shape opened

@@ -1,28 +1,26 @@
 -- The records of a kept segment among its words: which ones the list has, and what the words of a histogram's record say.
-use Rattle.segment_invariant.proofs.Prelude.Std.{◌≡◌, ℕ, ◌+◌, ◌-◌, ◌<◌, List, ◌++◌, length, replicate, take, drop, get_or, refl, ap, ◌∙◌, arith, length-append, append_assoc, slice_index, Contains, get_or-drop, get_or_append_left, length-replicate, take-append_seam, some, none, get_elem?, from_map, at_from, contains_at, all_at}
-use Rattle.segment_invariant.proofs.Prelude.Machine.{Dimensions, word_at, field_at, spec_ranges, name_words, name_of, IsShown, Actor}
+use Rattle.segment_invariant.proofs.Prelude.Std.{◌≡◌, ℕ, ◌+◌, ◌-◌, ◌<◌, List, ◌++◌, All, length, replicate, take, drop, get_or, refl, ap, ◌∙◌, arith, length-append, append_assoc, slice_index, Contains, get_or-drop, get_or_append_left, length-replicate, take-append_seam, some, none, get_elem?, from_map, at_from, contains_at, all_at}
+use Rattle.segment_invariant.proofs.Prelude.Machine.{Dimensions, word_at, field_at, spec_ranges, name_words, name_of, IsShown}
 use Rattle.segment_invariant.proofs.Prelude.Invariant.{Record, Sample, histogram, Piece, words_of, record_words, Listed, Anatomy, layout_of, order_of, HasRecord, HasSample, StandsAs, IsLawfulRecord}
 use Rattle.std.specs.List.{slice_range}
 use Rattle.std.proofs.lemmas.List.{ext_get_or, get_or-take, get_or-append_right, length-take, length-drop}
 use Rattle.segment_image.specs.Words.{bytes_of_words}
 use Rattle.segment_image.proofs.ReadWords.{length-bytes_of_words}
 use Rattle.alloc_core.proofs.Layouts.{length_shown}
-use Rattle.segment_invariant.specs.Invariant.{ListIsKept}
 use Rattle.segment_invariant.proofs.Blocks.Pieces.{piece_word, piece_ends, free_within}
 
 -- ---- which ones the list has
 
 -- a record of the list stands as what it was given
-pub listed_there : (words : List ℕ) (opened anatomy : Anatomy) (actors : List Actor) (at : ℕ) → ListIsKept words opened anatomy actors
-    → Contains (order_of anatomy) at
+pub listed_there : (anatomy : Anatomy) (at : ℕ) → All (λ l. StandsAs anatomy.pieces l l.made) anatomy.records → Contains (order_of anatomy) at
     → (l : Listed) × Contains anatomy.records l × (l.reference ≡ at) × StandsAs anatomy.pieces l l.made
-listed_there words opened anatomy actors at list there =
+listed_there anatomy at standing there =
     let place = at_from (order_of anatomy) at there in
     let from = from_map (λ (l : Listed). l.reference) anatomy.records place.0 at place.1 in (
       from.0,
       contains_at anatomy.records place.0 from.0 from.1,
       from.2,
-      all_at (λ l. StandsAs anatomy.pieces l l.made) anatomy.records place.0 from.0 list.standing from.1,
+      all_at (λ l. StandsAs anatomy.pieces l l.made) anatomy.records place.0 from.0 standing from.1,
     )
 
 -- ---- what the words say

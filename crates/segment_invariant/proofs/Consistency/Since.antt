@@ -6,6 +6,7 @@ use Rattle.segment_machine.specs.declared.actor.Made.TheVariants as made
 use Rattle.segment_invariant.specs.Consistent.{HoldsStill, NeverChanges, CountsStill, all_claims}
 use Rattle.segment_invariant.specs.Consistent as consistent
 use Rattle.segment_invariant.specs.Seen.{HoldsAs, IsFixedIn}
+use Rattle.segment_invariant.proofs.Frames.LaidOut.{laid_out}
 use Rattle.segment_invariant.proofs.Blocks.Pieces.{claim_of, piece_word, one_stands}
 use Rattle.segment_invariant.proofs.Blocks.Places.{fixed_within}
 use Rattle.segment_invariant.proofs.Frames.PassedOver.{PassedOver}
@@ -104,7 +105,7 @@ module _ (shape : Dimensions) (opened : Anatomy) (state : State) (opens : Opens 
 
   -- a listed record that stands as one of a name was given the name
   named_at : (l : Listed) (r : Record) → Contains kept.anatomy.records l → HasRecord kept.anatomy.pieces l.reference r → IsRecordNamed r.name l
-  named_at l r there has = by_made l.made refl (standing_of shape opened state kept l there)
+  named_at l r there has = by_made l.made refl (standing_of shape opened state.words (laid_out shape opened state kept) l there)
     where
       one : (body : Body) → Stands kept.anatomy.pieces l.reference none body → body ≡ histogram r
       one body stands = (one_stands shape state.words kept.anatomy kept.shown l.reference none none body (histogram r) stands has).1
@@ -136,7 +137,7 @@ module _ (shape : Dimensions) (opened : Anatomy) (state : State) (opens : Opens 
       → all_held (noted_held name) opened.pieces ≡ field_at before at 13
   noted_there name kind at first there =
       let (l, among, is, standing) = listed_then at there in
-      let (r, (has, named, specified)) = record_of_first shape opened state kept name kind at first in
+      let (r, (has, named, specified)) = record_of_first shape opened state.words (laid_out shape opened state kept) name kind at first in
       let here = named_at l r (listed_still l among) (subst (λ (at : ℕ). HasRecord kept.anatomy.pieces at r) (sym is) has) in
       let (sort, its) = first_then name kind at first l among (subst (λ (name : List ℕ). IsRecordNamed name l) named here) in
       let (q, stands, called, sorted) = All-contains (λ l. StandsAs opened.pieces l l.made) opened.records _ opens.standing (split_among its.0 its.1 its.2) in
@@ -171,7 +172,7 @@ module _ (shape : Dimensions) (opened : Anatomy) (state : State) (opens : Opens 
       )
 
   -- a record that is passed over has all words that it had, and so have its counts
-  module _ (front : List Listed) (at : ℕ) (r : Record) (over : PassedOver shape opened state kept front at r) where
+  module _ (front : List Listed) (at : ℕ) (r : Record) (over : PassedOver shape opened state.words (laid_out shape opened state kept) front at r) where
     held_then : HoldsAs opened.pieces at (histogram (record r { next = over.1 }))
     held_then = over.2.1
 
@@ -204,8 +205,8 @@ module _ (shape : Dimensions) (opened : Anatomy) (state : State) (opens : Opens 
         let bodies = (one_stands shape before opened opens.shown at none none (other mine.0 mine.1 mine.2 mine.3) (other theirs.0 theirs.1 theirs.2 theirs.3) mine.4 theirs.4).1 in
         let same : record_words (record r { next = over.1 }) ≡ record_words q = mine.5 ∙ (ap words_of bodies ∙ sym theirs.5) in
         let counts_same : r.counts ≡ q.counts = ap (λ (words : List ℕ). slice_index words 8) same in
-        let now = passed_word shape opened state kept front at r over.0 8 (omega arith) in
-        let many = (tells_passed shape opened state kept front at r over.0).many in
+        let now = passed_word shape opened state.words (laid_out shape opened state kept) front at r over.0 8 (omega arith) in
+        let many = (tells_passed shape opened state.words (laid_out shape opened state kept) front at r over.0).many in
         let lawful = subst (λ (v : ℕ). IsLawfulRecord v shape.page r) kept.same.0 over.0.lawful in
         let first = opens.many at (record r { next = over.1 }) mine lawful in
         let second = opens.many at q theirs is.lawful in

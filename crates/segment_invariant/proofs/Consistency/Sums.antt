@@ -1,8 +1,9 @@
--- What all blocks of a kept state hold of a name: of its records only the first counts.
+-- What all blocks of words that are laid out hold of a name: of its records only the first counts.
 use Rattle.segment_invariant.proofs.Prelude.Std.{◌≡◌, ◌≢◌, Bool, true, false, ℕ, ℤ, pos, if◌then◌else◌, List, refl, sym, ap, subst, ◌∙◌, ⊎_elim, w64, cast_signed, bytes_eq, +ℤ_idl, bytes_eq-Decides, some, none, get_elem?}
-use Rattle.segment_invariant.proofs.Prelude.Machine.{Dimensions, Spec, Own, State}
-use Rattle.segment_invariant.proofs.Prelude.Invariant.{Record, Counts, Sample, Body, queue, plain, held, histogram, counts, sample, other, is_claimed, Piece, Anatomy, of_name, noted_held, all_held, Stands, HasRecord, IsFirst, Invariant, CountsNothing}
+use Rattle.segment_invariant.proofs.Prelude.Machine.{Dimensions, Spec, Own}
+use Rattle.segment_invariant.proofs.Prelude.Invariant.{Record, Counts, Sample, Body, queue, plain, held, histogram, counts, sample, other, is_claimed, Piece, Anatomy, of_name, noted_held, all_held, Stands, HasRecord, IsFirst, CountsNothing}
 use Rattle.segment_invariant.specs.Ledger.{amount_of_name, sum_held, sum_mark_held, all_amounts}
+use Rattle.segment_invariant.specs.Words.{AreLaid}
 use Rattle.segment_invariant.proofs.Blocks.Pieces.{one_piece}
 use Rattle.segment_invariant.proofs.Lists.FewTerms.{Elsewhere, sum_one, amounts_one}
 
@@ -61,9 +62,9 @@ pub no_noted : (name : List ℕ) (body : Body) → OfRecord name body (λ r. r.n
 no_noted name body empty = of_record 0 (noted_held name) (λ n. refl) (λ w. refl) (λ b. refl) (λ c. refl) (λ s. refl) (λ z t n p. refl) body
     (λ r is. nothing_of r.name name r.noted (λ same. empty r is same))
 
--- ---- a kept state
+-- ---- words that are laid out
 
-module _ (shape : Dimensions) (opened : Anatomy) (state : State) (kept : Invariant shape opened state) where
+module _ (shape : Dimensions) (opened : Anatomy) (words : List ℕ) (kept : AreLaid shape opened words) where
   -- a published block has no owner
   pub published_at : (j : ℕ) (p : Piece) (body : Body) → get_elem? kept.anatomy.pieces j ≡ some p → p.body ≡ body → is_claimed body ≡ true
       → ((block : Own) → body ≢ held block) → Stands kept.anatomy.pieces p.at none body
@@ -79,7 +80,7 @@ module _ (shape : Dimensions) (opened : Anatomy) (state : State) (kept : Invaria
   other_nothing name spec at r first has j p there apart r' is named =
       let here = published_at j p (histogram r') there is refl (λ block e. cc e) in
       kept.records.later p.at at r' spec here (subst (λ (name : List ℕ). IsFirst kept.anatomy.records name spec at) (sym named) first)
-      (λ same. apart (one_piece shape state.words kept.anatomy kept.shown j has.0 p _ there has.1 (sym same)).0)
+      (λ same. apart (one_piece shape words kept.anatomy kept.shown j has.0 p _ there has.1 (sym same)).0)
 
   module _ (name : List ℕ) (spec : Spec) (at : ℕ) (r : Record) (first : IsFirst kept.anatomy.records name spec at) (has : HasRecord kept.anatomy.pieces at r)
       (named : r.name ≡ name) where

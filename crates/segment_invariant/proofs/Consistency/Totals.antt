@@ -5,6 +5,8 @@ use Rattle.segment_invariant.proofs.Prelude.Invariant.{Record, Counts, histogram
 use Rattle.bucket_ranges.specs.declared.spec.Spec.TheVariants as spec
 use Rattle.bucket_ranges.specs.Reading.{count_at}
 use Rattle.segment_machine.specs.Actor.{transit_at, transit_of}
+use Rattle.segment_invariant.specs.Words.{AreLaid}
+use Rattle.segment_invariant.proofs.Frames.LaidOut.{laid_out}
 use Rattle.segment_invariant.proofs.Frames.OneActor.{moves_or_not}
 use Rattle.segment_invariant.proofs.Lists.FewTerms.{sum_none}
 use Rattle.segment_invariant.specs.Consistent.{HasPlace}
@@ -65,36 +67,71 @@ find_known (x ∷ xs) reference (suc k) known there same = either (x.reference =
     either false other (found, is, (i, below, at), names_it) =
         (found, ap (λ (b : Bool). if b then Some x else known_at xs reference) other ∙ is, (suc i, omega (arith, below), at), names_it)
 
--- ---- a kept state
+-- ---- words that are laid out
 
-module _ (shape : Dimensions) (opened : Anatomy) (state : State) (kept : Invariant shape opened state) where
+module _ (shape : Dimensions) (opened : Anatomy) (words : List ℕ) (kept : AreLaid shape opened words) where
   -- a record's kind by its word
-  pub kind_word : (at : ℕ) (r : Record) → HasRecord kept.anatomy.pieces at r → is_sparse state.words at ≡ (slice_index (spec_fields r.spec) 0 == 4)
-  kind_word at r has = ap (λ (n : ℕ). n == 4) (record_word shape state.words kept.anatomy kept.shown at r 4 has (omega arith))
+  pub kind_word : (at : ℕ) (r : Record) → HasRecord kept.anatomy.pieces at r → is_sparse words at ≡ (slice_index (spec_fields r.spec) 0 == 4)
+  kind_word at r has = ap (λ (n : ℕ). n == 4) (record_word shape words kept.anatomy kept.shown at r 4 has (omega arith))
 
   -- a count and a mark by their words
-  pub count_word : (at : ℕ) (c : Counts) (i : ℕ) → HasCounts kept.anatomy.pieces at c → i < length c.units → field_at state.words at (4 + i) ≡ slice_index c.units i
+  pub count_word : (at : ℕ) (c : Counts) (i : ℕ) → HasCounts kept.anatomy.pieces at c → i < length c.units → field_at words at (4 + i) ≡ slice_index c.units i
   count_word at c i (k, there) below =
       let long = length-append c.units c.marks in
       let all = length-append (c.units ++ c.marks) c.rest in
-      piece_word shape state.words kept.anatomy kept.shown k _ (4 + i) there (omega (arith, below, long, all)) ∙ count_in c i below
+      piece_word shape words kept.anatomy kept.shown k _ (4 + i) there (omega (arith, below, long, all)) ∙ count_in c i below
 
   pub mark_word : (at : ℕ) (c : Counts) (n i : ℕ) → HasCounts kept.anatomy.pieces at c → length c.units ≡ n → i < length c.marks
-      → field_at state.words at (4 + n + i) ≡ slice_index c.marks i
+      → field_at words at (4 + n + i) ≡ slice_index c.marks i
   mark_word at c n i (k, there) units below =
       let long = length-append c.units c.marks in
       let all = length-append (c.units ++ c.marks) c.rest in
-      piece_word shape state.words kept.anatomy kept.shown k _ (4 + n + i) there (omega (arith, below, long, all, units))
+      piece_word shape words kept.anatomy kept.shown k _ (4 + n + i) there (omega (arith, below, long, all, units))
       ∙ (ap (λ (n : ℕ). slice_index (words_of (counts c)) (4 + n + i)) (sym units) ∙ mark_in c i below)
 
   -- a total by the words
   pub total_words : (at : ℕ) (r : Record) → HasRecord kept.anatomy.pieces at r → (v i : ℕ)
-      → total_of v state.words at i ≡ count_at state.words r.counts i + units_packed (form_at v r) i
+      → total_of v words at i ≡ count_at words r.counts i + units_packed (form_at v r) i
   total_words at r has v i =
-      let counts_ref = record_word shape state.words kept.anatomy kept.shown at r 8 has (omega arith) in
-      let form = form_is shape state.words kept.anatomy kept.shown kept.anatomy.version at r has (kept.records.lawful at r has) v in
-      (λ j. count_at state.words (counts_ref j) i + units_packed (form j) i)
+      let counts_ref = record_word shape words kept.anatomy kept.shown at r 8 has (omega arith) in
+      let form = form_is shape words kept.anatomy kept.shown kept.anatomy.version at r has (kept.records.lawful at r has) v in
+      (λ j. count_at words (counts_ref j) i + units_packed (form j) i)
 
+  module _ (name : List ℕ) (kind : Spec) (at : ℕ) (r : Record) (first : IsFirst kept.anatomy.records name kind at) (has : HasRecord kept.anatomy.pieces at r)
+      (named : r.name ≡ name) (specified : r.spec ≡ kind) (bucketed : r.spec ≢ spec.Sparse) (i : ℕ) (below : i < buckets_of r.spec) where
+    -- a bucket's total is what blocks hold of its key
+    pub total_held : total_of kept.anatomy.version words at i ≡ all_held (units_held kept.anatomy.version name (key_of_bucket r.spec i)) kept.anatomy.pieces
+    total_held = by_counts (r.counts == 0) (eqb-true r.counts 0) (eqb-false r.counts 0)
+      where
+        packed : at_bucket r.spec (key_of_bucket r.spec i) (packed_bucket (form_at kept.anatomy.version r)) (units_in (form_at kept.anatomy.version r))
+            ≡ units_packed (form_at kept.anatomy.version r) i
+        packed = packed_units r.spec (kept.records.lawful at r has).lawful bucketed i below (form_at kept.anatomy.version r)
+            (λ bucket is. packed_within kept.anatomy.version (buckets_of r.spec) r.single bucket is)
+
+        words_say : total_of kept.anatomy.version words at i ≡ count_at words r.counts i + units_packed (form_at kept.anatomy.version r) i
+        words_say = total_words at r has kept.anatomy.version i
+
+        by_counts : (b : Bool) → (b ≡ true → r.counts ≡ 0) → (b ≡ false → r.counts ≢ 0)
+            → total_of kept.anatomy.version words at i ≡ all_held (units_held kept.anatomy.version name (key_of_bucket r.spec i)) kept.anatomy.pieces
+        by_counts true none_there some_there =
+            let all = bucket_alone shape opened words kept name kind at r first has named specified (key_of_bucket r.spec i) _ _ _ _
+            (units_book kept.anatomy.version name (key_of_bucket r.spec i) kept.versions) bucketed (none_there refl) in
+            let count = ap (λ (counts_ref : ℕ). count_at words counts_ref i) (none_there refl) in
+            omega (arith, words_say, all, packed, count)
+        by_counts false none_there some_there =
+            let (c, mounted, of_it) = kept.records.mounted at r has (some_there refl) in
+            let long : length c.units ≡ buckets_of r.spec = of_it.units in
+            let all = bucket_mounted shape opened words kept name kind at r first has named specified (key_of_bucket r.spec i) _ _ _ _
+            (units_book kept.anatomy.version name (key_of_bucket r.spec i) kept.versions) bucketed c mounted of_it.named in
+            let one = ap (λ (kind : Spec). keyed kind (key_of_bucket r.spec i) c.units) of_it.same
+            ∙ keyed_one r.spec c.units i (kept.records.lawful at r has).lawful bucketed long below in
+            let count = ap (λ (b : Bool). if b then 0 else field_at words r.counts (4 + i)) (ne_eqb r.counts 0 (some_there refl))
+            ∙ count_word r.counts c i mounted (omega (arith, below, long)) in
+            omega (arith, words_say, all, packed, one, count)
+
+-- ---- a kept state
+
+module _ (shape : Dimensions) (opened : Anatomy) (state : State) (kept : Invariant shape opened state) where
   module _ (name : List ℕ) (kind : Spec) (at : ℕ) (r : Record) (first : IsFirst kept.anatomy.records name kind at) (has : HasRecord kept.anatomy.pieces at r)
       (named : r.name ≡ name) (specified : r.spec ≡ kind) where
     -- units that an actor moves are those of a bucket of a record
@@ -153,36 +190,6 @@ module _ (shape : Dimensions) (opened : Anatomy) (state : State) (kept : Invaria
       pub moved_all : all_moving name (key_of_bucket r.spec i) state.actors ≡ transit_of state.actors at i
       moved_all = same_sums (λ a. moving_at a name (key_of_bucket r.spec i) a.hand.place) (λ a. transit_at a.hand.place at i) state.actors moved
 
-      -- a bucket's total is what blocks hold of its key
-      pub total_held : total_of kept.anatomy.version state.words at i ≡ all_held (units_held kept.anatomy.version name (key_of_bucket r.spec i)) kept.anatomy.pieces
-      total_held = by_counts (r.counts == 0) (eqb-true r.counts 0) (eqb-false r.counts 0)
-        where
-          packed : at_bucket r.spec (key_of_bucket r.spec i) (packed_bucket (form_at kept.anatomy.version r)) (units_in (form_at kept.anatomy.version r))
-              ≡ units_packed (form_at kept.anatomy.version r) i
-          packed = packed_units r.spec (kept.records.lawful at r has).lawful bucketed i below (form_at kept.anatomy.version r)
-              (λ bucket is. packed_within kept.anatomy.version (buckets_of r.spec) r.single bucket is)
-
-          words_say : total_of kept.anatomy.version state.words at i ≡ count_at state.words r.counts i + units_packed (form_at kept.anatomy.version r) i
-          words_say = total_words at r has kept.anatomy.version i
-
-          by_counts : (b : Bool) → (b ≡ true → r.counts ≡ 0) → (b ≡ false → r.counts ≢ 0)
-              → total_of kept.anatomy.version state.words at i ≡ all_held (units_held kept.anatomy.version name (key_of_bucket r.spec i)) kept.anatomy.pieces
-          by_counts true none_there some_there =
-              let all = bucket_alone shape opened state kept name kind at r first has named specified (key_of_bucket r.spec i) _ _ _ _
-              (units_book kept.anatomy.version name (key_of_bucket r.spec i) kept.versions) bucketed (none_there refl) in
-              let count = ap (λ (counts_ref : ℕ). count_at state.words counts_ref i) (none_there refl) in
-              omega (arith, words_say, all, packed, count)
-          by_counts false none_there some_there =
-              let (c, mounted, of_it) = kept.records.mounted at r has (some_there refl) in
-              let long : length c.units ≡ buckets_of r.spec = of_it.units in
-              let all = bucket_mounted shape opened state kept name kind at r first has named specified (key_of_bucket r.spec i) _ _ _ _
-              (units_book kept.anatomy.version name (key_of_bucket r.spec i) kept.versions) bucketed c mounted of_it.named in
-              let one = ap (λ (kind : Spec). keyed kind (key_of_bucket r.spec i) c.units) of_it.same
-              ∙ keyed_one r.spec c.units i (kept.records.lawful at r has).lawful bucketed long below in
-              let count = ap (λ (b : Bool). if b then 0 else field_at state.words r.counts (4 + i)) (ne_eqb r.counts 0 (some_there refl))
-              ∙ count_word r.counts c i mounted (omega (arith, below, long)) in
-              omega (arith, words_say, all, packed, one, count)
-
     -- of a sparse histogram nothing is in transit
     pub moved_none : r.spec ≡ spec.Sparse → (key : ℤ) → all_moving name key state.actors ≡ 0
     moved_none sparse key = sum_none (λ a. moving_at a name key a.hand.place) state.actors (λ who a there _. ⊎_elim
@@ -208,8 +215,8 @@ module _ (shape : Dimensions) (opened : Anatomy) (state : State) (kept : Invaria
   -- what has the key of a bucket, or is the value of a sample, has a place by the words
   pub placed : (name : List ℕ) (key : ℤ) → HasKey kept.anatomy.records name key → HasPlace state.words (order_of kept.anatomy) name key
   placed name key (kind, at, first, keyed_by) =
-      let is = name_of_first shape opened state kept name kind at first in
-      let (other, r, again, (has, named, specified)) = first_of_name shape opened state kept name at is in
+      let is = name_of_first shape opened state.words (laid_out shape opened state kept) name kind at first in
+      let (other, r, again, (has, named, specified)) = first_of_name shape opened state.words (laid_out shape opened state kept) name at is in
       let same : r.spec ≡ kind = specified ∙ (one_first shape opened state kept name other kind at at again first).1 in
       let lawful = kept.records.lawful at r has in (
         at,
@@ -219,7 +226,7 @@ module _ (shape : Dimensions) (opened : Anatomy) (state : State) (kept : Invaria
             let (bucket, below, key_is_it) = by_bucket in
             inl (
               bucket,
-              kind_word shape opened state kept at r has ∙ (ap (λ (kind : Spec). slice_index (spec_fields kind) 0 == 4) same ∙ has_buckets kind bucket below),
+              kind_word shape opened state.words (laid_out shape opened state kept) at r has ∙ (ap (λ (kind : Spec). slice_index (spec_fields kind) 0 == 4) same ∙ has_buckets kind bucket below),
               subst (λ (n : ℕ). bucket < n) (sym (buckets_are shape state.words kept.anatomy kept.shown kept.anatomy.version at r has lawful ∙ ap buckets_of same)) below,
               key_is_it ∙ sym (key_is shape state.words kept.anatomy kept.shown kept.anatomy.version at r has lawful bucket ∙ ap (λ (kind : Spec). key_of_bucket kind bucket) same),
             ))
@@ -227,8 +234,8 @@ module _ (shape : Dimensions) (opened : Anatomy) (state : State) (kept : Invaria
             let (sparse, place, first_value) = by_value in
             inr (
               place,
-              kind_word shape opened state kept at r has ∙ ap (λ (kind : Spec). slice_index (spec_fields kind) 0 == 4) (same ∙ sparse),
-              value_of_first shape opened state kept at key place first_value,
+              kind_word shape opened state.words (laid_out shape opened state kept) at r has ∙ ap (λ (kind : Spec). slice_index (spec_fields kind) 0 == 4) (same ∙ sparse),
+              value_of_first shape opened state.words (laid_out shape opened state kept) at key place first_value,
             ))
             keyed_by,
       )
@@ -236,11 +243,11 @@ module _ (shape : Dimensions) (opened : Anatomy) (state : State) (kept : Invaria
 pub totals_are_counted : KeptTotalsAreCounted
 totals_are_counted shape opened state kept = record {
   buckets = λ name at i is plain below.
-      let (kind, r, first, (has, named, specified)) = first_of_name shape opened state kept name at is in
+      let (kind, r, first, (has, named, specified)) = first_of_name shape opened state.words (laid_out shape opened state kept) name at is in
       let right = kept.records.lawful at r has in
-      let bucketed = bucketed_kind r.spec (sym (kind_word shape opened state kept at r has) ∙ plain) in
+      let bucketed = bucketed_kind r.spec (sym (kind_word shape opened state.words (laid_out shape opened state kept) at r has) ∙ plain) in
       let within : i < buckets_of r.spec = subst (λ (n : ℕ). i < n) (buckets_are shape state.words kept.anatomy kept.shown kept.anatomy.version at r has right) below in
-      let held = total_held shape opened state kept name kind at r first has named specified bucketed i within in
+      let held = total_held shape opened state.words (laid_out shape opened state kept) name kind at r first has named specified bucketed i within in
       let moved = moved_all shape opened state kept name kind at r first has named specified bucketed i within in
       let balance = kept.balanced.units name (key_of_bucket r.spec i) in
       let sum : total_of kept.anatomy.version state.words at i + transit_of state.actors at i ≡ tally_units (all_counted state.actors) name (key_of_bucket r.spec i) =
@@ -248,10 +255,10 @@ totals_are_counted shape opened state kept = record {
       ap (λ (v : ℕ). total_of v state.words at i + transit_of state.actors at i) (sym kept.same.0)
       ∙ (sum ∙ ap (tally_units (all_counted state.actors) name) (sym (key_is shape state.words kept.anatomy kept.shown kept.anatomy.version at r has right i)));
   values = λ name at place value is sparse first_value.
-      let (kind, r, first, (has, named, specified)) = first_of_name shape opened state kept name at is in
-      let sparse_spec = sparse_kind r.spec (sym (kind_word shape opened state kept at r has) ∙ sparse) in
-      let (s, first_of, (stands, of_it, valued)) = first_of_value shape opened state kept at value place first_value in
-      let held = value_held shape opened state kept name kind at r first has named specified value _ _ _ _
+      let (kind, r, first, (has, named, specified)) = first_of_name shape opened state.words (laid_out shape opened state kept) name at is in
+      let sparse_spec = sparse_kind r.spec (sym (kind_word shape opened state.words (laid_out shape opened state kept) at r has) ∙ sparse) in
+      let (s, first_of, (stands, of_it, valued)) = first_of_value shape opened state.words (laid_out shape opened state kept) at value place first_value in
+      let held = value_held shape opened state.words (laid_out shape opened state kept) name kind at r first has named specified value _ _ _ _
       (units_book kept.anatomy.version name value kept.versions) sparse_spec place s first_of stands of_it valued in
       let moved = moved_none shape opened state kept name kind at r first has named specified sparse_spec value in
       let balance = kept.balanced.units name value in

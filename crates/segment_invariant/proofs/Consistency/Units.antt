@@ -5,6 +5,7 @@ use Rattle.segment_invariant.proofs.Prelude.Invariant.{IsHistogram, Record, Anat
 use Rattle.segment_machine.specs.Actor.{all_costs}
 use Rattle.segment_invariant.specs.Consistent.{IsSum}
 use Rattle.segment_invariant.specs.Keeps.{KeptUnitsAreKept}
+use Rattle.segment_invariant.proofs.Frames.LaidOut.{laid_out}
 use Rattle.segment_invariant.proofs.Consistency.Firsts.{first_of_name}
 use Rattle.segment_invariant.proofs.Consistency.Records.{record_word}
 use Rattle.segment_invariant.proofs.Consistency.Sums.{noted_is}
@@ -17,7 +18,7 @@ module _ (shape : Dimensions) (opened : Anatomy) (state : State) (kept : Invaria
   histogram_record : (name : List ℕ) (at : ℕ) → IsHistogram state.words (order_of kept.anatomy) name at
       → (r : Record) × HasRecord kept.anatomy.pieces at r × (r.name ≡ name)
   histogram_record name at is =
-      let (kind, r, first, (has, named, specified)) = first_of_name shape opened state kept name at is in (r, has, named)
+      let (kind, r, first, (has, named, specified)) = first_of_name shape opened state.words (laid_out shape opened state kept) name at is in (r, has, named)
 
   -- a sum of it is one of its record
   sum_of_record : (at : ℕ) (r : Record) (sum : ℤ) → HasRecord kept.anatomy.pieces at r → IsSum state.words state.actors at sum → IsSumOf state.actors at r sum
@@ -32,8 +33,8 @@ units_are_kept shape opened state kept = record {
   pool = kept.pool;
   counted = counted_covered shape opened state kept;
   redundant = λ name at is.
-      let (kind, r, first, (there, named, specified)) = first_of_name shape opened state kept name at is in
-      let noted = noted_is shape opened state kept name kind at r first there named in
+      let (kind, r, first, (there, named, specified)) = first_of_name shape opened state.words (laid_out shape opened state kept) name at is in
+      let noted = noted_is shape opened state.words (laid_out shape opened state kept) name kind at r first there named in
       let all = noted_covered shape opened state kept name in
       let word = record_word shape state.words kept.anatomy kept.shown at r 13 there (omega arith) in
       let balance = kept.balanced.noted name in

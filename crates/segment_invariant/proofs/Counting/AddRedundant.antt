@@ -7,6 +7,7 @@ use Rattle.alloc_core.proofs.Layouts.{length_shown}
 use Rattle.segment_machine.specs.Entry.{summed_among}
 use Rattle.segment_machine.specs.Counting.{add_redundant}
 use Rattle.list_lemmas.proofs.Elements.{not_empty}
+use Rattle.segment_invariant.proofs.Frames.LaidOut.{laid_out}
 use Rattle.segment_invariant.proofs.Lists.Countings.{noted_total}
 use Rattle.segment_invariant.proofs.Blocks.Pieces.{piece_word}
 use Rattle.segment_invariant.proofs.Frames.GoesOn.{happens}
@@ -146,7 +147,7 @@ module _ (shape : Dimensions) (opened : Anatomy) (state : State) (kept : Invaria
         let one = ap (λ (x : Record). buckets_of x.spec) (one_record shape opened state kept other.reference w y stood was) in
         absurd (no_bucket other.reference bucket y was (λ none_there. mounts (sym refers ∙ none_there)) (omega (arith, below, many, one)) (omega (arith, same, refers)));
     samples = λ other value place knows first same.
-        let (x, (there, of_it, valued)) = sample_of_first shape opened state kept other.reference value place first in
+        let (x, (there, of_it, valued)) = sample_of_first shape opened state.words (laid_out shape opened state kept) other.reference value place first in
         absurd (no_sample place 6 x there (omega arith) same);
     rising = λ t before same.
         let was = All-contains (WasCounter kept.anatomy.pieces) (take a.since.counts a.seen.counts) t

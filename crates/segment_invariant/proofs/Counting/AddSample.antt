@@ -8,6 +8,7 @@ use Rattle.bucket_ranges.specs.declared.spec.Spec.TheVariants as spec
 use Rattle.segment_machine.specs.Actor.{Sparse}
 use Rattle.segment_machine.specs.Calls.{CountsNext}
 use Rattle.list_lemmas.proofs.Firsts.{first_unique}
+use Rattle.segment_invariant.proofs.Frames.LaidOut.{laid_out}
 use Rattle.segment_invariant.proofs.Consistency.Books.{one_name, sample_first}
 use Rattle.segment_invariant.proofs.Consistency.Firsts.{sample_of_first}
 use Rattle.segment_invariant.proofs.Frames.Answers.{first_one}
@@ -56,10 +57,10 @@ module _ (shape : Dimensions) (opened : Anatomy) (state : State) (kept : Invaria
   -- it is a sample of the name, and of the value
   found : (s : Sample) × HasSample kept.anatomy.pieces at s × (s.of ≡ known.reference) × (s.value ≡ entry.entry.key) × (s.name ≡ entry.entry.name)
   found =
-      let (s, (there, of_it, valued)) = sample_of_first shape opened state kept known.reference entry.entry.key at first in
+      let (s, (there, of_it, valued)) = sample_of_first shape opened state.words (laid_out shape opened state kept) known.reference entry.entry.key at first in
       let (r, its_first, stands, called, many, keys) = knows_of shape opened state kept id a mine recorder lives known has in
       let name = one_name shape opened state kept s.name known.name spec.Sparse r.spec known.reference
-      (subst (λ (n : ℕ). IsFirst kept.anatomy.records s.name spec.Sparse n) of_it (sample_first shape opened state kept at s there)) its_first in
+      (subst (λ (n : ℕ). IsFirst kept.anatomy.records s.name spec.Sparse n) of_it (sample_first shape opened state.words (laid_out shape opened state kept) at s there)) its_first in
       (s, there, of_it, valued, name ∙ sym named)
 
   abbrev s : Sample
@@ -69,7 +70,7 @@ module _ (shape : Dimensions) (opened : Anatomy) (state : State) (kept : Invaria
   stands = found.1
 
   sparse_first : IsFirst kept.anatomy.records entry.entry.name spec.Sparse known.reference
-  sparse_first = subst (λ (p : List ℕ × ℕ). IsFirst kept.anatomy.records p.0 spec.Sparse p.1) (λ i. (found.4 i, found.2 i)) (sample_first shape opened state kept at s stands)
+  sparse_first = subst (λ (p : List ℕ × ℕ). IsFirst kept.anatomy.records p.0 spec.Sparse p.1) (λ i. (found.4 i, found.2 i)) (sample_first shape opened state.words (laid_out shape opened state kept) at s stands)
 
   -- ---- the count rises
 
@@ -149,7 +150,7 @@ module _ (shape : Dimensions) (opened : Anatomy) (state : State) (kept : Invaria
   fits : v ≤ 4294967295
   fits =
       let its = first_met shape opened between kept_between id b mine_between (λ spent. cc spent) known.reference entry.entry.key at saw in
-      let (t, (stood, of_it, valued)) = sample_of_first shape opened between kept_between known.reference entry.entry.key at its in
+      let (t, (stood, of_it, valued)) = sample_of_first shape opened between.words (laid_out shape opened between kept_between) known.reference entry.entry.key at its in
       let word = body_word shape opened between kept_between at 6 (sample t) stood (omega arith) in
       let whole = whole_sample shape opened between kept_between known.reference entry.entry.key at t its stood in
       let bound = counted_fits shape opened between kept_between t.name entry.entry.key in

@@ -8,6 +8,7 @@ use Rattle.bucket_ranges.specs.declared.spec.Spec.TheVariants as spec
 use Rattle.segment_machine.specs.Actor.{transit_of}
 use Rattle.segment_invariant.specs.Seen.{IsFixedIn}
 use Rattle.segment_invariant.specs.Invariant.{NoneInTransit}
+use Rattle.segment_invariant.proofs.Frames.LaidOut.{laid_out}
 use Rattle.segment_invariant.proofs.Lists.FewTerms.{zero_index}
 use Rattle.list_lemmas.proofs.Maps.{one_at}
 use Rattle.segment_invariant.proofs.Blocks.Pieces.{one_index, one_stands, piece_word, piece_from}
@@ -345,12 +346,12 @@ module _ (shape : Dimensions) (opened : Anatomy) (state : State) (kept : Invaria
             (λ old. looked.samples known value where_at count has first old)
             (λ new.
             let (r, its_first, stands, named, many, keys) = knows_of known has in
-            let (s, (there, of_it, valued)) = sample_of_first shape opened state kept known.reference value where_at first in
+            let (s, (there, of_it, valued)) = sample_of_first shape opened state.words (laid_out shape opened state kept) known.reference value where_at first in
             let is = now_word _ count new in
             let now = body_word where_at 6 (sample s) there (omega arith) in
             let whole = whole_sample shape opened state kept known.reference value where_at s first there in
             let name = one_name shape opened state kept s.name known.name spec.Sparse r.spec known.reference
-            (subst (λ (n : ℕ). IsFirst kept.anatomy.records s.name spec.Sparse n) of_it (sample_first shape opened state kept where_at s there)) its_first in
+            (subst (λ (n : ℕ). IsFirst kept.anatomy.records s.name spec.Sparse n) of_it (sample_first shape opened state.words (laid_out shape opened state kept) where_at s there)) its_first in
             let tally = ap (λ (name : List ℕ). tally_units (all_counted state.actors) name value) name in
             let accepted = accepted_counted shape opened state kept id a mine records lives known.name value in
             omega (arith, is, now, whole, tally, accepted))

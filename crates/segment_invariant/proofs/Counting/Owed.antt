@@ -7,6 +7,7 @@ use Rattle.bucket_ranges.specs.declared.spec.Spec.TheVariants as spec
 use Rattle.segment_machine.specs.Note.{IsMarkOf}
 use Rattle.segment_invariant.specs.Consistent.{units_taken}
 use Rattle.segment_invariant.specs.Seen.{IsFixedIn}
+use Rattle.segment_invariant.proofs.Frames.LaidOut.{laid_out}
 use Rattle.segment_invariant.proofs.Blocks.Places.{fixed_within}
 use Rattle.segment_invariant.proofs.Blocks.Pieces.{one_index}
 use Rattle.segment_invariant.proofs.Walking.Words.{word_contains}
@@ -98,19 +99,19 @@ module _ (shape : Dimensions) (opened : Anatomy) (state : State) (kept : Invaria
     knows = All-contains (IsRightlyKnown kept.anatomy) a.answers.names known (kept.each id a mine lives).names has
 
     record_is : (r : Record) × (HasRecord kept.anatomy.pieces known.reference r × (r.name ≡ known.name) × (r.spec ≡ knows.first_spec))
-    record_is = record_of_first shape opened state kept known.name knows.first_spec known.reference knows.first
+    record_is = record_of_first shape opened state.words (laid_out shape opened state kept) known.name knows.first_spec known.reference knows.first
 
     stands_sparse : record_is.0.spec ≡ spec.Sparse
     stands_sparse = record_is.1.2 ∙ sparse_kind knows.first_spec (ap (λ fields. slice_index fields 0 == 4) (knows.same.0 ∙ ap spec_fields sparse))
 
     sample_is : (s : Sample) × (HasSample kept.anatomy.pieces at s × (s.of ≡ known.reference) × (s.value ≡ value))
-    sample_is = sample_of_first shape opened state kept known.reference value at first
+    sample_is = sample_of_first shape opened state.words (laid_out shape opened state kept) known.reference value at first
 
     pub sample_counted : (count : ℕ) → SawCount a (at + 6) count → count ≤ tally_units (all_counted state.actors) known.name value
     sample_counted count saw =
         let (s, (stands, of_it, valued)) = sample_is in
         let most = counter_most shape opened state kept id a mine lives at 6 count (sample s) stands (omega arith) saw in
-        let held = value_held shape opened state kept known.name knows.first_spec known.reference record_is.0 knows.first record_is.1.0 record_is.1.1 record_is.1.2 value _ _ _ _
+        let held = value_held shape opened state.words (laid_out shape opened state kept) known.name knows.first_spec known.reference record_is.0 knows.first record_is.1.0 record_is.1.1 record_is.1.2 value _ _ _ _
         (units_book kept.anatomy.version known.name value kept.versions) stands_sparse at s first stands of_it valued in
         let all = kept.balanced.units known.name value in
         omega (arith, most, held, all)
@@ -119,7 +120,7 @@ module _ (shape : Dimensions) (opened : Anatomy) (state : State) (kept : Invaria
     sample_taken mark saw =
         let (s, (stands, of_it, valued)) = sample_is in
         let most = counter_most shape opened state kept id a mine lives at 7 mark (sample s) stands (omega arith) saw in
-        let held = value_held shape opened state kept known.name knows.first_spec known.reference record_is.0 knows.first record_is.1.0 record_is.1.1 record_is.1.2 value _ _ _ _
+        let held = value_held shape opened state.words (laid_out shape opened state kept) known.name knows.first_spec known.reference record_is.0 knows.first record_is.1.0 record_is.1.1 record_is.1.2 value _ _ _ _
         (marks_book kept.anatomy.version known.name value) stands_sparse at s first stands of_it valued in
         let all = kept.balanced.marks known.name value in
         omega (arith, most, held, all)

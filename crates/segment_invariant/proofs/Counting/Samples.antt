@@ -90,7 +90,7 @@ module _ (shape : Dimensions) (opened : Anatomy) (state : State) (kept : Invaria
   sample_met at of value met saw =
       let (rest, is) = (kept.each id a mine lives).sees.walked in
       let there : Contains order at = subst (λ (chain : List ℕ). Contains chain at) (sym is) (Contains-append_left a.seen.chain rest at met) in
-      let (l, among, place, standing) = listed_there state.words opened kept.anatomy state.actors at kept.list there in
+      let (l, among, place, standing) = listed_there kept.anatomy at kept.list.standing there in
       subst (λ (n : ℕ). StandsSample n of value) place
       (made_sample l of value among (subst (λ (n : ℕ). SawSample a.seen of value n) (sym place) saw)).1
 

@@ -6,6 +6,7 @@ use Rattle.segment_invariant.proofs.Prelude.Invariant.{Record, Counts, Sample, A
 use Rattle.std.specs.Prelude as std
 use Rattle.bucket_ranges.specs.declared.spec.Spec.TheVariants as spec
 use Rattle.segment_machine.specs.Actor.{transit_at, transit_of}
+use Rattle.segment_invariant.proofs.Frames.LaidOut.{laid_out}
 use Rattle.segment_invariant.proofs.Blocks.Pieces.{one_stands}
 use Rattle.segment_invariant.proofs.Lists.FewTerms.{sum_none}
 use Rattle.segment_invariant.proofs.Frames.OneActor.{moves_or_not}
@@ -59,14 +60,14 @@ module _ (shape : Dimensions) (opened : Anatomy) (state : State) (kept : Invaria
     -- of a bucket, while no counts are mounted
     pub whole_alone : r.counts ≡ 0 → units_packed (form_at version r) i + transit_of state.actors at i ≡ tally_units (all_counted state.actors) name key
     whole_alone unmounted =
-        let all = bucket_alone shape opened state kept name kind at r first has named specified key _ _ _ _ (units_book version name key kept.versions) bucketed unmounted in
+        let all = bucket_alone shape opened state.words (laid_out shape opened state kept) name kind at r first has named specified key _ _ _ _ (units_book version name key kept.versions) bucketed unmounted in
         omega (arith, all, packed, moved)
 
     -- and then
     pub whole_mounted : (c : Counts) → HasCounts kept.anatomy.pieces r.counts c → IsCountsOf version at r c
         → slice_index c.units i + units_packed (form_at version r) i + transit_of state.actors at i ≡ tally_units (all_counted state.actors) name key
     whole_mounted c mounted of_it =
-        let all = bucket_mounted shape opened state kept name kind at r first has named specified key _ _ _ _ (units_book version name key kept.versions) bucketed c mounted
+        let all = bucket_mounted shape opened state.words (laid_out shape opened state kept) name kind at r first has named specified key _ _ _ _ (units_book version name key kept.versions) bucketed c mounted
         of_it.named in
         let one = ap (λ (kind : Spec). keyed kind key c.units) of_it.same
         ∙ keyed_one r.spec c.units i (kept.records.lawful at r has).lawful bucketed of_it.units below in
@@ -76,14 +77,14 @@ module _ (shape : Dimensions) (opened : Anatomy) (state : State) (kept : Invaria
   pub whole_sample : (of : ℕ) (value : ℤ) (at : ℕ) (s : Sample) → IsFirstOf kept.anatomy.records of value at → HasSample kept.anatomy.pieces at s
       → s.units ≡ tally_units (all_counted state.actors) s.name value
   whole_sample of value at s first has =
-      let (t, (stands, of_it, valued)) = sample_of_first shape opened state kept of value at first in
+      let (t, (stands, of_it, valued)) = sample_of_first shape opened state.words (laid_out shape opened state kept) of value at first in
       let bodies : sample t ≡ sample s = (one_stands shape state.words kept.anatomy kept.shown at none none (sample t) (sample s) stands has).1 in
       let same : t ≡ s = cc bodies in
       let its : s.of ≡ of = sym (ap (λ (s : Sample). s.of) same) ∙ of_it in
       let is_value : s.value ≡ value = sym (ap (λ (s : Sample). s.value) same) ∙ valued in
-      let record_first = subst (λ (at : ℕ). IsFirst kept.anatomy.records s.name spec.Sparse at) its (sample_first shape opened state kept at s has) in
-      let (r, (here, named, sparse)) = record_of_first shape opened state kept s.name spec.Sparse of record_first in
-      let held = value_held shape opened state kept s.name spec.Sparse of r record_first here named sparse value _ _ _ _ (units_book version s.name value kept.versions)
+      let record_first = subst (λ (at : ℕ). IsFirst kept.anatomy.records s.name spec.Sparse at) its (sample_first shape opened state.words (laid_out shape opened state kept) at s has) in
+      let (r, (here, named, sparse)) = record_of_first shape opened state.words (laid_out shape opened state kept) s.name spec.Sparse of record_first in
+      let held = value_held shape opened state.words (laid_out shape opened state kept) s.name spec.Sparse of r record_first here named sparse value _ _ _ _ (units_book version s.name value kept.versions)
       sparse at s first has its is_value in
       let moving = moved_none shape opened state kept s.name spec.Sparse of r record_first here named sparse sparse value in
       let ledger = kept.balanced.units s.name value in
@@ -93,7 +94,7 @@ module _ (shape : Dimensions) (opened : Anatomy) (state : State) (kept : Invaria
   pub whole_noted : (name : List ℕ) (kind : Spec) (at : ℕ) (r : Record) → IsFirst kept.anatomy.records name kind at → HasRecord kept.anatomy.pieces at r
       → r.name ≡ name → r.noted ≡ cost_of kept.roles.opener.entries.first_noted name + tally_noted (all_noted state.actors) name
   whole_noted name kind at r first has named =
-      let is = noted_is shape opened state kept name kind at r first has named in
+      let is = noted_is shape opened state.words (laid_out shape opened state kept) name kind at r first has named in
       let ledger = kept.balanced.noted name in
       let begun = kept.first_noted name in
       omega (arith, is, ledger, begun)
@@ -103,7 +104,7 @@ module _ (shape : Dimensions) (opened : Anatomy) (state : State) (kept : Invaria
       → (r : Record) × IsFirst kept.anatomy.records known.name r.spec known.reference × HasRecord kept.anatomy.pieces known.reference r × (r.name ≡ known.name)
       × (buckets_of r.spec ≡ buckets_of known.spec) × ((i : ℕ) → key_of_bucket r.spec i ≡ bucket_key (std.Some known) i)
   known_first known knows =
-      let (r, (has, named, specified)) = record_of_first shape opened state kept known.name knows.first_spec known.reference knows.first in (
+      let (r, (has, named, specified)) = record_of_first shape opened state.words (laid_out shape opened state kept) known.name knows.first_spec known.reference knows.first in (
         r,
         subst (λ (kind : Spec). IsFirst kept.anatomy.records known.name kind known.reference) (sym specified) knows.first,
         has,

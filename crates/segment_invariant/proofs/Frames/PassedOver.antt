@@ -1,10 +1,11 @@
 -- Records that are passed over, and the blocks of which nothing changes but their nexts: they stay, and what the opening has of them holds of
 -- the present ones.
-use Rattle.segment_invariant.proofs.Prelude.Std.{◌≡◌, ◌≢◌, ◌⊎◌, ℕ, List, [], ◌∷◌, ◌++◌, Contains, map, set, inl, inr, refl, sym, ap, ◌∙◌, subst, arith, Some, None, none, Contains-append_right, Contains-append_cases, Contains-permutation, contains_mapped}
-use Rattle.segment_invariant.proofs.Prelude.Machine.{Dimensions, State, all_published, Sighting}
-use Rattle.segment_invariant.proofs.Prelude.Invariant.{Record, Counts, Body, histogram, counts, other, Piece, Listed, listed, Anatomy, Stands, WasFixed, IsPassedOver, Invariant}
+use Rattle.segment_invariant.proofs.Prelude.Std.{◌≡◌, ◌≢◌, ◌⊎◌, ℕ, List, [], ◌∷◌, ◌++◌, Contains, set, inl, inr, refl, sym, ap, ◌∙◌, subst, arith, None, none, Contains-append_right, Contains-append_cases}
+use Rattle.segment_invariant.proofs.Prelude.Machine.{Dimensions, Sighting}
+use Rattle.segment_invariant.proofs.Prelude.Invariant.{Record, Counts, Body, histogram, counts, other, Piece, Listed, Anatomy, Stands, WasFixed, IsPassedOver}
 use Rattle.segment_invariant.specs.Seen.{HasStill, HoldsAs}
 use Rattle.segment_invariant.specs.Invariant.{IsOfOtherType, ArePassedOver, HasPassedOver}
+use Rattle.segment_invariant.specs.Words.{AreLaid}
 use Rattle.segment_invariant.proofs.Frames.Growth.{Stays}
 use Rattle.segment_invariant.proofs.Frames.Onward.{Onward, fixed_on}
 
@@ -55,21 +56,13 @@ in_front (x ∷ xs) more (y ∷ front) behind at same given =
     let (left, rest) = in_front xs more front behind at (cc same) given in
     (left, λ i. first i ∷ rest i)
 
-module _ (shape : Dimensions) (opened : Anatomy) (state : State) (kept : Invariant shape opened state) where
-  -- what an actor linked was given
-  linked_given : (l : Listed) → Contains (kept.list.once.0) l → l.made ≢ None
-  linked_given l among none_given =
-      let (more, all, permuted) = kept.list.once in
-      let (p, there, is) = contains_mapped listed (all_published state.actors) l (Contains-permutation more (map listed (all_published state.actors)) l permuted among) in
-      let given : l.made ≡ Some p.made = sym (ap (λ (l : Listed). l.made) is) in
-      cc (given, none_given)
-
+module _ (shape : Dimensions) (opened : Anatomy) (words : List ℕ) (kept : AreLaid shape opened words) where
   -- a record to which nothing was given is one of the opening
   pub in_opening : (at : ℕ) → Contains kept.anatomy.records (record { reference = at; made = None }) → Contains opened.records (record { reference = at; made = None })
-  in_opening at among = elim (Contains-append_cases opened.records kept.list.once.0 (record { reference = at; made = None })
-      (subst (λ (list : List Listed). Contains list (record { reference = at; made = None })) kept.list.once.1 among)) [
+  in_opening at among = elim (Contains-append_cases opened.records kept.list.longer.0 (record { reference = at; made = None })
+      (subst (λ (list : List Listed). Contains list (record { reference = at; made = None })) kept.list.longer.1 among)) [
         | inl old ↦ old
-        | inr new ↦ absurd (linked_given (record { reference = at; made = None }) new refl)
+        | inr new ↦ absurd (kept.list.longer.2 (record { reference = at; made = None }) new refl)
       ]
 
   -- a block that holds what a record or a counts block would holds it still, with another next
@@ -92,7 +85,7 @@ module _ (shape : Dimensions) (opened : Anatomy) (state : State) (kept : Invaria
   pub none_given : (front behind : List Listed) (at : ℕ) → kept.anatomy.records ≡ front ++ record { reference = at; made = None } ∷ behind
       → IsOfOtherType kept.anatomy.pieces at ⊎ ((r : Record) × PassedOver front at r)
   none_given front behind at is =
-      let (left, split) = in_front opened.records kept.list.once.0 front behind at (sym kept.list.once.1 ∙ is) linked_given in
+      let (left, split) = in_front opened.records kept.list.longer.0 front behind at (sym kept.list.longer.1 ∙ is) kept.list.longer.2 in
       elim (kept.passed_over.each front left at split) [
         | inl (size, tag, next, payload, stands, differs) ↦
             let (n, now) = kept.passed_over.stay at size tag payload (next, stands) in
@@ -107,7 +100,7 @@ module _ (shape : Dimensions) (opened : Anatomy) (state : State) (kept : Invaria
       now_over : (front : List Listed) (at : ℕ) (r : Record) (n : ℕ) → HoldsAs kept.anatomy.pieces at (histogram (record r { next = n }))
           → IsPassedOver opened.version shape.page opened.pieces front at r
           → IsPassedOver kept.anatomy.version shape.page kept.anatomy.pieces front at (record r { next = n })
-      now_over front at r n holds over = subst (λ (version : ℕ). IsPassedOver version shape.page kept.anatomy.pieces front at (record r { next = n })) (sym kept.same.0)
+      now_over front at r n holds over = subst (λ (version : ℕ). IsPassedOver version shape.page kept.anatomy.pieces front at (record r { next = n })) (sym kept.same)
           record {
             stands = holds;
             lawful = over.lawful;

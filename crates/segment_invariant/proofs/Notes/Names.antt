@@ -8,6 +8,7 @@ use Rattle.std.proofs.lemmas.List.{get_or-append-add}
 use Rattle.std.proofs.lemmas.List.Elements.{All-filter}
 use Rattle.std.proofs.lemmas.List.Sorted.{IsPermutation-sym}
 use Rattle.segment_image.specs.Words.{bytes_of_words}
+use Rattle.segment_invariant.proofs.Frames.LaidOut.{laid_out}
 use Rattle.segment_invariant.proofs.Frames.Answers.{answered_declines}
 use Rattle.segment_invariant.proofs.Notes.Begins.{takes_nothing}
 use Rattle.segment_invariant.proofs.Notes.Actors.{noting_fits, finals_on, calls_by}
@@ -199,7 +200,7 @@ module _ (shape : Dimensions) (opened : Anatomy) (state : State) (kept : Invaria
           (subst (λ at. word_seen a.seen.words (at + 2) ≡ Some 1) (sym place) saw.0) in
           absurd (omega (arith, three))
       by_given name at before l after None given_is standing place saw records_are absent =
-          elim (none_given shape opened state kept before after l.reference
+          elim (none_given shape opened state.words (laid_out shape opened state kept) before after l.reference
           (records_are ∙ ap (λ (m : Option Made). before ++ record { reference = l.reference; made = m } ∷ after) given_is)) [
             | inl (size, tag, next, payload, is, first) ↦
                 absurd (first (sighted shape opened state kept id a mine lives l.reference 2 1 (other size tag next payload) is (omega arith)

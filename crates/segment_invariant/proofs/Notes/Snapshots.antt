@@ -6,6 +6,7 @@ use Rattle.bucket_ranges.specs.declared.spec.Spec.TheVariants as spec
 use Rattle.segment_machine.specs.Note.{answers, moment_of, SawAll}
 use Rattle.segment_invariant.specs.Invariant.{IsMoment}
 use Rattle.list_lemmas.proofs.Elements.{all_from}
+use Rattle.segment_invariant.proofs.Frames.LaidOut.{laid_out}
 use Rattle.segment_invariant.proofs.Lists.FewTerms.{sum_none, sum_one}
 use Rattle.segment_invariant.proofs.Consistency.Keys.{one_key}
 use Rattle.segment_invariant.proofs.Consistency.Firsts.{record_of_first}
@@ -134,13 +135,13 @@ module _ (shape : Dimensions) (opened : Anatomy) (state : State) (kept : Invaria
     knows = All-contains (IsRightlyKnown kept.anatomy) a.answers.names known (kept.each id a mine lived).names has
 
     record_is : (r : Record) × (HasRecord kept.anatomy.pieces known.reference r × (r.name ≡ known.name) × (r.spec ≡ knows.first_spec))
-    record_is = record_of_first shape opened state kept known.name knows.first_spec known.reference knows.first
+    record_is = record_of_first shape opened state.words (laid_out shape opened state kept) known.name knows.first_spec known.reference knows.first
 
     sum_exact : answered.sum ≡ tally_sum (all_summed state.actors) known.name
     sum_exact =
         let (r, (stands, its_name, its_spec)) = record_is in
         ((kept.each id a mine lived).looks records).sum known.reference answered.sum r saw.sum alone stands
-        ∙ (sym (sum_is shape opened state kept known.name knows.first_spec known.reference r knows.first stands its_name) ∙ kept.balanced.sums known.name)
+        ∙ (sym (sum_is shape opened state.words (laid_out shape opened state kept) known.name knows.first_spec known.reference r knows.first stands its_name) ∙ kept.balanced.sums known.name)
 
     redundant_exact : answered.redundant ≡ cost_of kept.roles.opener.entries.first_noted known.name + tally_noted (all_noted state.actors) known.name
     redundant_exact =
@@ -151,7 +152,7 @@ module _ (shape : Dimensions) (opened : Anatomy) (state : State) (kept : Invaria
         subst (λ list. Contains list entry) (sym is) (Contains-append_right before (entry ∷ []) entry (0, omega arith, refl)) in
         let least = ((kept.each id a mine lived).looks records).noted known answered.redundant has seen in
         let most = counter_most shape opened state kept id a mine lived known.reference 13 answered.redundant (histogram r) stands (omega arith) seen in
-        let held = noted_is shape opened state kept known.name knows.first_spec known.reference r knows.first stands its_name in
+        let held = noted_is shape opened state.words (laid_out shape opened state kept) known.name knows.first_spec known.reference r knows.first stands its_name in
         let all = kept.balanced.noted known.name in
         let began = kept.first_noted known.name in
         let accepted = noted_accepted shape opened state kept id a mine records lived alone known.name quiet in

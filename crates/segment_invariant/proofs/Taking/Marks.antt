@@ -6,6 +6,7 @@ use Rattle.alloc_core.proofs.Owners.{set_at}
 use Rattle.segment_machine.specs.Calls.{form_seen}
 use Rattle.segment_machine.specs.Taking.{take_units, taken_key, Takes}
 use Rattle.segment_invariant.specs.Invariant.{LoadedOff}
+use Rattle.segment_invariant.proofs.Frames.LaidOut.{laid_out}
 use Rattle.segment_invariant.proofs.Blocks.Places.{counter_within}
 use Rattle.segment_invariant.proofs.Consistency.Books.{marks_book, keyed_one, bucket_mounted}
 use Rattle.segment_invariant.proofs.Consistency.Keys.{packed_within, packed_mark}
@@ -98,7 +99,7 @@ module _ (shape : Dimensions) (opened : Anatomy) (state : State) (kept : Invaria
       let bucketed = not_sparse r.spec bucket within in
       let (refers, mounts) = counts_was shape opened state kept look.histogram look.counts r has
       (All-contains (WasFixed kept.anatomy.pieces) a.seen.words _ (kept.each id a mine lives).sees.fixed (off.0.counts off.1)) in
-      let all = bucket_mounted shape opened state kept known.name r.spec look.histogram r named_it.0 has named_it.1 refl key _ _ _ _
+      let all = bucket_mounted shape opened state.words (laid_out shape opened state kept) known.name r.spec look.histogram r named_it.0 has named_it.1 refl key _ _ _ _
       (marks_book kept.anatomy.version known.name key) bucketed c (subst (λ (n : ℕ). HasCounts kept.anatomy.pieces n c) (sym refers) mounted) of_it.named in
       let packed = packed_mark r.spec lawful bucketed bucket within (form_at kept.anatomy.version r) r.mark
       (λ b is. packed_within kept.anatomy.version (buckets_of r.spec) r.single b is)

@@ -8,6 +8,7 @@ use Rattle.bucket_ranges.specs.declared.spec.Spec.TheVariants as spec
 use Rattle.segment_machine.specs.declared.place.Place.TheVariants.{SampleLoaded}
 use Rattle.segment_machine.specs.Taking.{take_units, taken_key, Takes}
 use Rattle.segment_machine.proofs.Values.{value_word}
+use Rattle.segment_invariant.proofs.Frames.LaidOut.{laid_out}
 use Rattle.segment_invariant.proofs.Lists.Tallies.{tally_at}
 use Rattle.segment_invariant.proofs.Consistency.Books.{marks_book, one_first, one_name, sample_first, value_held}
 use Rattle.segment_invariant.proofs.Consistency.Firsts.{record_of_first}
@@ -31,7 +32,7 @@ use Rattle.segment_invariant.proofs.Taking.Takes.{b, takes_kept, raised_is}
 module _ (shape : Dimensions) (opened : Anatomy) (state : State) (kept : Invariant shape opened state) (at : ℕ) (s : Sample)
     (stands : HasSample kept.anatomy.pieces at s) (some_units : 1 ≤ s.units) where
   sparse : IsFirst kept.anatomy.records s.name spec.Sparse s.of
-  sparse = sample_first shape opened state kept at s stands
+  sparse = sample_first shape opened state.words (laid_out shape opened state kept) at s stands
 
   counting_first : IsFirstOf kept.anatomy.records s.of s.value at
   counting_first =
@@ -51,8 +52,8 @@ module _ (shape : Dimensions) (opened : Anatomy) (state : State) (kept : Invaria
 
   mark_taken : taken_units (all_taken state.actors) s.name s.value ≡ s.mark
   mark_taken =
-      let (r, (here, named, is_sparse)) = record_of_first shape opened state kept s.name spec.Sparse s.of sparse in
-      let held = value_held shape opened state kept s.name spec.Sparse s.of r sparse here named is_sparse s.value _ _ _ _
+      let (r, (here, named, is_sparse)) = record_of_first shape opened state.words (laid_out shape opened state kept) s.name spec.Sparse s.of sparse in
+      let held = value_held shape opened state.words (laid_out shape opened state kept) s.name spec.Sparse s.of r sparse here named is_sparse s.value _ _ _ _
       (marks_book kept.anatomy.version s.name s.value) is_sparse at s counting_first stands refl refl in
       let ledger = kept.balanced.marks s.name s.value in
       omega (arith, held, ledger)
@@ -88,7 +89,7 @@ module _ (shape : Dimensions) (opened : Anatomy) (state : State) (kept : Invaria
         there,
         valued,
         one_name shape opened state kept s.name known.name spec.Sparse r.spec of
-            (subst (λ (n : ℕ). IsFirst kept.anatomy.records s.name spec.Sparse n) of_it (sample_first shape opened state kept at s there))
+            (subst (λ (n : ℕ). IsFirst kept.anatomy.records s.name spec.Sparse n) of_it (sample_first shape opened state.words (laid_out shape opened state kept) at s there))
             (subst (λ (n : ℕ). IsFirst kept.anatomy.records known.name r.spec n) takes.2 its_first),
       )
 
@@ -173,7 +174,7 @@ module _ (shape : Dimensions) (opened : Anatomy) (state : State) (kept : Invaria
         sums = λ place z there. (z, no_sample_was shape opened state kept at s more 7 v stands turns place (histogram z) (λ e. cc e) there, refl, refl, refl);
         few = few;
         keyed = subst (λ (name : List ℕ). HasKey kept.anatomy.records name s.value) found.3
-            (spec.Sparse, s.of, sample_first shape opened state kept at s stands, inr (refl, at, first));
+            (spec.Sparse, s.of, sample_first shape opened state.words (laid_out shape opened state kept) at s stands, inr (refl, at, first));
         lives = λ spent. cc spent;
         no_sum = λ reference sum is. cc is;
         still = (λ look bucket units moving. cc (sym placed ∙ moving), λ look bucket units moving. cc moving);

@@ -7,6 +7,7 @@ use Rattle.alloc_core.proofs.Owners.{set_at}
 use Rattle.bucket_ranges.specs.declared.spec.Spec.TheVariants as spec
 use Rattle.segment_machine.specs.Taking.{take_units, single_key, Takes}
 use Rattle.segment_invariant.specs.Invariant.{LooksRight}
+use Rattle.segment_invariant.proofs.Frames.LaidOut.{laid_out}
 use Rattle.segment_invariant.proofs.Consistency.Books.{marks_book, keyed_one, bucket_alone, bucket_mounted}
 use Rattle.segment_invariant.proofs.Consistency.Keys.{packed_within}
 use Rattle.segment_invariant.proofs.Frames.Answers.{first_one}
@@ -93,13 +94,13 @@ module _ (shape : Dimensions) (opened : Anatomy) (state : State) (kept : Invaria
       packed = ap (λ (p : Option ℕ). at_bucket r.spec key p m) raises.packs ∙ ap (λ (b : Bool). if b then m else 0) ((Decides-int_eq key key).1 refl)
 
       alone : r.counts ≡ 0 → all_held (marks_held version known.name key) kept.anatomy.pieces ≡ m
-      alone none_there = bucket_alone shape opened state kept known.name r.spec h r named_it.0 has named_it.1 refl key _ _ _ _
+      alone none_there = bucket_alone shape opened state.words (laid_out shape opened state kept) known.name r.spec h r named_it.0 has named_it.1 refl key _ _ _ _
           (marks_book version known.name key) bucketed none_there ∙ packed
 
       mounted : r.counts ≢ 0 → all_held (marks_held version known.name key) kept.anatomy.pieces ≡ m
       mounted some_there =
           let (c, stood, of_it) = kept.records.mounted h r has some_there in
-          let all = bucket_mounted shape opened state kept known.name r.spec h r named_it.0 has named_it.1 refl key _ _ _ _
+          let all = bucket_mounted shape opened state.words (laid_out shape opened state kept) known.name r.spec h r named_it.0 has named_it.1 refl key _ _ _ _
           (marks_book version known.name key) bucketed c stood of_it.named in
           let one = ap (λ (kind : Spec). keyed kind key c.marks) of_it.same
           ∙ keyed_one r.spec c.marks bucket (kept.records.lawful h r has).lawful bucketed of_it.marks within in

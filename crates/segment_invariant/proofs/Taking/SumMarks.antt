@@ -11,6 +11,7 @@ use Rattle.std.proofs.lemmas.Simd.{below_from_Fits}
 use Rattle.segment_machine.specs.Taking.{swap_sum}
 use Rattle.segment_invariant.specs.Ledger.{amount_of_name}
 use Rattle.segment_invariant.specs.Invariant.{ended_deltas, accepted_at, IsMomentOf, summed_costs}
+use Rattle.segment_invariant.proofs.Frames.LaidOut.{laid_out}
 use Rattle.segment_invariant.proofs.Lists.Ends.{snoc_split}
 use Rattle.segment_invariant.proofs.Frames.Anatomies.{calls_same}
 use Rattle.segment_invariant.proofs.Frames.Answers.{first_one}
@@ -216,12 +217,12 @@ module _ (shape : Dimensions) (opened : Anatomy) (state : State) (kept : Invaria
   taken_now alone =
       let amount : amount_of_name r.name known.name (sum -ℤ mark) ≡ sum -ℤ mark = ap (λ (t : Bool). if t then sum -ℤ mark else pos 0) ((bytes_eq-Decides r.name known.name).1 called) in
       let was : taken_sum (all_taken state.actors) known.name ≡ mark =
-      sym (kept.balanced.sum_marks known.name) ∙ sum_mark_is shape opened state kept known.name r.spec known.reference r first stands called in
+      sym (kept.balanced.sum_marks known.name) ∙ sum_mark_is shape opened state.words (laid_out shape opened state kept) known.name r.spec known.reference r first stands called in
       took_all_more known.name
       ∙ ((λ i. was i +ℤ amount i)
       ∙ (onward mark sum
       ∙ (((kept.each id a mine lived).looks recorder).sum known.reference sum r placed alone stands
-      ∙ (sym (sum_is shape opened state kept known.name r.spec known.reference r first stands called)
+      ∙ (sym (sum_is shape opened state.words (laid_out shape opened state kept) known.name r.spec known.reference r first stands called)
       ∙ (kept.balanced.sums known.name ∙ ap (λ entries. tally_sum entries known.name) (sym summed))))))
 
   -- ---- sums

@@ -9,6 +9,7 @@ use Rattle.segment_machine.specs.declared.actor.Made.TheVariants as made
 use Rattle.segment_machine.specs.Walking.{IsFixed, EndsWithin}
 use Rattle.segment_invariant.specs.Body.{spec_field}
 use Rattle.segment_invariant.specs.Seen.{IsFixedIn}
+use Rattle.segment_invariant.proofs.Frames.LaidOut.{laid_out}
 use Rattle.segment_invariant.proofs.Blocks.Places.{fixed_within}
 use Rattle.segment_invariant.proofs.Blocks.Pieces.{piece_word, one_index, one_stands}
 use Rattle.segment_invariant.proofs.Frames.OneActor.{Doing, turns_not, doing}
@@ -277,7 +278,7 @@ module _ (shape : Dimensions) (opened : Anatomy) (state : State) (kept : Invaria
   listed_read at index front behind l None split given is (size, tag, next, payload, stands, third, long) fixed =
       let whole : anatomy.records ≡ front ++ record { reference = at; made = None } ∷ behind =
       split ∙ (λ i. front ++ record { reference = is i; made = given i } ∷ behind) in
-      elim (none_given shape opened state kept front behind at whole) [
+      elim (none_given shape opened state.words (laid_out shape opened state kept) front behind at whole) [
         | inl (long_size, type, link, words, others, first) ↦
             let here : Stands anatomy.pieces at none (other size tag next payload) = subst (λ (n : ℕ). Stands anatomy.pieces n none (other size tag next payload)) is stands in
             let one : other size tag next payload ≡ other long_size type link words =

@@ -51,7 +51,7 @@ module _ (shape : Dimensions) (opened : Anatomy) (state : State) (kept : Invaria
 
   record_claimed : (at : ℕ) → Contains order at → IsClaimedAt at
   record_claimed at there =
-      let (l, among, place, standing) = listed_there words opened kept.anatomy state.actors at kept.list there in
+      let (l, among, place, standing) = listed_there kept.anatomy at kept.list.standing there in
       let (body, (k, here), claimed, nexts) = listed_stands kept.anatomy.pieces l l.made standing in
       (k, record { at = l.reference; owner = none; body = body }, here, claimed, place)
 

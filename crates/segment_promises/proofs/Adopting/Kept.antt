@@ -9,11 +9,13 @@ use Rattle.alloc_core.proofs.Runs.{free_is_pointer}
 use Rattle.bucket_ranges.specs.Reading.{IsReading}
 use Rattle.bucket_ranges.proofs.Walks.{listed_agree}
 use Rattle.segment_machine.specs.declared.actor.Made.TheVariants as made
+use Rattle.segment_invariant.proofs.Frames.LaidOut.{laid_out}
 use Rattle.segment_invariant.proofs.Consistency.Firsts.{record_on_list}
 use Rattle.segment_invariant.proofs.Consistency.Forms.{formed_as, passed_as}
 use Rattle.segment_invariant.proofs.Consistency.Held.{later_sample}
 use Rattle.segment_invariant.proofs.Consistency.Made.{holds_histogram, record_holds}
 use Rattle.segment_promises.specs.Adoption.{IsUndamaged, IsAdoptable, KeptAreAdoptable}
+use Rattle.segment_promises.proofs.Readings.Kept.{words_kept}
 use Rattle.segment_promises.proofs.Readings.Faults.{no_fault}
 use Rattle.segment_promises.proofs.Readings.Heads.{shape_is, version_is}
 use Rattle.segment_promises.proofs.Readings.Lists.{is_list}
@@ -39,13 +41,13 @@ module _ (shape : Dimensions) (opened : Anatomy) (state : State) (kept : Invaria
   -- the name of each histogram's record on the list is padded with zeros
   names_padded : (at : ℕ) → Contains order at → field_at words at 2 ≡ 1
       → AreNameWords (name_of words at) (slice_range words (at + 15) (at + 15 + name_words (length (name_of words at))))
-  names_padded at there one = elim (record_on_list shape opened state kept at there one) [
+  names_padded at there one = elim (record_on_list shape opened state.words (laid_out shape opened state kept) at there one) [
     | inl (l, name, kind, r, among, place, made, (has, named, specified)) ↦
         padded_by at r (holds_histogram shape opened state kept at r has)
     | inr (l, front, r, among, nothing, over) ↦
-        padded_by at r (record_holds shape words (told shape opened state kept at (histogram r) over.0.stands)
-        (told_shown shape opened state kept at (histogram r) over.0.stands) kept.anatomy.version order at r
-        (told_stands shape opened state kept at (histogram r) over.0.stands) over.0.lawful)
+        padded_by at r (record_holds shape words (told shape opened state.words (laid_out shape opened state kept) at (histogram r) over.0.stands)
+        (told_shown shape opened state.words (laid_out shape opened state kept) at (histogram r) over.0.stands) kept.anatomy.version order at r
+        (told_stands shape opened state.words (laid_out shape opened state kept) at (histogram r) over.0.stands) over.0.lawful)
   ]
     where
       padded_by : (at : ℕ) (r : Record) → HoldsMade words order at (made.Histogram r.name r.spec)
@@ -55,14 +57,14 @@ module _ (shape : Dimensions) (opened : Anatomy) (state : State) (kept : Invaria
 
   -- and it has a lawful form
   listed_form : (at : ℕ) → Contains order at → field_at words at 2 ≡ 1 → HasForm opened.version words at
-  listed_form at there one = elim (record_on_list shape opened state kept at there one) [
-    | inl (l, name, kind, r, among, place, made, (has, named, specified)) ↦ formed_as shape opened state kept at r has
-    | inr (l, front, r, among, nothing, over) ↦ passed_as shape opened state kept front at r over.0
+  listed_form at there one = elim (record_on_list shape opened state.words (laid_out shape opened state kept) at there one) [
+    | inl (l, name, kind, r, among, place, made, (has, named, specified)) ↦ formed_as shape opened state.words (laid_out shape opened state kept) at r has
+    | inr (l, front, r, among, nothing, over) ↦ passed_as shape opened state.words (laid_out shape opened state kept) front at r over.0
   ]
 
   undamaged : IsUndamaged words order its_reading
   undamaged = record {
-    lawful = no_fault shape opened state kept its_reading reads;
+    lawful = no_fault shape opened state.words (words_kept shape opened state kept) its_reading reads;
     apart = blocks_apart shape opened state kept;
     zeros = λ i from below. behind_shown shape words (layout_of kept.anatomy) i kept.shown
         (let free = free_word shape words (layout_of kept.anatomy) kept.shown in omega (arith, from, free));

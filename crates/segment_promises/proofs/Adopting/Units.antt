@@ -5,11 +5,13 @@ use Rattle.segment_invariant.proofs.Prelude.Invariant.{Anatomy, IsSumOf, Invaria
 use Rattle.std.proofs.lemmas.List.Sums.{sum_by-le-sum_by}
 use Rattle.bucket_ranges.specs.Reading.{IsReading}
 use Rattle.segment_machine.specs.Actor.{all_costs}
+use Rattle.segment_invariant.proofs.Frames.LaidOut.{laid_out}
 use Rattle.segment_invariant.proofs.Lists.FewTerms.{sum_none}
 use Rattle.segment_invariant.proofs.Consistency.Firsts.{record_of_first}
 use Rattle.segment_invariant.proofs.Consistency.Records.{record_word}
 use Rattle.segment_invariant.proofs.Counting.Bounds.{counted_covered, noted_covered, sums_covered, sum_covered}
 use Rattle.segment_promises.specs.Adoption.{units_for, used_by, used_of}
+use Rattle.segment_promises.proofs.Readings.Kept.{words_kept}
 use Rattle.segment_promises.proofs.Readings.Names.{read_first}
 use Rattle.segment_promises.proofs.Readings.Stopped.{stopped_reads}
 use Rattle.segment_promises.proofs.Adopting.Sums.{covered, sum_both, spread_out}
@@ -61,8 +63,8 @@ module _ (shape : Dimensions) (opened : Anatomy) (state : State) (kept : Invaria
   sums_are_covered : (h : Histogram) → Contains reading.hists h
       → (units_for h.sum ≤ spent_on h.name) × (units_for h.sum_mark ≤ spent_on h.name) × (units_for (h.sum -ℤ h.sum_mark) ≤ spent_on h.name)
   sums_are_covered h there =
-      let (kind, at, made, first, same) = read_first shape opened state kept reading is h there in
-      let (r, (has, named, specified)) = record_of_first shape opened state kept (name_of state.words at) kind at first in
+      let (kind, at, made, first, same) = read_first shape opened state.words (words_kept shape opened state kept) reading is h there in
+      let (r, (has, named, specified)) = record_of_first shape opened state.words (laid_out shape opened state kept) (name_of state.words at) kind at first in
       let sum_is : cast_signed w64 r.sum ≡ h.sum =
       sym (ap (cast_signed w64) (record_word shape state.words kept.anatomy kept.shown at r 11 has (omega arith))) ∙ ap (λ (h : Histogram). h.sum) made in
       let mark_is : cast_signed w64 r.sum_mark ≡ h.sum_mark =

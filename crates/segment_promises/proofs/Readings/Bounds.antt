@@ -1,12 +1,14 @@
 -- How large the totals and marks of a histogram are in a kept state's words, where it is the first of its name: no total is above what
 -- a segment may count, and no mark above its total, but that of the packed bucket in version 1, whose units may be in transit.
-use Rattle.segment_invariant.proofs.Prelude.Std.{◌≡◌, ◌≢◌, ◌⊎◌, Bool, true, false, ◌==◌, if◌then◌else◌, ℕ, ◌+◌, ◌<◌, ◌≤◌, ℤ, List, inl, inr, refl, sym, ap, ◌∙◌, arith, Option, Some, unwrap_or, eq-eqb, none}
+use Rattle.segment_invariant.proofs.Prelude.Std.{◌≡◌, ◌≢◌, Bool, true, false, ◌==◌, if◌then◌else◌, ℕ, ◌+◌, ◌<◌, ◌≤◌, ℤ, inl, inr, refl, sym, ap, ◌∙◌, arith, Option, Some, unwrap_or, eq-eqb, none}
 use Rattle.segment_invariant.proofs.Prelude.Machine.{Dimensions, field_at, SingleWord, Spec, buckets_of, packed_bucket, is_packed_bucket, record_buckets, record_single, total_of, mark_of, State}
 use Rattle.segment_invariant.proofs.Prelude.Invariant.{Record, histogram, Anatomy, form_at, key_of_bucket, HasRecord, IsFirst, Invariant}
 use Rattle.std.specs.Prelude.{option_map}
 use Rattle.std.proofs.lemmas.Bool.{cases_lt}
 use Rattle.bucket_ranges.specs.declared.spec.Spec.TheVariants as spec
 use Rattle.segment_machine.specs.Actor.{transit_of}
+use Rattle.segment_invariant.specs.Words.{IsMarkBounded, AreBounded}
+use Rattle.segment_invariant.proofs.Frames.LaidOut.{laid_out}
 use Rattle.segment_invariant.proofs.Blocks.Pieces.{one_stands}
 use Rattle.segment_invariant.proofs.Counting.Bounds.{counted_fits}
 use Rattle.segment_invariant.proofs.Consistency.Records.{record_word}
@@ -14,17 +16,6 @@ use Rattle.segment_invariant.proofs.Consistency.Specs.{form_is}
 use Rattle.segment_invariant.proofs.Consistency.Totals.{bucketed_kind, has_buckets, total_held, moved_all}
 use Rattle.segment_invariant.proofs.Consistency.Marks.{mark_held, mark_bound}
 use Rattle.segment_invariant.proofs.Consistency.Transit.{in_transit}
-
--- what a mark may be: no more than its total, or in version 1 for the packed bucket up to 65,535
-abbrev pub IsMarkBounded : ℕ → List ℕ → ℕ → ℕ → Type 0
-IsMarkBounded version words at i =
-    (mark_of version words at i ≤ total_of version words at i)
-    ⊎ ((version ≡ 1) × (packed_bucket (record_single version words at) ≡ Some i) × (mark_of version words at i ≤ 65535))
-
--- this of each bucket of a record, and that no total is above what a segment may count
-pub record AreBounded (version : ℕ) (words : List ℕ) (at n : ℕ) : Type 0 where
-  pub total : (i : ℕ) → i < n → total_of version words at i ≤ 4294967295
-  pub mark : (i : ℕ) → i < n → IsMarkBounded version words at i
 
 -- the packed bucket, by its test
 pub packed_test : (form : Option SingleWord) (i : ℕ) → packed_bucket form ≡ Some i → is_packed_bucket form i ≡ true
@@ -57,7 +48,7 @@ module _ (shape : Dimensions) (opened : Anatomy) (state : State) (kept : Invaria
       let same : q ≡ r = cc bodies in
       let packed : packed_bucket (form_at kept.anatomy.version r) ≡ Some i = (λ j. packed_bucket (form_at (one j) (sym same j))) ∙ packs in
       let here : packed_bucket (record_single kept.anatomy.version state.words at) ≡ Some i = ap packed_bucket form ∙ packed in
-      let bound = mark_bound shape opened state kept at r has one i packed in
+      let bound = mark_bound shape opened state.words (laid_out shape opened state kept) at r has one i packed in
       let its = packed_mark i here in
       elim (cases_lt (total i) (mark i)) [
         | inl above ↦ inr (one, here, omega (arith, bound, its, above))
@@ -74,7 +65,7 @@ module _ (shape : Dimensions) (opened : Anatomy) (state : State) (kept : Invaria
     -- a total is no more than all units
     total_small : total i ≤ 4294967295
     total_small =
-        let held = total_held shape opened state kept r.name kind at r first has refl specified bucketed i below in
+        let held = total_held shape opened state.words (laid_out shape opened state kept) r.name kind at r first has refl specified bucketed i below in
         let balance = kept.balanced.units r.name key in
         let most = counted_fits shape opened state kept r.name key in
         omega (arith, held, balance, most)
@@ -82,10 +73,10 @@ module _ (shape : Dimensions) (opened : Anatomy) (state : State) (kept : Invaria
     -- a mark is no more than its total and what is in transit
     mark_counted : mark i ≤ total i + transit_of state.actors at i
     mark_counted =
-        let held = total_held shape opened state kept r.name kind at r first has refl specified bucketed i below in
+        let held = total_held shape opened state.words (laid_out shape opened state kept) r.name kind at r first has refl specified bucketed i below in
         let moved = moved_all shape opened state kept r.name kind at r first has refl specified bucketed i below in
         let balance = kept.balanced.units r.name key in
-        let marked = mark_held shape opened state kept r.name kind at r first has refl specified bucketed i below in
+        let marked = mark_held shape opened state.words (laid_out shape opened state kept) r.name kind at r first has refl specified bucketed i below in
         let taken = kept.balanced.marks r.name key in
         let most = kept.balanced.taken r.name key in
         omega (arith, held, moved, balance, marked, taken, most)

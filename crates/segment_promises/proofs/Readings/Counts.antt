@@ -8,11 +8,11 @@ use Rattle.std.proofs.lemmas.List.Folds.{list_any_none}
 use Rattle.bucket_ranges.specs.declared.spec.Spec.TheVariants as spec
 use Rattle.bucket_ranges.specs.Reading.{totals_of, has_large, has_no_units, is_bad_bucket_counts, is_bad_counts, has_counts}
 use Rattle.list_lemmas.proofs.Elements.{all_from}
+use Rattle.segment_invariant.specs.Words.{AreBounded}
 use Rattle.segment_invariant.proofs.Consistency.Books.{range_at}
 use Rattle.segment_invariant.proofs.Consistency.Records.{record_word}
 use Rattle.segment_invariant.proofs.Consistency.Specs.{buckets_are}
 use Rattle.segment_invariant.proofs.Consistency.Totals.{sparse_kind}
-use Rattle.segment_promises.proofs.Readings.Bounds.{AreBounded}
 use Rattle.segment_promises.proofs.Readings.Heads.{version_is}
 
 module _ (shape : Dimensions) (words : List ℕ) (anatomy : Anatomy) (shown : IsShown shape words (layout_of anatomy)) (version at : ℕ) (r : Record)

@@ -7,10 +7,11 @@ use Rattle.std.proofs.lemmas.Bool.{or_from, and_left, and_right}
 use Rattle.std.proofs.lemmas.List.Folds.{list_any_none}
 use Rattle.bucket_ranges.specs.Reading.{is_large_mark, is_bad_mark}
 use Rattle.list_lemmas.proofs.Elements.{all_from}
+use Rattle.segment_invariant.specs.Words.{AreBounded}
 use Rattle.segment_invariant.proofs.Consistency.Books.{range_at}
 use Rattle.segment_invariant.proofs.Consistency.Records.{record_word}
 use Rattle.segment_invariant.proofs.Consistency.Specs.{buckets_are, form_is}
-use Rattle.segment_promises.proofs.Readings.Bounds.{AreBounded, packed_test}
+use Rattle.segment_promises.proofs.Readings.Bounds.{packed_test}
 
 -- a mark that is bounded is not too large
 mark_small : (version mark total i : ℕ) (form : Option SingleWord)

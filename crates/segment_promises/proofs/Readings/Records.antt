@@ -1,4 +1,4 @@
--- The record of a histogram in a kept state's words: the checks of its kind, name, spec, single word and sums find nothing.
+-- The record of a histogram among words: the checks of its kind, name, spec, single word and sums find nothing.
 use Rattle.segment_invariant.proofs.Prelude.Std.{◌≡◌, ◌≢◌, ◌||◌, Bool, true, false, if◌then◌else◌, ℕ, ◌+◌, ◌-◌, ◌*◌, ◌^◌, ◌<◌, ℤ, pos, inl, inr, refl, ap, subst, ◌∙◌, arith, Option, Some, None, List, [], not, ◌==◌, nat_lt, slice_index, unsigned_abs, ◌-ℤ◌, w64, cast_signed, +ℤ_idr, le-ltb, le-leb, ltb-false, ne_eqb}
 use Rattle.segment_invariant.proofs.Prelude.Machine.{Dimensions, head_of, field_at, SingleWord, Empty, Packed, Disabled, FrozenEmpty, Frozen, single_of, is_packed_word, buckets_of, record_buckets, State, is_off, units_of, IsShown}
 use Rattle.segment_invariant.proofs.Prelude.Invariant.{Record, record_words, Anatomy, layout_of, form_at, HasRecord, summed_cost, IsSumOf, IsLawfulRecord, Invariant}
@@ -6,6 +6,7 @@ use Rattle.std.proofs.lemmas.Bool.{or_from}
 use Rattle.std.proofs.lemmas.List.Sums.{sum_by-le-sum_by}
 use Rattle.bucket_ranges.specs.Single.{packed_of, frozen_of, disabled_of, is_disabled}
 use Rattle.bucket_ranges.specs.Reading.{is_bad_kind, has_name, is_bad_spec, is_bad_single, is_bad_record_single, is_beyond, is_bad_sum, is_bad_record_sum}
+use Rattle.segment_invariant.specs.Words.{WordsAreKept}
 use Rattle.segment_invariant.proofs.Counting.Learned.{summed_least}
 use Rattle.segment_invariant.proofs.Consistency.Records.{record_word}
 use Rattle.segment_invariant.proofs.Consistency.Specs.{form_is}
@@ -69,13 +70,19 @@ module _ (shape : Dimensions) (words : List ℕ) (anatomy : Anatomy) (shown : Is
       ∙ single_lawful (form_at version r) r.counts right.formed
       (λ disabled. right.off (disabled_off version (buckets_of r.spec) r.single disabled))
 
--- ---- its sums, in a kept state
+-- ---- its sums
+
+module _ (shape : Dimensions) (opened : Anatomy) (words : List ℕ) (kept : WordsAreKept shape opened words) (at : ℕ) (r : Record)
+    (has : HasRecord kept.laid.anatomy.pieces at r) where
+  pub sum_is_right : is_bad_record_sum words at ≡ false
+  sum_is_right =
+      let word = λ (j : ℕ) (below : j < 15). record_word shape words kept.laid.anatomy kept.laid.shown at r j has below in
+      (λ i. is_bad_sum (cast_signed w64 (word 11 (omega arith) i)) (cast_signed w64 (word 12 (omega arith) i))) ∙ kept.bounds.sums at r has
+
+-- ---- the same in a kept state
 
 module _ (shape : Dimensions) (opened : Anatomy) (state : State) (kept : Invariant shape opened state) (at : ℕ) (r : Record)
     (has : HasRecord kept.anatomy.pieces at r) where
-  word_is : (j : ℕ) → j < 15 → field_at state.words at j ≡ slice_index (record_words r) j
-  word_is j below = record_word shape state.words kept.anatomy kept.shown at r j has below
-
   -- two sums differ by no more than all units can have brought
   near : (x y : ℤ) → IsSumOf state.actors at r x → IsSumOf state.actors at r y → is_beyond (x -ℤ y) ≡ false
   near x y first second =
@@ -87,11 +94,8 @@ module _ (shape : Dimensions) (opened : Anatomy) (state : State) (kept : Invaria
   pub small : (x : ℤ) → IsSumOf state.actors at r x → is_beyond x ≡ false
   small x is = subst (λ (z : ℤ). is_beyond z ≡ false) (+ℤ_idr x) (near x (pos 0) is (inl refl))
 
-  pub sum_is_right : is_bad_record_sum state.words at ≡ false
-  sum_is_right =
+  pub sums_are_near : is_bad_sum (cast_signed w64 r.sum) (cast_signed w64 r.sum_mark) ≡ false
+  sums_are_near =
       let sum : ℤ = cast_signed w64 r.sum in
       let mark : ℤ = cast_signed w64 r.sum_mark in
-      let sum_word = ap (cast_signed w64) (word_is 11 (omega arith)) in
-      let mark_word = ap (cast_signed w64) (word_is 12 (omega arith)) in
-      (λ i. is_bad_sum (sum_word i) (mark_word i))
-      ∙ (λ i. small sum (inr (inl refl)) i || small mark (inr (inr (inl refl))) i || near sum mark (inr (inl refl)) (inr (inr (inl refl))) i)
+      λ i. small sum (inr (inl refl)) i || small mark (inr (inr (inl refl))) i || near sum mark (inr (inl refl)) (inr (inr (inl refl))) i

@@ -1,7 +1,7 @@
--- The samples on the list of a kept state: none has a fault, so those that are read are all of them.
-use Rattle.segment_invariant.proofs.Prelude.Std.{◌≡◌, ◌≢◌, ◌⊎◌, Bool, true, false, cond, ◌&&◌, ◌||◌, ℕ, suc, ◌<◌, ◌≤◌, ℤ, List, [], ◌∷◌, ◌++◌, map, take, drop, length, append_assoc, inl, inr, refl, sym, ap, subst, ◌∙◌, arith, Option, Some, None, not, ◌==◌, nat_lt, slice_index, int_eq, filter, range_with_len, Contains, and_from, eqb-true, eqb-false, eq-eqb, le-ltb, Decides-int_eq, take-append-drop, some, get_elem?, contains_at, from_map, first_longer, split_among}
-use Rattle.segment_invariant.proofs.Prelude.Machine.{Dimensions, head_of, field_at, Spec, spec_fields, is_of_type, is_sparse, sample_value, Made, State}
-use Rattle.segment_invariant.proofs.Prelude.Invariant.{IsHistogram, Sample, sample, Listed, Anatomy, order_of, units_held, all_held, HasSample, IsRecordNamed, IsValued, IsFirst, IsFirstOf, Invariant}
+-- The samples on the list of words that are kept: none has a fault, so those that are read are all of them.
+use Rattle.segment_invariant.proofs.Prelude.Std.{◌≡◌, ◌≢◌, Bool, true, false, cond, ◌&&◌, ◌||◌, ℕ, suc, ◌<◌, ◌≤◌, ℤ, List, [], ◌∷◌, ◌++◌, map, take, drop, length, append_assoc, refl, sym, ap, subst, ◌∙◌, arith, Some, not, ◌==◌, nat_lt, slice_index, filter, range_with_len, Contains, and_from, eqb-true, eqb-false, eq-eqb, le-ltb, take-append-drop, some, get_elem?, contains_at, from_map, first_longer, split_among}
+use Rattle.segment_invariant.proofs.Prelude.Machine.{Dimensions, head_of, field_at, Spec, spec_fields, is_of_type, is_sparse, sample_value}
+use Rattle.segment_invariant.proofs.Prelude.Invariant.{IsHistogram, Sample, sample, Listed, Anatomy, order_of, units_held, all_held, HasSample, IsRecordNamed, IsFirst, IsFirstOf}
 use Rattle.std.specs.List.{list_any}
 use Rattle.std.proofs.lemmas.Bool.{or_from}
 use Rattle.std.proofs.lemmas.List.{take-map, same_lists, get_or_default}
@@ -15,11 +15,11 @@ use Rattle.segment_machine.specs.declared.actor.Made.TheVariants as made
 use Rattle.segment_invariant.specs.Consistent as consistent
 use Rattle.list_lemmas.proofs.Maps.{contains_take}
 use Rattle.list_lemmas.proofs.Pairs.{element_at}
+use Rattle.segment_invariant.specs.Words.{AreLaid, WordsAreKept}
 use Rattle.segment_invariant.proofs.Blocks.Pieces.{piece_word}
-use Rattle.segment_invariant.proofs.Counting.Bounds.{counted_fits}
 use Rattle.segment_invariant.proofs.Consistency.Books.{range_at, sample_first, units_book, value_held}
-use Rattle.segment_invariant.proofs.Consistency.Firsts.{Valued, is_sample_of, record_of_first, name_given, name_or_before, given_value, first_valued}
-use Rattle.list_lemmas.proofs.Firsts.{first_image, first_there}
+use Rattle.segment_invariant.proofs.Consistency.Firsts.{Valued, is_sample_of, record_of_first, name_given, name_or_before, given_value, first_value_there}
+use Rattle.list_lemmas.proofs.Firsts.{first_image}
 use Rattle.segment_invariant.proofs.Consistency.Totals.{kind_word}
 use Rattle.segment_promises.proofs.Readings.Firsts.{read_to}
 use Rattle.segment_promises.proofs.Readings.Names.{no_listed_fault}
@@ -73,132 +73,110 @@ earlier_at references k placed there =
           ∙ ap some (sym (ap (slice_index references) here) ∙ ap (λ (placed : List ℕ × ℕ). placed.1) is),
     )
 
--- ---- a kept state
+-- ---- words that are laid out
 
-module _ (shape : Dimensions) (opened : Anatomy) (state : State) (kept : Invariant shape opened state) where
+module _ (shape : Dimensions) (opened : Anatomy) (words : List ℕ) (kept : AreLaid shape opened words) where
   abbrev pub Sampled : ℕ → ℤ → ℕ → Listed
   Sampled of value at = record { reference = at; made = Some (made.Sample of value) }
 
   -- a record whose words say that it is a sample was made as one
-  pub sample_listed : (i at : ℕ) → get_elem? (order_of kept.anatomy) i ≡ some at → field_at state.words at 2 ≡ 3
-      → (of : ℕ) × (value : ℤ) × (s : Sample) × (get_elem? kept.anatomy.records i ≡ some (Sampled of value at)) × Valued shape opened state kept of value at s
+  pub sample_listed : (i at : ℕ) → get_elem? (order_of kept.anatomy) i ≡ some at → field_at words at 2 ≡ 3
+      → (of : ℕ) × (value : ℤ) × (s : Sample) × (get_elem? kept.anatomy.records i ≡ some (Sampled of value at)) × Valued shape opened words kept of value at s
   sample_listed i at there three =
       let (l, here, place) = from_map (λ (l : Listed). l.reference) kept.anatomy.records i at there in
-      let (s, made_is, has) = given_value shape opened state kept l (field_at state.words l.reference 4) (sample_value state.words l.reference)
-      (contains_at kept.anatomy.records i l here) (subst (λ (at : ℕ). field_at state.words at 2 ≡ 3) (sym place) three, refl, refl) in
-      let of : ℕ = field_at state.words l.reference 4 in
-      let value : ℤ = sample_value state.words l.reference in
-      (of, value, s, here ∙ (λ j. some (record { reference = place j; made = made_is j })), subst (λ (at : ℕ). Valued shape opened state kept of value at s) place has)
-
-  -- a record is of a value or not
-  value_or_not : (of : ℕ) (value : ℤ) (l : Listed) → (l.made ≡ Some (made.Sample of value)) ⊎ (¬ (l.made ≡ Some (made.Sample of value)))
-  value_or_not of value l = by_made l.made
-    where
-      by_made : (m : Option Made) → (m ≡ Some (made.Sample of value)) ⊎ (¬ (m ≡ Some (made.Sample of value)))
-      by_made (Some (made.Sample other number)) = by_test (other == of) (int_eq number value) refl refl
-        where
-          by_test : (b t : Bool) → (other == of) ≡ b → int_eq number value ≡ t
-              → (Some (made.Sample other number) ≡ Some (made.Sample of value)) ⊎ (¬ (Some (made.Sample other number) ≡ Some (made.Sample of value)))
-          by_test true true same equal = inl (λ i. Some (made.Sample (eqb-true other of same i) ((Decides-int_eq number value).0 equal i)))
-          by_test false t apart equal = inr (λ is. let same : other ≡ of = cc is in eqb-false other of apart same)
-          by_test true false same apart = inr (λ is. let equal : number ≡ value = cc is in cc (apart, (Decides-int_eq number value).1 equal))
-      by_made (Some (made.Histogram name spec)) = inr (λ is. cc is)
-      by_made None = inr (λ is. cc is)
-
-  -- a value that is on the list has a first sample
-  pub first_sample : (l : Listed) (of : ℕ) (value : ℤ) → Contains kept.anatomy.records l → l.made ≡ Some (made.Sample of value)
-      → (place : ℕ) × IsFirstOf kept.anatomy.records of value place
-  first_sample l of value there is =
-      let (first, its) = first_there (IsValued of value) (value_or_not of value) kept.anatomy.records l there is in
-      (first.reference, first_valued kept.anatomy.records of value first first.reference its refl)
+      let (s, made_is, has) = given_value shape opened words kept l (field_at words l.reference 4) (sample_value words l.reference)
+      (contains_at kept.anatomy.records i l here) (subst (λ (at : ℕ). field_at words at 2 ≡ 3) (sym place) three, refl, refl) in
+      let of : ℕ = field_at words l.reference 4 in
+      let value : ℤ = sample_value words l.reference in
+      (of, value, s, here ∙ (λ j. some (record { reference = place j; made = made_is j })), subst (λ (at : ℕ). Valued shape opened words kept of value at s) place has)
 
   -- what the first sample of a value holds
   pub first_held : (at : ℕ) (s : Sample) → HasSample kept.anatomy.pieces at s → IsFirstOf kept.anatomy.records s.of s.value at
       → all_held (units_held kept.anatomy.version s.name s.value) kept.anatomy.pieces ≡ s.units
   first_held at s has first =
-      let its = sample_first shape opened state kept at s has in
-      let (r, (stands, named, specified)) = record_of_first shape opened state kept s.name spec.Sparse s.of its in
-      value_held shape opened state kept s.name spec.Sparse s.of r its stands named specified s.value _ _ _ _
+      let its = sample_first shape opened words kept at s has in
+      let (r, (stands, named, specified)) = record_of_first shape opened words kept s.name spec.Sparse s.of its in
+      value_held shape opened words kept s.name spec.Sparse s.of r its stands named specified s.value _ _ _ _
       (units_book kept.anatomy.version s.name s.value kept.versions) specified at s first has refl refl
 
+-- ---- and whose numbers are in bounds
+
+module _ (shape : Dimensions) (opened : Anatomy) (words : List ℕ) (kept : WordsAreKept shape opened words) where
   -- its count is no more than a segment may count
-  sample_fits : (at : ℕ) (s : Sample) → HasSample kept.anatomy.pieces at s → s.units ≤ 4294967295
+  sample_fits : (at : ℕ) (s : Sample) → HasSample kept.laid.anatomy.pieces at s → s.units ≤ 4294967295
   sample_fits at s has =
-      let among = kept.list.alone at (sample s) has in
-      let (place, first) = first_sample _ s.of s.value among refl in
+      let among = kept.laid.list.alone at (sample s) has in
+      let (place, first) = first_value_there kept.laid.anatomy.records s.of s.value _ among refl in
       by_place place first (place == at) (eqb-true place at) (eqb-false place at)
     where
-      by_place : (place : ℕ) → IsFirstOf kept.anatomy.records s.of s.value place → (b : Bool) → (b ≡ true → place ≡ at) → (b ≡ false → place ≢ at)
+      by_place : (place : ℕ) → IsFirstOf kept.laid.anatomy.records s.of s.value place → (b : Bool) → (b ≡ true → place ≡ at) → (b ≡ false → place ≢ at)
           → s.units ≤ 4294967295
       by_place place first true same apart =
-          let held = first_held at s has (subst (IsFirstOf kept.anatomy.records s.of s.value) (same refl) first) in
-          let balance = kept.balanced.units s.name s.value in
-          let most = counted_fits shape opened state kept s.name s.value in
-          omega (arith, held, balance, most)
+          kept.bounds.samples at s has (subst (IsFirstOf kept.laid.anatomy.records s.of s.value) (same refl) first)
       by_place place first false same apart =
-          let none = (kept.records.later_samples at place s has first (apart refl)).0 in
+          let none = (kept.laid.records.later_samples at place s has first (apart refl)).0 in
           omega (arith, none)
 
   -- its words are right
-  sample_right : (at : ℕ) (s : Sample) → HasSample kept.anatomy.pieces at s → has_bad_sample state.words at ≡ false
+  sample_right : (at : ℕ) (s : Sample) → HasSample kept.laid.anatomy.pieces at s → has_bad_sample words at ≡ false
   sample_right at s has =
-      let right = kept.records.valued at s has in
-      let word = λ (j : ℕ) (below : j < 8). piece_word shape state.words kept.anatomy kept.shown has.0 _ j has.1 (omega (arith, below)) in
+      let right = kept.laid.records.valued at s has in
+      let word = λ (j : ℕ) (below : j < 8). piece_word shape words kept.laid.anatomy kept.laid.shown has.0 _ j has.1 (omega (arith, below)) in
       let size = word 0 (omega arith) in
       let units = word 6 (omega arith) in
       let mark = word 7 (omega arith) in
       let sized = right.sized in
       let taken = right.taken in
       let fits = sample_fits at s has in
-      let value : sample_value state.words at ≡ s.value = (is_sample_of shape opened state kept at s has).2 in
-      let long : nat_lt (field_at state.words at 0) 8 ≡ false = le-ltb (field_at state.words at 0) 8 (omega (arith, size, sized)) in
-      let numbered : not (is_i32 (sample_value state.words at)) ≡ false = ap (λ (v : ℤ). not (is_i32 v)) value ∙ ap not right.valued in
-      let few : nat_lt 4294967295 (sample_count state.words at) ≡ false = le-ltb 4294967295 (sample_count state.words at) (omega (arith, units, fits)) in
-      let marked : nat_lt (sample_count state.words at) (sample_mark state.words at) ≡ false =
-      le-ltb (sample_count state.words at) (sample_mark state.words at) (omega (arith, units, mark, taken)) in
+      let value : sample_value words at ≡ s.value = (is_sample_of shape opened words kept.laid at s has).2 in
+      let long : nat_lt (field_at words at 0) 8 ≡ false = le-ltb (field_at words at 0) 8 (omega (arith, size, sized)) in
+      let numbered : not (is_i32 (sample_value words at)) ≡ false = ap (λ (v : ℤ). not (is_i32 v)) value ∙ ap not right.valued in
+      let few : nat_lt 4294967295 (sample_count words at) ≡ false = le-ltb 4294967295 (sample_count words at) (omega (arith, units, fits)) in
+      let marked : nat_lt (sample_count words at) (sample_mark words at) ≡ false =
+      le-ltb (sample_count words at) (sample_mark words at) (omega (arith, units, mark, taken)) in
       λ i. long i || numbered i || few i || marked i
 
   -- the histogram of a sample is read of the records before it
-  histogram_read : (i at of : ℕ) (value : ℤ) → get_elem? kept.anatomy.records i ≡ some (Sampled of value at)
-      → is_sparse_read state.words (head_of state.words) (take i (order_of kept.anatomy)) of ≡ true
+  histogram_read : (i at of : ℕ) (value : ℤ) → get_elem? kept.laid.anatomy.records i ≡ some (Sampled shape opened words kept.laid of value at)
+      → is_sparse_read words (head_of words) (take i (order_of kept.laid.anatomy)) of ≡ true
   histogram_read i at of value there =
-      let before : List Listed = take i kept.anatomy.records in
-      let (name, first, its_name) = kept.records.sampled before (drop (suc i) kept.anatomy.records) at of value (split_there kept.anatomy.records i _ there) in
-      let histogram_is : IsHistogram state.words (map (λ (l : Listed). l.reference) before) name of =
-      first_image (λ (l : Listed). l.reference) before (IsRecordNamed name) (consistent.HasName state.words name)
-      (λ f b l here named. name_or_before shape opened state kept name f (b ++ drop i kept.anatomy.records) l
-      (sym (take-append-drop i kept.anatomy.records) ∙ (ap (λ (list : List Listed). list ++ drop i kept.anatomy.records) here ∙ append_assoc f (l ∷ b) (drop i kept.anatomy.records)))
+      let before : List Listed = take i kept.laid.anatomy.records in
+      let (name, first, its_name) = kept.laid.records.sampled before (drop (suc i) kept.laid.anatomy.records) at of value (split_there kept.laid.anatomy.records i _ there) in
+      let histogram_is : IsHistogram words (map (λ (l : Listed). l.reference) before) name of =
+      first_image (λ (l : Listed). l.reference) before (IsRecordNamed name) (consistent.HasName words name)
+      (λ f b l here named. name_or_before shape opened words kept.laid name f (b ++ drop i kept.laid.anatomy.records) l
+      (sym (take-append-drop i kept.laid.anatomy.records) ∙ (ap (λ (list : List Listed). list ++ drop i kept.laid.anatomy.records) here ∙ append_assoc f (l ∷ b) (drop i kept.laid.anatomy.records)))
       named)
-      _ first (name_given shape opened state kept _ name (contains_take i kept.anatomy.records _ (split_among first.0 first.1 first.2)) (spec.Sparse, refl)) in
-      let earlier : List ℕ = take i (order_of kept.anatomy) in
-      let here = subst (λ (list : List ℕ). IsHistogram state.words list name of) (sym (take-map (λ (l : Listed). l.reference) i kept.anatomy.records)) histogram_is in
-      let read = read_to state.words (head_of state.words) earlier
-      (λ at there. no_listed_fault shape opened state kept at (contains_take i (order_of kept.anatomy) at there)) name of here in
-      let whole : IsFirst kept.anatomy.records name spec.Sparse of =
-      subst (λ (records : List Listed). IsFirst records name spec.Sparse of) (take-append-drop i kept.anatomy.records)
-      (first_longer (IsRecordNamed name) before (drop i kept.anatomy.records) _ first) in
-      let (r, (has, named, specified)) = record_of_first shape opened state kept name spec.Sparse of whole in
-      let sparse : is_sparse state.words of ≡ true =
-      kind_word shape opened state kept of r has ∙ ap (λ (kind : Spec). slice_index (spec_fields kind) 0 == 4) specified in
-      any_passes (λ reference. (reference == of) && is_sparse state.words reference) (read_records state.words (head_of state.words) earlier) of read
+      _ first (name_given shape opened words kept.laid _ name (contains_take i kept.laid.anatomy.records _ (split_among first.0 first.1 first.2)) (spec.Sparse, refl)) in
+      let earlier : List ℕ = take i (order_of kept.laid.anatomy) in
+      let here = subst (λ (list : List ℕ). IsHistogram words list name of) (sym (take-map (λ (l : Listed). l.reference) i kept.laid.anatomy.records)) histogram_is in
+      let read = read_to words (head_of words) earlier
+      (λ at there. no_listed_fault shape opened words kept at (contains_take i (order_of kept.laid.anatomy) at there)) name of here in
+      let whole : IsFirst kept.laid.anatomy.records name spec.Sparse of =
+      subst (λ (records : List Listed). IsFirst records name spec.Sparse of) (take-append-drop i kept.laid.anatomy.records)
+      (first_longer (IsRecordNamed name) before (drop i kept.laid.anatomy.records) _ first) in
+      let (r, (has, named, specified)) = record_of_first shape opened words kept.laid name spec.Sparse of whole in
+      let sparse : is_sparse words of ≡ true =
+      kind_word shape opened words kept.laid of r has ∙ ap (λ (kind : Spec). slice_index (spec_fields kind) 0 == 4) specified in
+      any_passes (λ reference. (reference == of) && is_sparse words reference) (read_records words (head_of words) earlier) of read
       (and_from _ _ (eq-eqb of of refl) sparse)
 
   -- so no sample has a fault
-  pub sample_is_right : (i at : ℕ) → get_elem? (order_of kept.anatomy) i ≡ some at → field_at state.words at 2 ≡ 3
-      → is_bad_sample state.words (head_of state.words) (take i (order_of kept.anatomy)) at ≡ false
+  pub sample_is_right : (i at : ℕ) → get_elem? (order_of kept.laid.anatomy) i ≡ some at → field_at words at 2 ≡ 3
+      → is_bad_sample words (head_of words) (take i (order_of kept.laid.anatomy)) at ≡ false
   sample_is_right i at there three =
-      let (of, value, s, listed, (has, of_it, valued)) = sample_listed i at there three in
-      let names : sample_histogram state.words at ≡ of = (is_sample_of shape opened state kept at s has).1 ∙ of_it in
+      let (of, value, s, listed, (has, of_it, valued)) = sample_listed shape opened words kept.laid i at there three in
+      let names : sample_histogram words at ≡ of = (is_sample_of shape opened words kept.laid at s has).1 ∙ of_it in
       or_from _ _ (sample_right at s has)
-      (ap not (ap (is_sparse_read state.words (head_of state.words) (take i (order_of kept.anatomy))) names ∙ histogram_read i at of value listed))
+      (ap not (ap (is_sparse_read words (head_of words) (take i (order_of kept.laid.anatomy))) names ∙ histogram_read i at of value listed))
 
   -- and all are read
-  pub samples_are : lawful_samples state.words (head_of state.words) (order_of kept.anatomy) ≡ filter (is_of_type state.words 3) (order_of kept.anatomy)
+  pub samples_are : lawful_samples words (head_of words) (order_of kept.laid.anatomy) ≡ filter (is_of_type words 3) (order_of kept.laid.anatomy)
   samples_are =
-      mapped_filter (λ (placed : List ℕ × ℕ). placed.1) (is_sample state.words (head_of state.words)) (is_of_type state.words 3) (with_earlier (order_of kept.anatomy))
+      mapped_filter (λ (placed : List ℕ × ℕ). placed.1) (is_sample words (head_of words)) (is_of_type words 3) (with_earlier (order_of kept.laid.anatomy))
       (λ k placed there.
-      let (before, here) = earlier_at (order_of kept.anatomy) k placed there in
-      kept_by (is_of_type state.words 3 placed.1) (is_bad_sample state.words (head_of state.words) placed.0 placed.1)
-      (λ three. ap (λ (earlier : List ℕ). is_bad_sample state.words (head_of state.words) earlier placed.1) before
-      ∙ sample_is_right k placed.1 here (eqb-true (field_at state.words placed.1 2) 3 three)))
-      ∙ ap (filter (is_of_type state.words 3)) (without_earlier (order_of kept.anatomy))
+      let (before, here) = earlier_at (order_of kept.laid.anatomy) k placed there in
+      kept_by (is_of_type words 3 placed.1) (is_bad_sample words (head_of words) placed.0 placed.1)
+      (λ three. ap (λ (earlier : List ℕ). is_bad_sample words (head_of words) earlier placed.1) before
+      ∙ sample_is_right k placed.1 here (eqb-true (field_at words placed.1 2) 3 three)))
+      ∙ ap (filter (is_of_type words 3)) (without_earlier (order_of kept.laid.anatomy))

@@ -1,8 +1,8 @@
--- The samples of a sparse histogram in a kept state's words, as a reading lists them: of each value the first, and what is held of a value
+-- The samples of a sparse histogram among words that are kept, as a reading lists them: of each value the first, and what is held of a value
 -- stands there.
 use Rattle.segment_invariant.proofs.Prelude.Std.{◌≡◌, Bool, true, false, ◌&&◌, ◌==◌, ℕ, zero, suc, ◌<◌, ℤ, List, [], ◌∷◌, inl, inr, ⊎_elim, refl, sym, ap, subst, ◌∙◌, arith, Some, filter, AllByRecursion, int_eq, and_parts, and_from, eqb-true, eq-eqb, cases_order, Decides-int_eq, All-weaker, some, some-injective, get_elem?, none_at}
-use Rattle.segment_invariant.proofs.Prelude.Machine.{Dimensions, head_of, field_at, Spec, buckets_of, is_of_type, sample_value, State}
-use Rattle.segment_invariant.proofs.Prelude.Invariant.{Record, Sample, Anatomy, order_of, HasRecord, HasSample, IsFirst, IsFirstOf, HasKey, Invariant}
+use Rattle.segment_invariant.proofs.Prelude.Machine.{Dimensions, head_of, field_at, Spec, buckets_of, is_of_type, sample_value}
+use Rattle.segment_invariant.proofs.Prelude.Invariant.{Record, Sample, Anatomy, order_of, HasRecord, HasSample, IsFirst, IsFirstOf, HasKey}
 use Rattle.std.specs.List.{find}
 use Rattle.std.specs.List.Sorted.{IsStrictlySortedBy}
 use Rattle.std.specs.declared.cmp.Ordering.{Ordering}
@@ -11,8 +11,9 @@ use Rattle.bucket_ranges.specs.declared.spec.Spec.TheVariants as spec
 use Rattle.bucket_ranges.specs.Reading.{sample_count, sample_mark, sample_histogram, by_value, lawful_samples, first_samples}
 use Rattle.bucket_ranges.proofs.FirstSamples.{first_samples-ascend, first_samples-first}
 use Rattle.segment_invariant.specs.Consistent.{IsSample, IsSampleOf}
+use Rattle.segment_invariant.specs.Words.{WordsAreKept}
 use Rattle.segment_invariant.proofs.Blocks.Pieces.{piece_word}
-use Rattle.segment_invariant.proofs.Consistency.Books.{one_first, units_book, marks_book, value_held}
+use Rattle.segment_invariant.proofs.Consistency.Books.{same_first, units_book, marks_book, value_held}
 use Rattle.segment_invariant.proofs.Consistency.Firsts.{first_of_value, value_of_first}
 use Rattle.segment_promises.proofs.Counts.{less_differs}
 use Rattle.segment_promises.proofs.Readings.Keys.{IsUnder, IsListing}
@@ -90,74 +91,74 @@ module _ (words : List ℕ) where
       (All-weaker (λ other. ¬ (IsSampleOf words of value other)) (λ other. is_sample_of of value other ≡ false) (fails_sample of value) front first)
       (sample_passes of value at its)
 
--- ---- a kept state
+-- ---- words that are kept
 
-module _ (shape : Dimensions) (opened : Anatomy) (state : State) (kept : Invariant shape opened state) (at : ℕ) (r : Record)
-    (has : HasRecord kept.anatomy.pieces at r) (kind : Spec) (first : IsFirst kept.anatomy.records r.name kind at) (specified : r.spec ≡ kind)
+module _ (shape : Dimensions) (opened : Anatomy) (words : List ℕ) (kept : WordsAreKept shape opened words) (at : ℕ) (r : Record)
+    (has : HasRecord kept.laid.anatomy.pieces at r) (kind : Spec) (first : IsFirst kept.laid.anatomy.records r.name kind at) (specified : r.spec ≡ kind)
     (sparse : r.spec ≡ spec.Sparse) where
   abbrev pub samples : List ℕ
-  samples = first_samples state.words (lawful_samples state.words (head_of state.words) (order_of kept.anatomy)) at
+  samples = first_samples words (lawful_samples words (head_of words) (order_of kept.laid.anatomy)) at
 
-  ascending : IsStrictlySortedBy (by_value state.words) samples
-  ascending = first_samples-ascend state.words (lawful_samples state.words (head_of state.words) (order_of kept.anatomy)) at
+  ascending : IsStrictlySortedBy (by_value words) samples
+  ascending = first_samples-ascend words (lawful_samples words (head_of words) (order_of kept.laid.anatomy)) at
 
   -- of a value the sample that is listed is the first on the list
   of_value : (value : ℤ)
-      → find (λ s. int_eq value (sample_value state.words s)) samples ≡ find (is_sample_of state.words at value) (order_of kept.anatomy)
+      → find (λ s. int_eq value (sample_value words s)) samples ≡ find (is_sample_of words at value) (order_of kept.laid.anatomy)
   of_value value =
-      first_samples-first state.words (lawful_samples state.words (head_of state.words) (order_of kept.anatomy)) at value
-      ∙ (ap (λ (list : List ℕ). find (λ s. int_eq value (sample_value state.words s)) (filter (λ s. field_at state.words s 4 == at) list))
-      (samples_are shape opened state kept)
-      ∙ (find_both (λ s. int_eq value (sample_value state.words s)) (λ s. field_at state.words s 4 == at) (filter (is_of_type state.words 3) (order_of kept.anatomy))
-      ∙ find_both (λ s. (field_at state.words s 4 == at) && int_eq value (sample_value state.words s)) (is_of_type state.words 3) (order_of kept.anatomy)))
+      first_samples-first words (lawful_samples words (head_of words) (order_of kept.laid.anatomy)) at value
+      ∙ (ap (λ (list : List ℕ). find (λ s. int_eq value (sample_value words s)) (filter (λ s. field_at words s 4 == at) list))
+      (samples_are shape opened words kept)
+      ∙ (find_both (λ s. int_eq value (sample_value words s)) (λ s. field_at words s 4 == at) (filter (is_of_type words 3) (order_of kept.laid.anatomy))
+      ∙ find_both (λ s. (field_at words s 4 == at) && int_eq value (sample_value words s)) (is_of_type words 3) (order_of kept.laid.anatomy)))
 
-  listed_first : (i x : ℕ) → get_elem? samples i ≡ some x → IsSample state.words (order_of kept.anatomy) at (sample_value state.words x) x
+  listed_first : (i x : ℕ) → get_elem? samples i ≡ some x → IsSample words (order_of kept.laid.anatomy) at (sample_value words x) x
   listed_first i x there =
-      let value : ℤ = sample_value state.words x in
-      found_sample state.words (order_of kept.anatomy) at value x
+      let value : ℤ = sample_value words x in
+      found_sample words (order_of kept.laid.anatomy) at value x
       (sym (of_value value)
-      ∙ find_one (λ s. int_eq value (sample_value state.words s)) samples i x there ((Decides-int_eq value value).1 refl)
-      (λ j y here same. one_of_value state.words samples j i y x ascending here there (sym ((Decides-int_eq value (sample_value state.words y)).0 same))))
+      ∙ find_one (λ s. int_eq value (sample_value words s)) samples i x there ((Decides-int_eq value value).1 refl)
+      (λ j y here same. one_of_value words samples j i y x ascending here there (sym ((Decides-int_eq value (sample_value words y)).0 same))))
 
-  first_listed : (value : ℤ) (place : ℕ) → IsFirstOf kept.anatomy.records at value place → IsUnder (sample_value state.words) samples value
+  first_listed : (value : ℤ) (place : ℕ) → IsFirstOf kept.laid.anatomy.records at value place → IsUnder (sample_value words) samples value
   first_listed value place its =
-      let found = of_value value ∙ sample_found state.words (order_of kept.anatomy) at value place (value_of_first shape opened state kept at value place its) in
-      let (i, there, same) = found_at (λ s. int_eq value (sample_value state.words s)) samples place found in
-      (i, place, there, sym ((Decides-int_eq value (sample_value state.words place)).0 same))
+      let found = of_value value ∙ sample_found words (order_of kept.laid.anatomy) at value place (value_of_first shape opened words kept.laid at value place its) in
+      let (i, there, same) = found_at (λ s. int_eq value (sample_value words s)) samples place found in
+      (i, place, there, sym ((Decides-int_eq value (sample_value words place)).0 same))
 
   -- numbers of samples that are held of their values are listed under these
   sample_listing : (number : ℕ → ℕ) (held : ℤ → ℕ)
-      → ((place : ℕ) (s : Sample) → IsFirstOf kept.anatomy.records at s.value place → HasSample kept.anatomy.pieces place s → s.of ≡ at → number place ≡ held s.value)
-      → ((k : ℤ) → ¬ (HasKey kept.anatomy.records r.name k) → held k ≡ 0)
-      → IsListing (sample_value state.words) number held samples
+      → ((place : ℕ) (s : Sample) → IsFirstOf kept.laid.anatomy.records at s.value place → HasSample kept.laid.anatomy.pieces place s → s.of ≡ at → number place ≡ held s.value)
+      → ((k : ℤ) → ¬ (HasKey kept.laid.anatomy.records r.name k) → held k ≡ 0)
+      → IsListing (sample_value words) number held samples
   sample_listing number held each absent = record {
-    apart = λ i j x y here there same. one_of_value state.words samples i j x y ascending here there same;
+    apart = λ i j x y here there same. one_of_value words samples i j x y ascending here there same;
     holds = λ i x there.
-        let value : ℤ = sample_value state.words x in
-        let (s, its, (stands, of_it, valued)) = first_of_value shape opened state kept at value x (listed_first i x there) in
-        each x s (subst (λ (v : ℤ). IsFirstOf kept.anatomy.records at v x) (sym valued) its) stands of_it ∙ ap held valued;
+        let value : ℤ = sample_value words x in
+        let (s, its, (stands, of_it, valued)) = first_of_value shape opened words kept.laid at value x (listed_first i x there) in
+        each x s (subst (λ (v : ℤ). IsFirstOf kept.laid.anatomy.records at v x) (sym valued) its) stands of_it ∙ ap held valued;
     others = λ k none. absent k (λ (other, place, its, keyed).
-        let (same_place, same_kind) = one_first shape opened state kept r.name other kind place at its first in
+        let (same_place, same_kind) = same_first kept.laid.anatomy.records r.name other kind place at its first in
         ⊎_elim
         (λ (bucket, below, is).
         let empty : buckets_of other ≡ 0 = ap buckets_of (same_kind ∙ (sym specified ∙ sparse)) in
         absurd (omega (arith, below, empty)))
-        (λ (is_sparse, spot, first_value). none (first_listed k spot (subst (λ (at : ℕ). IsFirstOf kept.anatomy.records at k spot) same_place first_value)))
+        (λ (is_sparse, spot, first_value). none (first_listed k spot (subst (λ (at : ℕ). IsFirstOf kept.laid.anatomy.records at k spot) same_place first_value)))
         keyed);
   }
 
-  pub counts_listed : IsListing (sample_value state.words) (sample_count state.words) (units_of_key shape opened state kept r.name) samples
-  counts_listed = sample_listing (sample_count state.words) (units_of_key shape opened state kept r.name)
+  pub counts_listed : IsListing (sample_value words) (sample_count words) (units_of_key kept.laid.anatomy r.name) samples
+  counts_listed = sample_listing (sample_count words) (units_of_key kept.laid.anatomy r.name)
       (λ place s its stands of_it.
-      piece_word shape state.words kept.anatomy kept.shown stands.0 _ 6 stands.1 (omega arith)
-      ∙ sym (value_held shape opened state kept r.name kind at r first has refl specified s.value _ _ _ _
-      (units_book kept.anatomy.version r.name s.value kept.versions) sparse place s its stands of_it refl))
-      (no_units shape opened state kept r.name)
+      piece_word shape words kept.laid.anatomy kept.laid.shown stands.0 _ 6 stands.1 (omega arith)
+      ∙ sym (value_held shape opened words kept.laid r.name kind at r first has refl specified s.value _ _ _ _
+      (units_book kept.laid.anatomy.version r.name s.value kept.laid.versions) sparse place s its stands of_it refl))
+      (no_units shape opened words kept.laid at r has kind first specified)
 
-  pub marks_listed : IsListing (sample_value state.words) (sample_mark state.words) (marks_of_key shape opened state kept r.name) samples
-  marks_listed = sample_listing (sample_mark state.words) (marks_of_key shape opened state kept r.name)
+  pub marks_listed : IsListing (sample_value words) (sample_mark words) (marks_of_key kept.laid.anatomy r.name) samples
+  marks_listed = sample_listing (sample_mark words) (marks_of_key kept.laid.anatomy r.name)
       (λ place s its stands of_it.
-      piece_word shape state.words kept.anatomy kept.shown stands.0 _ 7 stands.1 (omega arith)
-      ∙ sym (value_held shape opened state kept r.name kind at r first has refl specified s.value _ _ _ _
-      (marks_book kept.anatomy.version r.name s.value) sparse place s its stands of_it refl))
-      (no_marks shape opened state kept r.name)
+      piece_word shape words kept.laid.anatomy kept.laid.shown stands.0 _ 7 stands.1 (omega arith)
+      ∙ sym (value_held shape opened words kept.laid r.name kind at r first has refl specified s.value _ _ _ _
+      (marks_book kept.laid.anatomy.version r.name s.value) sparse place s its stands of_it refl))
+      (no_marks shape opened words kept.laid at r has kind first specified)

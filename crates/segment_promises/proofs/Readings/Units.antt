@@ -59,25 +59,22 @@ module _ (shape : Dimensions) (opened : Anatomy) (state : State) (kept : Invaria
 
   -- a histogram that lists what is held of each key has the units that were counted, less those in transit
   pub units_are_read : (h : Histogram) → h.reference ≡ at → h.name ≡ r.name → h.spec ≡ spec_of state.words at
-      → ((key : ℤ) → units_read h key ≡ units_of_key shape opened state kept r.name key) → ReadsUnits opened.version state h
+      → ((key : ℤ) → units_read h key ≡ units_of_key kept.anatomy h.name key) → ReadsUnits opened.version state h
   units_are_read h place named its listed = record {
     counted = λ key.
         let units = listed key in
         let balance = kept.balanced.units h.name key in
-        let same = ap (λ (name : List ℕ). units_of_key shape opened state kept name key) named in
-        omega (arith, units, balance, same);
+        omega (arith, units, balance);
     ended = λ key.
         let units = listed key in
         let balance = kept.balanced.units h.name key in
-        let same = ap (λ (name : List ℕ). units_of_key shape opened state kept name key) named in
         let ended = all_ended shape opened state kept h.name key in
-        omega (arith, units, balance, same, ended);
+        omega (arith, units, balance, ended);
     begun = λ key.
         let units = listed key in
         let balance = kept.balanced.units h.name key in
-        let same = ap (λ (name : List ℕ). units_of_key shape opened state kept name key) named in
         let begun = all_begun shape opened state kept h.name key in
-        omega (arith, units, balance, same, begun);
+        omega (arith, units, balance, begun);
     local = λ key above.
         let (who, a, there, moves) = some_counts (λ (a : Actor). moving_at a r.name key a.hand.place) state.actors
         (subst (λ (name : List ℕ). 0 < all_moving name key state.actors) named above) in

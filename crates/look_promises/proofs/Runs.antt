@@ -1,0 +1,72 @@
+-- The states of a run: each is kept, and each is reached from those before it. So the list only grows, and so does the free pointer.
+use Rattle.segment_invariant.proofs.Prelude.Std.{◌≡◌, ℕ, zero, suc, ◌≤◌, List, ◌++◌, sym, subst, arith, eq-eqb, dite, ℕ_discrete}
+use Rattle.segment_invariant.proofs.Prelude.Machine.{Dimensions, State, word_at, head_of, IsChain, IsListed}
+use Rattle.segment_invariant.proofs.Prelude.Invariant.{Anatomy, Invariant, layout_of, order_of}
+use Rattle.alloc_core.proofs.Layouts.{free_word}
+use Rattle.bucket_ranges.proofs.Walks.{IsListed-from_end, listed_agree}
+use Rattle.segment_machine.specs.Reached.{IsReached, started, stepped, announced, offered, split, lent, returned, purse_filled, purse_poured, joined_in}
+use Rattle.segment_promises.specs.Lists.{links_of}
+use Rattle.segment_promises.proofs.Chains.{chains_are_links}
+use Rattle.segment_promises.proofs.Reached.{states_rise, reached_states_follow}
+use Rattle.segment_promises.proofs.Readings.Lists.{is_chain}
+use Rattle.look_promises.specs.Runs.{IsRun}
+
+-- what is reached from a state that is reached is reached
+pub reached_again : (version : ℕ) (start mid : State) → IsReached version start mid → (state : State) → IsReached version mid state → IsReached version start state
+reached_again version start mid first state started = first
+reached_again version start mid first state (stepped old new id event before step) =
+    stepped old new id event (reached_again version start mid first old before) step
+reached_again version start mid first state (announced old new id before told) = announced old new id (reached_again version start mid first old before) told
+reached_again version start mid first state (offered old new id units before made) =
+    offered old new id units (reached_again version start mid first old before) made
+reached_again version start mid first state (split old new id before made) = split old new id (reached_again version start mid first old before) made
+reached_again version start mid first state (lent old new id other units before made) =
+    lent old new id other units (reached_again version start mid first old before) made
+reached_again version start mid first state (returned old new id other units before made) =
+    returned old new id other units (reached_again version start mid first old before) made
+reached_again version start mid first state (purse_filled old new id before made) =
+    purse_filled old new id (reached_again version start mid first old before) made
+reached_again version start mid first state (purse_poured old new id other before made) =
+    purse_poured old new id other (reached_again version start mid first old before) made
+reached_again version start mid first state (joined_in old new id other before made) =
+    joined_in old new id other (reached_again version start mid first old before) made
+
+module _ (shape : Dimensions) (opened : Anatomy) (at : ℕ → State) (run : IsRun shape opened at) where
+  -- a later state is reached from an earlier one
+  pub reached : (m n : ℕ) → m ≤ n → IsReached opened.version (at m) (at n)
+  reached m zero le = let same : m ≡ 0 = omega (arith, le) in subst (λ (n : ℕ). IsReached opened.version (at m) (at n)) same started
+  reached m (suc n) le = dite (ℕ_discrete m (suc n))
+      (λ same. subst (λ (k : ℕ). IsReached opened.version (at m) (at k)) same started)
+      (λ ne. reached_again opened.version (at m) (at n) (reached m n (omega (arith, le, ne))) (at (suc n))
+      (subst (λ (version : ℕ). IsReached version (at n) (at (suc n))) (sym run.version) (run.goes_on n)))
+
+  -- each state is kept
+  pub kept_at : (n : ℕ) → Invariant shape opened (at n)
+  kept_at n = reached_states_follow shape opened (at 0) (at n) run.kept (reached 0 n (omega arith))
+
+  -- the records on its list, in their order
+  abbrev pub chain_at : ℕ → List ℕ
+  chain_at n = order_of (kept_at n).anatomy
+
+  pub chain_is : (n : ℕ) → IsChain (at n).words (head_of (at n).words) (chain_at n)
+  chain_is n = is_chain shape opened (at n) (kept_at n)
+
+  -- a chain is the list that a reader finds
+  listed : (n : ℕ) (chain : List ℕ) → IsChain (at n).words (head_of (at n).words) chain → IsListed (at n).words (head_of (at n).words) chain
+  listed n chain is = IsListed-from_end (at n).words (head_of (at n).words) chain is.walk (eq-eqb _ 12 is.ended)
+
+  -- the later list is the earlier one, and the records that were linked since
+  pub chain_on : (m n : ℕ) (le : m ≤ n) → chain_at n ≡ chain_at m ++ links_of opened.version (at m) (at n) (reached m n le)
+  chain_on m n le =
+      let more = links_of opened.version (at m) (at n) (reached m n le) in
+      listed_agree (at n).words (head_of (at n).words) (chain_at n) (chain_at m ++ more) (listed n (chain_at n) (chain_is n))
+      (listed n (chain_at m ++ more) (chains_are_links shape opened (at m) (at n) (chain_at m) (kept_at m) (reached m n le) (chain_is m)))
+
+  -- the free pointer rises
+  pub free_on : (m n : ℕ) → m ≤ n → word_at (at m).words 7 ≤ word_at (at n).words 7
+  free_on m n le =
+      let (next, rises) = states_rise shape opened (at m) (at n) (kept_at m) (reached m n le) in
+      let was = free_word shape (at m).words (layout_of (kept_at m).anatomy) (kept_at m).shown in
+      let now = free_word shape (at n).words (layout_of next.anatomy) next.shown in
+      let higher = rises.free in
+      omega (arith, was, now, higher)

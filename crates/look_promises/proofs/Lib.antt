@@ -1,2 +1,6 @@
 pub mod Runs
 pub mod Headers
+pub mod Hands
+pub mod Unlinked
+pub mod Walks
+pub mod Following

@@ -31,6 +31,16 @@ reached_again version start mid first state (purse_poured old new id other befor
 reached_again version start mid first state (joined_in old new id other before made) =
     joined_in old new id other (reached_again version start mid first old before) made
 
+-- the free pointer rises
+pub free_rises : (shape : Dimensions) (opened : Anatomy) (start state : State) → Invariant shape opened start → IsReached opened.version start state
+    → word_at start.words 7 ≤ word_at state.words 7
+free_rises shape opened start state kept reached =
+    let (next, rises) = states_rise shape opened start state kept reached in
+    let was = free_word shape start.words (layout_of kept.anatomy) kept.shown in
+    let now = free_word shape state.words (layout_of next.anatomy) next.shown in
+    let higher = rises.free in
+    omega (arith, was, now, higher)
+
 module _ (shape : Dimensions) (opened : Anatomy) (at : ℕ → State) (run : IsRun shape opened at) where
   -- a later state is reached from an earlier one
   pub reached : (m n : ℕ) → m ≤ n → IsReached opened.version (at m) (at n)
@@ -64,9 +74,4 @@ module _ (shape : Dimensions) (opened : Anatomy) (at : ℕ → State) (run : IsR
 
   -- the free pointer rises
   pub free_on : (m n : ℕ) → m ≤ n → word_at (at m).words 7 ≤ word_at (at n).words 7
-  free_on m n le =
-      let (next, rises) = states_rise shape opened (at m) (at n) (kept_at m) (reached m n le) in
-      let was = free_word shape (at m).words (layout_of (kept_at m).anatomy) (kept_at m).shown in
-      let now = free_word shape (at n).words (layout_of next.anatomy) next.shown in
-      let higher = rises.free in
-      omega (arith, was, now, higher)
+  free_on m n le = free_rises shape opened (at m) (at n) (kept_at m) (reached m n le)

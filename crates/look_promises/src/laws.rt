@@ -3,7 +3,7 @@
 //!
 //! The functions do nothing. What each promises is a law of the definitions in `specs/`.
 
-ghost use Rattle.look_promises.specs.Looks.{LooksHaveHeaders};
+ghost use Rattle.look_promises.specs.Looks.{LooksHaveHeaders, LooksFollow};
 
 /// Three copies of the words of a running segment, one after the other, have no fault: a look is made of them.
 ///
@@ -11,4 +11,14 @@ ghost use Rattle.look_promises.specs.Looks.{LooksHaveHeaders};
 /// flags are each those of the moment at which the third copy loaded that word.
 pub fn looks_have_headers()
     ensures { LooksHaveHeaders }
+{}
+
+/// The records that a look follows are on the list, in its order and each once: all that were on it at the first moment, and
+/// none that was not at the last.
+///
+/// The nexts of the second copy give them. A next is loaded at a moment of its own: if its record is on the list then, it is
+/// the record behind it, or the end of the list; and if not, it is 0 or the end of the list, since whoever links the record
+/// later has it in hand, or nobody has claimed its words.
+pub fn looks_follow()
+    ensures { LooksFollow }
 {}

@@ -14,7 +14,7 @@ use Rattle.bucket_ranges.proofs.Walks.{is_block-within}
 use Rattle.segment_looks.specs.Looks.{followed_records}
 use Rattle.segment_invariant.proofs.Walking.Room.{list_fits}
 use Rattle.segment_promises.specs.Lists.{links_of}
-use Rattle.look_promises.specs.Runs.{IsRun, Moments, AreLoaded}
+use Rattle.look_promises.specs.Runs.{RunsThrough, Moments, AreLoaded}
 use Rattle.look_promises.specs.Looks.{head_loaded, FollowsList, LooksFollow}
 use Rattle.look_promises.proofs.Runs.{kept_at, chain_at, chain_is, chain_on, reached, free_on}
 use Rattle.look_promises.proofs.Headers.{wide}
@@ -26,7 +26,7 @@ end_not_placed : (head : SegmentHead) (next : ℕ) → IsEnd next → is_placed 
 end_not_placed head next (inl none) = ap (is_placed head) none
 end_not_placed head next (inr end) = ap (is_placed head) end
 
-module _ (shape : Dimensions) (opened : Anatomy) (at : ℕ → State) (run : IsRun shape opened at) where
+module _ (shape : Dimensions) (opened : Anatomy) (at : ℕ → State) (run : RunsThrough shape opened at) where
   -- what is linked later has no next yet
   pub next_later : (head : SegmentHead) (m n x : ℕ) (le : m ≤ n) → Contains (links_of opened.version (at m) (at n) (reached shape opened at run m n le)) x
       → is_placed head (word_at (at m).words (x + 3)) ≡ false
@@ -65,7 +65,7 @@ module _ (shape : Dimensions) (opened : Anatomy) (at : ℕ → State) (run : IsR
       omega (arith, free, ends)
 
 module _ (shape : Dimensions) (opened : Anatomy) (at : ℕ → State) (first last : ℕ) (moments : Moments) (one two three : List ℕ)
-    (run : IsRun shape opened at) (loaded : AreLoaded shape at first last moments one two three) where
+    (run : RunsThrough shape opened at) (loaded : AreLoaded shape at first last moments one two three) where
   abbrev head : SegmentHead
   head = head_loaded shape opened at moments.three
 

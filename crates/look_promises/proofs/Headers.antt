@@ -12,7 +12,7 @@ use Rattle.alloc_core.specs.Layout.{queue_block}
 use Rattle.alloc_core.proofs.Layouts.{free_word, free_from, slice_shown}
 use Rattle.segment_looks.specs.Looks.{head_of_copies, checked_copies}
 use Rattle.segment_looks.specs.declared.fault.LookFault.TheVariants.{Image, OldVersion}
-use Rattle.look_promises.specs.Runs.{IsRun, Moments, AreLoaded}
+use Rattle.look_promises.specs.Runs.{RunsThrough, Moments, AreLoaded}
 use Rattle.look_promises.specs.Looks.{head_loaded, LooksHaveHeaders}
 use Rattle.look_promises.proofs.Runs.{kept_at}
 
@@ -35,7 +35,7 @@ queue_word shape opened state kept j below =
     ∙ ap (λ (ws : List ℕ). get_or ws j 0) (slice_shown shape state.words (layout_of kept.anatomy) 0 (queue_block next) kept.shown first))
 
 module _ (shape : Dimensions) (opened : Anatomy) (at : ℕ → State) (first last : ℕ) (moments : Moments) (one two three : List ℕ)
-    (run : IsRun shape opened at) (loaded : AreLoaded shape at first last moments one two three) where
+    (run : RunsThrough shape opened at) (loaded : AreLoaded shape at first last moments one two three) where
   lawful : IsShape shape
   lawful = run.kept.shown.sound.lawful
 

@@ -9,7 +9,7 @@ use Rattle.segment_promises.specs.Lists.{links_of}
 use Rattle.segment_promises.proofs.Chains.{chains_are_links}
 use Rattle.segment_promises.proofs.Reached.{states_rise, reached_states_follow}
 use Rattle.segment_promises.proofs.Readings.Lists.{is_chain}
-use Rattle.look_promises.specs.Runs.{IsRun}
+use Rattle.look_promises.specs.Runs.{RunsThrough}
 
 -- what is reached from a state that is reached is reached
 pub reached_again : (version : ℕ) (start mid : State) → IsReached version start mid → (state : State) → IsReached version mid state → IsReached version start state
@@ -41,7 +41,7 @@ free_rises shape opened start state kept reached =
     let higher = rises.free in
     omega (arith, was, now, higher)
 
-module _ (shape : Dimensions) (opened : Anatomy) (at : ℕ → State) (run : IsRun shape opened at) where
+module _ (shape : Dimensions) (opened : Anatomy) (at : ℕ → State) (run : RunsThrough shape opened at) where
   -- a later state is reached from an earlier one
   pub reached : (m n : ℕ) → m ≤ n → IsReached opened.version (at m) (at n)
   reached m zero le = let same : m ≡ 0 = omega (arith, le) in subst (λ (n : ℕ). IsReached opened.version (at m) (at n)) same started

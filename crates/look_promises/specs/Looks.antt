@@ -9,7 +9,7 @@ use Rattle.list_core.specs.Walk.{IsPrefix}
 use Rattle.segment_looks.specs.Looks.{head_of_copies, followed_records}
 use Rattle.segment_machine.specs.State.{State}
 use Rattle.segment_invariant.specs.Body.{Anatomy}
-use Rattle.look_promises.specs.Runs.{IsRun, Moments, AreLoaded}
+use Rattle.look_promises.specs.Runs.{RunsThrough, Moments, AreLoaded}
 
 -- ---- the header
 
@@ -33,7 +33,7 @@ head_loaded shape opened at moments = record {
 -- three copies have no fault, and that header
 abbrev pub LooksHaveHeaders : Type 0
 LooksHaveHeaders = (shape : Dimensions) (opened : Anatomy) (at : ℕ → State) (first last : ℕ) (moments : Moments) (one two three : List ℕ)
-    → IsRun shape opened at → AreLoaded shape at first last moments one two three
+    → RunsThrough shape opened at → AreLoaded shape at first last moments one two three
     → head_of_copies one two three ≡ Ok (head_loaded shape opened at moments.three)
 
 -- ---- the list
@@ -51,5 +51,5 @@ pub record FollowsList (early late : State) (followed : List ℕ) : Type 0 where
 -- so it is of the records that three copies lead to
 abbrev pub LooksFollow : Type 0
 LooksFollow = (shape : Dimensions) (opened : Anatomy) (at : ℕ → State) (first last : ℕ) (moments : Moments) (one two three : List ℕ)
-    → IsRun shape opened at → AreLoaded shape at first last moments one two three
+    → RunsThrough shape opened at → AreLoaded shape at first last moments one two three
     → FollowsList (at first) (at last) (followed_records (head_loaded shape opened at moments.three) two)

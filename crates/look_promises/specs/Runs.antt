@@ -10,7 +10,7 @@ use Rattle.segment_invariant.specs.Invariant.{Invariant}
 
 -- A run of a segment of version 2 that was opened as `opened`: the states at its moments. The first is kept, and each is reached from
 -- the one before, by no step or by many.
-pub record IsRun (shape : Dimensions) (opened : Anatomy) (at : ℕ → State) : Type 0 where
+pub record RunsThrough (shape : Dimensions) (opened : Anatomy) (at : ℕ → State) : Type 0 where
   pub version : opened.version ≡ VERSION_FROZEN
   pub kept : Invariant shape opened (at 0)
   pub goes_on : (n : ℕ) → IsReached VERSION_FROZEN (at n) (at (suc n))
@@ -28,7 +28,7 @@ pub record Moments : Type 0 where
 
 -- Each copy is behind the one before it: all words of it were loaded at the same moment as all of that, or later. Nothing was loaded
 -- before a first moment, or after a last one.
-pub record AreInOrder (size first last : ℕ) (moments : Moments) : Type 0 where
+pub record ComeInOrder (size first last : ℕ) (moments : Moments) : Type 0 where
   pub begins : (i : ℕ) → i < size → first ≤ moments.one i
   pub second : (i j : ℕ) → i < size → j < size → moments.one i ≤ moments.two j
   pub third : (i j : ℕ) → i < size → j < size → moments.two i ≤ moments.three j
@@ -39,4 +39,4 @@ pub record AreLoaded (shape : Dimensions) (at : ℕ → State) (first last : ℕ
   pub copy_one : IsCopy shape at moments.one one
   pub copy_two : IsCopy shape at moments.two two
   pub copy_three : IsCopy shape at moments.three three
-  pub ordered : AreInOrder shape.size first last moments
+  pub ordered : ComeInOrder shape.size first last moments

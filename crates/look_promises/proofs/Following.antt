@@ -1,5 +1,5 @@
 -- The records that a look follows: each next that is loaded gives the record behind, or ends the list.
-use Rattle.segment_invariant.proofs.Prelude.Std.{◌≡◌, ◌⊎◌, ℕ, zero, suc, ◌+◌, ◌-◌, ◌/◌, ◌<◌, ◌≤◌, Bool, true, false, true≢false, List, ◌++◌, length, inl, inr, refl, sym, ap, subst, ◌∙◌, arith, slice_index, and_from, le-leb, length-append, get_or_append_left, dite, ℕ_discrete, Contains}
+use Rattle.segment_invariant.proofs.Prelude.Std.{◌≡◌, ◌⊎◌, ℕ, zero, suc, ◌+◌, ◌-◌, ◌/◌, ◌<◌, ◌≤◌, Bool, true, false, true≢false, List, ◌++◌, take, length, inl, inr, refl, sym, ap, subst, ◌∙◌, arith, slice_index, and_from, le-leb, length-append, get_or_append_left, dite, ℕ_discrete, Contains}
 use Rattle.segment_invariant.proofs.Prelude.Machine.{Dimensions, State, word_at, head_of, IsLinked, IsPrefix, stops}
 use Rattle.segment_invariant.proofs.Prelude.Invariant.{Anatomy, Invariant, layout_of}
 use Rattle.std.proofs.Math.Decide.{dec_lt}
@@ -57,7 +57,7 @@ module _ (shape : Dimensions) (opened : Anatomy) (at : ℕ → State) (run : Run
       (within.0, (let five = within.1 in let ends = within.2 in omega (arith, five, ends)))
 
   -- the free pointer lies in the segment
-  free_most : (n : ℕ) → word_at (at n).words 7 ≤ shape.size
+  pub free_most : (n : ℕ) → word_at (at n).words 7 ≤ shape.size
   free_most n =
       let kept = kept_at shape opened at run n in
       let free = free_word shape (at n).words (layout_of kept.anatomy) kept.shown in
@@ -66,45 +66,45 @@ module _ (shape : Dimensions) (opened : Anatomy) (at : ℕ → State) (run : Run
 
 module _ (shape : Dimensions) (opened : Anatomy) (at : ℕ → State) (first last : ℕ) (moments : Moments) (one two three : List ℕ)
     (run : RunsThrough shape opened at) (loaded : AreLoaded shape at first last moments one two three) where
-  abbrev head : SegmentHead
+  abbrev pub head : SegmentHead
   head = head_loaded shape opened at moments.three
 
-  abbrev chain : ℕ → List ℕ
+  abbrev pub chain : ℕ → List ℕ
   chain n = chain_at shape opened at run n
 
   -- the list at the last moment
-  abbrev whole : List ℕ
+  abbrev pub whole : List ℕ
   whole = chain last
 
-  many : 64 ≤ shape.size
+  pub many : 64 ≤ shape.size
   many = wide shape opened at first last moments one two three run loaded
 
   -- ---- the next of a stop, and when it was loaded
 
-  abbrev stop : ℕ → ℕ
+  abbrev pub stop : ℕ → ℕ
   stop k = slice_index (stops whole) k
 
-  within : (k : ℕ) → k ≤ length whole → stop k + 3 < shape.size
+  pub within : (k : ℕ) → k ≤ length whole → stop k + 3 < shape.size
   within zero le = let size = many in omega (arith, size)
   within (suc k) le =
       let there = lies shape opened at run last k (omega (arith, le)) in
       let most = free_most shape opened at run last in
       omega (arith, there.1, most)
 
-  abbrev moment : ℕ → ℕ
+  abbrev pub moment : ℕ → ℕ
   moment k = moments.two (stop k + 3)
 
-  before_free : (k : ℕ) → k ≤ length whole → moment k ≤ moments.three 7
+  pub before_free : (k : ℕ) → k ≤ length whole → moment k ≤ moments.three 7
   before_free k le = let size = many in loaded.ordered.third (stop k + 3) 7 (within k le) (omega (arith, size))
 
-  before_last : (k : ℕ) → k ≤ length whole → moment k ≤ last
+  pub before_last : (k : ℕ) → k ≤ length whole → moment k ≤ last
   before_last k le =
       let size = many in
       let early = before_free k le in
       let late = loaded.ordered.ends 7 (omega (arith, size)) in
       omega (arith, early, late)
 
-  behind_first : (k : ℕ) → k ≤ length whole → first ≤ moment k
+  pub behind_first : (k : ℕ) → k ≤ length whole → first ≤ moment k
   behind_first k le =
       let size = many in
       let early = loaded.ordered.begins 0 (omega (arith, size)) in
@@ -215,17 +215,36 @@ module _ (shape : Dimensions) (opened : Anatomy) (at : ℕ → State) (first las
       let long = loaded.copy_two.long in
       omega (arith, room, long)
 
+  -- the look follows so many records of the list, each of which a next gave
+  pub followed : (n : ℕ) × (n ≤ length whole) × (length (chain first) ≤ n) × (followed_records head two ≡ take n whole)
+      × ((j : ℕ) → j < n → Gives head two whole j)
+  followed =
+      let (n, short, enough, is, each) = front head two whole (length (chain first)) gives_first leads ((length two - 16) / 5) 0 (omega arith) fits in
+      (n, omega (arith, short), omega (arith, enough), is, λ j lt. each j (omega arith) (omega (arith, lt)))
+
   pub follows : FollowsList (at first) (at last) (followed_records head two)
   follows =
-      let (n, short, enough, is) = front head two whole (length (chain first)) gives_first leads ((length two - 16) / 5) 0 (omega arith) fits in
+      let (n, short, enough, is, each) = followed in
       record {
         first = chain first;
         begins = chain_is shape opened at run first;
         last = whole;
         ends = chain_is shape opened at run last;
-        all = subst (IsPrefix (chain first)) (sym is) (fronts (chain first) whole later_ones n first_is (omega (arith, enough)));
+        all = subst (IsPrefix (chain first)) (sym is) (fronts (chain first) whole later_ones n first_is enough);
         none = subst (λ (list : List ℕ). IsPrefix list whole) (sym is) (front_of n whole);
       }
+
+  -- a record that a next gave was on the list when that was loaded
+  pub was_listed : (k : ℕ) → Gives head two whole k → k < length (chain (moment k))
+  was_listed k g = elim (dec_lt k (length (chain (moment k)))) [
+    | yes lt ↦ lt
+    | no far ↦
+        let le : k ≤ length whole = let below = g.within in omega (arith, below) in
+        let ends : Ends head two whole k = dite (ℕ_discrete k (length (chain (moment k))))
+        (λ end. ends_there k le end)
+        (λ beyond. ends_later k le (omega (arith, far, beyond))) in
+        absurd (true≢false (sym g.placed ∙ (sym (ap (is_placed head) g.is) ∙ ends)))
+  ]
 
 pub looks_follow : LooksFollow
 looks_follow shape opened at first last moments one two three run loaded = follows shape opened at first last moments one two three run loaded

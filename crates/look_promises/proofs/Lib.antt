@@ -4,3 +4,5 @@ pub mod Hands
 pub mod Unlinked
 pub mod Walks
 pub mod Following
+pub mod Unchanged
+pub mod Shown

@@ -7,7 +7,9 @@ use Rattle.bucket_ranges.proofs.Walks.{IsListed-from_end, listed_agree}
 use Rattle.segment_machine.specs.Reached.{IsReached, started, stepped, announced, offered, split, lent, returned, purse_filled, purse_poured, joined_in}
 use Rattle.segment_promises.specs.Lists.{links_of}
 use Rattle.segment_promises.proofs.Chains.{chains_are_links}
-use Rattle.segment_promises.proofs.Reached.{states_rise, reached_states_follow}
+use Rattle.segment_invariant.specs.Rises.{Rises}
+use Rattle.segment_invariant.proofs.Frames.Rises.{rises_itself, rises_again}
+use Rattle.segment_promises.proofs.Reached.{states_rise}
 use Rattle.segment_promises.proofs.Readings.Lists.{is_chain}
 use Rattle.look_promises.specs.Runs.{RunsThrough}
 
@@ -50,9 +52,29 @@ module _ (shape : Dimensions) (opened : Anatomy) (at : ℕ → State) (run : Run
       (λ ne. reached_again opened.version (at m) (at n) (reached m n (omega (arith, le, ne))) (at (suc n))
       (subst (λ (version : ℕ). IsReached version (at n) (at (suc n))) (sym run.version) (run.goes_on n)))
 
+  -- a state is reached from the one before
+  step : (n : ℕ) → IsReached opened.version (at n) (at (suc n))
+  step n = subst (λ (version : ℕ). IsReached version (at n) (at (suc n))) (sym run.version) (run.goes_on n)
+
   -- each state is kept
   pub kept_at : (n : ℕ) → Invariant shape opened (at n)
-  kept_at n = reached_states_follow shape opened (at 0) (at n) run.kept (reached 0 n (omega arith))
+  kept_at zero = run.kept
+  kept_at (suc n) = (states_rise shape opened (at n) (at (suc n)) (kept_at n) (step n)).0
+
+  -- and what is published in one goes on in the next
+  next_rises : (n : ℕ) → Rises (kept_at n).anatomy (kept_at (suc n)).anatomy
+  unfolding kept_at
+  next_rises n = (states_rise shape opened (at n) (at (suc n)) (kept_at n) (step n)).1
+
+  -- and in all that come later
+  pub rises_at : (m n : ℕ) → m ≤ n → Rises (kept_at m).anatomy (kept_at n).anatomy
+  rises_at m zero le =
+      let same : m ≡ 0 = omega (arith, le) in
+      subst (λ (n : ℕ). Rises (kept_at m).anatomy (kept_at n).anatomy) same (rises_itself (kept_at m).anatomy)
+  rises_at m (suc n) le = dite (ℕ_discrete m (suc n))
+      (λ same. subst (λ (k : ℕ). Rises (kept_at m).anatomy (kept_at k).anatomy) same (rises_itself (kept_at m).anatomy))
+      (λ ne. rises_again shape opened (at m) (kept_at m) (kept_at n).anatomy (kept_at (suc n)).anatomy
+      (rises_at m n (omega (arith, le, ne))) (next_rises n))
 
   -- the records on its list, in their order
   abbrev pub chain_at : ℕ → List ℕ

@@ -1,5 +1,5 @@
 -- The records that the nexts of a copy give: where each next gives the record behind, or ends the list, they are the front of a chain.
-use Rattle.segment_invariant.proofs.Prelude.Std.{◌≡◌, ◌⊎◌, ℕ, zero, suc, ◌+◌, ◌-◌, ◌<◌, ◌≤◌, Bool, true, false, List, [], ◌∷◌, ◌++◌, take, drop, length, refl, sym, ap, ◌∙◌, arith, slice_index, if◌then◌else◌, ⊎_elim}
+use Rattle.segment_invariant.proofs.Prelude.Std.{◌≡◌, ◌⊎◌, ℕ, zero, suc, ◌+◌, ◌-◌, ◌<◌, ◌≤◌, Bool, true, false, List, [], ◌∷◌, ◌++◌, take, drop, length, refl, sym, ap, ◌∙◌, arith, slice_index, if◌then◌else◌, ⊎_elim, dite, ℕ_discrete, subst}
 use Rattle.segment_invariant.proofs.Prelude.Machine.{stops, IsPrefix}
 use Rattle.std.proofs.Math.Decide.{dec_lt}
 use Rattle.std.proofs.Math.Seq.{drop-cons, take-append-add}
@@ -28,15 +28,19 @@ module _ (head : SegmentHead) (two chain : List ℕ) where
     -- a front of the chain behind a place, which reaches as far as all nexts give records
     abbrev Front : ℕ → ℕ → Type 0
     Front most k = (n : ℕ) × (k + n ≤ length chain) × (least ≤ k + n) × (records_from head two most (next_at k) ≡ take n (drop k chain))
+        × ((j : ℕ) → k ≤ j → j < k + n → Gives j)
 
     one_more : (most k : ℕ) → Gives k → Front most (suc k) → Front (suc most) k
-    one_more most k g (n, within, enough, is) = (
+    one_more most k g (n, within, enough, is, each) = (
       suc n,
       omega (arith, within),
       omega (arith, enough),
       ap (records_from head two (suc most)) g.is
           ∙ (ap (λ (b : Bool). if b then slice_index chain k ∷ records_from head two most (next_of two (slice_index chain k)) else []) g.placed
           ∙ (ap (λ (rest : List ℕ). slice_index chain k ∷ rest) is ∙ ap (take (suc n)) (sym (drop-cons chain k 0 g.within)))),
+      λ j from below. dite (ℕ_discrete j k)
+          (λ here. subst Gives (sym here) g)
+          (λ behind. each j (omega (arith, from, behind)) (omega (arith, below))),
     )
 
     at_end : (most k : ℕ) → k ≤ length chain → (k < least → ⊥) → Ends k → Front (suc most) k
@@ -45,10 +49,11 @@ module _ (head : SegmentHead) (two chain : List ℕ) where
       omega (arith, le),
       omega (arith, far),
       ap (λ (b : Bool). if b then next_at k ∷ records_from head two most (next_of two (next_at k)) else []) ends,
+      λ j from below. absurd (omega (arith, from, below)),
     )
 
     pub front : (most k : ℕ) → k ≤ length chain → least ≤ k + most → Front most k
-    front zero k le few = (0, omega (arith, le), omega (arith, few), refl)
+    front zero k le few = (0, omega (arith, le), omega (arith, few), refl, λ j from below. absurd (omega (arith, from, below)))
     front (suc most) k le few = elim (dec_lt k least) [
       | yes lt ↦ let g = gives k lt in one_more most k g (front most (suc k) g.within (omega (arith, few)))
       | no far ↦ ⊎_elim

@@ -1,14 +1,19 @@
 -- What three copies of a run give when they are put together to a look.
-use Rattle.std.specs.Prelude.{◌≡◌, ℕ, List, Ok}
+use Rattle.std.specs.Prelude.{◌≡◌, ℕ, ◌+◌, ◌<◌, List, length, slice_index, Ok}
+use Rattle.std.specs.List.{All}
+use mathlib.Core.Option.{none}
 use Rattle.segment_image.specs.Head.{head_of}
 use Rattle.segment_image.specs.Shape.{Dimensions}
+use Rattle.segment_image.specs.Words.{word_at}
 use Rattle.segment_image.specs.declared.head.SegmentHead.{SegmentHead}
 use Rattle.segment_image.specs.declared.layout.TheConstants.{VERSION_FROZEN, FLAGS_WORD, FREE_WORD, TAIL_WORD}
 use Rattle.list_core.specs.Chain.{IsChain}
 use Rattle.list_core.specs.Walk.{IsPrefix}
 use Rattle.segment_looks.specs.Looks.{head_of_copies, followed_records}
 use Rattle.segment_machine.specs.State.{State}
-use Rattle.segment_invariant.specs.Body.{Anatomy}
+use Rattle.segment_invariant.specs.Body.{Record, Sample, Body, histogram, sample, other, words_of, Anatomy}
+use Rattle.segment_invariant.specs.Seen.{Stands}
+use Rattle.segment_invariant.specs.Invariant.{Invariant}
 use Rattle.look_promises.specs.Runs.{RunsThrough, Moments, AreLoaded}
 
 -- ---- the header
@@ -53,3 +58,35 @@ abbrev pub LooksFollow : Type 0
 LooksFollow = (shape : Dimensions) (opened : Anatomy) (at : ℕ → State) (first last : ℕ) (moments : Moments) (one two three : List ℕ)
     → RunsThrough shape opened at → AreLoaded shape at first last moments one two three
     → FollowsList (at first) (at last) (followed_records (head_loaded shape opened at moments.three) two)
+
+-- ---- the records
+
+-- A block is seen as another: its size, its type and what was given to its maker are the same.
+abbrev pub SeenAs : Body → Body → Type 0
+SeenAs (histogram r) body = (q : Record) × (body ≡ histogram q) × (q ≡ record r {
+  next = q.next;
+  counts = q.counts;
+  single = q.single;
+  mark = q.mark;
+  sum = q.sum;
+  sum_mark = q.sum_mark;
+  noted = q.noted;
+})
+SeenAs (sample s) body = (t : Sample) × (body ≡ sample t) × (t ≡ record s { next = t.next; units = t.units; mark = t.mark })
+SeenAs (other size tag next payload) body = (n : ℕ) × (body ≡ other size tag n payload)
+SeenAs _ body = ⊥
+
+-- the words from an index on are those of a block
+abbrev pub HasWords : List ℕ → ℕ → Body → Type 0
+HasWords words at body = (i : ℕ) → i < length (words_of body) → word_at words (at + i) ≡ slice_index (words_of body) i
+
+-- words have a published block, as which it is seen
+abbrev pub ShowsBlock : Anatomy → List ℕ → ℕ → Type 0
+ShowsBlock anatomy words at = (body seen : Body) × Stands anatomy.pieces at none body × SeenAs body seen × HasWords words at seen
+
+-- the third copy has each record that a look follows, as it is at the last moment
+abbrev pub CopiesShowBlocks : Type 0
+CopiesShowBlocks = (shape : Dimensions) (opened : Anatomy) (at : ℕ → State) (first last : ℕ) (moments : Moments) (one two three : List ℕ)
+    → RunsThrough shape opened at → AreLoaded shape at first last moments one two three
+    → (late : Invariant shape opened (at last))
+    × All (ShowsBlock late.anatomy three) (followed_records (head_loaded shape opened at moments.three) two)

@@ -3,7 +3,7 @@
 //!
 //! The functions do nothing. What each promises is a law of the definitions in `specs/`.
 
-ghost use Rattle.look_promises.specs.Looks.{LooksHaveHeaders, LooksFollow};
+ghost use Rattle.look_promises.specs.Looks.{LooksHaveHeaders, LooksFollow, CopiesShowBlocks};
 
 /// Three copies of the words of a running segment, one after the other, have no fault: a look is made of them.
 ///
@@ -21,4 +21,10 @@ pub fn looks_have_headers()
 /// later has it in hand, or nobody has claimed its words.
 pub fn looks_follow()
     ensures { LooksFollow }
+{}
+
+/// The third copy has each record that a look follows as it was published: its size, its type, and what was given to its maker,
+/// as these are at the last moment.
+pub fn copies_show_blocks()
+    ensures { CopiesShowBlocks }
 {}

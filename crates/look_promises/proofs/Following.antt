@@ -18,7 +18,8 @@ use Rattle.look_promises.specs.Runs.{RunsThrough, Moments, AreLoaded}
 use Rattle.look_promises.specs.Looks.{head_loaded, FollowsList, LooksFollow}
 use Rattle.look_promises.proofs.Runs.{kept_at, chain_at, chain_is, chain_on, reached, free_on}
 use Rattle.look_promises.proofs.Headers.{wide}
-use Rattle.look_promises.proofs.Unlinked.{IsEnd, Lacks, none_links, ends_unclaimed, ends_in_hand}
+use Rattle.look_promises.proofs.Carried.{OfHand}
+use Rattle.look_promises.proofs.Unlinked.{IsEnd, Lacks, lacking_unlinked, ends_unclaimed, ends_in_hand}
 use Rattle.look_promises.proofs.Walks.{next_at, Gives, Ends, front, fronts, front_of}
 
 -- no block can stand where a list ends
@@ -42,8 +43,8 @@ module _ (shape : Dimensions) (opened : Anatomy) (at : ℕ → State) (run : Run
       by : (b : Bool) → is_placed head (word_at (at m).words (x + 3)) ≡ b → is_placed head (word_at (at m).words (x + 3)) ≡ false
       by false is = is
       by true is = elim (dec_lt x (word_at (at m).words 7)) [
-        | yes below ↦ absurd (none_links shape opened (at m) kept x below
-            (all_from (Lacks x) (at m).actors (λ id a there has. ended is (ends_in_hand shape opened (at m) kept x id a there has)))
+        | yes below ↦ absurd (lacking_unlinked shape opened (at m) kept x below
+            (all_from (OfHand (Lacks x)) (at m).actors (λ id a there has. ended is (ends_in_hand shape opened (at m) kept x id a there has)))
             (at n) (reached shape opened at run m n le) linked)
         | no far ↦ absurd (ended is (ends_unclaimed shape opened (at m) kept x (omega (arith, far))))
       ]

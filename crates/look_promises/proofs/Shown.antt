@@ -24,20 +24,20 @@ list_stands pieces l (Some (made.Histogram name spec)) s = (histogram s.0, s.1, 
 list_stands pieces l (Some (made.Sample of value)) s = (sample s.0, s.1, tt)
 list_stands pieces l None s = (other s.0 s.1 s.2 s.3, s.4, tt)
 
-module _ (shape : Dimensions) (opened : Anatomy) (at : ℕ → State) (run : RunsThrough shape opened at) where
-  pieces : ℕ → List Piece
-  pieces n = (kept_at shape opened at run n).anatomy.pieces
+-- so does each record of the list of a kept state
+pub listed_in : (shape : Dimensions) (opened : Anatomy) (state : State) (kept : Invariant shape opened state) (k : ℕ) → k < length (order_of kept.anatomy)
+    → (body : Body) × Stands kept.anatomy.pieces (slice_index (order_of kept.anatomy) k) none body × IsOfList body
+listed_in shape opened state kept k below =
+    let (l, there) = there_below kept.anatomy.records k (omega (arith, below, length-map kept.anatomy.records (λ (l : Listed). l.reference))) in
+    let named : l.reference ≡ slice_index (order_of kept.anatomy) k =
+    sym (index_at (order_of kept.anatomy) k l.reference 0 (at_map (λ (l : Listed). l.reference) kept.anatomy.records k l there)) in
+    let (body, stands, list) = list_stands kept.anatomy.pieces l l.made (all_at (λ l. StandsAs kept.anatomy.pieces l l.made) kept.anatomy.records k l kept.list.standing there) in
+    (body, subst (λ (at : ℕ). Stands kept.anatomy.pieces at none body) named stands, list)
 
-  -- so does each record of a chain
+module _ (shape : Dimensions) (opened : Anatomy) (at : ℕ → State) (run : RunsThrough shape opened at) where
   pub listed_at : (n k : ℕ) → k < length (chain_at shape opened at run n)
       → (body : Body) × Stands (kept_at shape opened at run n).anatomy.pieces (slice_index (chain_at shape opened at run n) k) none body × IsOfList body
-  listed_at n k below =
-      let kept = kept_at shape opened at run n in
-      let (l, there) = there_below kept.anatomy.records k (omega (arith, below, length-map kept.anatomy.records (λ (l : Listed). l.reference))) in
-      let named : l.reference ≡ slice_index (order_of kept.anatomy) k =
-      sym (index_at (order_of kept.anatomy) k l.reference 0 (at_map (λ (l : Listed). l.reference) kept.anatomy.records k l there)) in
-      let (body, stands, list) = list_stands kept.anatomy.pieces l l.made (all_at (λ l. StandsAs kept.anatomy.pieces l l.made) kept.anatomy.records k l kept.list.standing there) in
-      (body, subst (λ (at : ℕ). Stands kept.anatomy.pieces at none body) named stands, list)
+  listed_at n k below = listed_in shape opened (at n) (kept_at shape opened at run n) k below
 
   -- a record keeps its place on the list
   pub same_place : (m n k : ℕ) → m ≤ n → k < length (chain_at shape opened at run m)

@@ -1,146 +1,50 @@
 -- A record that is linked later: its next is 0 or the end of the list until then, since it is in somebody's hand, or was never claimed.
-use Rattle.segment_invariant.proofs.Prelude.Std.{◌≡◌, ◌≢◌, ◌⊎◌, ℕ, ◌+◌, ◌-◌, ◌<◌, ◌≤◌, Bool, List, [], ◌∷◌, ◌++◌, length, inl, inr, ⊎_elim, refl, sym, ap, subst, ◌∙◌, arith, if◌then◌else◌, eq-eqb, none_in, one_in, get_or_append_left, replicate, length-replicate, slice_index, some, get_elem?, All, All-push, all_at, Contains, Contains-append_cases, contains_map, at_from, from_map, map-append}
-use Rattle.segment_invariant.proofs.Prelude.Machine.{Actor, Own, Place, Spent, offered_of, Event, Ready, next, spot, publishing_event, link, purse, State, Dimensions, word_at}
-use Rattle.segment_invariant.proofs.Prelude.Invariant.{Anatomy, Body, plain, held, words_of, layout_of, Stands, StandsRight, HoldsOwn, Invariant, found_at}
+use Rattle.segment_invariant.proofs.Prelude.Std.{◌≡◌, ◌≢◌, ◌⊎◌, ℕ, ◌+◌, ◌-◌, ◌<◌, ◌≤◌, List, ◌∷◌, length, inl, inr, ⊎_elim, refl, sym, ap, subst, ◌∙◌, arith, none_in, replicate, length-replicate, slice_index, some, get_elem?, All, all_at, Contains, Contains-append_cases, contains_map, at_from, from_map, map-append}
+use Rattle.segment_invariant.proofs.Prelude.Machine.{Actor, Own, Place, Spent, Ready, next, publishing_event, link, purse, State, Dimensions, word_at}
+use Rattle.segment_invariant.proofs.Prelude.Invariant.{Anatomy, Body, plain, held, words_of, layout_of, Stands, StandsRight, HoldsOwn, Invariant}
 use Rattle.std.proofs.lemmas.List.{get_or-replicate}
-use Rattle.std.proofs.lemmas.List.Elements.{All-set}
-use Rattle.alloc_core.proofs.Layouts.{free_word, length_shown, behind_shown}
+use Rattle.alloc_core.proofs.Layouts.{free_word, behind_shown}
 use Rattle.segment_machine.specs.declared.place.Place.TheVariants as place
-use Rattle.segment_machine.specs.Reached.{IsReached, started, stepped, announced, offered, split, lent, returned, purse_filled, purse_poured, joined_in}
-use Rattle.segment_machine.specs.Seats.{joined, lender, newcomer, offering, parent, giver, getter, spent}
-use Rattle.segment_machine.specs.State.{IsStep, memory}
+use Rattle.segment_machine.specs.Reached.{IsReached}
 use Rattle.segment_invariant.proofs.Blocks.Pieces.{piece_word}
-use Rattle.segment_promises.specs.Lists.{chain_behind, links_of}
-use Rattle.segment_promises.proofs.Links.{links_or_not}
-use Rattle.segment_promises.proofs.Reached.{reached_states_follow}
-use Rattle.look_promises.proofs.Runs.{free_rises}
-use Rattle.look_promises.proofs.Hands.{handled, places, Handles, had, noted_had}
+use Rattle.segment_promises.specs.Lists.{links_of}
+use Rattle.look_promises.proofs.Hands.{handled, places, InHand, Handles, had, noted_had}
+use Rattle.look_promises.proofs.Carried.{OfHand, IsCarried, linker_has}
+use Rattle.look_promises.proofs.Linking.{linking}
 
 -- ---- what nobody has in hand
 
 -- an actor has no block at a word in hand
-abbrev pub Lacks : ℕ → Actor → Type 0
-Lacks x a = Handles a x → ⊥
+abbrev pub Lacks : ℕ → Place → List Own → Type 0
+Lacks x p own = InHand x p (places own) → ⊥
 
-module _ (shape : Dimensions) (opened : Anatomy) (start : State) (kept : Invariant shape opened start) (x : ℕ) (below : x < word_at start.words 7)
-    (lack : All (Lacks x) start.actors) where
-  keeps : (state : State) → IsReached opened.version start state → Invariant shape opened state
-  keeps state reached = reached_states_follow shape opened start state kept reached
-
-  -- no event takes the word, which was claimed before
-  claimed : (old : State) (event : Event) → IsReached opened.version start old → found_at old event ≡ x → ((size : ℕ) → spot size event ≡ 7) → ⊥
-  claimed old event reached found spots =
-      let higher = free_rises shape opened start old kept reached in
-      let long = length_shown shape old.words (layout_of (keeps old reached).anatomy) (keeps old reached).shown in
-      let lawful = (keeps old reached).shown.sound.lawful in
-      let wide = lawful.wide in
-      let one = lawful.one in
-      let is : found_at old event ≡ word_at old.words 7 =
-      ap (word_at (memory old)) (spots (length old.words)) ∙ get_or_append_left old.words old.cursors 0 7 (omega (arith, long, wide, one)) in
-      omega (arith, below, higher, found, is)
-
-  -- a step
-  lacks_on : (old new : State) (id : ℕ) (event : Event) → IsReached opened.version start old → (step : IsStep opened.version old id event new)
-      → Lacks x step.actor → Lacks x step.then_is
-  lacks_on old new id event reached step before has = ⊎_elim
-      (λ was. before (noted_had step.before step.actor step.at x step.notes_before was))
-      (λ takes. claimed old event reached takes.0 takes.1)
-      (had step.at x event (found_at old event) step.ready (noted_had step.behind (next step.at event (found_at old event)) step.then_is x step.notes_behind has))
-
-  of_purse : (units : ℕ) → Lacks x (purse units)
-  of_purse units (inl here) = here
-  of_purse units (inr has) = none_in x has
-
-  of_newcomer : (a : Actor) → Lacks x (newcomer a)
-  of_newcomer a (inl here) = here
-  of_newcomer a (inr has) = none_in x has
-
-  of_joined : (a b : Actor) → Lacks x a → Lacks x b → Lacks x (joined a b)
-  of_joined a b one other (inl here) = one (inl here)
-  of_joined a b one other (inr has) = ⊎_elim
+-- who has none in hand gets none, unless the words are taken
+lacks_carried : (x : ℕ) → IsCarried x (Lacks x)
+lacks_carried x = record {
+  event_on = λ a event found ready free lacks has. ⊎_elim lacks free (had a x event found ready has);
+  note_on = λ a note lacks has. lacks (noted_had a note x has);
+  idle = λ has. ⊎_elim (λ here. here) (λ own. none_in x own) has;
+  spent = λ has. ⊎_elim (λ here. here) (λ own. none_in x own) has;
+  both = λ p q own more one other has. ⊎_elim
+      (λ here. one (inl here))
+      (λ all. ⊎_elim
       (λ mine. one (inr mine))
       (λ its. other (inr its))
-      (Contains-append_cases (places a.hand.own) (places b.hand.own) x
-      (subst (λ (list : List ℕ). Contains list x) (map-append (λ (own : Own). own.at) a.hand.own b.hand.own) has))
+      (Contains-append_cases (places own) (places more) x (subst (λ (list : List ℕ). Contains list x) (map-append (λ (own : Own). own.at) own more) all)))
+      has;
+}
 
-  -- so whatever happens, nobody has it in hand
-  all_lack : (state : State) → IsReached opened.version start state → All (Lacks x) state.actors
-  all_lack state started = lack
-  all_lack state (stepped old new id event before step) =
-      let all = all_lack old before in
-      subst (All (Lacks x)) (sym step.actors_are)
-      (All-set (Lacks x) old.actors id step.then_is (lacks_on old new id event before step (all_at (Lacks x) old.actors id step.actor all step.there)) all)
-  all_lack state (announced old new id before (a, b, notes, there, recorder, noting, is)) =
-      let all = all_lack old before in
-      subst (All (Lacks x)) (sym (ap (λ (s : State). s.actors) is))
-      (All-set (Lacks x) old.actors id b (λ has. all_at (Lacks x) old.actors id a all there (noted_had notes a b x noting has)) all)
-  all_lack state (offered old new id units before (a, there, may, is)) =
-      let all = all_lack old before in
-      subst (All (Lacks x)) (sym (ap (λ (s : State). s.actors) is))
-      (All-set (Lacks x) old.actors id (offering a units) (all_at (Lacks x) old.actors id a all there) all)
-  all_lack state (split old new id before (a, there, may, is)) =
-      let all = all_lack old before in
-      subst (All (Lacks x)) (sym (ap (λ (s : State). s.actors) is))
-      (All-push (Lacks x) _ (newcomer a) (All-set (Lacks x) old.actors id (parent a) (all_at (Lacks x) old.actors id a all there) all) (of_newcomer a))
-  all_lack state (lent old new id other units before (a, b, apart, there, beside, may, is)) =
-      let all = all_lack old before in
-      subst (All (Lacks x)) (sym (ap (λ (s : State). s.actors) is))
-      (All-set (Lacks x) _ other (getter b units) (all_at (Lacks x) old.actors other b all beside)
-      (All-set (Lacks x) old.actors id (giver a units) (all_at (Lacks x) old.actors id a all there) all))
-  all_lack state (returned old new id other units before (a, b, apart, there, beside, may, is)) =
-      let all = all_lack old before in
-      subst (All (Lacks x)) (sym (ap (λ (s : State). s.actors) is))
-      (All-set (Lacks x) _ other (giver b units) (all_at (Lacks x) old.actors other b all beside)
-      (All-set (Lacks x) old.actors id (getter a units) (all_at (Lacks x) old.actors id a all there) all))
-  all_lack state (purse_filled old new id before (a, there, may, is)) =
-      let all = all_lack old before in
-      subst (All (Lacks x)) (sym (ap (λ (s : State). s.actors) is))
-      (All-push (Lacks x) _ (purse _) (All-set (Lacks x) old.actors id (lender a) (all_at (Lacks x) old.actors id a all there) all) (of_purse (offered_of a.role)))
-  all_lack state (purse_poured old new id other before (b, c, apart, there, beside, may, is)) =
-      let all = all_lack old before in
-      subst (All (Lacks x)) (sym (ap (λ (s : State). s.actors) is))
-      (All-set (Lacks x) _ other spent (of_purse 0)
-      (All-set (Lacks x) old.actors id (getter b c.units.share) (all_at (Lacks x) old.actors id b all there) all))
-  all_lack state (joined_in old new id other before (a, b, apart, there, beside, may, is)) =
-      let all = all_lack old before in
-      subst (All (Lacks x)) (sym (ap (λ (s : State). s.actors) is))
-      (All-set (Lacks x) _ other spent (of_purse 0)
-      (All-set (Lacks x) old.actors id (joined a b)
-      (of_joined a b (all_at (Lacks x) old.actors id a all there) (all_at (Lacks x) old.actors other b all beside)) all))
+-- who links a block has it in hand
+linker : (x : ℕ) (a : Actor) (tail : ℕ) → Ready a (publishing_event (link tail x)) → Handles a x
+linker x a tail ready = inr (subst (Contains (places a.hand.own)) ready.4 (contains_map (λ (own : Own). own.at) a.hand.own ready.0 ready.3.0))
 
-  -- who links it has it in hand
-  linker : (a : Actor) (tail : ℕ) → Ready a (publishing_event (link tail x)) → Handles a x
-  linker a tail ready = inr (subst (Contains (places a.hand.own)) ready.4 (contains_map (λ (own : Own). own.at) a.hand.own ready.0 ready.3.0))
-
-  -- and nobody links it
-  pub none_links : (state : State) (reached : IsReached opened.version start state) → Contains (links_of opened.version start state reached) x → ⊥
-  none_links state started has = none_in x has
-  none_links state (stepped old new id event before step) has = by (links_or_not event (found_at old event)) (none_links old before)
-    where
-      earlier : List ℕ
-      earlier = links_of opened.version start old before
-
-      by : ((tail at : ℕ) × (event ≡ publishing_event (link tail at)) × (found_at old event ≡ 12))
-          ⊎ ((chain : List ℕ) → chain_behind event (found_at old event) chain ≡ chain) → (Contains earlier x → ⊥) → ⊥
-      by (inl (tail, at, is, ends)) before_it =
-          let made = ap (λ (e : Event). chain_behind e (found_at old event) earlier) is
-          ∙ ap (λ (b : Bool). if b then earlier ++ at ∷ [] else earlier) (eq-eqb (found_at old event) 12 ends) in
-          ⊎_elim
-          before_it
-          (λ last.
-          let here : at ≡ x = one_in at x last in
-          all_at (Lacks x) old.actors id step.actor (all_lack old before) step.there (noted_had step.before step.actor step.at x step.notes_before
-          (linker step.at tail (subst (λ (n : ℕ). Ready step.at (publishing_event (link tail n))) here (subst (Ready step.at) is step.ready)))))
-          (Contains-append_cases earlier (at ∷ []) x (subst (λ (list : List ℕ). Contains list x) made has))
-      by (inr not) before_it = before_it (subst (λ (list : List ℕ). Contains list x) (not earlier) has)
-  none_links state (announced old new id before told) has = none_links old before has
-  none_links state (offered old new id units before made) has = none_links old before has
-  none_links state (split old new id before made) has = none_links old before has
-  none_links state (lent old new id other units before made) has = none_links old before has
-  none_links state (returned old new id other units before made) has = none_links old before has
-  none_links state (purse_filled old new id before made) has = none_links old before has
-  none_links state (purse_poured old new id other before made) has = none_links old before has
-  none_links state (joined_in old new id other before made) has = none_links old before has
+-- so what nobody has in hand, nobody links
+pub lacking_unlinked : (shape : Dimensions) (opened : Anatomy) (start : State) (kept : Invariant shape opened start) (x : ℕ) → x < word_at start.words 7
+    → All (OfHand (Lacks x)) start.actors → (state : State) (reached : IsReached opened.version start state)
+    → Contains (links_of opened.version start state reached) x → ⊥
+lacking_unlinked shape opened start kept x below lack state reached has =
+    let links = linking opened.version start x state reached has in
+    linker_has x (Lacks x) (lacks_carried x) shape opened start kept below lack state links (linker x links.step.at links.tail links.step.ready)
 
 -- ---- the next of what somebody has in hand
 
@@ -148,7 +52,8 @@ module _ (shape : Dimensions) (opened : Anatomy) (start : State) (kept : Invaria
 abbrev pub IsEnd : ℕ → Type 0
 IsEnd next = (next ≡ 0) ⊎ (next ≡ 12)
 
-spent_or_not : (p : Place) → (p ≡ Spent) ⊎ (p ≢ Spent)
+-- an actor is spent, or is not
+pub spent_or_not : (p : Place) → (p ≡ Spent) ⊎ (p ≢ Spent)
 spent_or_not place.Spent = inl refl
 spent_or_not p = inr (λ e. cc e)
 

@@ -1,17 +1,17 @@
 -- What three copies of a run give when they are put together to a look.
-use Rattle.std.specs.Prelude.{◌≡◌, ℕ, ◌+◌, ◌<◌, List, length, slice_index, Ok}
-use Rattle.std.specs.List.{All}
+use Rattle.std.specs.Prelude.{◌≡◌, ◌⊎◌, ℕ, ◌+◌, ◌<◌, ◌≤◌, List, length, slice_index, Ok}
+use Rattle.std.specs.List.{All, Contains}
 use mathlib.Core.Option.{none}
 use Rattle.segment_image.specs.Head.{head_of}
 use Rattle.segment_image.specs.Shape.{Dimensions}
 use Rattle.segment_image.specs.Words.{word_at}
 use Rattle.segment_image.specs.declared.head.SegmentHead.{SegmentHead}
-use Rattle.segment_image.specs.declared.layout.TheConstants.{VERSION_FROZEN, FLAGS_WORD, FREE_WORD, TAIL_WORD}
+use Rattle.segment_image.specs.declared.layout.TheConstants.{VERSION_FROZEN, FLAGS_WORD, FREE_WORD, TAIL_WORD, HISTOGRAM_COUNTS, HISTOGRAM_REDUNDANT, SAMPLE_COUNT, SAMPLE_MARK}
 use Rattle.list_core.specs.Chain.{IsChain}
 use Rattle.list_core.specs.Walk.{IsPrefix}
 use Rattle.segment_looks.specs.Looks.{head_of_copies, followed_records}
 use Rattle.segment_machine.specs.State.{State}
-use Rattle.segment_invariant.specs.Body.{Record, Sample, Body, histogram, sample, other, words_of, Anatomy}
+use Rattle.segment_invariant.specs.Body.{Record, Sample, Body, histogram, sample, other, words_of, Anatomy, order_of}
 use Rattle.segment_invariant.specs.Seen.{Stands}
 use Rattle.segment_invariant.specs.Invariant.{Invariant}
 use Rattle.look_promises.specs.Runs.{RunsThrough, Moments, AreLoaded}
@@ -90,3 +90,19 @@ CopiesShowBlocks = (shape : Dimensions) (opened : Anatomy) (at : ℕ → State) 
     → RunsThrough shape opened at → AreLoaded shape at first last moments one two three
     → (late : Invariant shape opened (at last))
     × All (ShowsBlock late.anatomy three) (followed_records (head_loaded shape opened at moments.three) two)
+
+-- ---- before a record is on the list
+
+-- the words of a block that change once it is published, but for its next
+abbrev pub IsChanging : Body → ℕ → Type 0
+IsChanging (histogram r) i = (HISTOGRAM_COUNTS ≤ i) × (i ≤ HISTOGRAM_REDUNDANT)
+IsChanging (sample s) i = (i ≡ SAMPLE_COUNT) ⊎ (i ≡ SAMPLE_MARK)
+IsChanging _ i = ⊥
+
+-- such a word of a record is 0 at each moment at which the record is not on the list yet
+abbrev pub RecordsStartAtZero : Type 0
+RecordsStartAtZero = (shape : Dimensions) (opened : Anatomy) (at : ℕ → State) (early last : ℕ) (chain : List ℕ) → RunsThrough shape opened at
+    → early ≤ last → IsChain (at early).words (head_at (at early)) chain
+    → (late : Invariant shape opened (at last))
+    × ((reference i : ℕ) (body : Body) → Contains (order_of late.anatomy) reference → ¬ (Contains chain reference)
+    → Stands late.anatomy.pieces reference none body → IsChanging body i → word_at (at early).words (reference + i) ≡ 0)

@@ -3,7 +3,7 @@
 //!
 //! The functions do nothing. What each promises is a law of the definitions in `specs/`.
 
-ghost use Rattle.look_promises.specs.Looks.{LooksHaveHeaders, LooksFollow, CopiesShowBlocks};
+ghost use Rattle.look_promises.specs.Looks.{LooksHaveHeaders, LooksFollow, CopiesShowBlocks, RecordsStartAtZero};
 
 /// Three copies of the words of a running segment, one after the other, have no fault: a look is made of them.
 ///
@@ -27,4 +27,12 @@ pub fn looks_follow()
 /// as these are at the last moment.
 pub fn copies_show_blocks()
     ensures { CopiesShowBlocks }
+{}
+
+/// What of a record changes once it is published is 0 at each moment at which it is not on the list yet: of a histogram its
+/// counts reference, its single word, its marks, its sum and its redundant count; of a sample its count and its mark.
+///
+/// So a copy that loaded such a word too early has 0 there, and nothing of a block that was something else before.
+pub fn records_start_at_zero()
+    ensures { RecordsStartAtZero }
 {}

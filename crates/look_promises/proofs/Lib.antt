@@ -11,3 +11,4 @@ pub mod Shown
 pub mod Payloads
 pub mod Blank
 pub mod Starts
+pub mod References

@@ -9,10 +9,10 @@ use Rattle.segment_image.specs.declared.head.SegmentHead.{SegmentHead}
 use Rattle.segment_image.specs.declared.layout.TheConstants.{VERSION_FROZEN, FLAGS_WORD, FREE_WORD, TAIL_WORD, HISTOGRAM_COUNTS, HISTOGRAM_REDUNDANT, SAMPLE_COUNT, SAMPLE_MARK}
 use Rattle.list_core.specs.Chain.{IsChain}
 use Rattle.list_core.specs.Walk.{IsPrefix}
-use Rattle.segment_looks.specs.Looks.{head_of_copies, followed_records}
+use Rattle.segment_looks.specs.Looks.{head_of_copies, followed_records, counts_reference}
 use Rattle.segment_machine.specs.State.{State}
 use Rattle.segment_invariant.specs.Body.{Record, Sample, Body, histogram, sample, other, words_of, Anatomy, order_of}
-use Rattle.segment_invariant.specs.Seen.{Stands}
+use Rattle.segment_invariant.specs.Seen.{Stands, HasRecord}
 use Rattle.segment_invariant.specs.Invariant.{Invariant}
 use Rattle.look_promises.specs.Runs.{RunsThrough, Moments, AreLoaded}
 
@@ -106,3 +106,14 @@ RecordsStartAtZero = (shape : Dimensions) (opened : Anatomy) (at : ℕ → State
     → (late : Invariant shape opened (at last))
     × ((reference i : ℕ) (body : Body) → Contains (order_of late.anatomy) reference → ¬ (Contains chain reference)
     → Stands late.anatomy.pieces reference none body → IsChanging body i → word_at (at early).words (reference + i) ≡ 0)
+
+-- ---- the counts of a record
+
+-- The counts reference that a look takes of a record is 0, or that which the record has at the last moment.
+abbrev pub LooksNameCounts : Type 0
+LooksNameCounts = (shape : Dimensions) (opened : Anatomy) (at : ℕ → State) (first last : ℕ) (moments : Moments) (one two three : List ℕ)
+    → RunsThrough shape opened at → AreLoaded shape at first last moments one two three
+    → (late : Invariant shape opened (at last))
+    × ((reference : ℕ) (r : Record) → Contains (followed_records (head_loaded shape opened at moments.three) two) reference
+    → HasRecord late.anatomy.pieces reference r
+    → (counts_reference two three reference ≡ 0) ⊎ (counts_reference two three reference ≡ r.counts))

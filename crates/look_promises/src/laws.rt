@@ -3,7 +3,7 @@
 //!
 //! The functions do nothing. What each promises is a law of the definitions in `specs/`.
 
-ghost use Rattle.look_promises.specs.Looks.{LooksHaveHeaders, LooksFollow, CopiesShowBlocks, RecordsStartAtZero};
+ghost use Rattle.look_promises.specs.Looks.{LooksHaveHeaders, LooksFollow, CopiesShowBlocks, RecordsStartAtZero, LooksNameCounts};
 
 /// Three copies of the words of a running segment, one after the other, have no fault: a look is made of them.
 ///
@@ -35,4 +35,10 @@ pub fn copies_show_blocks()
 /// So a copy that loaded such a word too early has 0 there, and nothing of a block that was something else before.
 pub fn records_start_at_zero()
     ensures { RecordsStartAtZero }
+{}
+
+/// The counts reference that a look takes of a histogram's record is 0, or the one that the record has at the last moment,
+/// which never changes.
+pub fn looks_name_counts()
+    ensures { LooksNameCounts }
 {}

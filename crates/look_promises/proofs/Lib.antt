@@ -1,0 +1,14 @@
+pub mod Runs
+pub mod Headers
+pub mod Linking
+pub mod Hands
+pub mod Carried
+pub mod Unlinked
+pub mod Walks
+pub mod Following
+pub mod Unchanged
+pub mod Shown
+pub mod Payloads
+pub mod Blank
+pub mod Starts
+pub mod References

@@ -1,0 +1,5 @@
+use Rattle.look_promises.proofs.Following.{looks_follow}
+use Rattle.look_promises.proofs.laws.looks_follow.Goals as goal
+
+pub returns : goal.returns
+returns c = looks_follow

@@ -1,0 +1,5 @@
+use Rattle.look_promises.proofs.Headers.{looks_have_headers}
+use Rattle.look_promises.proofs.laws.looks_have_headers.Goals as goal
+
+pub returns : goal.returns
+returns c = looks_have_headers

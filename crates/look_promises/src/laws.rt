@@ -1,0 +1,44 @@
+//! What a look at a running segment has, whatever its recorders do meanwhile, and in whatever order the words of each copy are
+//! loaded.
+//!
+//! The functions do nothing. What each promises is a law of the definitions in `specs/`.
+
+ghost use Rattle.look_promises.specs.Looks.{LooksHaveHeaders, LooksFollow, CopiesShowBlocks, RecordsStartAtZero, LooksNameCounts};
+
+/// Three copies of the words of a running segment, one after the other, have no fault: a look is made of them.
+///
+/// The header of a look has the segment's shape, version 2, and the id of the opening. The free pointer, the tail and the
+/// flags are each those of the moment at which the third copy loaded that word.
+pub fn looks_have_headers()
+    ensures { LooksHaveHeaders }
+{}
+
+/// The records that a look follows are on the list, in its order and each once: all that were on it at the first moment, and
+/// none that was not at the last.
+///
+/// The nexts of the second copy give them. A next is loaded at a moment of its own: if its record is on the list then, it is
+/// the record behind it, or the end of the list; and if not, it is 0 or the end of the list, since whoever links the record
+/// later has it in hand, or nobody has claimed its words.
+pub fn looks_follow()
+    ensures { LooksFollow }
+{}
+
+/// The third copy has each record that a look follows as it was published: its size, its type, and what was given to its maker,
+/// as these are at the last moment.
+pub fn copies_show_blocks()
+    ensures { CopiesShowBlocks }
+{}
+
+/// What of a record changes once it is published is 0 at each moment at which it is not on the list yet: of a histogram its
+/// counts reference, its single word, its marks, its sum and its redundant count; of a sample its count and its mark.
+///
+/// So a copy that loaded such a word too early has 0 there, and nothing of a block that was something else before.
+pub fn records_start_at_zero()
+    ensures { RecordsStartAtZero }
+{}
+
+/// The counts reference that a look takes of a histogram's record is 0, or the one that the record has at the last moment,
+/// which never changes.
+pub fn looks_name_counts()
+    ensures { LooksNameCounts }
+{}

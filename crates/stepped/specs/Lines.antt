@@ -11,7 +11,8 @@ use Rattle.hist_core.specs.declared.call.Answer.{Answer}
 use Rattle.hist_core.specs.declared.call.Answer.TheVariants.{Hist, Added, Flagged, Delta, Snapshot, Refused, BatchRefused}
 use Rattle.stepped.specs.declared.lines.Change.{Change}
 use Rattle.stepped.specs.declared.lines.Effect.{Effect}
-use Rattle.stepped.specs.declared.lines.Effect.TheVariants.{Quiet, Changed, Missed}
+use Rattle.stepped.specs.declared.lines.Effect.TheVariants.{Quiet, Changed, Missed, Loaded}
+use Rattle.stepped.specs.declared.lines.Load.{Load}
 use Rattle.stepped.specs.declared.lines.Miss.{Miss}
 use Rattle.stepped.specs.declared.lines.LinePlace.{LinePlace}
 
@@ -47,11 +48,12 @@ refusal_fields why = refusal_word why ∷ []
 
 -- ---- what is shown of a call
 
--- what an event did that changed this, or, if it changed nothing, that missed this
-abbrev pub effect_of : Option Change → Option Miss → Effect
-effect_of (Some change) miss = Changed change
-effect_of None (Some miss) = Missed miss
-effect_of None None = Quiet
+-- what an event did that changed this, or, if it changed nothing, that missed this, or else loaded this
+abbrev pub effect_of : Option Change → Option Miss → Option Load → Effect
+effect_of (Some change) miss load = Changed change
+effect_of None (Some miss) load = Missed miss
+effect_of None None (Some load) = Loaded load
+effect_of None None None = Quiet
 
 -- It begins; it begins and has ended with an answer, without an event; an event of it happens, which does this and leads to these words; or
 -- it ends with its last event, and an answer.
@@ -80,6 +82,7 @@ answer_fields (BatchRefused refused) = codes "batch_refused" ∷ decimal refused
 abbrev pub step_fields : Effect → List (List ℕ)
 step_fields Quiet = codes "step" ∷ []
 step_fields (Missed miss) = codes "step" ∷ []
+step_fields (Loaded load) = codes "step" ∷ []
 step_fields (Changed change) = codes "step" ∷ decimal change.at ∷ decimal change.old ∷ decimal change.new ∷ []
 
 -- the fields after those of the place

@@ -12,6 +12,7 @@ use Rattle.hist_core.specs.declared.call.Stepped.TheVariants.{More, Done}
 use Rattle.hist_core.specs.declared.fault.WorldFault.{WorldFault}
 use Rattle.hist_core.specs.Moves.{FaultsAt, IsBegun, IsStepped}
 use Rattle.hist_core.specs.Exchanging.{next_attempt}
+use Rattle.hist_core.specs.Loading.{next_load}
 use Rattle.alloc_core.specs.declared.attempt.Attempt.{Attempt}
 use Rattle.segment_image.specs.Words.{word_at}
 use Rattle.schedule.specs.declared.order.Order.{Order}
@@ -21,6 +22,7 @@ use Rattle.stepped.specs.declared.fault.ReplayFault.{ReplayFault}
 use Rattle.stepped.specs.declared.fault.ReplayFault.TheVariants.{Write}
 use Rattle.stepped.specs.declared.lines.Change.{Change}
 use Rattle.stepped.specs.declared.lines.Effect.{Effect}
+use Rattle.stepped.specs.declared.lines.Load.{Load}
 use Rattle.stepped.specs.declared.lines.Miss.{Miss}
 use Rattle.stepped.specs.declared.lines.LinePlace.{LinePlace}
 use Rattle.stepped.specs.Fault.{fault_of_world}
@@ -59,6 +61,15 @@ miss_in words (Some attempt) =
 abbrev pub next_miss : WorldState → ℕ → Option Miss
 next_miss world_state actor = miss_in world_state.words.items (next_attempt world_state actor)
 
+-- what a load of a word finds in these words
+abbrev pub load_in : List ℕ → Option ℕ → Option Load
+load_in words None = None
+load_in words (Some at) = Some (record { at = at; value = word_at words at })
+
+-- what an actor finds by its next event, in a world, if that is a load
+abbrev pub next_found : WorldState → ℕ → Option Load
+next_found world_state actor = load_in world_state.words.items (next_load world_state actor)
+
 -- what is done at a begin: the call begins, or it has ended with its answer, if it needs no event
 abbrev pub begin_deeds : Call → Begun → List Deed
 begin_deeds call Going = Begins call ∷ []
@@ -74,7 +85,7 @@ abbrev pub ShowsMove : Move → WorldState → WorldState → List Deed → Type
 ShowsMove (Begin actor call) old new deeds = (said : Begun) × IsBegun actor call old new said × (deeds ≡ begin_deeds call said)
 ShowsMove (Step actor) old new deeds =
     (said : Stepped) × IsStepped actor old new said
-    × ((change : Option Change) × HasChanged old.words.items new.words.items change × (deeds ≡ step_deeds new.words.items (effect_of change (next_miss old actor)) said))
+    × ((change : Option Change) × HasChanged old.words.items new.words.items change × (deeds ≡ step_deeds new.words.items (effect_of change (next_miss old actor) (next_found old actor)) said))
 
 -- so do the events of an actor's call, one after the other
 abbrev pub GoesBy : ℕ → ℕ → WorldState → WorldState → List Deed → Type 0

@@ -41,28 +41,40 @@ pub struct Miss {
     pub found: u64,
 }
 
+/// A load, and what it found.
+#[derive(Clone, Copy)]
+pub struct Load {
+    /// The number of the word.
+    pub at: usize,
+    /// What it found.
+    pub value: u64,
+}
+
 /// What an event did.
 #[derive(Clone, Copy)]
 pub enum Effect {
-    /// It changed no word.
+    /// It changed no word, and was neither a load nor an exchange that failed.
     Quiet,
     /// It changed a word.
     Changed(Change),
     /// It was an exchange that failed.
     Missed(Miss),
+    /// It was a load.
+    Loaded(Load),
 }
 
 impl Effect {
     ghost use Rattle.stepped.specs.Lines.{effect_of};
 
-    /// Returns what an event did that changed this, or, if it changed nothing, that missed this.
-    pub fn of(change: Option<Change>, miss: Option<Miss>) -> Effect
-        ensures { result ≡ effect_of change miss }
+    /// Returns what an event did that changed this, or, if it changed nothing, that missed this, or else loaded this.
+    pub fn of(change: Option<Change>, miss: Option<Miss>, load: Option<Load>) -> Effect
+        ensures { result ≡ effect_of change miss load }
     {
-        match (change, miss) {
-            (Some(change), _) => Effect::Changed(change),
-            (None, Some(miss)) => Effect::Missed(miss),
-            (None, None) => Effect::Quiet,
+        match (change, miss, load) {
+            (Some(change), _, _) => Effect::Changed(change),
+            (None, Some(miss), _) => Effect::Missed(miss),
+            (None, None, Some(load)) => Effect::Loaded(load),
+            (None, None, None) => Effect::Quiet,
         }
     }
 }

@@ -111,6 +111,12 @@ pub fn draw_event<W: Write>(
             put_value(writer, words, miss.at, miss.found)?;
             writer.write_all(b"\n")
         }
+        Effect::Loaded(load) => {
+            put_meaning(writer, words, load.at)?;
+            writer.write_all(b": loaded ")?;
+            put_value(writer, words, load.at, load.value)?;
+            writer.write_all(b"\n")
+        }
         Effect::Quiet => writer.write_all(b"-\n"),
     }
 }

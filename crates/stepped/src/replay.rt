@@ -4,7 +4,7 @@ ghost use Rattle.std.specs.Prelude.{◌≡◌};
 
 use crate::fault::ReplayFault;
 use crate::form::Form;
-use crate::lines::{Change, Effect, LinePlace, Miss};
+use crate::lines::{Change, Effect, LinePlace, Load, Miss};
 use crate::meaning::word;
 use hist_core::{Begun, Call, Stepped, World};
 use schedule::{NewWorld, Order, OrderKind};
@@ -37,7 +37,7 @@ ghost use Rattle.segment_image.specs.Head.{head_of, header_of};
 ghost use Rattle.stepped.specs.Fault.{fault_of_world};
 ghost use Rattle.stepped.specs.Form.{Writes, texts};
 ghost use Rattle.stepped.specs.Lines.{Deed};
-ghost use Rattle.stepped.specs.Replay.{DoesOrder, EndsCall, FailsAt, RunsEvents, HasChanged, IsDifference, Replays, ShowsMove, StopsWith, next_miss, placed};
+ghost use Rattle.stepped.specs.Replay.{DoesOrder, EndsCall, FailsAt, RunsEvents, HasChanged, IsDifference, Replays, ShowsMove, StopsWith, next_found, next_miss, placed};
 
 // Where two lists of words differ first.
 fn change_of(old: &[u64], new: &[u64]) -> Option<Change>
@@ -167,6 +167,19 @@ impl Replay {
         })
     }
 
+    // What an actor finds by its next event, if that is a load.
+    fn next_found(&self, actor: usize) -> Option<Load>
+        ensures { result ≡ next_found self.now.world.world_state actor }
+    {
+        let Some(at) = self.world.next_load(actor) else {
+            return None;
+        };
+        Some(Load {
+            at,
+            value: word(self.world.words(), at),
+        })
+    }
+
     // An event of an actor's call, and the word that it changed.
     fn advance(&mut self, place: LinePlace) -> Result<(Stepped, Option<Change>), ReplayFault>
         ensures left { self.new.left ≡ self.old.left }
@@ -194,8 +207,9 @@ impl Replay {
         ensures err { IfErr result (λ fault. (fault ≡ ReplayFault.Write) ⊎ ((why : WorldFault) × FaultsAt (Step place.actor) self.old.world.world_state why × (fault ≡ fault_of_world place.number why) × (writer.new ≡ writer.old))) }
     {
         let miss = self.next_miss(place.actor);
+        let load = self.next_found(place.actor);
         let (said, change) = self.advance(place)?;
-        let effect = Effect::of(change, miss);
+        let effect = Effect::of(change, miss, load);
         self.form
             .show_event(writer, place, effect, self.world.words())
             .map_err(|_| ReplayFault::Write)?;
@@ -259,8 +273,9 @@ impl Replay {
     /// as it says, and fewer only if the call ends or no event is left; once none is left, nothing more is done.
     /// Exactly what was done is written, as lines or as a picture: each begin, with its answer if it needs no
     /// event; each event, with the one word that it changed, from what to what, or none; and after it the answer of a
-    /// call that it ended. If an event changed no word and the world says that it is an
-    /// exchange which wants another number than the word has, a picture says both numbers [replays].
+    /// call that it ended. If an event changed no word, a picture says of an exchange what it wanted and what it
+    /// found, if the world says that it is one which wants another number than the word has; and of a load, if the
+    /// world says that it is one, what it found [replays].
     ///
     /// `Write` comes if a write failed. Else the fault is the first one that the world has at a move of a record,
     /// `World` with the record's number, or `NoMemory`; and what was done before it is written [stops].

@@ -51,7 +51,8 @@ def made_of(event: Event, found: int) -> int:
     new = value or 0
     if kind == "exchange":
         return new if found == wanted else found
-    return {"load": found, "store": new, "add": (found + new) % WORD, "set": found | new, "raise": max(found, new)}[kind]
+    made = {"load": found, "store": new, "add": (found + new) % WORD, "set": found | new, "raise": max(found, new)}
+    return made[kind]
 
 
 def allocate(world: Schedule, payload: int, tag: int) -> Generator[Event, int, int | None]:

@@ -176,6 +176,10 @@ def picture(schedule: str, lines: str, most: int | None = None) -> str:
         if what != "answer" or actor not in running:
             if most is not None and events == most:
                 break
+        if what == "look":
+            at, found = map(int, rest)
+            rows.append(row("", 0, f"copy {who}: {meaning(words, at)}: loaded {value(words, at, found)}"))
+            continue
         if what == "step":
             events += 1
             change = [int(number) for number in rest]

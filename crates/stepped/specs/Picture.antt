@@ -6,6 +6,7 @@ use Rattle.segment_calls.specs.declared.call.Call.{Call}
 use Rattle.segment_calls.specs.declared.call.Call.TheVariants.{Hist, Add, Delta, Snapshot, Batch, SetCorrupt}
 use Rattle.stepped.specs.declared.lines.Effect.{Effect}
 use Rattle.stepped.specs.declared.lines.Effect.TheVariants.{Quiet, Changed, Missed, Loaded}
+use Rattle.stepped.specs.declared.lines.Load.{Load}
 use Rattle.stepped.specs.Meaning.{meaning}
 use Rattle.stepped.specs.Said.{answer_text}
 use Rattle.stepped.specs.Value.{value_text}
@@ -33,6 +34,10 @@ event_cell words (Missed miss) =
     meaning words miss.at ++ codes ": wanted " ++ value_text words miss.at miss.wanted ++ codes ", found " ++ value_text words miss.at miss.found
 event_cell words (Changed change) =
     meaning words change.at ++ codes " " ++ value_text words change.at change.old ++ codes " -> " ++ value_text words change.at change.new
+
+-- a load of a look, into a copy of this number: what the word means, and what it found
+abbrev pub load_cell : ℕ → List ℕ → Load → List ℕ
+load_cell copy words load = codes "copy " ++ decimal copy ++ codes ": " ++ event_cell words (Loaded load)
 
 -- a call's answer
 abbrev pub answer_cell : Answer → List ℕ

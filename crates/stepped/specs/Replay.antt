@@ -26,8 +26,8 @@ use Rattle.stepped.specs.declared.lines.Load.{Load}
 use Rattle.stepped.specs.declared.lines.Miss.{Miss}
 use Rattle.stepped.specs.declared.lines.LinePlace.{LinePlace}
 use Rattle.stepped.specs.Fault.{fault_of_world}
-use Rattle.stepped.specs.Lines.{Deed, effect_of}
-use Rattle.stepped.specs.Lines.Deed.{Begins, AtOnce, Steps, Ends}
+use Rattle.stepped.specs.Lines.{Deed, effect_of, load_of}
+use Rattle.stepped.specs.Lines.Deed.{Begins, AtOnce, Steps, Ends, Looks}
 
 -- ---- moves
 
@@ -64,7 +64,7 @@ next_miss world_state actor = miss_in world_state.words.items (next_attempt worl
 -- what a load of a word finds in these words
 abbrev pub load_in : List ℕ → Option ℕ → Option Load
 load_in words None = None
-load_in words (Some at) = Some (record { at = at; value = word_at words at })
+load_in words (Some at) = Some (load_of words at)
 
 -- what an actor finds by its next event, in a world, if that is a load
 abbrev pub next_found : WorldState → ℕ → Option Load
@@ -111,6 +111,7 @@ pub record RunsEvents (actor times left : ℕ) (old new : WorldState) (then_left
 abbrev pub DoesOrder : ℕ → OrderKind → ℕ → WorldState → WorldState → ℕ → List Deed → Type 0
 DoesOrder actor (kind.Begin call) left old new then_left deeds = ShowsMove (Begin actor call) old new deeds × (then_left ≡ left)
 DoesOrder actor (kind.Step times) left old new then_left deeds = RunsEvents actor times left old new then_left deeds
+DoesOrder actor (kind.Look at) left old new then_left deeds = (new ≡ old) × (then_left ≡ left) × (deeds ≡ Looks old.words.items at ∷ [])
 
 -- what a record does, at its place
 abbrev pub placed : ℕ → ℕ → List Deed → List (LinePlace × Deed)
@@ -127,11 +128,13 @@ Replays number (order ∷ rest) (suc left) old new then_left done =
 
 -- ---- faults
 
--- What a record does before the world has a fault at it, and the fault: none before a call begins; else fewer events than it says.
+-- What a record does before the world has a fault at it, and the fault: none before a call begins; else fewer events than it says. A look
+-- has none.
 abbrev pub FailsAt : ℕ → OrderKind → WorldState → WorldFault → List Deed → Type 0
 FailsAt actor (kind.Begin call) old fault deeds = FaultsAt (Begin actor call) old fault × (deeds ≡ [])
 FailsAt actor (kind.Step times) old fault deeds =
     (events : ℕ) × (at : WorldState) × (events < times) × GoesBy actor events old at deeds × FaultsAt (Step actor) at fault
+FailsAt actor (kind.Look at) old fault deeds = ⊥
 
 -- the first fault of the world, at a record from number 2 on, and what was done before it
 pub record StopsAtOrder (orders : List Order) (left : ℕ) (old : WorldState) (number : ℕ) (fault : WorldFault) (shown : List (LinePlace × Deed)) : Type 0 where

@@ -15,7 +15,7 @@ use std::io::Write;
 pub struct LinePlace {
     /// The number of the record, from 1.
     pub number: u64,
-    /// The actor, from 0.
+    /// The actor, from 0, or the copy of a look, from 1.
     pub actor: usize,
 }
 
@@ -143,6 +143,17 @@ pub fn show_step<W: Write>(writer: &mut W, place: LinePlace, effect: Effect) -> 
     if let Effect::Changed(change) = effect {
         put_change(writer, change)?;
     }
+    end_line(writer)
+}
+
+/// Writes the line of a load of a look: the word, and what it found. The error is the writer's.
+pub fn show_look<W: Write>(writer: &mut W, place: LinePlace, load: Load) -> io::Result<()>
+    ensures { OnOk result (Appends (W.contents writer.old) (W.contents writer.new) (line place (codes "look" ∷ decimal load.at ∷ decimal load.value ∷ []))) }
+{
+    put_place(writer, place)?;
+    put_word(writer, b"look")?;
+    put_number(writer, load.at as u64)?;
+    put_number(writer, load.value)?;
     end_line(writer)
 }
 

@@ -5,10 +5,12 @@ ghost use Rattle.std.specs.Prelude.{◌≡◌};
 use crate::fault::ReplayFault;
 use crate::form::Form;
 use crate::lines::{Change, Effect, LinePlace, Load, Miss};
+use crate::looking::Copies;
 use crate::meaning::word;
 use hist_core::{Begun, Call, Stepped, World};
 use schedule::{NewWorld, Order, OrderKind};
 use std::alloc::{AllocError, Global};
+use std::io;
 use std::io::Write;
 
 /// A world in which a schedule is replayed, to its end or to where it is to stop.
@@ -35,8 +37,10 @@ ghost use Rattle.hist_core.specs.World.{actor_checks, world_checks, IsAdoptFault
 ghost use Rattle.segment_image.specs.Checks.{first_fault};
 ghost use Rattle.segment_image.specs.Head.{head_of, header_of};
 ghost use Rattle.stepped.specs.Fault.{fault_of_world};
-ghost use Rattle.stepped.specs.Form.{Writes, texts};
+ghost use Rattle.stepped.specs.Form.{Writes, text_of, texts};
 ghost use Rattle.stepped.specs.Lines.{Deed};
+ghost use Rattle.stepped.specs.Lines.Deed.{Looks as LooksAt};
+ghost use Rattle.stepped.specs.Looking.{Looks, look_of};
 ghost use Rattle.stepped.specs.Replay.{DoesOrder, EndsCall, FailsAt, RunsEvents, HasChanged, IsDifference, Replays, ShowsMove, StopsWith, next_found, next_miss, placed};
 
 // Where two lists of words differ first.
@@ -246,6 +250,16 @@ impl Replay {
         Ok(())
     }
 
+    // Shows the load of a word into the copy of a look.
+    fn look<W: Write>(&self, writer: &mut W, place: LinePlace, at: usize) -> Result<(), ReplayFault>
+        ensures ok { OnOk result (Appends (W.contents writer.old) (W.contents writer.new) (text_of self.now.form place (LooksAt self.now.world.world_state.words.items at))) }
+        ensures err { IfErr result (λ fault. fault ≡ ReplayFault.Write) }
+    {
+        self.form
+            .show_look(writer, place, at, self.world.words())
+            .map_err(|_| ReplayFault::Write)
+    }
+
     // Does what a record says.
     fn obey<W: Write>(
         &mut self,
@@ -263,6 +277,7 @@ impl Replay {
         match &order.kind {
             OrderKind::Begin(call) => self.begin(writer, place, call),
             OrderKind::Step(times) => self.steps(writer, place, *times),
+            OrderKind::Look(at) => self.look(writer, place, *at),
         }
     }
 
@@ -288,6 +303,26 @@ impl Replay {
                 return Ok(());
             }
             self.obey(writer, i as u64 + 2, order)?;
+        }
+        Ok(())
+    }
+
+    /// Does the same, and shows nothing. What the records load into copies is put there [looks]. The faults are those of
+    /// `run`, but for `Write`.
+    pub fn look_on(
+        &mut self,
+        alloc: Global,
+        copies: &mut Copies,
+        orders: &[Order],
+    ) -> Result<(), ReplayFault>
+        ensures looks { OnOk result (Looks orders.now self.old.left self.old.world.world_state self.new.world.world_state self.new.left (look_of copies.old) (look_of copies.new)) }
+    {
+        for (i, order) in orders.iter().enumerate() {
+            if self.left == 0 {
+                return Ok(());
+            }
+            copies.follow(alloc, order, self.words())?;
+            self.obey(&mut io::sink(), i as u64 + 2, order)?;
         }
         Ok(())
     }

@@ -66,7 +66,9 @@ def loads_of(chance: random.Random, size: int) -> list[Load]:
     return loads
 
 
-def among(chance: random.Random, moves: Sequence[seeded_schedules.Record], loads: Sequence[Load]) -> list[seeded_schedules.Record]:
+def among(
+    chance: random.Random, moves: Sequence[seeded_schedules.Record], loads: Sequence[Load]
+) -> list[seeded_schedules.Record]:
     """The moves with loads between them, in a part of the schedule."""
     ends = sorted(chance.choices(range(len(moves) + 1), k=2))
     moments = sorted(chance.choices(range(ends[0], ends[1] + 1), k=len(loads)))
@@ -80,8 +82,8 @@ def among(chance: random.Random, moves: Sequence[seeded_schedules.Record], loads
 
 
 class Copies:
-    """Three copies of words, which are loaded one after the other. With its first load a copy, and each before it that has
-    none, has all words as they are."""
+    """Three copies of words, which are loaded one after the other. With its first load a copy, and each before it that
+    has none, has all words as they are."""
 
     def __init__(self) -> None:
         self.words: list[list[int]] = []
@@ -102,20 +104,26 @@ def units_of(words: Sequence[int]) -> collections.Counter[seeded_schedules.Key]:
     histograms, bad = plain_reader.read_records(tuple(words), references, seen)
     assert not stopped and not bad, f"the list is stopped by {stopped}, and bad are {bad}"
     return collections.Counter(
-        {(name.decode(), low): units for name, one in histograms.items() for low, (_, units) in one["buckets"].items()}
+        {
+            (name.decode(), low): units
+            for name, one in histograms.items()
+            for low, (_, units) in one["buckets"].items()
+        }
     )
 
 
 def wrong_units(look: Sequence[int], first: seeded_schedules.Done, last: seeded_schedules.Done) -> str | None:
-    """What is wrong with the units of a look, or None: `first` is what was done before its first load, and `last` before
-    its last one."""
+    """What is wrong with the units of a look, or None: `first` is what was done before its first load, and `last`
+    before its last one."""
     units, least, most = units_of(look), first.ended(), last.begun()
     few = {key: (units[key], number) for key, number in least.items() if units[key] < number}
     many = {key: (number, most[key]) for key, number in units.items() if number > most[key]}
     return f"too few of {few}, too many of {many}" if few or many else None
 
 
-def wrong_look(program: pathlib.Path, path: pathlib.Path, schedule: seeded_schedules.Schedule, lines: Sequence[bytes]) -> str | None:
+def wrong_look(
+    program: pathlib.Path, path: pathlib.Path, schedule: seeded_schedules.Schedule, lines: Sequence[bytes]
+) -> str | None:
     """What is wrong with a schedule that takes a look, which is in a file, or None. `lines` are those of the schedule
     without loads."""
     came = answer(program, [path])

@@ -3,7 +3,7 @@ use Rattle.std.specs.Prelude.{◌≡◌, ◌&&◌, ◌||◌, ◌+◌, ◌==◌, 
 use Rattle.hist_core.specs.declared.world_state.WorldState.{WorldState}
 use Rattle.segment_image.specs.Words.{word_at}
 use Rattle.segment_image.specs.declared.head.SegmentHead.{SegmentHead}
-use Rattle.segment_looks.specs.Looks.{IsLook, head_of_copies}
+use Rattle.segment_looks.specs.TakesLook.{IsLook, head_of_copies}
 use Rattle.schedule.specs.declared.order.Order.{Order}
 use Rattle.schedule.specs.declared.order.OrderKind.{OrderKind}
 use Rattle.schedule.specs.declared.order.OrderKind.TheVariants as kind
@@ -78,18 +78,18 @@ look_behind look actor (kind.Begin call) words = look
 look_behind look actor (kind.Step times) words = look
 
 -- what records lead to, how many events they leave, and what they make of the copies
-abbrev pub Looks : List Order → ℕ → WorldState → WorldState → ℕ → Look → Look → Type 0
-Looks [] left old new then_left look then_look = (new ≡ old) × (then_left ≡ left) × (then_look ≡ look)
-Looks (order ∷ rest) zero old new then_left look then_look = (new ≡ old) × (then_left ≡ 0) × (then_look ≡ look)
-Looks (order ∷ rest) (suc left) old new then_left look then_look =
+abbrev pub TakesLook : List Order → ℕ → WorldState → WorldState → ℕ → Look → Look → Type 0
+TakesLook [] left old new then_left look then_look = (new ≡ old) × (then_left ≡ left) × (then_look ≡ look)
+TakesLook (order ∷ rest) zero old new then_left look then_look = (new ≡ old) × (then_left ≡ 0) × (then_look ≡ look)
+TakesLook (order ∷ rest) (suc left) old new then_left look then_look =
     (mid : WorldState) × (left_then : ℕ) × (deeds : List Deed) × DoesOrder order.actor order.kind (suc left) old mid left_then deeds
-    × Looks rest left_then mid new then_left (look_behind look order.actor order.kind old.words.items) then_look
+    × TakesLook rest left_then mid new then_left (look_behind look order.actor order.kind old.words.items) then_look
 
 -- before the first record no copy is begun
 abbrev pub no_look : Look
 no_look = record { begun = 0; one = []; two = []; three = [] }
 
 -- the image that three copies give
-abbrev pub IsImageOf : Look → List ℕ → Type 0
-IsImageOf look image =
+abbrev pub GivesImage : Look → List ℕ → Type 0
+GivesImage look image =
     (head : SegmentHead) × (head_of_copies look.one look.two look.three ≡ Ok head) × IsLook head look.one look.two look.three image

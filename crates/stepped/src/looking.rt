@@ -3,7 +3,7 @@
 
 ghost use Rattle.std.specs.Prelude.{◌≡◌, IfOk, OnOk, slice_set, if◌then◌else◌};
 ghost use Rattle.segment_image.specs.Words.{word_at};
-ghost use Rattle.stepped.specs.Looking.{IsImageOf, begun_behind as begun_behind_of, begun_look, first_bad as first_bad_of, is_bad_load as is_bad_load_of, loaded_look, look_behind, look_of, no_look};
+ghost use Rattle.stepped.specs.Looking.{GivesImage, begun_behind as begun_behind_of, begun_look, first_bad as first_bad_of, is_bad_load as is_bad_load_of, loaded_look, look_behind, look_of, no_look};
 
 use crate::fault::ReplayFault;
 use crate::meaning::word;
@@ -119,7 +119,7 @@ impl Copies {
     ///
     /// The fault is that of record 1 which an image of this segment has at an adoption, as `OldVersion`, or `NoMemory`.
     pub fn compose(mut self, alloc: Global, words: &[u64]) -> Result<Image, ReplayFault>
-        ensures { IfOk result (IsImageOf (begun_look (look_of self) 3 words.now)) }
+        ensures { IfOk result (GivesImage (begun_look (look_of self) 3 words.now)) }
     {
         self.begin(alloc, 3, words)?;
         match compose(alloc, &self.one, &self.two, &self.three) {

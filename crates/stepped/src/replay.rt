@@ -39,8 +39,8 @@ ghost use Rattle.segment_image.specs.Head.{head_of, header_of};
 ghost use Rattle.stepped.specs.Fault.{fault_of_world};
 ghost use Rattle.stepped.specs.Form.{Writes, text_of, texts};
 ghost use Rattle.stepped.specs.Lines.{Deed};
-ghost use Rattle.stepped.specs.Lines.Deed.{Looks as LooksAt};
-ghost use Rattle.stepped.specs.Looking.{Looks, look_of};
+ghost use Rattle.stepped.specs.Lines.Deed.{Looks};
+ghost use Rattle.stepped.specs.Looking.{TakesLook, look_of};
 ghost use Rattle.stepped.specs.Replay.{DoesOrder, EndsCall, FailsAt, RunsEvents, HasChanged, IsDifference, Replays, ShowsMove, StopsWith, next_found, next_miss, placed};
 
 // Where two lists of words differ first.
@@ -252,7 +252,7 @@ impl Replay {
 
     // Shows the load of a word into the copy of a look.
     fn look<W: Write>(&self, writer: &mut W, place: LinePlace, at: usize) -> Result<(), ReplayFault>
-        ensures ok { OnOk result (Appends (W.contents writer.old) (W.contents writer.new) (text_of self.now.form place (LooksAt self.now.world.world_state.words.items at))) }
+        ensures ok { OnOk result (Appends (W.contents writer.old) (W.contents writer.new) (text_of self.now.form place (Looks self.now.world.world_state.words.items at))) }
         ensures err { IfErr result (λ fault. fault ≡ ReplayFault.Write) }
     {
         self.form
@@ -315,7 +315,7 @@ impl Replay {
         copies: &mut Copies,
         orders: &[Order],
     ) -> Result<(), ReplayFault>
-        ensures looks { OnOk result (Looks orders.now self.old.left self.old.world.world_state self.new.world.world_state self.new.left (look_of copies.old) (look_of copies.new)) }
+        ensures looks { OnOk result (TakesLook orders.now self.old.left self.old.world.world_state self.new.world.world_state self.new.left (look_of copies.old) (look_of copies.new)) }
     {
         for (i, order) in orders.iter().enumerate() {
             if self.left == 0 {

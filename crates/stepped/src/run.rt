@@ -11,7 +11,7 @@ ghost use Rattle.stepped.specs.Form.{texts};
 ghost use Rattle.stepped.specs.Lines.{Deed};
 ghost use Rattle.stepped.specs.Output.{IsReportOf};
 ghost use Rattle.stepped.specs.Replay.{Replays};
-ghost use Rattle.stepped.specs.Looking.{IsImageOf, Look, Looks, begun_look, no_look};
+ghost use Rattle.stepped.specs.Looking.{GivesImage, Look, TakesLook, begun_look, no_look};
 
 use crate::explaining::{Seen, failure_of};
 use crate::failure::Failure;
@@ -190,7 +190,7 @@ fn show_look<W: Write>(
     replay: &mut Replay,
     orders: &[Order],
 ) -> Result<(), ReplayFault>
-    ensures shown { OnOk result ((look : Look) × (image : List ℕ) × Looks orders.now replay.old.left replay.old.world.world_state replay.new.world.world_state replay.new.left no_look look × IsImageOf (begun_look look 3 replay.new.world.world_state.words.items) image × Appends (W.contents (watched_inner writer.old)) (W.contents (watched_inner writer.new)) (bytes_of_words image)) }
+    ensures shown { OnOk result ((look : Look) × (image : List ℕ) × TakesLook orders.now replay.old.left replay.old.world.world_state replay.new.world.world_state replay.new.left no_look look × GivesImage (begun_look look 3 replay.new.world.world_state.words.items) image × Appends (W.contents (watched_inner writer.old)) (W.contents (watched_inner writer.new)) (bytes_of_words image)) }
 {
     let mut copies = Copies::none(alloc);
     replay.look_on(alloc, &mut copies, orders)?;

@@ -1,5 +1,5 @@
 use Rattle.std.proofs.Common.{◌≡◌, ◌<◌, ◌+◌, ◌∙◌, ap, arith, subst, sym, take}
-use Rattle.stepped.specs.Looking.{Look, Looks, look_behind, look_of}
+use Rattle.stepped.specs.Looking.{Look, TakesLook, look_behind, look_of}
 use Rattle.stepped.proofs.Looked.{looks_all, looks_next}
 use Rattle.stepped.proofs.replay.Replay.look_on.Goals as goal
 
@@ -17,6 +17,6 @@ loop-i-preserved c =
     let some : 0 < l.self.left = omega (arith, c.if-self-eq0.false) in
     let follows : look_of c.follow.new.self ≡ look_behind (look_of l.copies) order.actor order.kind mid.words.items =
     c.in_ok-follow.ensures ∙ ap (look_behind (look_of l.copies) order.actor order.kind) c.words.ensures.words in
-    subst (λ (look : Look). Looks (take (l.i + 1) c.args.orders.now) c.args.self.now.left c.args.self.now.world.world_state new c.obey.new.self.left first look) (sym follows)
+    subst (λ (look : Look). TakesLook (take (l.i + 1) c.args.orders.now) c.args.self.now.left c.args.self.now.world.world_state new c.obey.new.self.left first look) (sym follows)
     (looks_next c.args.orders.now l.i order c.args.self.now.left c.args.self.now.world.world_state mid new l.self.left c.obey.new.self.left first (look_of l.copies) its.0
     c.loop-i-test.true c.index-orders-i.is l.invariant some its.1)

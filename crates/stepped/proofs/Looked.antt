@@ -3,7 +3,7 @@ use Rattle.std.proofs.Common.{◌≡◌, ℕ, zero, suc, ◌+◌, ◌<◌, ◌�
 use Rattle.std.proofs.lemmas.List.{at_drop_more, take-append-drop, take_more}
 use Rattle.std.specs.Prelude.{Option, Some, None, Result, Ok, Err, MatchResult}
 use Rattle.segment_image.specs.declared.head.SegmentHead.{SegmentHead}
-use Rattle.segment_looks.specs.TakesLook.{IsLook, head_of_copies}
+use Rattle.segment_looks.specs.Looks.{IsLook, head_of_copies}
 use Rattle.segment_looks.specs.declared.fault.LookFault.{LookFault}
 use Rattle.segment_looks.specs.declared.fault.LookFault.TheVariants.{NoMemory}
 use Rattle.hist_core.specs.declared.world_state.WorldState.{WorldState}

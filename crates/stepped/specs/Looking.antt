@@ -3,7 +3,7 @@ use Rattle.std.specs.Prelude.{◌≡◌, ◌&&◌, ◌||◌, ◌+◌, ◌==◌, 
 use Rattle.hist_core.specs.declared.world_state.WorldState.{WorldState}
 use Rattle.segment_image.specs.Words.{word_at}
 use Rattle.segment_image.specs.declared.head.SegmentHead.{SegmentHead}
-use Rattle.segment_looks.specs.TakesLook.{IsLook, head_of_copies}
+use Rattle.segment_looks.specs.Looks.{IsLook, head_of_copies}
 use Rattle.schedule.specs.declared.order.Order.{Order}
 use Rattle.schedule.specs.declared.order.OrderKind.{OrderKind}
 use Rattle.schedule.specs.declared.order.OrderKind.TheVariants as kind

@@ -1,9 +1,9 @@
 """The pictures that `stepped --show` makes of schedules, beside a plain picture maker.
 
 Each known schedule of cases/schedules is shown whole: its lines are known, and the plain picture is made of them, with
-plain calls that say which exchanges fail. The two stored schedules are shown whole and stopped at every event.
-README.md shows a part of the race for a name as the program draws it. What exchanges that fail wanted and found is also
-known by hand, of one at each place where there can be one.
+plain calls that say what is loaded and which exchanges fail. The two stored schedules are shown whole and stopped at
+every event. README.md shows a part of the race for a name as the program draws it. What exchanges that fail wanted and
+found is also known by hand, of one at each place where there can be one; and so are all loads of one call of each kind.
 """
 
 from __future__ import annotations
@@ -74,6 +74,39 @@ LATE = {
 }
 
 
+# All loads, in the order of their events.
+MADE = ["queue.next: loaded 12", "flags: loaded 0", "free: loaded 16", "tail: loaded 12", "queue.next: loaded 16"]
+LOADS = {
+    "buckets": (
+        MOUNTED + "snapshot,0,A\nstep,0,100\n",
+        [
+            *MADE, "A.type: loaded 1", "A.name_length: loaded 1", 'A.name: loaded "A"', "A.kind: loaded 2",
+            "A.min: loaded 1", "A.max: loaded 2", "A.buckets: loaded 3",
+            "A.single: loaded empty",
+            "A.single: loaded (bucket 0, 1 unit)", "A.counts: loaded 0", "flags: loaded 0", "free: loaded 32",
+            "A.single: loaded (bucket 0, 1 unit)",
+            "A.single: loaded frozen (bucket 0, 1 unit)", "A.counts: loaded 32", "A.count[0]: loaded 0",
+            "A.count[1]: loaded 3", "A.count[2]: loaded 0", "A.sum: loaded 3",
+            "A.single: loaded frozen (bucket 0, 1 unit)", "A.counts: loaded 32", "A.count[0]: loaded 0",
+            "A.count[1]: loaded 3", "A.count[2]: loaded 0", "A.sum: loaded 3", "A.redundant: loaded 4",
+        ],
+    ),
+    "sparse": (
+        SPARSE,
+        [
+            *MADE, "S.type: loaded 1", "S.name_length: loaded 1", 'S.name: loaded "S"', "S.kind: loaded 4",
+            "S.min: loaded 0", "S.max: loaded 0", "S.buckets: loaded 0",
+            "S.next: loaded 12", "flags: loaded 0", "free: loaded 32", "tail: loaded 16",
+            "S.next: loaded 32", "S.sample(-5).type: loaded 3", "S.sample(-5).histogram: loaded 16",
+            "S.sample(-5).value: loaded -5",
+            "S.next: loaded 32", "S.sample(-5).type: loaded 3", "S.sample(-5).histogram: loaded 16",
+            "S.sample(-5).value: loaded -5", "S.sample(-5).count: loaded 2", "S.sample(-5).next: loaded 12",
+            "S.sum: loaded -10",
+        ],
+    ),
+}
+
+
 def wrong_known(program: pathlib.Path, case: pathlib.Path) -> str | None:
     """What is wrong with the picture of a known schedule, or None."""
     lines, fault = case.with_suffix(".out").read_text(), case.with_suffix(".err").read_bytes()
@@ -115,6 +148,15 @@ def wrong_late(program: pathlib.Path, path: pathlib.Path, text: str, said: Seque
     return None if kept == said and not late else f"{kept} came in place of {said}, with {late}"
 
 
+def wrong_loads(program: pathlib.Path, path: pathlib.Path, text: str, said: Sequence[str]) -> str | None:
+    """Which loads a picture shows in place of these, or None."""
+    path.write_text(text)
+    came = answer(program, [path, "--show"])
+    rows = [line.split("\t")[1].strip() for line in came.output.decode().splitlines()]
+    loads = [row for row in rows if ": loaded " in row]
+    return None if loads == said else f"{loads} came in place of {said}"
+
+
 def wrong_readme(program: pathlib.Path) -> str | None:
     """What of the picture in README.md does not stand in the picture of the race, or None."""
     shown = README.read_text().split("stepped examples/race_for_a_name.csv --show ")[1].split("\n\n")[0]
@@ -145,6 +187,8 @@ def cases(program: pathlib.Path, options: argparse.Namespace) -> Iterator[Case]:
         yield "words of counts", wrong_words(program, folder / "counts.csv", MOUNTED, COUNTED)
         for name, (text, said) in LATE.items():
             yield f"late: {name}", wrong_late(program, folder / "late.csv", text, said)
+        for name, (text, said) in LOADS.items():
+            yield f"loads: {name}", wrong_loads(program, folder / "loads.csv", text, said)
     yield "README.md", wrong_readme(program)
     yield "a full device", wrong_device(program)
     for other in ("--report", "--image"):

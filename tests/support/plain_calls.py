@@ -1,8 +1,8 @@
-"""The calls of the stepped world in plain Python, an event at a time, to know which events are exchanges and what those
-want.
+"""The calls of the stepped world in plain Python, an event at a time, to know which events are loads, which are
+exchanges, and what those want.
 
 It is written after docs/FORMAT.md and shares nothing with the program. A call is a generator of what its events do. It
-is sent what each event found. The events of a delta or a snapshot are not told here: no event of theirs is an exchange.
+is sent what each event found.
 """
 
 from __future__ import annotations
@@ -19,7 +19,7 @@ from support.layout import COUNTS as OF_COUNTS
 from support.plain_tally import Histogram, Spec, boundaries_of
 from support.seeded_schedules import Schedule
 
-COUNTS, SINGLE, SUM, REDUNDANT, LENGTH, NAME = 8, 9, 11, 13, 14, 15
+COUNTS, SINGLE, SINGLE_MARK, SUM, SUM_MARK, REDUNDANT, LENGTH, NAME = 8, 9, 10, 11, 12, 13, 14, 15
 KINDS = {"linear": 1, "boolean": 2, "custom": 3, "sparse": 4}
 
 # An event: its kind, its word, what an exchange wants, and the operand. A call, which is sent what each event found.
@@ -51,7 +51,8 @@ def made_of(event: Event, found: int) -> int:
     new = value or 0
     if kind == "exchange":
         return new if found == wanted else found
-    return {"load": found, "store": new, "add": (found + new) % WORD, "set": found | new}[kind]
+    made = {"load": found, "store": new, "add": (found + new) % WORD, "set": found | new, "raise": max(found, new)}
+    return made[kind]
 
 
 def allocate(world: Schedule, payload: int, tag: int) -> Generator[Event, int, int | None]:
@@ -239,8 +240,62 @@ def batch(world: Schedule, known: Known, items: Iterable[tuple[int, int]], amoun
         yield add(known[0] + SUM, amount % WORD)
 
 
+def walked(histogram: int, takes: bool) -> Generator[Event, int, None]:
+    """Walks along the samples of a sparse histogram, and loads the count of each. It raises their marks if it is to
+    take them."""
+    at = histogram
+    while (at := (yield load(at + NEXT))) != QUEUE:
+        if (yield load(at + TYPE)) != SAMPLE:
+            continue
+        of = yield load(at + HEADER)
+        yield load(at + HEADER + 1)
+        if of == histogram:
+            units = yield load(at + HEADER + 2)
+            if takes and units:
+                yield "raise", at + HEADER + 3, None, units
+
+
+def packed_in(world: Schedule, word: int) -> tuple[int | None, int]:
+    """The bucket whose units a single word has or had, and the units that it has."""
+    low = word % TOP
+    if word >= TOP and world.version == 1:
+        return (None if low == 65_535 else low), 0
+    return (low >> 32, low % 2**32) if low else (None, 0)
+
+
+def counted(world: Schedule, known: Known, takes: bool) -> Generator[Event, int, None]:
+    """Loads the counts of a histogram with buckets, and raises their marks if it is to take them."""
+    histogram, buckets = known[0], len(boundaries_of(known[1])) - 1
+    word = yield load(histogram + SINGLE)
+    bucket, units = packed_in(world, word)
+    if word < TOP:
+        if takes and units:
+            yield "raise", histogram + SINGLE_MARK, None, units
+        return
+    counts = yield load(histogram + COUNTS)
+    for index in range(buckets):
+        total = (yield load(counts + HEADER + index)) + (units if index == bucket else 0)
+        if takes and total:
+            mark = histogram + SINGLE_MARK if index == bucket else counts + HEADER + buckets + index
+            yield "raise", mark, None, total
+
+
+def looked_at(world: Schedule, known: Known, takes: bool) -> Call:
+    """A delta, which takes, or a snapshot."""
+    histogram, spec = known
+    if spec[0] == "sparse":
+        yield from walked(histogram, takes)
+    else:
+        yield from counted(world, known, takes)
+    total = yield load(histogram + SUM)
+    if takes:
+        yield store(histogram + SUM_MARK, total)
+    else:
+        yield load(histogram + REDUNDANT)
+
+
 def call(world: Schedule, known: Mapping[str, Known], record: Sequence[str]) -> Call | None:
-    """The events of the call of a record, whose actor knows these histograms, or None if they are not told."""
+    """The events of the call of a record, whose actor knows these histograms, or None if it has one event alone."""
     kind, _, *rest = record
     if kind == "hist":
         return hist(world, rest[0], spec_of(rest[1:]))
@@ -250,6 +305,8 @@ def call(world: Schedule, known: Mapping[str, Known], record: Sequence[str]) -> 
             return batch(world, known[name], list(zip(numbers[1::2], numbers[2::2])), numbers[0], False)
         amount = Histogram.of(known[name][1]).clamped(numbers[0]) * numbers[1]
         return batch(world, known[name], [(numbers[0], numbers[1])], amount, True)
+    if kind in ("delta", "snapshot"):
+        return looked_at(world, known[rest[0]], kind == "delta")
     return None
 
 

@@ -152,6 +152,8 @@ def effect(words: list[int], event: Event | None, change: Sequence[int]) -> str:
     if event and event[0] == "exchange" and words[event[1]] != event[2]:
         at, wanted, found = event[1], event[2] or 0, words[event[1]]
         return f"{meaning(words, at)}: wanted {value(words, at, wanted)}, found {value(words, at, found)}"
+    if event and event[0] == "load":
+        return f"{meaning(words, event[1])}: loaded {value(words, event[1], words[event[1]])}"
     return "-"
 
 
@@ -174,6 +176,10 @@ def picture(schedule: str, lines: str, most: int | None = None) -> str:
         if what != "answer" or actor not in running:
             if most is not None and events == most:
                 break
+        if what == "look":
+            at, found = map(int, rest)
+            rows.append(row("", 0, f"copy {who}: {meaning(words, at)}: loaded {value(words, at, found)}"))
+            continue
         if what == "step":
             events += 1
             change = [int(number) for number in rest]

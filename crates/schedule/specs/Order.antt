@@ -51,16 +51,25 @@ abbrev pub times_in : List (List ℕ) → Option ℕ
 times_in (times ∷ []) = option_and_then some_number (long_number times)
 times_in _ = None
 
--- what an actor is to do: to begin a call, or to go on by so many events at most
+-- the one field that says which word
+abbrev pub word_in : List (List ℕ) → Option ℕ
+word_in (word ∷ []) = long_number word
+word_in _ = None
+
+-- what an actor is to do: to begin a call, or to go on by so many events at most; or, beside the actors, a word is loaded into a copy
 pub data Kind : Type 0 where
   Begin : Call → Kind
   Step : (times : ℕ) → Kind
+  Look : (at : ℕ) → Kind
 
 -- by a word and the fields behind the actor
 abbrev pub kind_in : List ℕ → List (List ℕ) → Option Kind
-kind_in word behind = if bytes_eq word (codes "step") then option_map Step (times_in behind) else option_map Begin (call_in word behind)
+kind_in word behind =
+    if bytes_eq word (codes "step") then option_map Step (times_in behind)
+    else (if bytes_eq word (codes "look") then option_map Look (word_in behind)
+    else option_map Begin (call_in word behind))
 
--- what a later record asks for: its actor, and what that is to do
+-- what a later record asks for: its actor or its copy, and what is to be done
 abbrev pub order_in : List (List ℕ) → Option (ℕ × Kind)
 order_in (word ∷ actor ∷ behind) = from_two (λ actor kind. (actor, kind)) (long_number actor) (kind_in word behind)
 order_in _ = None
@@ -76,6 +85,7 @@ opening_view (opening.Adopt file actors) = Adopt file.items actors
 abbrev pub kind_view : code.OrderKind → Kind
 kind_view (kind.Begin call) = Begin (call_view call)
 kind_view (kind.Step times) = Step times
+kind_view (kind.Look at) = Look at
 
 -- an order of the code: its actor, and what that is to do
 abbrev pub order_view : Order → ℕ × Kind

@@ -3,7 +3,7 @@
 ghost use Rattle.std.specs.Prelude.{◌≡◌, IfOk, option_map, drop};
 ghost use Rattle.csv.specs.Records.{fields_of};
 ghost use Rattle.schedule.specs.Fields.{texts};
-ghost use Rattle.schedule.specs.Order.{image_in, kind_in, kind_view, new_world_in, opening_in, opening_view, order_in, order_view, times_in};
+ghost use Rattle.schedule.specs.Order.{image_in, kind_in, kind_view, new_world_in, opening_in, opening_view, order_in, order_view, times_in, word_in};
 
 use crate::call::read_call;
 use crate::fields::list_fields;
@@ -36,10 +36,10 @@ pub struct NewWorld {
     pub version: u64,
 }
 
-/// What an actor is to do: a later record.
+/// What an actor is to do, or a load of a look: a later record.
 #[derive(Debug, Drop)]
 pub struct Order {
-    /// The number of the actor, from 0, whether there is one or not.
+    /// The number of the actor, from 0, or of the copy that is loaded, from 1; whether there is one or not.
     pub actor: usize,
     /// What it is to do.
     pub kind: OrderKind,
@@ -52,6 +52,8 @@ pub enum OrderKind {
     Begin(Call),
     /// It goes on with its call by at least one event and at most so many, fewer where the call ends.
     Step(u64),
+    /// No actor does anything: the word of this number, whether there is one or not, is loaded into a copy.
+    Look(usize),
 }
 
 // The world of a new segment that these fields ask for.
@@ -115,6 +117,16 @@ fn times_of(behind: &[&[u8]]) -> Option<u64>
     if times == 0 { None } else { Some(times) }
 }
 
+// The number of a word.
+fn word_of(behind: &[&[u8]]) -> Option<usize>
+    ensures { result ≡ word_in (texts behind.now) }
+{
+    let [word] = behind else {
+        return None;
+    };
+    Some(long_number(word)? as usize)
+}
+
 // What an actor is to do, by a word and the fields behind the actor.
 fn read_kind(
     alloc: Global,
@@ -127,6 +139,8 @@ fn read_kind(
 {
     if word == b"step".as_slice() {
         Ok(times_of(behind).map(OrderKind::Step))
+    } else if word == b"look".as_slice() {
+        Ok(word_of(behind).map(OrderKind::Look))
     } else {
         Ok(read_call(alloc, word, behind, record)?.map(OrderKind::Begin))
     }

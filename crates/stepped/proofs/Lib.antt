@@ -1,4 +1,5 @@
 mod Blocks
 mod Shown
+mod Looked
 mod Texts
 mod Written

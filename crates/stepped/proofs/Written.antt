@@ -14,3 +14,9 @@ pub words_behind : {F D : Type 0} (r : Result ⊤ F) (Replayed : D → Type 0) (
     → shown ≡ words → OnOk r (Put shown) → OnOk r ((done : D) × Replayed done × Put words)
 words_behind (Ok x) Replayed Put done shown words replayed same put = (done, replayed, subst Put same put)
 words_behind (Err fault) Replayed Put done shown words replayed same put = tt
+
+-- an image of a look that a replay took
+pub image_behind : {F D : Type 0} (r : Result ⊤ F) (Took : D → Type 0) (Is : D → List ℕ → Type 0) (Put : List ℕ → Type 0) (look : D) (shown image : List ℕ)
+    → Took look → Is look image → shown ≡ image → OnOk r (Put shown) → OnOk r ((look : D) × (image : List ℕ) × Took look × Is look image × Put image)
+image_behind (Ok x) Took Is Put look shown image took is same put = (look, image, took, is, subst Put same put)
+image_behind (Err fault) Took Is Put look shown image took is same put = tt

@@ -2,6 +2,7 @@
 use Rattle.std.specs.Prelude.{ℕ, ℤ, List, [], ◌∷◌, ◌++◌, codes, Option, Some, None}
 use Rattle.std.specs.Fmt.{decimal, signed_decimal}
 use Rattle.std.specs.List.{flat_map}
+use Rattle.segment_image.specs.Words.{word_at}
 use Rattle.bucket_ranges.specs.declared.spec.SpecFault.{SpecFault}
 use Rattle.bucket_ranges.specs.declared.spec.SpecFault.TheVariants as spec
 use Rattle.segment_calls.specs.declared.refusal.Refusal.{Refusal}
@@ -11,7 +12,8 @@ use Rattle.hist_core.specs.declared.call.Answer.{Answer}
 use Rattle.hist_core.specs.declared.call.Answer.TheVariants.{Hist, Added, Flagged, Delta, Snapshot, Refused, BatchRefused}
 use Rattle.stepped.specs.declared.lines.Change.{Change}
 use Rattle.stepped.specs.declared.lines.Effect.{Effect}
-use Rattle.stepped.specs.declared.lines.Effect.TheVariants.{Quiet, Changed, Missed}
+use Rattle.stepped.specs.declared.lines.Effect.TheVariants.{Quiet, Changed, Missed, Loaded}
+use Rattle.stepped.specs.declared.lines.Load.{Load}
 use Rattle.stepped.specs.declared.lines.Miss.{Miss}
 use Rattle.stepped.specs.declared.lines.LinePlace.{LinePlace}
 
@@ -47,19 +49,25 @@ refusal_fields why = refusal_word why ∷ []
 
 -- ---- what is shown of a call
 
--- what an event did that changed this, or, if it changed nothing, that missed this
-abbrev pub effect_of : Option Change → Option Miss → Effect
-effect_of (Some change) miss = Changed change
-effect_of None (Some miss) = Missed miss
-effect_of None None = Quiet
+-- what an event did that changed this, or, if it changed nothing, that missed this, or else loaded this
+abbrev pub effect_of : Option Change → Option Miss → Option Load → Effect
+effect_of (Some change) miss load = Changed change
+effect_of None (Some miss) load = Missed miss
+effect_of None None (Some load) = Loaded load
+effect_of None None None = Quiet
+
+-- a load of a word of these, and what it finds
+abbrev pub load_of : List ℕ → ℕ → Load
+load_of words at = record { at = at; value = word_at words at }
 
 -- It begins; it begins and has ended with an answer, without an event; an event of it happens, which does this and leads to these words; or
--- it ends with its last event, and an answer.
+-- it ends with its last event, and an answer. Or, beside all calls, a word of these is loaded into a copy.
 pub data Deed : Type 0 where
   Begins : (call : Call) → Deed
   AtOnce : (call : Call) → (answer : Answer) → Deed
   Steps : (words : List ℕ) → (effect : Effect) → Deed
   Ends : (answer : Answer) → Deed
+  Looks : (words : List ℕ) → (at : ℕ) → Deed
 
 -- each key with its units
 abbrev pub units_fields : List (ℤ × ℕ) → List (List ℕ)
@@ -80,6 +88,7 @@ answer_fields (BatchRefused refused) = codes "batch_refused" ∷ decimal refused
 abbrev pub step_fields : Effect → List (List ℕ)
 step_fields Quiet = codes "step" ∷ []
 step_fields (Missed miss) = codes "step" ∷ []
+step_fields (Loaded load) = codes "step" ∷ []
 step_fields (Changed change) = codes "step" ∷ decimal change.at ∷ decimal change.old ∷ decimal change.new ∷ []
 
 -- the fields after those of the place
@@ -88,6 +97,7 @@ deed_fields (Begins call) = codes "begin" ∷ []
 deed_fields (AtOnce call answer) = codes "answer" ∷ answer_fields answer
 deed_fields (Steps words effect) = step_fields effect
 deed_fields (Ends answer) = codes "answer" ∷ answer_fields answer
+deed_fields (Looks words at) = codes "look" ∷ decimal at ∷ decimal (word_at words at) ∷ []
 
 -- ---- texts
 
@@ -95,7 +105,7 @@ deed_fields (Ends answer) = codes "answer" ∷ answer_fields answer
 abbrev pub behind : List (List ℕ) → List ℕ
 behind fields = flat_map (λ field. 44 ∷ field) fields
 
--- the number of a record, and its actor
+-- the number of a record, and its actor or its copy
 abbrev pub place_text : LinePlace → List ℕ
 place_text place = decimal place.number ++ behind (decimal place.actor ∷ [])
 

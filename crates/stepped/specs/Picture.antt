@@ -5,7 +5,8 @@ use Rattle.hist_core.specs.declared.call.Answer.{Answer}
 use Rattle.segment_calls.specs.declared.call.Call.{Call}
 use Rattle.segment_calls.specs.declared.call.Call.TheVariants.{Hist, Add, Delta, Snapshot, Batch, SetCorrupt}
 use Rattle.stepped.specs.declared.lines.Effect.{Effect}
-use Rattle.stepped.specs.declared.lines.Effect.TheVariants.{Quiet, Changed, Missed}
+use Rattle.stepped.specs.declared.lines.Effect.TheVariants.{Quiet, Changed, Missed, Loaded}
+use Rattle.stepped.specs.declared.lines.Load.{Load}
 use Rattle.stepped.specs.Meaning.{meaning}
 use Rattle.stepped.specs.Said.{answer_text}
 use Rattle.stepped.specs.Value.{value_text}
@@ -24,13 +25,19 @@ abbrev pub begin_cell : ℕ → Call → List ℕ
 begin_cell actor call = codes "actor " ++ decimal actor ++ codes ": " ++ call_text call
 
 -- An event: what the word that it changed means as the words are then, what it was and what it is; or what the word means of an exchange
--- that did not go through, what that wanted and what it found; or that it changed none.
+-- that did not go through, what that wanted and what it found; or what the word means that it loaded, and what it found; or that it changed
+-- none.
 abbrev pub event_cell : List ℕ → Effect → List ℕ
 event_cell words Quiet = codes "-"
+event_cell words (Loaded load) = meaning words load.at ++ codes ": loaded " ++ value_text words load.at load.value
 event_cell words (Missed miss) =
     meaning words miss.at ++ codes ": wanted " ++ value_text words miss.at miss.wanted ++ codes ", found " ++ value_text words miss.at miss.found
 event_cell words (Changed change) =
     meaning words change.at ++ codes " " ++ value_text words change.at change.old ++ codes " -> " ++ value_text words change.at change.new
+
+-- a load of a look, into a copy of this number: what the word means, and what it found
+abbrev pub load_cell : ℕ → List ℕ → Load → List ℕ
+load_cell copy words load = codes "copy " ++ decimal copy ++ codes ": " ++ event_cell words (Loaded load)
 
 -- a call's answer
 abbrev pub answer_cell : Answer → List ℕ

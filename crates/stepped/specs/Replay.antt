@@ -12,6 +12,7 @@ use Rattle.hist_core.specs.declared.call.Stepped.TheVariants.{More, Done}
 use Rattle.hist_core.specs.declared.fault.WorldFault.{WorldFault}
 use Rattle.hist_core.specs.Moves.{FaultsAt, IsBegun, IsStepped}
 use Rattle.hist_core.specs.Exchanging.{next_attempt}
+use Rattle.hist_core.specs.Loading.{next_load}
 use Rattle.alloc_core.specs.declared.attempt.Attempt.{Attempt}
 use Rattle.segment_image.specs.Words.{word_at}
 use Rattle.schedule.specs.declared.order.Order.{Order}
@@ -21,11 +22,12 @@ use Rattle.stepped.specs.declared.fault.ReplayFault.{ReplayFault}
 use Rattle.stepped.specs.declared.fault.ReplayFault.TheVariants.{Write}
 use Rattle.stepped.specs.declared.lines.Change.{Change}
 use Rattle.stepped.specs.declared.lines.Effect.{Effect}
+use Rattle.stepped.specs.declared.lines.Load.{Load}
 use Rattle.stepped.specs.declared.lines.Miss.{Miss}
 use Rattle.stepped.specs.declared.lines.LinePlace.{LinePlace}
 use Rattle.stepped.specs.Fault.{fault_of_world}
-use Rattle.stepped.specs.Lines.{Deed, effect_of}
-use Rattle.stepped.specs.Lines.Deed.{Begins, AtOnce, Steps, Ends}
+use Rattle.stepped.specs.Lines.{Deed, effect_of, load_of}
+use Rattle.stepped.specs.Lines.Deed.{Begins, AtOnce, Steps, Ends, Looks}
 
 -- ---- moves
 
@@ -59,6 +61,15 @@ miss_in words (Some attempt) =
 abbrev pub next_miss : WorldState → ℕ → Option Miss
 next_miss world_state actor = miss_in world_state.words.items (next_attempt world_state actor)
 
+-- what a load of a word finds in these words
+abbrev pub load_in : List ℕ → Option ℕ → Option Load
+load_in words None = None
+load_in words (Some at) = Some (load_of words at)
+
+-- what an actor finds by its next event, in a world, if that is a load
+abbrev pub next_found : WorldState → ℕ → Option Load
+next_found world_state actor = load_in world_state.words.items (next_load world_state actor)
+
 -- what is done at a begin: the call begins, or it has ended with its answer, if it needs no event
 abbrev pub begin_deeds : Call → Begun → List Deed
 begin_deeds call Going = Begins call ∷ []
@@ -74,7 +85,7 @@ abbrev pub ShowsMove : Move → WorldState → WorldState → List Deed → Type
 ShowsMove (Begin actor call) old new deeds = (said : Begun) × IsBegun actor call old new said × (deeds ≡ begin_deeds call said)
 ShowsMove (Step actor) old new deeds =
     (said : Stepped) × IsStepped actor old new said
-    × ((change : Option Change) × HasChanged old.words.items new.words.items change × (deeds ≡ step_deeds new.words.items (effect_of change (next_miss old actor)) said))
+    × ((change : Option Change) × HasChanged old.words.items new.words.items change × (deeds ≡ step_deeds new.words.items (effect_of change (next_miss old actor) (next_found old actor)) said))
 
 -- so do the events of an actor's call, one after the other
 abbrev pub GoesBy : ℕ → ℕ → WorldState → WorldState → List Deed → Type 0
@@ -100,6 +111,7 @@ pub record RunsEvents (actor times left : ℕ) (old new : WorldState) (then_left
 abbrev pub DoesOrder : ℕ → OrderKind → ℕ → WorldState → WorldState → ℕ → List Deed → Type 0
 DoesOrder actor (kind.Begin call) left old new then_left deeds = ShowsMove (Begin actor call) old new deeds × (then_left ≡ left)
 DoesOrder actor (kind.Step times) left old new then_left deeds = RunsEvents actor times left old new then_left deeds
+DoesOrder actor (kind.Look at) left old new then_left deeds = (new ≡ old) × (then_left ≡ left) × (deeds ≡ Looks old.words.items at ∷ [])
 
 -- what a record does, at its place
 abbrev pub placed : ℕ → ℕ → List Deed → List (LinePlace × Deed)
@@ -116,11 +128,13 @@ Replays number (order ∷ rest) (suc left) old new then_left done =
 
 -- ---- faults
 
--- What a record does before the world has a fault at it, and the fault: none before a call begins; else fewer events than it says.
+-- What a record does before the world has a fault at it, and the fault: none before a call begins; else fewer events than it says. A look
+-- has none.
 abbrev pub FailsAt : ℕ → OrderKind → WorldState → WorldFault → List Deed → Type 0
 FailsAt actor (kind.Begin call) old fault deeds = FaultsAt (Begin actor call) old fault × (deeds ≡ [])
 FailsAt actor (kind.Step times) old fault deeds =
     (events : ℕ) × (at : WorldState) × (events < times) × GoesBy actor events old at deeds × FaultsAt (Step actor) at fault
+FailsAt actor (kind.Look at) old fault deeds = ⊥
 
 -- the first fault of the world, at a record from number 2 on, and what was done before it
 pub record StopsAtOrder (orders : List Order) (left : ℕ) (old : WorldState) (number : ℕ) (fault : WorldFault) (shown : List (LinePlace × Deed)) : Type 0 where

@@ -3,10 +3,11 @@
 ghost use Rattle.std.specs.Prelude.{◌≡◌, OnOk};
 ghost use Rattle.std.specs.Io.KnownBytes.{Appends};
 ghost use Rattle.stepped.specs.Form.{form_after, text_of};
-ghost use Rattle.stepped.specs.Lines.Deed.{Begins, AtOnce, Steps, Ends};
+ghost use Rattle.stepped.specs.Lines.Deed.{Begins, AtOnce, Steps, Ends, Looks};
 
-use crate::lines::{Effect, LinePlace, show_answer, show_begin, show_step};
-use crate::picture::{draw_answer, draw_begin, draw_event};
+use crate::lines::{Effect, LinePlace, Load, show_answer, show_begin, show_look, show_step};
+use crate::meaning::word;
+use crate::picture::{draw_answer, draw_begin, draw_event, draw_look};
 use hist_core::{Answer, Call};
 use std::io;
 use std::io::Write;
@@ -88,6 +89,26 @@ impl Form {
         match self {
             Form::Lines => show_answer(writer, place, answer),
             Form::Picture(_) => draw_answer(writer, place.actor, answer),
+        }
+    }
+
+    /// Shows the load of a word into the copy of a look, as the words are then. The error is the writer's.
+    pub fn show_look<W: Write>(
+        &self,
+        writer: &mut W,
+        place: LinePlace,
+        at: usize,
+        words: &[u64],
+    ) -> io::Result<()>
+        ensures { OnOk result (Appends (W.contents writer.old) (W.contents writer.new) (text_of self.now place (Looks words.now at))) }
+    {
+        let load = Load {
+            at,
+            value: word(words, at),
+        };
+        match self {
+            Form::Lines => show_look(writer, place, load),
+            Form::Picture(_) => draw_look(writer, place.actor, load, words),
         }
     }
 }

@@ -15,7 +15,7 @@ use std::io::Write;
 pub struct LinePlace {
     /// The number of the record, from 1.
     pub number: u64,
-    /// The actor, from 0.
+    /// The actor, from 0, or the copy of a look, from 1.
     pub actor: usize,
 }
 
@@ -41,28 +41,40 @@ pub struct Miss {
     pub found: u64,
 }
 
+/// A load, and what it found.
+#[derive(Clone, Copy)]
+pub struct Load {
+    /// The number of the word.
+    pub at: usize,
+    /// What it found.
+    pub value: u64,
+}
+
 /// What an event did.
 #[derive(Clone, Copy)]
 pub enum Effect {
-    /// It changed no word.
+    /// It changed no word, and was neither a load nor an exchange that failed.
     Quiet,
     /// It changed a word.
     Changed(Change),
     /// It was an exchange that failed.
     Missed(Miss),
+    /// It was a load.
+    Loaded(Load),
 }
 
 impl Effect {
     ghost use Rattle.stepped.specs.Lines.{effect_of};
 
-    /// Returns what an event did that changed this, or, if it changed nothing, that missed this.
-    pub fn of(change: Option<Change>, miss: Option<Miss>) -> Effect
-        ensures { result ≡ effect_of change miss }
+    /// Returns what an event did that changed this, or, if it changed nothing, that missed this, or else loaded this.
+    pub fn of(change: Option<Change>, miss: Option<Miss>, load: Option<Load>) -> Effect
+        ensures { result ≡ effect_of change miss load }
     {
-        match (change, miss) {
-            (Some(change), _) => Effect::Changed(change),
-            (None, Some(miss)) => Effect::Missed(miss),
-            (None, None) => Effect::Quiet,
+        match (change, miss, load) {
+            (Some(change), _, _) => Effect::Changed(change),
+            (None, Some(miss), _) => Effect::Missed(miss),
+            (None, None, Some(load)) => Effect::Loaded(load),
+            (None, None, None) => Effect::Quiet,
         }
     }
 }
@@ -131,6 +143,17 @@ pub fn show_step<W: Write>(writer: &mut W, place: LinePlace, effect: Effect) -> 
     if let Effect::Changed(change) = effect {
         put_change(writer, change)?;
     }
+    end_line(writer)
+}
+
+/// Writes the line of a load of a look: the word, and what it found. The error is the writer's.
+pub fn show_look<W: Write>(writer: &mut W, place: LinePlace, load: Load) -> io::Result<()>
+    ensures { OnOk result (Appends (W.contents writer.old) (W.contents writer.new) (line place (codes "look" ∷ decimal load.at ∷ decimal load.value ∷ []))) }
+{
+    put_place(writer, place)?;
+    put_word(writer, b"look")?;
+    put_number(writer, load.at as u64)?;
+    put_number(writer, load.value)?;
     end_line(writer)
 }
 

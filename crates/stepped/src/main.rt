@@ -7,6 +7,7 @@ mod failure;
 mod fault;
 mod form;
 mod lines;
+mod looking;
 mod meaning;
 mod noted;
 mod picture;

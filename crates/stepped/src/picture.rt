@@ -3,9 +3,10 @@
 ghost use Rattle.std.specs.Prelude.{◌≡◌, [], Some, None, OnOk};
 ghost use Rattle.std.specs.Fmt.{decimal};
 ghost use Rattle.std.specs.Io.KnownBytes.{Appends};
-ghost use Rattle.stepped.specs.Picture.{answer_cell, begin_cell, call_text, column, event_cell, row, row_start};
+ghost use Rattle.stepped.specs.Picture.{answer_cell, begin_cell, call_text, column, event_cell, load_cell, row, row_start};
+ghost use Rattle.stepped.specs.declared.lines.Effect.TheVariants.{Loaded};
 
-use crate::lines::Effect;
+use crate::lines::{Effect, Load};
 use crate::meaning::put_meaning;
 use crate::said::put_said;
 use crate::value::put_value;
@@ -82,6 +83,25 @@ pub fn draw_begin<W: Write>(writer: &mut W, actor: usize, call: &Call) -> io::Re
     writer.write_all(b"\n")
 }
 
+// A load: what its word means, and what it found.
+fn put_load<W: Write>(writer: &mut W, words: &[u64], load: Load) -> io::Result<()>
+    ensures { OnOk result (Appends (W.contents writer.old) (W.contents writer.new) (event_cell words.now (Loaded load))) }
+{
+    put_meaning(writer, words, load.at)?;
+    writer.write_all(b": loaded ")?;
+    put_value(writer, words, load.at, load.value)
+}
+
+/// Writes the row of a load of a look into a copy, as the words are then. The error is the writer's.
+pub fn draw_look<W: Write>(writer: &mut W, copy: usize, load: Load, words: &[u64]) -> io::Result<()>
+    ensures { OnOk result (Appends (W.contents writer.old) (W.contents writer.new) (row [] 0 (load_cell copy words.now load))) }
+{
+    start_row(writer, 0)?;
+    write!(writer, "copy {copy}: ")?;
+    put_load(writer, words, load)?;
+    writer.write_all(b"\n")
+}
+
 /// Writes the row of an event, with the word that it changed, or with the exchange that failed, as the words are
 /// then. The error is the writer's.
 pub fn draw_event<W: Write>(
@@ -109,6 +129,10 @@ pub fn draw_event<W: Write>(
             put_value(writer, words, miss.at, miss.wanted)?;
             writer.write_all(b", found ")?;
             put_value(writer, words, miss.at, miss.found)?;
+            writer.write_all(b"\n")
+        }
+        Effect::Loaded(load) => {
+            put_load(writer, words, load)?;
             writer.write_all(b"\n")
         }
         Effect::Quiet => writer.write_all(b"-\n"),

@@ -4,11 +4,13 @@ ghost use Rattle.std.specs.Prelude.{◌≡◌};
 
 use crate::fault::ReplayFault;
 use crate::form::Form;
-use crate::lines::{Change, Effect, LinePlace, Miss};
+use crate::lines::{Change, Effect, LinePlace, Load, Miss};
+use crate::looking::Copies;
 use crate::meaning::word;
 use hist_core::{Begun, Call, Stepped, World};
 use schedule::{NewWorld, Order, OrderKind};
 use std::alloc::{AllocError, Global};
+use std::io;
 use std::io::Write;
 
 /// A world in which a schedule is replayed, to its end or to where it is to stop.
@@ -35,9 +37,11 @@ ghost use Rattle.hist_core.specs.World.{actor_checks, world_checks, IsAdoptFault
 ghost use Rattle.segment_image.specs.Checks.{first_fault};
 ghost use Rattle.segment_image.specs.Head.{head_of, header_of};
 ghost use Rattle.stepped.specs.Fault.{fault_of_world};
-ghost use Rattle.stepped.specs.Form.{Writes, texts};
+ghost use Rattle.stepped.specs.Form.{Writes, text_of, texts};
 ghost use Rattle.stepped.specs.Lines.{Deed};
-ghost use Rattle.stepped.specs.Replay.{DoesOrder, EndsCall, FailsAt, RunsEvents, HasChanged, IsDifference, Replays, ShowsMove, StopsWith, next_miss, placed};
+ghost use Rattle.stepped.specs.Lines.Deed.{Looks};
+ghost use Rattle.stepped.specs.Looking.{TakesLook, look_of};
+ghost use Rattle.stepped.specs.Replay.{DoesOrder, EndsCall, FailsAt, RunsEvents, HasChanged, IsDifference, Replays, ShowsMove, StopsWith, next_found, next_miss, placed};
 
 // Where two lists of words differ first.
 fn change_of(old: &[u64], new: &[u64]) -> Option<Change>
@@ -167,6 +171,19 @@ impl Replay {
         })
     }
 
+    // What an actor finds by its next event, if that is a load.
+    fn next_found(&self, actor: usize) -> Option<Load>
+        ensures { result ≡ next_found self.now.world.world_state actor }
+    {
+        let Some(at) = self.world.next_load(actor) else {
+            return None;
+        };
+        Some(Load {
+            at,
+            value: word(self.world.words(), at),
+        })
+    }
+
     // An event of an actor's call, and the word that it changed.
     fn advance(&mut self, place: LinePlace) -> Result<(Stepped, Option<Change>), ReplayFault>
         ensures left { self.new.left ≡ self.old.left }
@@ -194,8 +211,9 @@ impl Replay {
         ensures err { IfErr result (λ fault. (fault ≡ ReplayFault.Write) ⊎ ((why : WorldFault) × FaultsAt (Step place.actor) self.old.world.world_state why × (fault ≡ fault_of_world place.number why) × (writer.new ≡ writer.old))) }
     {
         let miss = self.next_miss(place.actor);
+        let load = self.next_found(place.actor);
         let (said, change) = self.advance(place)?;
-        let effect = Effect::of(change, miss);
+        let effect = Effect::of(change, miss, load);
         self.form
             .show_event(writer, place, effect, self.world.words())
             .map_err(|_| ReplayFault::Write)?;
@@ -232,6 +250,16 @@ impl Replay {
         Ok(())
     }
 
+    // Shows the load of a word into the copy of a look.
+    fn look<W: Write>(&self, writer: &mut W, place: LinePlace, at: usize) -> Result<(), ReplayFault>
+        ensures ok { OnOk result (Appends (W.contents writer.old) (W.contents writer.new) (text_of self.now.form place (Looks self.now.world.world_state.words.items at))) }
+        ensures err { IfErr result (λ fault. fault ≡ ReplayFault.Write) }
+    {
+        self.form
+            .show_look(writer, place, at, self.world.words())
+            .map_err(|_| ReplayFault::Write)
+    }
+
     // Does what a record says.
     fn obey<W: Write>(
         &mut self,
@@ -249,6 +277,7 @@ impl Replay {
         match &order.kind {
             OrderKind::Begin(call) => self.begin(writer, place, call),
             OrderKind::Step(times) => self.steps(writer, place, *times),
+            OrderKind::Look(at) => self.look(writer, place, *at),
         }
     }
 
@@ -259,8 +288,9 @@ impl Replay {
     /// as it says, and fewer only if the call ends or no event is left; once none is left, nothing more is done.
     /// Exactly what was done is written, as lines or as a picture: each begin, with its answer if it needs no
     /// event; each event, with the one word that it changed, from what to what, or none; and after it the answer of a
-    /// call that it ended. If an event changed no word and the world says that it is an
-    /// exchange which wants another number than the word has, a picture says both numbers [replays].
+    /// call that it ended. If an event changed no word, a picture says of an exchange what it wanted and what it
+    /// found, if the world says that it is one which wants another number than the word has; and of a load, if the
+    /// world says that it is one, what it found [replays].
     ///
     /// `Write` comes if a write failed. Else the fault is the first one that the world has at a move of a record,
     /// `World` with the record's number, or `NoMemory`; and what was done before it is written [stops].
@@ -273,6 +303,26 @@ impl Replay {
                 return Ok(());
             }
             self.obey(writer, i as u64 + 2, order)?;
+        }
+        Ok(())
+    }
+
+    /// Does the same, and shows nothing. What the records load into copies is put there [looks]. The faults are those of
+    /// `run`, but for `Write`.
+    pub fn look_on(
+        &mut self,
+        alloc: Global,
+        copies: &mut Copies,
+        orders: &[Order],
+    ) -> Result<(), ReplayFault>
+        ensures looks { OnOk result (TakesLook orders.now self.old.left self.old.world.world_state self.new.world.world_state self.new.left (look_of copies.old) (look_of copies.new)) }
+    {
+        for (i, order) in orders.iter().enumerate() {
+            if self.left == 0 {
+                return Ok(());
+            }
+            copies.follow(alloc, order, self.words())?;
+            self.obey(&mut io::sink(), i as u64 + 2, order)?;
         }
         Ok(())
     }

@@ -24,7 +24,8 @@ batch,ACTOR,NAME,SUM,VALUE,COUNT,..
 delta,ACTOR,NAME
 snapshot,ACTOR,NAME
 set_corrupt,ACTOR
-step,ACTOR,TIMES                     and who does the next TIMES steps";
+step,ACTOR,TIMES                     and who does the next TIMES steps,
+look,COPY,WORD                       or a load of a look, into copy 1, 2 or 3";
 
 // Examples that work in an empty folder, one after the other.
 const EXAMPLES: &str = "Examples:
@@ -57,6 +58,8 @@ pub enum Show {
     Report,
     /// The words of the segment as they are at the end, eight bytes for each.
     Image,
+    /// The words of the look that the records have taken, with eight bytes for each.
+    Look,
 }
 
 /// What the program is asked to do.
@@ -103,6 +106,11 @@ fn command<'a>(alloc: Global) -> Result<Command<'a>, AllocError> {
         "image",
         "Write the words of the segment at the end,\nor where --stop ended, as an image",
     );
+    let look = flag(
+        alloc,
+        "look",
+        "Write the look that the records take, put\ntogether at the end, as an image",
+    );
     Command::new(alloc, "stepped")
         .version("0.1.0")
         .about("Replay a schedule of calls on a segment, one atomic step at a time")
@@ -110,10 +118,16 @@ fn command<'a>(alloc: Global) -> Result<Command<'a>, AllocError> {
         .after_help(SHORT_EXAMPLE)
         .after_long_help(EXAMPLES)
         .arg(schedule)?
-        .arg(picture.conflicts_with("report")?.conflicts_with("image")?)?
+        .arg(
+            picture
+                .conflicts_with("report")?
+                .conflicts_with("image")?
+                .conflicts_with("look")?,
+        )?
         .arg(stop_argument(alloc))?
-        .arg(report.conflicts_with("image")?)?
-        .arg(image)?
+        .arg(report.conflicts_with("image")?.conflicts_with("look")?)?
+        .arg(image.conflicts_with("look")?)?
+        .arg(look)?
         .arg(flag(
             alloc,
             "explain",
@@ -131,6 +145,8 @@ fn show_of(matches: &ArgMatches<'_>) -> Show {
         Show::Report
     } else if matches.get_flag("image") {
         Show::Image
+    } else if matches.get_flag("look") {
+        Show::Look
     } else {
         Show::Lines
     }

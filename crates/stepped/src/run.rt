@@ -11,11 +11,13 @@ ghost use Rattle.stepped.specs.Form.{texts};
 ghost use Rattle.stepped.specs.Lines.{Deed};
 ghost use Rattle.stepped.specs.Output.{IsReportOf};
 ghost use Rattle.stepped.specs.Replay.{Replays};
+ghost use Rattle.stepped.specs.Looking.{GivesImage, Look, TakesLook, begun_look, no_look};
 
 use crate::explaining::{Seen, failure_of};
 use crate::failure::Failure;
 use crate::fault::ReplayFault;
 use crate::form::Form;
+use crate::looking::{Copies, first_bad};
 use crate::noted::Noted;
 use crate::replay::Replay;
 use crate::request::{Request, Show, not_text};
@@ -117,7 +119,7 @@ fn start<R: Files + AllocGlobal>(
     let Request { events, show, .. } = request;
     let form = match show {
         Show::Picture => Form::Picture(0),
-        Show::Lines | Show::Report | Show::Image => Form::Lines,
+        Show::Lines | Show::Report | Show::Image | Show::Look => Form::Lines,
     };
     match opening {
         Opening::New(world) => Replay::new(rt.alloc(), world, events, form),
@@ -137,6 +139,9 @@ fn meet<R: Files + Print + AllocGlobal>(
     let alloc = rt.alloc();
     let Schedule { opening, orders } = schedule_in(rt, request.schedule, seen)?;
     let mut replay = start(rt, opening, request, seen)?;
+    if let Some(number) = first_bad(&orders, replay.words().len()) {
+        return Err(ReplayFault::BadLine(number));
+    }
     let mut writer = Watched::new(Noted {
         inner: io::writer(rt),
         reason: &seen.reason,
@@ -149,6 +154,7 @@ fn meet<R: Files + Print + AllocGlobal>(
         },
         Show::Report => show_report(alloc, &mut writer, &mut replay, &orders),
         Show::Image => show_image(&mut writer, &mut replay, &orders),
+        Show::Look => show_look(alloc, &mut writer, &mut replay, &orders),
     }
 }
 
@@ -175,6 +181,21 @@ fn show_image<W: Write>(
 {
     replay.run(&mut io::sink(), orders)?;
     write_image(writer, replay.words())
+}
+
+// Replays the records of a schedule, and writes the image of the look that they take.
+fn show_look<W: Write>(
+    alloc: Global,
+    writer: &mut Watched<W>,
+    replay: &mut Replay,
+    orders: &[Order],
+) -> Result<(), ReplayFault>
+    ensures shown { OnOk result ((look : Look) × (image : List ℕ) × TakesLook orders.now replay.old.left replay.old.world.world_state replay.new.world.world_state replay.new.left no_look look × GivesImage (begun_look look 3 replay.new.world.world_state.words.items) image × Appends (W.contents (watched_inner writer.old)) (W.contents (watched_inner writer.new)) (bytes_of_words image)) }
+{
+    let mut copies = Copies::none(alloc);
+    replay.look_on(alloc, &mut copies, orders)?;
+    let image = copies.compose(alloc, replay.words())?;
+    write_image(writer, image.words())
 }
 
 // Shows a schedule as it is replayed, through a buffer, and gives the writer back. What was done before a fault is shown too.

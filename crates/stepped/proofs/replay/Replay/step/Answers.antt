@@ -7,7 +7,7 @@ use Rattle.stepped.specs.declared.form.Form.{Form}
 use Rattle.stepped.specs.Form.{counted, text_of}
 use Rattle.stepped.specs.Lines.{effect_of}
 use Rattle.stepped.specs.Lines.Deed.{Steps, Ends}
-use Rattle.stepped.specs.Replay.{next_miss}
+use Rattle.stepped.specs.Replay.{next_found, next_miss}
 use Rattle.stepped.proofs.Shown.{writes_one, writes_placed}
 use Rattle.stepped.proofs.replay.Replay.step.Goals as goal
 
@@ -16,7 +16,9 @@ returns-in-More-clause-ok g c =
     let start = g.W.Write.contents c.args.writer.now in let last = g.W.Write.contents c.show_event.new.writer in let change = c.in_ok-said.change in let effect = c.of-effect.result in
     let place = c.args.place in let words = c.advance.new.self.world.world_state.words.items in let form = c.args.self.now.form in
     let did = c.in_ok-said.ensures.ok in
-    let is_effect : effect ≡ effect_of change (next_miss c.args.self.now.world.world_state place.actor) = c.of-effect.ensures ∙ ap (effect_of change) c.next_miss-miss.ensures in
+    let old = c.args.self.now.world.world_state in
+    let is_effect : effect ≡ effect_of change (next_miss old place.actor) (next_found old place.actor) =
+    c.of-effect.ensures ∙ (ap (λ m. effect_of change m c.next_found-load.result) c.next_miss-miss.ensures ∙ ap (effect_of change (next_miss old place.actor)) c.next_found-load.ensures) in
     let raw : Appends start last (text_of c.advance.new.self.form place (Steps c.words.result.now effect)) = search rules in
     let shown : Appends start last (text_of form place (Steps words effect)) =
     subst (λ (w : List ℕ). Appends start last (text_of form place (Steps w effect))) c.words.ensures.words
@@ -34,7 +36,9 @@ returns-in_ok-map_err-in-Done-clause-ok g c =
     let last = g.W.Write.contents c.show_end.new.writer in let change = c.in_ok-said.change in let effect = c.of-effect.result in let answer = c.in-Done.answer in
     let place = c.args.place in let words = c.advance.new.self.world.world_state.words.items in let form = c.args.self.now.form in
     let did = c.in_ok-said.ensures.ok in
-    let is_effect : effect ≡ effect_of change (next_miss c.args.self.now.world.world_state place.actor) = c.of-effect.ensures ∙ ap (effect_of change) c.next_miss-miss.ensures in
+    let old = c.args.self.now.world.world_state in
+    let is_effect : effect ≡ effect_of change (next_miss old place.actor) (next_found old place.actor) =
+    c.of-effect.ensures ∙ (ap (λ m. effect_of change m c.next_found-load.result) c.next_miss-miss.ensures ∙ ap (effect_of change (next_miss old place.actor)) c.next_found-load.ensures) in
     let raw : Appends start event (text_of c.advance.new.self.form place (Steps c.words.result.now effect)) = search rules in
     let shown : Appends start event (text_of form place (Steps words effect)) =
     subst (λ (w : List ℕ). Appends start event (text_of form place (Steps w effect))) c.words.ensures.words

@@ -2,16 +2,17 @@
 use Rattle.std.specs.Prelude.{◌≡◌, ◌⊎◌, ℕ, ◌+◌, ◌<◌, ◌≤◌, List, length, slice_index, Ok}
 use Rattle.std.specs.List.{All, Contains}
 use mathlib.Core.Option.{none}
+use Rattle.segment_image.specs.Blocks.{field_at}
 use Rattle.segment_image.specs.Head.{head_of}
 use Rattle.segment_image.specs.Shape.{Dimensions}
 use Rattle.segment_image.specs.Words.{word_at}
 use Rattle.segment_image.specs.declared.head.SegmentHead.{SegmentHead}
-use Rattle.segment_image.specs.declared.layout.TheConstants.{VERSION_FROZEN, FLAGS_WORD, FREE_WORD, TAIL_WORD, HISTOGRAM_COUNTS, HISTOGRAM_REDUNDANT, SAMPLE_COUNT, SAMPLE_MARK}
+use Rattle.segment_image.specs.declared.layout.TheConstants.{VERSION_FROZEN, FLAGS_WORD, FREE_WORD, TAIL_WORD, HISTOGRAM_COUNTS, HISTOGRAM_SINGLE_MARK, HISTOGRAM_REDUNDANT, SAMPLE_COUNT, SAMPLE_MARK}
 use Rattle.list_core.specs.Chain.{IsChain}
 use Rattle.list_core.specs.Walk.{IsPrefix}
 use Rattle.segment_looks.specs.Looks.{head_of_copies, followed_records, counts_reference}
 use Rattle.segment_machine.specs.State.{State}
-use Rattle.segment_invariant.specs.Body.{Record, Sample, Body, histogram, sample, other, words_of, Anatomy, order_of}
+use Rattle.segment_invariant.specs.Body.{Record, Sample, Body, histogram, sample, other, words_of, Piece, Anatomy, order_of}
 use Rattle.segment_invariant.specs.Seen.{Stands, HasRecord}
 use Rattle.segment_invariant.specs.Invariant.{Invariant}
 use Rattle.look_promises.specs.Runs.{RunsThrough, Moments, AreLoaded}
@@ -117,3 +118,19 @@ LooksNameCounts = (shape : Dimensions) (opened : Anatomy) (at : ℕ → State) (
     × ((reference : ℕ) (r : Record) → Contains (followed_records (head_loaded shape opened at moments.three) two) reference
     → HasRecord late.anatomy.pieces reference r
     → (counts_reference two three reference ≡ 0) ⊎ (counts_reference two three reference ≡ r.counts))
+
+-- ---- its marks and its redundant count
+
+-- a number of a record is no less than what it was, where the record was there, and no more than what it is
+abbrev pub IsBetween : List Piece → ℕ → (Record → ℕ) → Record → ℕ → Type 0
+IsBetween early reference number late word = ((q : Record) → HasRecord early reference q → number q ≤ word) × (word ≤ number late)
+
+-- The single mark and the redundant count that a look takes of a record lie between those of the first moment and those of the last.
+abbrev pub LooksCountBetween : Type 0
+LooksCountBetween = (shape : Dimensions) (opened : Anatomy) (at : ℕ → State) (first last : ℕ) (moments : Moments) (one two three : List ℕ)
+    → RunsThrough shape opened at → AreLoaded shape at first last moments one two three
+    → (early : Invariant shape opened (at first)) × (late : Invariant shape opened (at last))
+    × ((reference : ℕ) (r : Record) → Contains (followed_records (head_loaded shape opened at moments.three) two) reference
+    → HasRecord late.anatomy.pieces reference r
+    → IsBetween early.anatomy.pieces reference (λ q. q.mark) r (field_at one reference HISTOGRAM_SINGLE_MARK)
+    × IsBetween early.anatomy.pieces reference (λ q. q.noted) r (field_at one reference HISTOGRAM_REDUNDANT))

@@ -1,86 +1,90 @@
--- The marks and the redundant counts that are loaded of a record: they rise from what they were to what they are.
-use Rattle.segment_invariant.proofs.Prelude.Std.{◌≡◌, ◌⊎◌, ℕ, ◌+◌, ◌<◌, ◌≤◌, List, length, inl, inr, refl, sym, ap, subst, arith, slice_index, none, Contains}
+-- The counters that are loaded of a record rise from what they were to what they are.
+use Rattle.segment_invariant.proofs.Prelude.Std.{◌≡◌, ℕ, ◌+◌, ◌<◌, ◌≤◌, List, length, inl, inr, refl, sym, subst, arith, slice_index, none, Contains, true}
 use Rattle.segment_invariant.proofs.Prelude.Machine.{Dimensions, State, word_at}
-use Rattle.segment_invariant.proofs.Prelude.Invariant.{Anatomy, Body, Record, queue, plain, held, histogram, counts, sample, other, words_of, Stands, HasRecord, Invariant}
+use Rattle.segment_invariant.proofs.Prelude.Invariant.{Anatomy, Body, queue, plain, held, histogram, counts, sample, other, words_of, is_claimed, Stands, Invariant}
 use Rattle.std.proofs.Math.Decide.{dec_lt}
 use Rattle.segment_looks.specs.Looks.{followed_records}
-use Rattle.segment_invariant.specs.Rises.{GoesAs, RecordGoes}
+use Rattle.segment_invariant.specs.Rises.{GoesAs}
+use Rattle.segment_invariant.specs.Seen.{IsCounterIn}
 use Rattle.segment_invariant.proofs.Blocks.Pieces.{piece_word, one_stands}
+use Rattle.segment_invariant.proofs.Blocks.Places.{counter_within}
+use Rattle.segment_invariant.proofs.Frames.Onward.{counter_goes}
 use Rattle.look_promises.specs.Runs.{RunsThrough, Moments, AreLoaded}
-use Rattle.look_promises.specs.Looks.{IsBetween, LooksCountBetween}
+use Rattle.look_promises.specs.Looks.{IsBetween, IsChanging, LooksCountBetween}
 use Rattle.look_promises.proofs.Runs.{kept_at, rises_at, chain_at}
 use Rattle.look_promises.proofs.Following.{head, whole, place_of}
-use Rattle.look_promises.proofs.Unchanged.{IsOfList, list_claimed, list_long}
+use Rattle.look_promises.proofs.Unchanged.{IsOfList, list_claimed}
 use Rattle.look_promises.proofs.Shown.{listed_at, same_place, ends_at}
 use Rattle.look_promises.proofs.Starts.{not_yet}
 
--- a word of a record that rises: its single mark, or its redundant count
-abbrev pub IsRising : ℕ → Type 0
-IsRising i = (i ≡ 10) ⊎ (i ≡ 13)
+-- a block with a counter is claimed
+claimed : (body : Body) (i : ℕ) → IsCounterIn body i → is_claimed body ≡ true
+claimed (histogram r) i counter = refl
+claimed (counts c) i counter = refl
+claimed (sample s) i counter = refl
+claimed (other size tag next payload) i counter = absurd counter
+claimed (queue next) i counter = absurd counter
+claimed (plain words) i counter = absurd counter
+claimed (held block) i counter = absurd counter
 
-abbrev pub number : ℕ → Record → ℕ
-number i r = slice_index (words_of (histogram r)) i
+-- what is a counter of a record was one
+counter_from : (version : ℕ) (before body : Body) (i : ℕ) → IsOfList before → GoesAs version before body → IsCounterIn body i → IsCounterIn before i
+counter_from version (histogram r) body i list (s, is, goes) = subst (λ (b : Body). IsCounterIn b i) is
+counter_from version (sample s) body i list (t, is, goes) = subst (λ (b : Body). IsCounterIn b i) is
+counter_from version (other size tag next payload) body i list (n, is) = subst (λ (b : Body). IsCounterIn b i) is
+counter_from version (queue next) body i list goes = absurd list
+counter_from version (plain words) body i list goes = absurd list
+counter_from version (held block) body i list goes = absurd list
+counter_from version (counts c) body i list goes = absurd list
 
-rises : (version i : ℕ) (r s : Record) → IsRising i → RecordGoes version r s → number i r ≤ number i s
-rises version i r s (inl is) goes = subst (λ (j : ℕ). slice_index (words_of (histogram r)) j ≤ slice_index (words_of (histogram s)) j) (sym is) goes.mark
-rises version i r s (inr is) goes = subst (λ (j : ℕ). slice_index (words_of (histogram r)) j ≤ slice_index (words_of (histogram s)) j) (sym is) goes.noted
+-- it changes
+changing : (body : Body) (i : ℕ) → IsOfList body → IsCounterIn body i → IsChanging body i
+changing (histogram r) i list (inl is) = (omega (arith, is), omega (arith, is))
+changing (histogram r) i list (inr is) = (omega (arith, is), omega (arith, is))
+changing (sample s) i list counter = counter
+changing (other size tag next payload) i list counter = absurd counter
+changing (queue next) i list counter = absurd list
+changing (plain words) i list counter = absurd list
+changing (held block) i list counter = absurd list
+changing (counts c) i list counter = absurd list
 
--- what a record comes from has no more
-came : (version i : ℕ) (before : Body) (s : Record) → IsRising i → IsOfList before → GoesAs version before (histogram s) → slice_index (words_of before) i ≤ number i s
-came version i (histogram r) s rising list (z, is, goes) =
-    let up : number i r ≤ number i z = rises version i r z rising goes in
-    let same : slice_index (words_of (histogram s)) i ≡ slice_index (words_of (histogram z)) i = ap (λ (b : Body). slice_index (words_of b) i) is in
-    omega (arith, up, same)
-came version i (sample x) s rising list (t, is, goes) = absurd (cc is)
-came version i (other size tag next payload) s rising list (n, is) = absurd (cc is)
-came version i (queue next) s rising list goes = absurd list
-came version i (plain words) s rising list goes = absurd list
-came version i (held block) s rising list goes = absurd list
-came version i (counts c) s rising list goes = absurd list
-
-small : (i : ℕ) → IsRising i → (8 ≤ i) × (i ≤ 13)
-small i (inl is) = (omega (arith, is), omega (arith, is))
-small i (inr is) = (omega (arith, is), omega (arith, is))
-
-module _ (shape : Dimensions) (opened : Anatomy) (at : ℕ → State) (run : RunsThrough shape opened at) (i : ℕ) (rising : IsRising i) where
+module _ (shape : Dimensions) (opened : Anatomy) (at : ℕ → State) (run : RunsThrough shape opened at) where
   -- what it was is no more than what is loaded later
-  pub at_least : (first m x : ℕ) (q : Record) → first ≤ m → HasRecord (kept_at shape opened at run first).anatomy.pieces x q → number i q ≤ word_at (at m).words (x + i)
-  at_least first m x q le has =
+  at_least : (first m x i : ℕ) (before : Body) → first ≤ m → Stands (kept_at shape opened at run first).anatomy.pieces x none before → IsCounterIn before i
+      → slice_index (words_of before) i ≤ word_at (at m).words (x + i)
+  at_least first m x i before le stands counter =
       let kept = kept_at shape opened at run m in
-      let (then_is, stands, (s, is, goes)) = (rises_at shape opened at run first m le).goes x (histogram q) refl has in
-      let (k, there) = subst (Stands kept.anatomy.pieces x none) is stands in
-      let (low, high) = small i rising in
-      let word = piece_word shape (at m).words kept.anatomy kept.shown k (record { at = x; owner = none; body = histogram s }) i there (omega (arith, high)) in
-      let up : number i q ≤ number i s = rises (kept_at shape opened at run first).anatomy.version i q s rising goes in
+      let (body, (k, there), goes) = (rises_at shape opened at run first m le).goes x before (claimed before i counter) stands in
+      let (still, up) = counter_goes (kept_at shape opened at run first).anatomy.version before body i goes counter in
+      let word = piece_word shape (at m).words kept.anatomy kept.shown k (record { at = x; owner = none; body = body }) i there (counter_within body i still) in
       omega (arith, word, up)
 
-  module _ (m last k : ℕ) (le : m ≤ last) (below : k < length (chain_at shape opened at run last)) (r : Record)
-      (has : HasRecord (kept_at shape opened at run last).anatomy.pieces (slice_index (chain_at shape opened at run last) k) r) where
+  -- and what is loaded no more than what it is later
+  module _ (m last k i : ℕ) (le : m ≤ last) (below : k < length (chain_at shape opened at run last)) (body : Body) (list : IsOfList body)
+      (has : Stands (kept_at shape opened at run last).anatomy.pieces (slice_index (chain_at shape opened at run last) k) none body) (counter : IsCounterIn body i) where
     abbrev x : ℕ
     x = slice_index (chain_at shape opened at run last) k
 
-    on_list : k < length (chain_at shape opened at run m) → word_at (at m).words (x + i) ≤ number i r
+    on_list : k < length (chain_at shape opened at run m) → word_at (at m).words (x + i) ≤ slice_index (words_of body) i
     on_list there =
         let kept = kept_at shape opened at run m in
         let after = kept_at shape opened at run last in
         let place = (same_place shape opened at run m last k le there).1 in
-        let (before, stood, list) = listed_at shape opened at run m k there in
-        let stands = subst (λ (n : ℕ). Stands kept.anatomy.pieces n none before) (sym place) stood in
-        let (then_is, still, goes) = (rises_at shape opened at run m last le).goes x before (list_claimed before list) stands in
-        let same : then_is ≡ histogram r = (one_stands shape (at last).words after.anatomy after.shown x none none then_is (histogram r) still has).1 in
+        let (before, stood, of_list) = listed_at shape opened at run m k there in
+        let (j, here) = subst (λ (n : ℕ). Stands kept.anatomy.pieces n none before) (sym place) stood in
+        let (then_is, still, goes) = (rises_at shape opened at run m last le).goes x before (list_claimed before of_list) (j, here) in
+        let same : then_is ≡ body = (one_stands shape (at last).words after.anatomy after.shown x none none then_is body still has).1 in
         let goes_as = subst (GoesAs kept.anatomy.version before) same goes in
-        let long = list_long kept.anatomy.version before (histogram r) list goes_as in
-        let (low, high) = small i rising in
-        let word = piece_word shape (at m).words kept.anatomy kept.shown stands.0 (record { at = x; owner = none; body = before }) i stands.1 (omega (arith, long, high)) in
-        let up = came kept.anatomy.version i before r rising list goes_as in
+        let was = counter_from kept.anatomy.version before body i of_list goes_as counter in
+        let up = (counter_goes kept.anatomy.version before body i goes_as was).1 in
+        let word = piece_word shape (at m).words kept.anatomy kept.shown j (record { at = x; owner = none; body = before }) i here (counter_within before i was) in
         omega (arith, word, up)
 
-    -- and what is loaded no more than what it is later
-    pub at_most : word_at (at m).words (x + i) ≤ number i r
+    at_most : word_at (at m).words (x + i) ≤ slice_index (words_of body) i
     at_most = elim (dec_lt k (length (chain_at shape opened at run m))) [
       | yes there ↦ on_list there
       | no far ↦
-          let zero_there = not_yet shape opened at run m last k i le (histogram r) below (omega (arith, far)) has (small i rising) in
+          let zero_there = not_yet shape opened at run m last k i le body below (omega (arith, far)) has (changing body i list counter) in
           omega (arith, zero_there)
     ]
 
@@ -95,35 +99,40 @@ module _ (shape : Dimensions) (opened : Anatomy) (at : ℕ → State) (first las
   abbrev list : List ℕ
   list = whole shape opened at first last moments one two three run loaded
 
-  abbrev Within : ℕ → Record → ℕ → Type 0
-  Within i r x = ((q : Record) → HasRecord early.anatomy.pieces x q → number i q ≤ word_at one (x + i)) × (word_at one (x + i) ≤ number i r)
-
-  between : (i : ℕ) → IsRising i → (k : ℕ) → k < length list → (r : Record) → HasRecord late.anatomy.pieces (slice_index list k) r → Within i r (slice_index list k)
-  between i rising k below r has =
-      let x : ℕ = slice_index list k in
-      let ends = ends_at shape opened at run last x (histogram r) has in
-      let (low, high) = small i rising in
-      let spot : x + i < shape.size = omega (arith, ends, high) in
-      let up = loaded.ordered.begins (x + i) spot in
-      let over = loaded.ordered.second (x + i) (x + i) spot spot in
-      let more = loaded.ordered.third (x + i) (x + i) spot spot in
-      let done = loaded.ordered.ends (x + i) spot in
-      let word = loaded.copy_one.each (x + i) spot in
-      let most = at_most shape opened at run i rising (moments.one (x + i)) last k (omega (arith, over, more, done)) below r has in (
-        λ q was. let least = at_least shape opened at run i rising first (moments.one (x + i)) x q up was in omega (arith, least, word),
-        omega (arith, most, word),
+  -- a word that was loaded at a moment
+  at_moment : (m k i word : ℕ) (body : Body) → first ≤ m → m ≤ last → k < length list → Stands late.anatomy.pieces (slice_index list k) none body → IsCounterIn body i
+      → word ≡ word_at (at m).words (slice_index list k + i) → IsBetween early.anatomy.pieces (slice_index list k) i body word
+  at_moment m k i word body up down below has counter is =
+      let (mine, stands, of_list) = listed_at shape opened at run last k below in
+      let same : mine ≡ body = (one_stands shape (at last).words late.anatomy late.shown (slice_index list k) none none mine body stands has).1 in
+      let most = at_most shape opened at run m last k i down below body (subst IsOfList same of_list) has counter in (
+        λ before was counted. let least = at_least shape opened at run first m (slice_index list k) i before up was counted in omega (arith, least, is),
+        omega (arith, most, is),
       )
 
-  pub all_between : (reference : ℕ) (r : Record) → Contains (followed_records (head shape opened at first last moments one two three run loaded) two) reference
-      → HasRecord late.anatomy.pieces reference r
-      → IsBetween early.anatomy.pieces reference (λ q. q.mark) r (word_at one (reference + 10))
-      × IsBetween early.anatomy.pieces reference (λ q. q.noted) r (word_at one (reference + 13))
-  all_between reference r there has =
+  between : (k i : ℕ) (body : Body) → k < length list → Stands late.anatomy.pieces (slice_index list k) none body → IsCounterIn body i
+      → IsBetween early.anatomy.pieces (slice_index list k) i body (word_at one (slice_index list k + i))
+      × IsBetween early.anatomy.pieces (slice_index list k) i body (word_at two (slice_index list k + i))
+  between k i body below has counter =
+      let n : ℕ = slice_index list k + i in
+      let ends = ends_at shape opened at run last (slice_index list k) body has in
+      let inside = counter_within body i counter in
+      let spot : n < shape.size = omega (arith, ends, inside) in
+      let up = loaded.ordered.begins n spot in
+      let over = loaded.ordered.second n n spot spot in
+      let more = loaded.ordered.third n n spot spot in
+      let done = loaded.ordered.ends n spot in (
+        at_moment (moments.one n) k i (word_at one n) body up (omega (arith, over, more, done)) below has counter (loaded.copy_one.each n spot),
+        at_moment (moments.two n) k i (word_at two n) body (omega (arith, up, over)) (omega (arith, more, done)) below has counter (loaded.copy_two.each n spot),
+      )
+
+  pub all_between : (reference i : ℕ) (body : Body) → Contains (followed_records (head shape opened at first last moments one two three run loaded) two) reference
+      → Stands late.anatomy.pieces reference none body → IsCounterIn body i
+      → IsBetween early.anatomy.pieces reference i body (word_at one (reference + i)) × IsBetween early.anatomy.pieces reference i body (word_at two (reference + i))
+  all_between reference i body there has counter =
       let (k, inside, place) = place_of shape opened at first last moments one two three run loaded reference there in
-      let stands = subst (λ (at : ℕ). HasRecord late.anatomy.pieces at r) (sym place) has in (
-        subst (λ (x : ℕ). IsBetween early.anatomy.pieces x (λ q. q.mark) r (word_at one (x + 10))) place (between 10 (inl refl) k inside r stands),
-        subst (λ (x : ℕ). IsBetween early.anatomy.pieces x (λ q. q.noted) r (word_at one (x + 13))) place (between 13 (inr refl) k inside r stands),
-      )
+      subst (λ (x : ℕ). IsBetween early.anatomy.pieces x i body (word_at one (x + i)) × IsBetween early.anatomy.pieces x i body (word_at two (x + i))) place
+      (between k i body inside (subst (λ (at : ℕ). Stands late.anatomy.pieces at none body) (sym place) has) counter)
 
 pub looks_count_between : LooksCountBetween
 looks_count_between shape opened at first last moments one two three run loaded = (

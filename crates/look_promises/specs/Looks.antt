@@ -7,13 +7,13 @@ use Rattle.segment_image.specs.Head.{head_of}
 use Rattle.segment_image.specs.Shape.{Dimensions}
 use Rattle.segment_image.specs.Words.{word_at}
 use Rattle.segment_image.specs.declared.head.SegmentHead.{SegmentHead}
-use Rattle.segment_image.specs.declared.layout.TheConstants.{VERSION_FROZEN, FLAGS_WORD, FREE_WORD, TAIL_WORD, HISTOGRAM_COUNTS, HISTOGRAM_SINGLE_MARK, HISTOGRAM_REDUNDANT, SAMPLE_COUNT, SAMPLE_MARK}
+use Rattle.segment_image.specs.declared.layout.TheConstants.{VERSION_FROZEN, FLAGS_WORD, FREE_WORD, TAIL_WORD, HISTOGRAM_COUNTS, HISTOGRAM_REDUNDANT, SAMPLE_COUNT, SAMPLE_MARK}
 use Rattle.list_core.specs.Chain.{IsChain}
 use Rattle.list_core.specs.Walk.{IsPrefix}
 use Rattle.segment_looks.specs.Looks.{head_of_copies, followed_records, counts_reference}
 use Rattle.segment_machine.specs.State.{State}
 use Rattle.segment_invariant.specs.Body.{Record, Sample, Body, histogram, sample, other, words_of, Piece, Anatomy, order_of}
-use Rattle.segment_invariant.specs.Seen.{Stands, HasRecord}
+use Rattle.segment_invariant.specs.Seen.{Stands, HasRecord, IsCounterIn}
 use Rattle.segment_invariant.specs.Invariant.{Invariant}
 use Rattle.look_promises.specs.Runs.{RunsThrough, Moments, AreLoaded}
 
@@ -119,18 +119,20 @@ LooksNameCounts = (shape : Dimensions) (opened : Anatomy) (at : ℕ → State) (
     → HasRecord late.anatomy.pieces reference r
     → (counts_reference two three reference ≡ 0) ⊎ (counts_reference two three reference ≡ r.counts))
 
--- ---- its marks and its redundant count
+-- ---- its counters
 
--- a number of a record is no less than what it was, where the record was there, and no more than what it is
-abbrev pub IsBetween : List Piece → ℕ → (Record → ℕ) → Record → ℕ → Type 0
-IsBetween early reference number late word = ((q : Record) → HasRecord early reference q → number q ≤ word) × (word ≤ number late)
+-- a counter of a record is no less than what it was, where the record was there, and no more than what it is
+abbrev pub IsBetween : List Piece → ℕ → ℕ → Body → ℕ → Type 0
+IsBetween early reference i late word =
+    ((before : Body) → Stands early reference none before → IsCounterIn before i → slice_index (words_of before) i ≤ word)
+    × (word ≤ slice_index (words_of late) i)
 
--- The single mark and the redundant count that a look takes of a record lie between those of the first moment and those of the last.
+-- The counters of each record that a look follows, as the first copy and the second have them, lie between those of the first moment and
+-- those of the last.
 abbrev pub LooksCountBetween : Type 0
 LooksCountBetween = (shape : Dimensions) (opened : Anatomy) (at : ℕ → State) (first last : ℕ) (moments : Moments) (one two three : List ℕ)
     → RunsThrough shape opened at → AreLoaded shape at first last moments one two three
     → (early : Invariant shape opened (at first)) × (late : Invariant shape opened (at last))
-    × ((reference : ℕ) (r : Record) → Contains (followed_records (head_loaded shape opened at moments.three) two) reference
-    → HasRecord late.anatomy.pieces reference r
-    → IsBetween early.anatomy.pieces reference (λ q. q.mark) r (field_at one reference HISTOGRAM_SINGLE_MARK)
-    × IsBetween early.anatomy.pieces reference (λ q. q.noted) r (field_at one reference HISTOGRAM_REDUNDANT))
+    × ((reference i : ℕ) (body : Body) → Contains (followed_records (head_loaded shape opened at moments.three) two) reference
+    → Stands late.anatomy.pieces reference none body → IsCounterIn body i
+    → IsBetween early.anatomy.pieces reference i body (field_at one reference i) × IsBetween early.anatomy.pieces reference i body (field_at two reference i))

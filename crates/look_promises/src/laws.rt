@@ -43,8 +43,9 @@ pub fn looks_name_counts()
     ensures { LooksNameCounts }
 {}
 
-/// The single mark and the redundant count that a look takes of a histogram's record are no less than those that the record had
-/// at the first moment, if it was there, and no more than those that it has at the last.
+/// The counters of each record that a look follows are no less than those that the record had at the first moment, if it was
+/// there, and no more than those that it has at the last: of a histogram its single mark and its redundant count, of a sample
+/// its mark and its count. So it is of the words of the first copy and of those of the second.
 pub fn looks_count_between()
     ensures { LooksCountBetween }
 {}

@@ -1,9 +1,9 @@
 -- The records that a look follows: each next that is loaded gives the record behind, or ends the list.
-use Rattle.segment_invariant.proofs.Prelude.Std.{◌≡◌, ◌⊎◌, ℕ, zero, suc, ◌+◌, ◌-◌, ◌/◌, ◌<◌, ◌≤◌, Bool, true, false, true≢false, List, ◌++◌, take, length, inl, inr, refl, sym, ap, subst, ◌∙◌, arith, slice_index, and_from, le-leb, length-append, get_or_append_left, dite, ℕ_discrete, Contains}
+use Rattle.segment_invariant.proofs.Prelude.Std.{◌≡◌, ◌⊎◌, ℕ, zero, suc, ◌+◌, ◌-◌, ◌/◌, ◌<◌, ◌≤◌, Bool, true, false, true≢false, List, ◌++◌, take, length, inl, inr, refl, sym, ap, subst, ◌∙◌, arith, slice_index, and_from, le-leb, length-append, get_or_append_left, dite, ℕ_discrete, Contains, at_from, index_at, below_length}
 use Rattle.segment_invariant.proofs.Prelude.Machine.{Dimensions, State, word_at, head_of, IsLinked, IsPrefix, stops}
 use Rattle.segment_invariant.proofs.Prelude.Invariant.{Anatomy, Invariant, layout_of}
 use Rattle.std.proofs.Math.Decide.{dec_lt}
-use Rattle.std.proofs.lemmas.List.{get_or-append_right}
+use Rattle.std.proofs.lemmas.List.{get_or-append_right, get_or-take, length-take-le}
 use Rattle.std.proofs.lemmas.List.Elements.{Contains-get_or}
 use Rattle.list_lemmas.proofs.Elements.{all_from}
 use Rattle.alloc_core.proofs.Layouts.{free_word}
@@ -234,6 +234,16 @@ module _ (shape : Dimensions) (opened : Anatomy) (at : ℕ → State) (first las
         all = subst (IsPrefix (chain first)) (sym is) (fronts (chain first) whole later_ones n first_is enough);
         none = subst (λ (list : List ℕ). IsPrefix list whole) (sym is) (front_of n whole);
       }
+
+  -- a record that it follows is one of the list
+  pub place_of : (reference : ℕ) → Contains (followed_records head two) reference → (k : ℕ) × (k < length whole) × (slice_index whole k ≡ reference)
+  place_of reference has =
+      let (n, short, enough, is, each) = followed in
+      let (k, here) = at_from (take n whole) reference (subst (λ (list : List ℕ). Contains list reference) is has) in
+      let long = length-take-le n whole short in
+      let below = below_length (take n whole) k reference here in
+      let lt : k < n = omega (arith, below, long) in
+      (k, omega (arith, lt, short), sym (get_or-take n whole k 0 lt) ∙ index_at (take n whole) k reference 0 here)
 
   -- a record that a next gave was on the list when that was loaded
   pub was_listed : (k : ℕ) → Gives head two whole k → k < length (chain (moment k))

@@ -12,3 +12,4 @@ pub mod Payloads
 pub mod Blank
 pub mod Starts
 pub mod References
+pub mod Between

@@ -1,22 +1,18 @@
 -- The counts reference that is loaded of a record: 0, or the one that it has for good.
-use Rattle.segment_invariant.proofs.Prelude.Std.{◌≡◌, ◌⊎◌, ℕ, ◌+◌, ◌-◌, ◌<◌, ◌≤◌, ◌==◌, ◌&&◌, Bool, true, false, List, take, length, inl, inr, ⊎_elim, refl, sym, ap, subst, ◌∙◌, arith, slice_index, if◌then◌else◌, none, length-append, dite, ℕ_discrete, Contains, at_from, index_at, below_length}
+use Rattle.segment_invariant.proofs.Prelude.Std.{◌≡◌, ◌⊎◌, ℕ, ◌+◌, ◌<◌, ◌≤◌, ◌==◌, ◌&&◌, Bool, true, false, List, length, inl, inr, ⊎_elim, sym, ap, subst, ◌∙◌, arith, slice_index, if◌then◌else◌, none, dite, ℕ_discrete, Contains}
 use Rattle.segment_invariant.proofs.Prelude.Machine.{Dimensions, State, word_at}
 use Rattle.segment_invariant.proofs.Prelude.Invariant.{Anatomy, Body, Record, queue, plain, held, histogram, counts, sample, other, words_of, Stands, HasRecord, Invariant}
 use Rattle.std.proofs.Math.Decide.{dec_lt}
-use Rattle.std.proofs.lemmas.List.{get_or-append_right, get_or-take, length-take-le}
-use Rattle.std.proofs.lemmas.List.Elements.{Contains-get_or}
 use Rattle.segment_looks.specs.Looks.{followed_records, counts_reference, is_frozen}
 use Rattle.segment_invariant.specs.Rises.{GoesAs}
 use Rattle.segment_invariant.proofs.Blocks.Pieces.{piece_word, one_stands}
-use Rattle.segment_promises.specs.Lists.{links_of}
 use Rattle.look_promises.specs.Runs.{RunsThrough, Moments, AreLoaded}
 use Rattle.look_promises.specs.Looks.{LooksNameCounts}
-use Rattle.look_promises.proofs.Runs.{kept_at, rises_at, chain_at, chain_on, reached}
-use Rattle.look_promises.proofs.Linking.{linking}
-use Rattle.look_promises.proofs.Following.{head, whole, followed, many}
+use Rattle.look_promises.proofs.Runs.{kept_at, rises_at, chain_at}
+use Rattle.look_promises.proofs.Following.{head, whole, place_of, many}
 use Rattle.look_promises.proofs.Unchanged.{IsOfList, list_claimed, list_long}
 use Rattle.look_promises.proofs.Shown.{listed_at, same_place, ends_at}
-use Rattle.look_promises.proofs.Starts.{starts}
+use Rattle.look_promises.proofs.Starts.{not_yet}
 
 -- a word is 0, or a number
 abbrev IsNoneOr : ℕ → ℕ → Type 0
@@ -62,24 +58,10 @@ module _ (shape : Dimensions) (opened : Anatomy) (at : ℕ → State) (run : Run
       (nine kept.anatomy.version before r list goes_as) in
       ⊎_elim (λ none_there. inl (is ∙ none_there)) (λ its. inr (is ∙ its)) (goes_on kept.anatomy.version before r list goes_as)
 
-  -- and where it is not yet
-  not_yet : length (chain_at shape opened at run m) ≤ k → word ≡ 0
-  not_yet far =
-      let early = chain_at shape opened at run m in
-      let more = links_of opened.version (at m) (at last) (reached shape opened at run m last le) in
-      let is = chain_on shape opened at run m last le in
-      let all = ap length is in
-      let long = length-append early more in
-      let place : x ≡ slice_index more (k - length early) =
-      ap (λ (list : List ℕ). slice_index list k) is ∙ get_or-append_right early more (length early) k 0 refl far in
-      let linked = subst (Contains more) (sym place) (Contains-get_or more (k - length early) 0 (omega (arith, far, below, all, long))) in
-      starts shape opened (at m) (at last) (kept_at shape opened at run m) (kept_at shape opened at run last) x
-      (linking opened.version (at m) x (at last) (reached shape opened at run m last le) linked) 8 (histogram r) has (omega arith)
-
   pub counts_word : IsNoneOr r.counts word
   counts_word = elim (dec_lt k (length (chain_at shape opened at run m))) [
     | yes there ↦ on_list there
-    | no far ↦ inl (not_yet (omega (arith, far)))
+    | no far ↦ inl (not_yet shape opened at run m last k 8 le (histogram r) below (omega (arith, far)) has (omega arith))
   ]
 
 module _ (shape : Dimensions) (opened : Anatomy) (at : ℕ → State) (first last : ℕ) (moments : Moments) (one two three : List ℕ)
@@ -111,14 +93,9 @@ module _ (shape : Dimensions) (opened : Anatomy) (at : ℕ → State) (first las
   pub named : (reference : ℕ) (r : Record) → Contains (followed_records (head shape opened at first last moments one two three run loaded) two) reference
       → HasRecord late.anatomy.pieces reference r → IsNoneOr r.counts (counts_reference two three reference)
   named reference r there has =
-      let (n, short, enough, is, each) = followed shape opened at first last moments one two three run loaded in
-      let (k, here) = at_from (take n list) reference (subst (λ (l : List ℕ). Contains l reference) is there) in
-      let long = length-take-le n list short in
-      let below = below_length (take n list) k reference here in
-      let lt : k < n = omega (arith, below, long) in
-      let place : slice_index list k ≡ reference = sym (get_or-take n list k 0 lt) ∙ index_at (take n list) k reference 0 here in
+      let (k, below, place) = place_of shape opened at first last moments one two three run loaded reference there in
       subst (λ (at : ℕ). IsNoneOr r.counts (counts_reference two three at)) place
-      (looked k (omega (arith, lt, short)) r (subst (λ (at : ℕ). HasRecord late.anatomy.pieces at r) (sym place) has))
+      (looked k below r (subst (λ (at : ℕ). HasRecord late.anatomy.pieces at r) (sym place) has))
 
 pub looks_name_counts : LooksNameCounts
 looks_name_counts shape opened at first last moments one two three run loaded =

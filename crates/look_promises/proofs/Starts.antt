@@ -1,13 +1,16 @@
 -- The words of a record that change are 0 until the record is on the list.
-use Rattle.segment_invariant.proofs.Prelude.Std.{◌≡◌, ◌⊎◌, ℕ, ◌+◌, ◌-◌, ◌<◌, ◌≤◌, List, length, inl, inr, ⊎_elim, refl, sym, ap, subst, ◌∙◌, arith, eq-eqb, slice_index, none, dite, ℕ_discrete, Contains, Contains-append_cases}
+use Rattle.segment_invariant.proofs.Prelude.Std.{length-append, ◌≡◌, ◌⊎◌, ℕ, ◌+◌, ◌-◌, ◌<◌, ◌≤◌, List, length, inl, inr, ⊎_elim, refl, sym, ap, subst, ◌∙◌, arith, eq-eqb, slice_index, none, dite, ℕ_discrete, Contains, Contains-append_cases}
 use Rattle.segment_invariant.proofs.Prelude.Machine.{Dimensions, State, Actor, Own, Made, word_at, head_of}
 use Rattle.segment_invariant.proofs.Prelude.Invariant.{Anatomy, Body, queue, plain, held, histogram, counts, sample, other, words_of, Stands, Invariant}
+use Rattle.std.proofs.lemmas.List.{get_or-append_right}
+use Rattle.std.proofs.lemmas.List.Elements.{Contains-get_or}
 use Rattle.bucket_ranges.proofs.Walks.{IsListed-from_end, listed_agree}
 use Rattle.segment_machine.specs.declared.actor.Made.TheVariants as made
 use Rattle.segment_machine.specs.Made.{IsPayload}
 use Rattle.segment_machine.specs.Publishing.{MayPublish}
 use Rattle.segment_invariant.proofs.Blocks.Pieces.{piece_word}
 use Rattle.segment_promises.specs.Lists.{links_of}
+use Rattle.look_promises.specs.Runs.{RunsThrough}
 use Rattle.look_promises.specs.Looks.{IsChanging, RecordsStartAtZero}
 use Rattle.look_promises.proofs.Runs.{kept_at, chain_at, chain_is, chain_on, reached}
 use Rattle.look_promises.proofs.Linking.{LinksAt, linking, histogram_blank, sample_blank}
@@ -73,6 +76,24 @@ module _ (shape : Dimensions) (opened : Anatomy) (start state : State) (kept : I
   starts i (held block) stands changing = absurd changing
   starts i (counts c) stands changing = absurd changing
   starts i (other size tag next payload) stands changing = absurd changing
+
+-- a record that is not on the list yet at a moment of a run
+pub not_yet : (shape : Dimensions) (opened : Anatomy) (at : ℕ → State) (run : RunsThrough shape opened at) (m last k i : ℕ) (le : m ≤ last) (body : Body)
+    → k < length (chain_at shape opened at run last) → length (chain_at shape opened at run m) ≤ k
+    → Stands (kept_at shape opened at run last).anatomy.pieces (slice_index (chain_at shape opened at run last) k) none body → IsChanging body i
+    → word_at (at m).words (slice_index (chain_at shape opened at run last) k + i) ≡ 0
+not_yet shape opened at run m last k i le body below far stands changing =
+    let x : ℕ = slice_index (chain_at shape opened at run last) k in
+    let early = chain_at shape opened at run m in
+    let more = links_of opened.version (at m) (at last) (reached shape opened at run m last le) in
+    let is = chain_on shape opened at run m last le in
+    let all = ap length is in
+    let long = length-append early more in
+    let place : x ≡ slice_index more (k - length early) =
+    ap (λ (list : List ℕ). slice_index list k) is ∙ get_or-append_right early more (length early) k 0 refl far in
+    let linked = subst (Contains more) (sym place) (Contains-get_or more (k - length early) 0 (omega (arith, far, below, all, long))) in
+    starts shape opened (at m) (at last) (kept_at shape opened at run m) (kept_at shape opened at run last) x
+    (linking opened.version (at m) x (at last) (reached shape opened at run m last le) linked) i body stands changing
 
 pub records_start_at_zero : RecordsStartAtZero
 records_start_at_zero shape opened at early last chain run le is =

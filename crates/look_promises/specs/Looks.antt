@@ -2,6 +2,7 @@
 use Rattle.std.specs.Prelude.{◌≡◌, ◌⊎◌, ℕ, ◌+◌, ◌<◌, ◌≤◌, List, length, slice_index, Ok}
 use Rattle.std.specs.List.{All, Contains}
 use mathlib.Core.Option.{none}
+use Rattle.segment_image.specs.Blocks.{field_at}
 use Rattle.segment_image.specs.Head.{head_of}
 use Rattle.segment_image.specs.Shape.{Dimensions}
 use Rattle.segment_image.specs.Words.{word_at}
@@ -11,8 +12,8 @@ use Rattle.list_core.specs.Chain.{IsChain}
 use Rattle.list_core.specs.Walk.{IsPrefix}
 use Rattle.segment_looks.specs.Looks.{head_of_copies, followed_records, counts_reference}
 use Rattle.segment_machine.specs.State.{State}
-use Rattle.segment_invariant.specs.Body.{Record, Sample, Body, histogram, sample, other, words_of, Anatomy, order_of}
-use Rattle.segment_invariant.specs.Seen.{Stands, HasRecord}
+use Rattle.segment_invariant.specs.Body.{Record, Sample, Body, histogram, sample, other, words_of, Piece, Anatomy, order_of}
+use Rattle.segment_invariant.specs.Seen.{Stands, HasRecord, IsCounterIn}
 use Rattle.segment_invariant.specs.Invariant.{Invariant}
 use Rattle.look_promises.specs.Runs.{RunsThrough, Moments, AreLoaded}
 
@@ -117,3 +118,21 @@ LooksNameCounts = (shape : Dimensions) (opened : Anatomy) (at : ℕ → State) (
     × ((reference : ℕ) (r : Record) → Contains (followed_records (head_loaded shape opened at moments.three) two) reference
     → HasRecord late.anatomy.pieces reference r
     → (counts_reference two three reference ≡ 0) ⊎ (counts_reference two three reference ≡ r.counts))
+
+-- ---- its counters
+
+-- a counter of a record is no less than what it was, where the record was there, and no more than what it is
+abbrev pub IsBetween : List Piece → ℕ → ℕ → Body → ℕ → Type 0
+IsBetween early reference i late word =
+    ((before : Body) → Stands early reference none before → IsCounterIn before i → slice_index (words_of before) i ≤ word)
+    × (word ≤ slice_index (words_of late) i)
+
+-- The counters of each record that a look follows, as the first copy and the second have them, lie between those of the first moment and
+-- those of the last.
+abbrev pub LooksCountBetween : Type 0
+LooksCountBetween = (shape : Dimensions) (opened : Anatomy) (at : ℕ → State) (first last : ℕ) (moments : Moments) (one two three : List ℕ)
+    → RunsThrough shape opened at → AreLoaded shape at first last moments one two three
+    → (early : Invariant shape opened (at first)) × (late : Invariant shape opened (at last))
+    × ((reference i : ℕ) (body : Body) → Contains (followed_records (head_loaded shape opened at moments.three) two) reference
+    → Stands late.anatomy.pieces reference none body → IsCounterIn body i
+    → IsBetween early.anatomy.pieces reference i body (field_at one reference i) × IsBetween early.anatomy.pieces reference i body (field_at two reference i))

@@ -3,7 +3,7 @@
 //!
 //! The functions do nothing. What each promises is a law of the definitions in `specs/`.
 
-ghost use Rattle.look_promises.specs.Looks.{LooksHaveHeaders, LooksFollow, CopiesShowBlocks, RecordsStartAtZero, LooksNameCounts};
+ghost use Rattle.look_promises.specs.Looks.{LooksHaveHeaders, LooksFollow, CopiesShowBlocks, RecordsStartAtZero, LooksNameCounts, LooksCountBetween};
 
 /// Three copies of the words of a running segment, one after the other, have no fault: a look is made of them.
 ///
@@ -41,4 +41,11 @@ pub fn records_start_at_zero()
 /// which never changes.
 pub fn looks_name_counts()
     ensures { LooksNameCounts }
+{}
+
+/// The counters of each record that a look follows are no less than those that the record had at the first moment, if it was
+/// there, and no more than those that it has at the last: of a histogram its single mark and its redundant count, of a sample
+/// its mark and its count. So it is of the words of the first copy and of those of the second.
+pub fn looks_count_between()
+    ensures { LooksCountBetween }
 {}

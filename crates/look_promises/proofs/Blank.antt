@@ -153,7 +153,7 @@ module _ (shape : Dimensions) (opened : Anatomy) (start state : State) (kept : I
   pub word_later : (i : ℕ) → i < 3 → word_at state.words (x + i) ≡ slice_index (own.size ∷ 0xC8799269 ∷ own.tag ∷ own.next ∷ []) i
   word_later i lt =
       let (body, (k, there), list) = listed_new in
-      let (next, rises) = states_rise shape opened links.new state kept_new links.behind in
+      let (next, rises, sums) = states_rise shape opened links.new state kept_new links.behind in
       let (then_is, (m, here), goes) = rises.goes x body (list_claimed body list) (k, there) in
       let long = four body list in
       let same_long = list_long kept_new.anatomy.version body then_is list goes in

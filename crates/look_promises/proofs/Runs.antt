@@ -37,7 +37,7 @@ reached_again version start mid first state (joined_in old new id other before m
 pub free_rises : (shape : Dimensions) (opened : Anatomy) (start state : State) → Invariant shape opened start → IsReached opened.version start state
     → word_at start.words 7 ≤ word_at state.words 7
 free_rises shape opened start state kept reached =
-    let (next, rises) = states_rise shape opened start state kept reached in
+    let (next, rises, sums) = states_rise shape opened start state kept reached in
     let was = free_word shape start.words (layout_of kept.anatomy) kept.shown in
     let now = free_word shape state.words (layout_of next.anatomy) next.shown in
     let higher = rises.free in

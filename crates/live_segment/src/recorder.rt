@@ -206,8 +206,9 @@ impl<'a> Recorder<'a> {
     /// On `Some` it knows the histogram of that record. It knew it before; or it has come to know it now, as by `hist`
     /// with the name and the spec of the record, and has claimed and published nothing. `None`: the record is not on the
     /// list, whose end it has found since; it is none of a histogram; it has no name or no spec that may be asked for; or
-    /// an earlier record has its name. `NoMemory` may come after loads. Beyond that it has only looked along the list
-    /// and read the record [answer].
+    /// it is not the first of its name: that one is an earlier record or has another spec, or other bytes than zeros
+    /// follow the name. `NoMemory` may come after loads. Beyond that it has only looked along the list and read the
+    /// record [answer].
     pub fn open(&mut self, reference: u64) -> Result<Option<Hist>, Refusal>
         ensures kept { self.new.segment ≡ self.old.segment }
         ensures same { KnowsOn self.old.state self.new.state }

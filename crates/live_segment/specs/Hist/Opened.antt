@@ -1,5 +1,5 @@
 -- What a recorder's `open` returns: the histogram of a record on the list, by its reference.
-use Rattle.std.specs.Prelude.{◌≡◌, ◌≢◌, ◌⊎◌, Bool, true, false, ℕ, ◌+◌, ◌<◌, ◌≤◌, List, [], ◌∷◌, length, map, min, take, Option, Result, Ok, Err, Some, MatchOption, MatchResult, ⊤}
+use Rattle.std.specs.Prelude.{◌≡◌, ◌≢◌, ◌⊎◌, Bool, true, false, ℕ, ◌+◌, ◌<◌, ◌≤◌, List, length, map, min, take, Option, Some, MatchOption}
 use mathlib.Core.Option.{some}
 use lib.ListN.{get_elem?}
 use Rattle.std.specs.List.{All, Contains}
@@ -119,6 +119,12 @@ abbrev pub IsOpenedAs : List ℕ → Spec → ℕ → Hist → Actor → Actor �
 IsOpenedAs name spec reference histogram old new =
     ((known : Known) × (get_elem? new.answers.names histogram.index ≡ some known) × (known.name ≡ name) × (known.reference ≡ reference))
     × ((new ≡ old) ⊎ (IsAnsweredWith name spec histogram old new × (new.done ≡ old.done)))
+
+-- Of a record with a name and a spec it has the histogram; or it has looked along the list at most, and the record is not the one for them.
+abbrev pub OpensAs : List ℕ → Spec → ℕ → Actor → Option Hist → Actor → Type 0
+OpensAs name spec reference old result new =
+    MatchOption result (HasSearched old new × IsNotNamed new.segment.shape name spec reference new)
+    (λ histogram. IsOpenedAs name spec reference histogram old new)
 
 -- It has looked along the list and read the record. Then it has the histogram; or the record is not on the list, has no name or no spec, or
 -- is not the first of its name.

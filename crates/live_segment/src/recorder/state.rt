@@ -38,14 +38,16 @@ pub struct RecorderState {
 }
 
 impl RecorderState {
-    ghost use Rattle.std.specs.Prelude.{◌↔◌, ◌<◌, ◌≤◌, ◌++◌, IsTrue, IfOk, MatchOption, MatchResult, length};
+    ghost use Rattle.std.specs.Prelude.{◌↔◌, ◌≢◌, ◌<◌, ◌≤◌, ◌++◌, IsTrue, IfOk, MatchOption, MatchResult, length};
     ghost use Rattle.segment_machine.specs.declared.actor.Known.{Known};
+    ghost use mathlib.Core.Option.{some};
+    ghost use lib.ListN.{get_elem?};
     ghost use Rattle.live_segment.specs.Alloc.Allocation.{spoiled};
     ghost use Rattle.live_segment.specs.List.SharedCursors.{AnswersNext, gift};
     ghost use Rattle.live_segment.specs.Hist.Answer.{IsAnsweredWith, IsKnownAt, IsRefusedWith, NoneHasName};
     ghost use Rattle.live_segment.specs.List.Values.{AreMostKeys};
     ghost use Rattle.live_segment.specs.RecorderState.{given_fresh, HasLimit, IsNamed, IsSameRecorder, Knows, KnowsOn, Means, view_of_state};
-    ghost use Rattle.live_segment.specs.Answers.{AnswersAdd, AnswersBatch, AnswersDelta, AnswersFirst, AnswersFresh, AnswersFront, AnswersHist, AnswersList, AnswersOpen, AnswersRecords, AnswersSnapshot, ClaimsAdd, ClaimsBatch, ClaimsHist, ShowsEnough, ShowsFewKeys, ShowsUnits, TakesEnough, TakesFewKeys};
+    ghost use Rattle.live_segment.specs.Answers.{AnswersAdd, AnswersBatch, AnswersDelta, AnswersFirst, AnswersFresh, AnswersFront, AnswersHist, AnswersList, AnswersOpen, AnswersOpenAs, AnswersRecords, AnswersSnapshot, ClaimsAdd, ClaimsBatch, ClaimsHist, ShowsEnough, ShowsFewKeys, ShowsUnits, TakesEnough, TakesFewKeys};
 
     // That of a recorder that has done nothing, at a seat with these units.
     pub(crate) fn new(alloc: Global, segment: &Segment, seat: Pass, units: u32) -> RecorderState
@@ -214,7 +216,9 @@ impl RecorderState {
 
     // The histogram that it knows at a place, where its record is this one.
     fn known_of(&self, index: usize, reference: u64) -> Option<Hist>
-        requires { index < length self.now.known.items }
+        requires at { (segment : SomeSegment) × IsRecorderAt segment self.now }
+        requires index { index < length self.now.known.items }
+        ensures { (known : Known) → get_elem? (view_of_state self.now).answers.names index ≡ some known → MatchOption result (known.reference ≢ reference) (λ histogram. (histogram.index ≡ index) × (known.reference ≡ reference)) }
     {
         if self.known[index].reference != reference {
             return None;
@@ -234,6 +238,7 @@ impl RecorderState {
         requires { IsRecorderAt segment.now self.old }
         ensures at { IsRecorderAt segment.now self.new }
         ensures same { KnowsOn self.old self.new }
+        ensures answer { AnswersOpenAs name.now spec.now reference self.old result self.new }
     {
         if let Some(index) = self.index_of(name) {
             return Ok(self.known_of(index, reference));

@@ -1,4 +1,4 @@
-use Rattle.std.proofs.Common.{ℕ, List, [], ◌∷◌, ◌++◌, map, ap, subst, sym, ◌∙◌}
+use Rattle.std.proofs.Common.{ℕ, List, [], ◌∷◌, ◌++◌, length, map, inr, ap, subst, sym, ◌∙◌}
 use Rattle.std.specs.List.{All}
 use Rattle.segment_machine.specs.declared.actor.Known.{Known}
 use Rattle.segment_invariant.proofs.Lists.Elements.{below_length}
@@ -6,15 +6,20 @@ use Rattle.live_segment.specs.declared.recorder.KnownHistogram.{KnownHistogram}
 use Rattle.live_segment.specs.Known.{known_view, KnowsRight}
 use Rattle.live_segment.specs.Hist.Answer.{NoneHasName}
 use Rattle.live_segment.specs.Hist.KnownNames.{HasNames}
+use Rattle.live_segment.specs.Hist.Opened.{IsNotFirst}
 use Rattle.live_segment.specs.Hist.Outcome.{ComesToKnow}
 use Rattle.live_segment.proofs.Seating.Recorders.{seat_searched}
 use Rattle.live_segment.proofs.lemmas.List.Walked.{all_right, come_still}
-use Rattle.live_segment.proofs.lemmas.Hist.HistAnswered.{none_known, seen_grew, chain_grew, of_then, rests_then, share_same, right_then, listed_then}
+use Rattle.live_segment.proofs.lemmas.Hist.HistAnswered.{none_known, asked_here, count_of, view_there, seen_grew, chain_grew, of_then, rests_then, share_same, right_then, listed_then}
+use Rattle.live_segment.proofs.lemmas.Hist.Opening.{opened_known, opened_new}
 use Rattle.live_segment.proofs.lemmas.List.IndexKept as kept
 use Rattle.live_segment.proofs.recorder.state.RecorderState.open_as.Goals as goal
 
-pub known_of-requires : goal.known_of-requires
-known_of-requires c =
+pub known_of-requires-clause-at : goal.known_of-requires-clause-at
+known_of-requires-clause-at c = (c.args.segment.now, c.requires)
+
+pub known_of-requires-clause-index : goal.known_of-requires-clause-index
+known_of-requires-clause-index c =
     let (known, there, named) = c.in-Some.ensures in below_length c.args.self.now.known.items c.in-Some.index known there
 
 pub returns-in_default-found-clause-at : goal.returns-in_default-found-clause-at
@@ -69,3 +74,33 @@ returns-clause-at c =
       indexed = found.indexed;
       sampled = kept.seen_on _ _ _ _ (seen_grew c.in-Ok.asked known.reference old new comes) c.requires.sampled;
     }
+
+pub returns-in-Some-clause-answer : goal.returns-in-Some-clause-answer
+returns-in-Some-clause-answer c =
+    let me = c.args.self.now in
+    let (known, at, named) = c.in-Some.ensures in
+    let there = view_there me.known.items me.seat.me.0.answers.names c.in-Some.index known c.requires.listed at in
+    opened_known c.args.name.now c.args.spec.now c.args.reference c.in-Some.index (known_view known) me.seat.me.0 c.known_of.result (there, named)
+    (c.known_of.ensures (known_view known) there)
+
+pub returns-in_default-found-clause-answer : goal.returns-in_default-found-clause-answer
+returns-in_default-found-clause-answer c =
+    let me = c.args.self.now in
+    let new = c.recognize-found.new.seat.me.0 in
+    let found = c.in_default-found.ensures in
+    let (searched, free, other) = found.outcome in
+    let (is, share) = seat_searched c.args.segment.now me.seat _ c.requires.seated c.requires.rests found.same searched free in
+    let asks = c.in-Ok.ensures in (
+      searched,
+      inr (inr (c.in-Ok.asked, asked_here c.args.segment.now.setting new is.of asks, subst (λ (n : List ℕ). IsNotFirst n c.in-Ok.asked c.args.reference new.seen new) asks.named other)),
+    )
+
+pub returns-clause-answer : goal.returns-clause-answer
+returns-clause-answer c =
+    let me = c.args.self.now in
+    let old = me.seat.me.0 in
+    let (is, at, met, quiet) = c.in-Some-found.ensures.outcome in
+    opened_new c.args.name.now c.args.spec.now c.args.reference _ c.in-Ok.asked old c.recognize-found.new.seat.me.0
+    (none_known me.known.items old c.args.name.now c.requires.listed c.in_default.ensures)
+    (count_of me.known.items old.answers.names c.len-index.result c.requires.listed (c.len-index.ensures ∙ (c.reserve.new.self.ok.0 ∙ ap length c.in_ok-reserve.ensures.items)))
+    (asked_here c.args.segment.now.setting old c.requires.seated.of c.in-Ok.ensures) met quiet

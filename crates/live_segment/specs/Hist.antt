@@ -3,6 +3,7 @@ pub mod Answer
 pub mod KnownNames
 pub mod ListSearch
 pub mod NewRecord
+pub mod Opened
 pub mod Outcome
 pub mod Search
 pub mod Prelude

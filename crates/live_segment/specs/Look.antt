@@ -1,5 +1,5 @@
 -- What a look at a segment is.
-use Rattle.std.specs.Prelude.{◌≡◌, ◌⊎◌, ℕ, List, length, Result, Ok, Err, MatchResult}
+use Rattle.std.specs.Prelude.{◌≡◌, ◌⊎◌, ℕ, List, length, Result, Err, MatchResult}
 use Rattle.segment_looks.specs.Looks.{IsLook, head_of_copies}
 use Rattle.segment_looks.specs.declared.fault.LookFault.{LookFault}
 use Rattle.segment_looks.specs.declared.fault.LookFault.TheVariants.{NoMemory}

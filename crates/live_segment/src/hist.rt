@@ -4,4 +4,5 @@ pub(crate) mod answer;
 pub(crate) mod comparison;
 pub(crate) mod known_names;
 pub(crate) mod new_record;
+pub(crate) mod opening;
 pub(crate) mod search;

@@ -92,7 +92,7 @@ impl<'a> Recorder<'a> {
     ghost use Rattle.live_segment.specs.List.Values.{AreMostKeys};
     ghost use Rattle.live_segment.specs.Holders.{view_of_recorder};
     ghost use Rattle.live_segment.specs.RecorderState.{HasLimit, IsNamed, IsSameRecorder, Knows, KnowsOn, Means};
-    ghost use Rattle.live_segment.specs.Answers.{AnswersAdd, AnswersBatch, AnswersDelta, AnswersFirst, AnswersFresh, AnswersFront, AnswersHist, AnswersList, AnswersRecords, AnswersSnapshot, ClaimsAdd, ClaimsBatch, ClaimsHist, ShowsEnough, ShowsFewKeys, ShowsUnits, TakesEnough, TakesFewKeys};
+    ghost use Rattle.live_segment.specs.Answers.{AnswersAdd, AnswersBatch, AnswersDelta, AnswersFirst, AnswersFresh, AnswersFront, AnswersHist, AnswersList, AnswersOpen, AnswersRecords, AnswersSnapshot, ClaimsAdd, ClaimsBatch, ClaimsHist, ShowsEnough, ShowsFewKeys, ShowsUnits, TakesEnough, TakesFewKeys};
 
     /// Returns the units that it may still spend.
     pub fn units(&self) -> u32
@@ -197,6 +197,24 @@ impl<'a> Recorder<'a> {
         ensures claims { ClaimsHist name.now spec.now self.old.state result self.new.state }
     {
         self.state.hist(self.segment, name, spec)
+    }
+
+    /// Returns the histogram of the record that begins at a reference, as `records`, `fresh_records` and `next_shared`
+    /// give them, without a name. The recorder records into the same segment [kept], and each histogram that it knew it
+    /// knows at the same place [same].
+    ///
+    /// On `Some` it knows the histogram of that record. It knew it before; or it has come to know it now, as by `hist`
+    /// with the name and the spec of the record, and has claimed and published nothing. `None`: the record is not on the
+    /// list, whose end it has found since; it is none of a histogram; it has no name or no spec that may be asked for; or
+    /// it is not the first of its name: that one is an earlier record or has another spec, or other bytes than zeros
+    /// follow the name. `NoMemory` may come after loads. Beyond that it has only looked along the list and read the
+    /// record [answer].
+    pub fn open(&mut self, reference: u64) -> Result<Option<Hist>, Refusal>
+        ensures kept { self.new.segment ≡ self.old.segment }
+        ensures same { KnowsOn self.old.state self.new.state }
+        ensures answer { AnswersOpen reference self.old.state result self.new.state }
+    {
+        self.state.open(self.segment, reference)
     }
 
     /// Adds a sample: so many units of a value of a histogram that it knows. It records into the same segment [kept]

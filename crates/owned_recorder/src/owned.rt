@@ -5,7 +5,7 @@ ghost use Rattle.std.specs.Arc.{arc_value};
 ghost use Rattle.std.proofs.Props.{props};
 ghost use Rattle.segment_machine.specs.declared.actor.Known.{Known};
 ghost use Rattle.live_segment.specs.Alloc.Allocation.{spoiled};
-ghost use Rattle.live_segment.specs.Answers.{AnswersAdd, AnswersBatch, AnswersDelta, AnswersFirst, AnswersFresh, AnswersFront, AnswersHist, AnswersList, AnswersRecords, AnswersSnapshot, ClaimsAdd, ClaimsBatch, ClaimsHist, ShowsEnough, ShowsFewKeys, ShowsUnits, TakesEnough, TakesFewKeys};
+ghost use Rattle.live_segment.specs.Answers.{AnswersAdd, AnswersBatch, AnswersDelta, AnswersFirst, AnswersFresh, AnswersFront, AnswersHist, AnswersList, AnswersOpen, AnswersRecords, AnswersSnapshot, ClaimsAdd, ClaimsBatch, ClaimsHist, ShowsEnough, ShowsFewKeys, ShowsUnits, TakesEnough, TakesFewKeys};
 ghost use Rattle.live_segment.specs.List.SharedCursors.{AnswersNext, gift};
 ghost use Rattle.live_segment.specs.List.Values.{AreMostKeys};
 ghost use Rattle.live_segment.specs.RecorderState.{HasLimit, IsNamed, IsRecorderAt, IsSameRecorder, Knows, KnowsOn, Means};
@@ -104,6 +104,16 @@ impl OwnedRecorder {
         ensures claims { ClaimsHist name.now spec.now self.old.state result self.new.state }
     {
         self.state.hist(&self.segment, name, spec)
+    }
+
+    /// Returns the histogram of the record that begins at a reference, as [`Recorder::open`] does [same, answer]. It
+    /// keeps its segment [kept].
+    pub fn open(&mut self, reference: u64) -> Result<Option<Hist>, Refusal>
+        ensures kept { self.new.segment ≡ self.old.segment }
+        ensures same { KnowsOn self.old.state self.new.state }
+        ensures answer { AnswersOpen reference self.old.state result self.new.state }
+    {
+        self.state.open(&self.segment, reference)
     }
 
     /// Adds a sample, as [`Recorder::add`] does [same, answer, claims]. It keeps its segment [kept].

@@ -21,7 +21,7 @@ use Rattle.live_segment.specs.Seated.{IsSeated}
 use Rattle.live_segment.specs.Steps.{IsAtRest, IsSame, Pass}
 use Rattle.live_segment.proofs.lemmas.Add.Adds.{is_of_still, names_still}
 use Rattle.live_segment.proofs.lemmas.List.Indexed.{indexed_still}
-use Rattle.live_segment.proofs.lemmas.List.IndexKept.{answer_words, walk_words}
+use Rattle.live_segment.proofs.lemmas.List.IndexKept.{answer_words, searched_on, walk_words}
 use Rattle.live_segment.proofs.lemmas.List.Sharing.{answer_grows}
 use Rattle.live_segment.proofs.lemmas.List.Walked.{all_right, come_still, walk_grows}
 use Rattle.live_segment.proofs.lemmas.Steps.Proceeding.{does_not, sees_not}
@@ -117,6 +117,13 @@ seat_searched segment old new seated rests same searched free =
     seat_framed segment old new seated rests same
     (subst (λ (a : Actor). a ≡ record old.me.0 { hand = a.hand; done = a.done; seen = a.seen }) (sym searched.view) refl)
     free (searched.apart rests.apart) searched.chain searched.words
+
+-- it is a recorder of the segment still
+pub recorder_searched : (segment : Segment) (state : RecorderState) (seat : Pass) → IsRecorderAt segment state → IsSame state.seat seat
+    → HasSearched state.seat.me.0 seat.me.0 → MayTurn seat.me.0 → IsRecorderAt segment (record state { seat = seat })
+recorder_searched segment state seat at same searched free =
+    let (is, share) = seat_searched segment state.seat seat at.seated at.rests same searched free in
+    recorder_still segment state seat state.units state.samples at is (at.counted ∙ sym share) (searched_on _ _ _ _ searched at.sampled)
 
 pub seat_walked : (segment : Segment) (old new : Pass) (given : List ℕ) → IsSeated segment old → IsAtRest old.me.0 → IsSame old new
     → HasWalked old.me.0 given new.me.0 → IsSeatBeside segment old new

@@ -10,6 +10,8 @@ pub mod NamesHeld
 pub mod Naming
 pub mod OneName
 pub mod OwnNames
+pub mod Opening
+pub mod RecordRead
 pub mod Recorded
 pub mod SameLawful
 pub mod Searching

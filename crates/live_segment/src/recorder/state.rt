@@ -38,14 +38,16 @@ pub struct RecorderState {
 }
 
 impl RecorderState {
-    ghost use Rattle.std.specs.Prelude.{◌↔◌, ◌<◌, ◌≤◌, ◌++◌, IsTrue, IfOk, MatchOption, MatchResult, length};
+    ghost use Rattle.std.specs.Prelude.{◌↔◌, ◌≢◌, ◌<◌, ◌≤◌, ◌++◌, IsTrue, IfOk, MatchOption, MatchResult, length};
     ghost use Rattle.segment_machine.specs.declared.actor.Known.{Known};
+    ghost use mathlib.Core.Option.{some};
+    ghost use lib.ListN.{get_elem?};
     ghost use Rattle.live_segment.specs.Alloc.Allocation.{spoiled};
     ghost use Rattle.live_segment.specs.List.SharedCursors.{AnswersNext, gift};
     ghost use Rattle.live_segment.specs.Hist.Answer.{IsAnsweredWith, IsKnownAt, IsRefusedWith, NoneHasName};
     ghost use Rattle.live_segment.specs.List.Values.{AreMostKeys};
     ghost use Rattle.live_segment.specs.RecorderState.{given_fresh, HasLimit, IsNamed, IsSameRecorder, Knows, KnowsOn, Means, view_of_state};
-    ghost use Rattle.live_segment.specs.Answers.{AnswersAdd, AnswersBatch, AnswersDelta, AnswersFirst, AnswersFresh, AnswersFront, AnswersHist, AnswersList, AnswersRecords, AnswersSnapshot, ClaimsAdd, ClaimsBatch, ClaimsHist, ShowsEnough, ShowsFewKeys, ShowsUnits, TakesEnough, TakesFewKeys};
+    ghost use Rattle.live_segment.specs.Answers.{AnswersAdd, AnswersBatch, AnswersDelta, AnswersFirst, AnswersFresh, AnswersFront, AnswersHist, AnswersList, AnswersOpen, AnswersOpenAs, AnswersRecords, AnswersSnapshot, ClaimsAdd, ClaimsBatch, ClaimsHist, ShowsEnough, ShowsFewKeys, ShowsUnits, TakesEnough, TakesFewKeys};
 
     // That of a recorder that has done nothing, at a seat with these units.
     pub(crate) fn new(alloc: Global, segment: &Segment, seat: Pass, units: u32) -> RecorderState
@@ -210,6 +212,66 @@ impl RecorderState {
         self.names.enter(before, name);
         self.known.push_reserved(known);
         Ok(Hist { index })
+    }
+
+    // The histogram that it knows at a place, where its record is this one.
+    fn known_of(&self, index: usize, reference: u64) -> Option<Hist>
+        requires at { (segment : SomeSegment) × IsRecorderAt segment self.now }
+        requires index { index < length self.now.known.items }
+        ensures { (known : Known) → get_elem? (view_of_state self.now).answers.names index ≡ some known → MatchOption result (known.reference ≢ reference) (λ histogram. (histogram.index ≡ index) × (known.reference ≡ reference)) }
+    {
+        if self.known[index].reference != reference {
+            return None;
+        }
+        Some(Hist { index })
+    }
+
+    // The histogram of a record that has this name and this spec, or none where these may not be asked for, or the record is not the
+    // first of its name.
+    fn open_as(
+        &mut self,
+        segment: &Segment,
+        name: &[u8],
+        spec: &Spec,
+        reference: u64,
+    ) -> Result<Option<Hist>, Refusal>
+        requires { IsRecorderAt segment.now self.old }
+        ensures at { IsRecorderAt segment.now self.new }
+        ensures same { KnowsOn self.old self.new }
+        ensures answer { AnswersOpenAs name.now spec.now reference self.old result self.new }
+    {
+        if let Some(index) = self.index_of(name) {
+            return Ok(self.known_of(index, reference));
+        }
+        let asked = match Asked::of(self.alloc, segment.setting.shape, name, spec) {
+            Ok(asked) => asked,
+            Err(Refusal::NoMemory) => return Err(Refusal::NoMemory),
+            Err(_) => return Ok(None),
+        };
+        self.known.reserve(1)?;
+        let found = segment.recognize(&mut self.seat, &mut self.index, asked, reference);
+        let Some(known) = found else {
+            return Ok(None);
+        };
+        let index = self.known.len();
+        let before = self.known.as_slice();
+        self.names.enter(before, name);
+        self.known.push_reserved(known);
+        Ok(Some(Hist { index }))
+    }
+
+    /// The histogram of a record, as [`Recorder::open`](super::Recorder::open) returns it [same, answer]. It is still the state of a
+    /// recorder at the segment [at].
+    pub fn open(&mut self, segment: &Segment, reference: u64) -> Result<Option<Hist>, Refusal>
+        requires { IsRecorderAt segment.now self.old }
+        ensures at { IsRecorderAt segment.now self.new }
+        ensures same { KnowsOn self.old self.new }
+        ensures answer { AnswersOpen reference self.old result self.new }
+    {
+        let Some((name, spec)) = segment.read_record(&mut self.seat, self.alloc, reference)? else {
+            return Ok(None);
+        };
+        self.open_as(segment, &name, &spec, reference)
     }
 
     /// Adds a sample, as [`Recorder::add`](super::Recorder::add) does [same, answer, claims]. It is still the state

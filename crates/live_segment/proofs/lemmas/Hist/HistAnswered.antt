@@ -43,7 +43,7 @@ map_there f (y ∷ ys) zero x e = ap (λ z. some (f z)) (some-injective y x e)
 map_there f (y ∷ ys) (suc i) x e = map_there f ys i x e
 
 -- of a histogram that is known its view is
-view_there : (list : List KnownHistogram) (names : List Known) (i : ℕ) (known : KnownHistogram) → map known_view list ≡ names → get_elem? list i ≡ some known
+pub view_there : (list : List KnownHistogram) (names : List Known) (i : ℕ) (known : KnownHistogram) → map known_view list ≡ names → get_elem? list i ≡ some known
     → get_elem? names i ≡ some (known_view known)
 view_there list names i known listed at = subst (λ (l : List Known). get_elem? l i ≡ some (known_view known)) listed (map_there known_view list i known at)
 
@@ -169,7 +169,7 @@ fits_page shape name spec.Sparse asked asks k is =
 
 -- ---- once it has come to know one
 
-last_there : (front : List Known) (x : Known) → get_elem? (front ++ x ∷ []) (length front) ≡ some x
+pub last_there : (front : List Known) (x : Known) → get_elem? (front ++ x ∷ []) (length front) ≡ some x
 last_there [] x = refl
 last_there (y ∷ ys) x = last_there ys x
 

@@ -22,7 +22,7 @@ use Rattle.live_segment.specs.Add.Batch.{batch_checks, IsBatched, IsCutShort}
 use Rattle.live_segment.specs.Holders.{opened_with}
 use Rattle.live_segment.specs.List.Records.{HasWalked}
 use Rattle.live_segment.specs.Hist.Answer.{IsAnsweredWith, IsRefusedWith}
-use Rattle.live_segment.specs.Hist.Opened.{Opens, OpensAs}
+use Rattle.live_segment.specs.Hist.Opened.{OpensRecord, OpensAs}
 use Rattle.live_segment.specs.Hist.Search.{HasSearched}
 use Rattle.live_segment.specs.Delta.Outcome.{AreUnits, HasTaken}
 use Rattle.live_segment.specs.Delta.Owed.{HasEnough, TookEnough}
@@ -55,7 +55,7 @@ AnswersFirst segment result new =
 -- it returns the histogram of the record, or none; or there was no memory, and it may have looked along the list and read the record
 abbrev pub AnswersOpen : ℕ → RecorderState → Result (Option Hist) Refusal → RecorderState → Type 0
 AnswersOpen reference old result new =
-    MatchResult result (λ found. Opens reference (view_of_state old) found (view_of_state new))
+    MatchResult result (λ found. OpensRecord reference (view_of_state old) found (view_of_state new))
     (λ why. (why ≡ NoMemory) × HasSearched (view_of_state old) (view_of_state new))
 
 -- the same of a record with a name and a spec, where nothing has happened if there was no memory

@@ -29,9 +29,9 @@ use Rattle.live_segment.specs.List.Ends.{SawAllOfList}
 -- ---- the walk to the record
 
 -- it has met a record on the list, which lies within the segment; or it has seen all of the list since, and the record is not there
-abbrev pub Meets : ℕ → Bool → Actor → Actor → Type 0
-Meets reference true old new = Contains new.seen.chain reference × (reference + BLOCK_LEAST ≤ new.segment.shape.size)
-Meets reference false old new = ¬ (Contains new.seen.chain reference) × SawAllOfList old.seen new.seen
+abbrev pub MeetsRecord : ℕ → Bool → Actor → Actor → Type 0
+MeetsRecord reference true old new = Contains new.seen.chain reference × (reference + BLOCK_LEAST ≤ new.segment.shape.size)
+MeetsRecord reference false old new = ¬ (Contains new.seen.chain reference) × SawAllOfList old.seen new.seen
 
 -- ---- what it reads of the record
 
@@ -89,7 +89,7 @@ ReadsNone seen at = SawOtherType seen at ⊎ SawLongName seen at ⊎ SawNoSpec s
 
 -- it has seen all of the list since, and the record is not there; or the record has no name or no spec
 abbrev pub IsNotRead : ℕ → Actor → Actor → Type 0
-IsNotRead reference old new = Meets reference false old new ⊎ (Contains new.seen.chain reference × ReadsNone new.seen reference)
+IsNotRead reference old new = MeetsRecord reference false old new ⊎ (Contains new.seen.chain reference × ReadsNone new.seen reference)
 
 -- ---- whether it is the first of its name
 
@@ -115,8 +115,8 @@ IsNotNamed shape name spec reference a =
     ⊎ ((asked : Asked) × IsAskedFor shape name spec asked × IsNotFirst name asked reference a.seen a)
 
 -- the histogram of a record, which it knows now: it knew it, or has come to know it, and has claimed and published nothing for that
-abbrev pub IsOpenedAs : List ℕ → Spec → ℕ → Hist → Actor → Actor → Type 0
-IsOpenedAs name spec reference histogram old new =
+abbrev pub IsHistogramOfRecord : List ℕ → Spec → ℕ → Hist → Actor → Actor → Type 0
+IsHistogramOfRecord name spec reference histogram old new =
     ((known : Known) × (get_elem? new.answers.names histogram.index ≡ some known) × (known.name ≡ name) × (known.reference ≡ reference))
     × ((new ≡ old) ⊎ (IsAnsweredWith name spec histogram old new × (new.done ≡ old.done)))
 
@@ -124,14 +124,14 @@ IsOpenedAs name spec reference histogram old new =
 abbrev pub OpensAs : List ℕ → Spec → ℕ → Actor → Option Hist → Actor → Type 0
 OpensAs name spec reference old result new =
     MatchOption result (HasSearched old new × IsNotNamed new.segment.shape name spec reference new)
-    (λ histogram. IsOpenedAs name spec reference histogram old new)
+    (λ histogram. IsHistogramOfRecord name spec reference histogram old new)
 
 -- It has looked along the list and read the record. Then it has the histogram; or the record is not on the list, has no name or no spec, or
 -- is not the first of its name.
-abbrev pub Opens : ℕ → Actor → Option Hist → Actor → Type 0
-Opens reference old result new =
+abbrev pub OpensRecord : ℕ → Actor → Option Hist → Actor → Type 0
+OpensRecord reference old result new =
     MatchOption result
     (HasSearched old new × (IsNotRead reference old new
     ⊎ ((name : List ℕ) × (spec : Spec) × ReadsRecord new.seen reference name spec × IsNotNamed new.segment.shape name spec reference new)))
     (λ histogram. (name : List ℕ) × (spec : Spec) × (read : Actor) × HasSearched old read × ReadsRecord read.seen reference name spec
-    × IsOpenedAs name spec reference histogram read new)
+    × IsHistogramOfRecord name spec reference histogram read new)

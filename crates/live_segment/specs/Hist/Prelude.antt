@@ -5,7 +5,7 @@ pub use Rattle.live_segment.specs.Hist.Answer.{IsKnownAt, NoneHasName}
 pub use Rattle.live_segment.specs.Hist.KnownNames.{HasNames}
 pub use Rattle.live_segment.specs.Hist.ListSearch.{HasReadWords, IsAsked, MayLoadRecord, ShowsName, ShowsSpec, ShowsWords}
 pub use Rattle.live_segment.specs.Hist.NewRecord.{HasBlock, HasFilled, MakesRecord, SaysAsked}
-pub use Rattle.live_segment.specs.Hist.Opened.{IsNotRead, Meets, number_read, ReadsName, ReadsRecord, ReadsSpec, Recognizes, SawLongName, SawNoSpec, SawOtherType}
+pub use Rattle.live_segment.specs.Hist.Opened.{IsNotRead, MeetsRecord, number_read, ReadsName, ReadsRecord, ReadsSpec, Recognizes, SawLongName, SawNoSpec, SawOtherType}
 pub use Rattle.live_segment.specs.Hist.Outcome.{IsAnnouncedOf, LooksUp, MakesFor, Settles}
 pub use Rattle.live_segment.specs.Hist.Search.{FoundEnd, HasSearched, Searches, SearchesAt}
 pub use Rattle.live_segment.specs.Holders.{opened_with, table_of}

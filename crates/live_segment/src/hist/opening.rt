@@ -1,7 +1,7 @@
 //! How a recorder opens a histogram whose record it has the reference of.
 
 ghost use Rattle.std.specs.Prelude.{◌≡◌, ◌+◌, ◌<◌, ◌≤◌, true, false, ℕ, length, map, min, IfOk, IfSome, MatchOption, MatchResult, Some, [], ⊤};
-ghost use Rattle.live_segment.specs.Hist.Prelude.{IsNotRead, Meets, ReadsRecord, MayLoadRecord, HasReadWords, IsFixed, ReadsName, ReadsSpec, Recognizes, SawLongName, SawNoSpec, SawOtherType, ShowsWords, IsAsked, is_opener, number_read, bytes_of_words, MayTurn, word_seen, name_words};
+ghost use Rattle.live_segment.specs.Hist.Prelude.{IsNotRead, MeetsRecord, ReadsRecord, MayLoadRecord, HasReadWords, IsFixed, ReadsName, ReadsSpec, Recognizes, SawLongName, SawNoSpec, SawOtherType, ShowsWords, IsAsked, is_opener, number_read, bytes_of_words, MayTurn, word_seen, name_words};
 ghost use Rattle.segment_image.specs.declared.layout.TheConstants.{BLOCK_TYPE, HISTOGRAM_KIND, HISTOGRAM_NAME_LENGTH, KIND_CUSTOM, KIND_LINEAR, TYPE_HISTOGRAM};
 
 use crate::hist::search::Search;
@@ -58,7 +58,7 @@ impl Segment {
         ensures same { IsSame seat.old seat.new }
         ensures view { HasSearched seat.old.me.0 seat.new.me.0 }
         ensures free { MayTurn seat.new.me.0 }
-        ensures met { Meets reference result seat.old.me.0 seat.new.me.0 }
+        ensures met { MeetsRecord reference result seat.old.me.0 seat.new.me.0 }
     {
         let mut at = QUEUE;
         loop {

@@ -11,7 +11,7 @@ use Rattle.segment_calls.specs.declared.refusal.Refusal.TheVariants.{NoMemory}
 use Rattle.segment_calls.specs.Asked.{IsAskedFor}
 use Rattle.live_segment.specs.declared.recorder.Hist.{Hist}
 use Rattle.live_segment.specs.Hist.Answer.{KnowsNamed, KnowsNone}
-use Rattle.live_segment.specs.Hist.Opened.{IsOpenedAs, Opens, OpensAs, ReadsRecord}
+use Rattle.live_segment.specs.Hist.Opened.{IsHistogramOfRecord, OpensRecord, OpensAs, ReadsRecord}
 use Rattle.live_segment.specs.Hist.Outcome.{ComesToKnow}
 use Rattle.live_segment.specs.Hist.Search.{asked_at, HasSearched}
 use Rattle.live_segment.proofs.lemmas.Hist.HistAnswered.{last_there, names_grew}
@@ -29,7 +29,7 @@ opened_known name spec reference index known a (Some histogram) (at, named) (is,
 -- by one that it has come to know
 pub opened_new : (name : List ℕ) (spec : Spec) (reference : ℕ) (histogram : Hist) (asked : Asked) (a b : Actor) → KnowsNone name a
     → histogram.index ≡ length a.answers.names → IsAskedFor a.segment.shape name spec asked → ComesToKnow asked reference a b → b.done ≡ a.done
-    → IsOpenedAs name spec reference histogram a b
+    → IsHistogramOfRecord name spec reference histogram a b
 opened_new name spec reference histogram asked a b none count asks comes quiet =
     let there =
     subst (λ (l : List Known). get_elem? l (length a.answers.names) ≡ some (asked_at asked reference)) (sym (names_grew asked reference a b comes))
@@ -45,7 +45,7 @@ opened_new name spec reference histogram asked a b none count asks comes quiet =
 
 -- once it has read the record
 pub opened_read : (name : List ℕ) (spec : Spec) (reference : ℕ) (a b c : Actor) (result : Option Hist) → HasSearched a b → ReadsRecord b.seen reference name spec
-    → OpensAs name spec reference b result c → Opens reference a result c
+    → OpensAs name spec reference b result c → OpensRecord reference a result c
 opened_read name spec reference a b c None searched reads (further, other) =
     (searched_on a b c searched further, inr (name, spec, record_stays b.seen c.seen further.words reference name spec reads, other))
 opened_read name spec reference a b c (Some histogram) searched reads opened = (name, spec, b, searched, reads, opened)
@@ -54,6 +54,6 @@ opened_read name spec reference a b c (Some histogram) searched reads opened = (
 pub answered_open : (name : List ℕ) (spec : Spec) (reference : ℕ) (a b c : Actor) (result : Result (Option Hist) Refusal) → HasSearched a b
     → ReadsRecord b.seen reference name spec
     → MatchResult result (λ found. OpensAs name spec reference b found c) (λ why. (why ≡ NoMemory) × (c ≡ b))
-    → MatchResult result (λ found. Opens reference a found c) (λ why. (why ≡ NoMemory) × HasSearched a c)
+    → MatchResult result (λ found. OpensRecord reference a found c) (λ why. (why ≡ NoMemory) × HasSearched a c)
 answered_open name spec reference a b c (Ok found) searched reads opens = opened_read name spec reference a b c found searched reads opens
 answered_open name spec reference a b c (Err why) searched reads (is, same) = (is, subst (HasSearched a) (sym same) searched)

@@ -25,7 +25,11 @@ fn word_at(bytes: &[u8], place: usize) -> Option<u64> {
 
 // How many bytes the segment has whose first these are, if a segment begins here: those of an image, or of a mapped file.
 fn length_of(front: &[u8]) -> Option<u64> {
-    let ahead = if word_at(front, 0)? == SEGMENT_COOKIE { 0 } else { 1 };
+    let ahead = if word_at(front, 0)? == SEGMENT_COOKIE {
+        0
+    } else {
+        1
+    };
     let size = word_at(front, ahead + SIZE_WORD)?;
     if word_at(front, ahead)? != SEGMENT_COOKIE || size > MAX_SIZE {
         return None;
@@ -41,7 +45,9 @@ impl<F: Read + Seek + Drop> Part<F> {
         let mut bytes = [0; FRONT];
         let mut count = 0;
         for _ in 0..FRONT {
-            let Some(rest) = bytes.get_mut(count..) else { break };
+            let Some(rest) = bytes.get_mut(count..) else {
+                break
+            };
             let more = file.read(rest)?;
             if more == 0 {
                 break;
@@ -60,7 +66,9 @@ impl<F: Read> Read for Part<F> {
         if !self.front.is_empty() {
             return self.front.read(buf);
         }
-        let most = buf.len().min(usize::try_from(self.left).unwrap_or(usize::MAX));
+        let most = buf
+            .len()
+            .min(usize::try_from(self.left).unwrap_or(usize::MAX));
         let Some(part) = buf.get_mut(..most) else {
             return Ok(0);
         };

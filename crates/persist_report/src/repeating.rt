@@ -4,10 +4,9 @@ use crate::context::Context;
 use fault_texts::is_terminal_at;
 use jiff::Timestamp;
 use persist_report_core::CliFault;
-use std::fmt;
 use std::rt::Files;
-use std::thread;
 use std::time::{Clock, Duration};
+use std::{fmt, thread};
 
 // Clears a terminal, and begins at its first line.
 const CLEAR: &str = "\u{1b}[H\u{1b}[2J";

@@ -47,17 +47,16 @@ pub fn labels_found<'a>(alloc: Global, found: &ArgMatches<'a>) -> Result<Vec<&'a
 }
 
 /// The options of a text of a look that is written again and again.
-pub fn repeat_options<'a>(
-    alloc: Global,
-    command: Command<'a>,
-) -> Result<Command<'a>, AllocError> {
+pub fn repeat_options<'a>(alloc: Global, command: Command<'a>) -> Result<Command<'a>, AllocError> {
     let every = Arg::new(alloc, "every")
         .long("every")
         .value_name("SECONDS")
         .value_parser(value_parser!(u32).range(1..=86_400))
         .requires_arg("live")?
         .help("With --live: look again every SECONDS")
-        .long_help("With --live: look again every SECONDS, until it is ended or --count is\nreached");
+        .long_help(
+            "With --live: look again every SECONDS, until it is ended or --count is\nreached",
+        );
     let count = Arg::new(alloc, "count")
         .long("count")
         .value_name("LOOKS")

@@ -66,7 +66,9 @@ pub fn look_command<'a>(alloc: Global) -> Result<Command<'a>, AllocError> {
         .value_name("BYTE")
         .value_parser(value_parser!(u64))
         .help("Where the segment begins in FILE")
-        .long_help("Where the segment begins in FILE, as in /proc/PID/mem: at the zeros of\na mapped file, or at its image");
+        .long_help(
+            "Where the segment begins in FILE, as in /proc/PID/mem: at the zeros of\na mapped file, or at its image",
+        );
     Command::new(alloc, "look")
         .about("Write the image of a segment that a process is using")
         .long_about(texts::LOOK)

@@ -1,5 +1,5 @@
 -- Sums of lists of numbered readings.
-use Rattle.std.proofs.Common.{◌≡◌, ◌&&◌, nat_le, is_some, ℕ, ◌+◌, ◌+ℤ◌, List, [], ◌∷◌, ◌++◌, length, refl, ap, sym, subst, ◌∙◌, arith}
+use Rattle.std.proofs.Common.{◌≡◌, ◌&&◌, is_some, ℕ, ◌+◌, ◌+ℤ◌, List, [], ◌∷◌, ◌++◌, length, refl, ap, sym, subst, ◌∙◌, arith}
 use Rattle.std.specs.List.{list_any}
 use Rattle.std.specs.List.Sorted.{IsPermutation}
 use Rattle.std.proofs.lemmas.Grind.{flat_map-append}
@@ -11,7 +11,7 @@ use Rattle.bucket_ranges.specs.Reading.{Reading}
 use Rattle.reading_sums.specs.declared.notes.Notes.{Notes}
 use Rattle.reading_sums.specs.declared.sums.Sums.{Sums}
 use Rattle.reading_sums.specs.Notes.{AreNotesOf, AreNotesOfBoth, one_if}
-use Rattle.reading_sums.specs.Totals.{Part, Quantity, SameTotals, total, share_of, is_of}
+use Rattle.reading_sums.specs.Totals.{Part, Quantity, SameTotals, has_feature, total, share_of, is_of}
 use Rattle.reading_sums.specs.Sums.{AreNotesIn, HaveSameSum, IsSumOf, IsSumOfBoth, parts_in, parts_of_one}
 use Rattle.reading_sums.specs.Views.{parts_of}
 use Rattle.reading_sums.proofs.Integers.{isum, isum-flat_map, isum-permutation, any-flat_map}
@@ -28,7 +28,7 @@ pub same-permutation : (a b : List Part) → IsPermutation a b → SameTotals a 
 same-permutation a b moved = record {
   totals = λ quantity name spec. total-isum quantity name spec a
       ∙ (isum-permutation (share_of quantity name spec) a b moved ∙ sym (total-isum quantity name spec b));
-  least = λ number name spec. list_any-IsPermutation (λ part. is_of name spec part && nat_le part.least number) a b moved;
+  features = λ feature name spec. list_any-IsPermutation (λ part. is_of name spec part && has_feature feature part) a b moved;
 }
 
 -- readings in another order
@@ -39,8 +39,8 @@ readings-permutation xs ys moved = record {
       (total-isum quantity name spec (parts_in xs) ∙ isum-flat_map share parts_of_one xs)
       ∙ (isum-permutation (λ numbered. isum share (parts_of_one numbered)) xs ys moved
       ∙ sym (total-isum quantity name spec (parts_in ys) ∙ isum-flat_map share parts_of_one ys));
-  least = λ number name spec.
-      let test = λ (part : Part). is_of name spec part && nat_le part.least number in
+  features = λ feature name spec.
+      let test = λ (part : Part). is_of name spec part && has_feature feature part in
       any-flat_map test parts_of_one xs
       ∙ (list_any-IsPermutation (λ numbered. list_any test (parts_of_one numbered)) xs ys moved ∙ sym (any-flat_map test parts_of_one ys));
 }

@@ -10,7 +10,8 @@ use Rattle.std.proofs.lemmas.List.Sums.{sum_by-append}
 use Rattle.std.proofs.lemmas.List.Folds.{list_any-append}
 use Rattle.bucket_ranges.specs.declared.spec.Spec.{Spec}
 use Rattle.reading_sums.specs.Totals.Quantity.{Units, Marks, Amounts, AmountMarks, Redundant, Images}
-use Rattle.reading_sums.specs.Totals.{Part, Quantity, SameTotals, IsBoth, total, share_of, has_up_to, is_of, same_spec, quantity_of}
+use Rattle.reading_sums.specs.Totals.Feature.{HasKey, IsUpTo}
+use Rattle.reading_sums.specs.Totals.{Part, Quantity, SameTotals, IsBoth, total, share_of, Feature, is_had, has_feature, is_of, same_spec, quantity_of}
 
 -- ---- two lists, one behind the other
 
@@ -21,33 +22,33 @@ total-append quantity name spec (x ∷ xs) ys =
     ap (λ n. share_of quantity name spec x +ℤ n) (total-append quantity name spec xs ys)
     ∙ sym (+ℤ_assoc (share_of quantity name spec x) (total quantity name spec xs) (total quantity name spec ys))
 
-pub up_to-append : (number : ℕ) (name : List ℕ) (spec : Spec) (xs ys : List Part)
-    → has_up_to number name spec (xs ++ ys) ≡ (has_up_to number name spec xs || has_up_to number name spec ys)
-up_to-append number name spec xs ys = list_any-append (λ part. is_of name spec part && nat_le part.least number) xs ys
+pub had-append : (feature : Feature) (name : List ℕ) (spec : Spec) (xs ys : List Part)
+    → is_had feature name spec (xs ++ ys) ≡ (is_had feature name spec xs || is_had feature name spec ys)
+had-append feature name spec xs ys = list_any-append (λ part. is_of name spec part && has_feature feature part) xs ys
 
 -- ---- the same totals
 
 pub same-refl : (a : List Part) → SameTotals a a
-same-refl a = record { totals = λ quantity name spec. refl; least = λ number name spec. refl }
+same-refl a = record { totals = λ quantity name spec. refl; features = λ feature name spec. refl }
 
 pub same-sym : (a b : List Part) → SameTotals a b → SameTotals b a
 same-sym a b same = record {
   totals = λ quantity name spec. sym (same.totals quantity name spec);
-  least = λ number name spec. sym (same.least number name spec);
+  features = λ feature name spec. sym (same.features feature name spec);
 }
 
 pub same-trans : (a b c : List Part) → SameTotals a b → SameTotals b c → SameTotals a c
 same-trans a b c first second = record {
   totals = λ quantity name spec. first.totals quantity name spec ∙ second.totals quantity name spec;
-  least = λ number name spec. first.least number name spec ∙ second.least number name spec;
+  features = λ feature name spec. first.features feature name spec ∙ second.features feature name spec;
 }
 
 pub same-append : (a b c d : List Part) → SameTotals a b → SameTotals c d → SameTotals (a ++ c) (b ++ d)
 same-append a b c d first second = record {
   totals = λ quantity name spec. total-append quantity name spec a c
       ∙ ((λ i. first.totals quantity name spec i +ℤ second.totals quantity name spec i) ∙ sym (total-append quantity name spec b d));
-  least = λ number name spec. up_to-append number name spec a c
-      ∙ ((λ i. first.least number name spec i || second.least number name spec i) ∙ sym (up_to-append number name spec b d));
+  features = λ feature name spec. had-append feature name spec a c
+      ∙ ((λ i. first.features feature name spec i || second.features feature name spec i) ∙ sym (had-append feature name spec b d));
 }
 
 -- ---- one part more of two lists that are added up
@@ -74,11 +75,11 @@ second-first part first rest = record {
       ap (λ n. share +ℤ n) (total-append quantity name spec first rest)
       ∙ (sym (+ℤ_assoc share one other) ∙ (ap (λ n. n +ℤ other) (+ℤ_comm share one) ∙ (+ℤ_assoc one share other
       ∙ sym (total-append quantity name spec first (part ∷ rest)))));
-  least = λ number name spec.
-      let has = is_of name spec part && nat_le part.least number in
-      ap (λ b. has || b) (up_to-append number name spec first rest)
-      ∙ (or-swap has (has_up_to number name spec first) (has_up_to number name spec rest)
-      ∙ sym (up_to-append number name spec first (part ∷ rest)));
+  features = λ feature name spec.
+      let has = is_of name spec part && has_feature feature part in
+      ap (λ b. has || b) (had-append feature name spec first rest)
+      ∙ (or-swap has (is_had feature name spec first) (is_had feature name spec rest)
+      ∙ sym (had-append feature name spec first (part ∷ rest)));
 }
 
 -- equal lists have the same totals
@@ -89,9 +90,9 @@ chosen-sum : (t : Bool) (x y z : ℤ) → z ≡ x +ℤ y → (if t then z else p
 chosen-sum true x y z e = e
 chosen-sum false x y z e = refl
 
-both-up_to : (t e a b : Bool) → e ≡ (a || b) → (t && e) ≡ ((t && a) || (t && b))
-both-up_to true e a b is = is
-both-up_to false e a b is = refl
+both-had : (t e a b : Bool) → e ≡ (a || b) → (t && e) ≡ ((t && a) || (t && b))
+both-had true e a b is = is
+both-had false e a b is = refl
 
 min-up_to : (a b n : ℕ) → nat_le (min a b) n ≡ (nat_le a n || nat_le b n)
 min-up_to a b n = grind (arith, nat_tests)
@@ -117,18 +118,18 @@ two-in-one a b e rest names specs both = record {
       ∙ ap (λ t. share_of quantity name spec a +ℤ (if t then quantity_of quantity b else pos 0)) (sym second)) in
       ap (λ n. n +ℤ total quantity name spec rest) here
       ∙ +ℤ_assoc (share_of quantity name spec a) (share_of quantity name spec b) (total quantity name spec rest);
-  least = λ number name spec.
+  features = λ feature name spec.
       let of_a = is_of name spec a in
       let first : is_of name spec e ≡ of_a = is_of-both name spec e a both.name both.spec in
       let second : is_of name spec b ≡ of_a = sym (is_of-both name spec a b names specs) in
-      let here : (is_of name spec e && nat_le e.least number)
-      ≡ ((is_of name spec a && nat_le a.least number) || (is_of name spec b && nat_le b.least number)) =
-      ap (λ t. t && nat_le e.least number) first
-      ∙ (both-up_to of_a (nat_le e.least number) (nat_le a.least number) (nat_le b.least number)
-      (ap (λ n. nat_le n number) both.least ∙ min-up_to a.least b.least number)
-      ∙ ap (λ t. (of_a && nat_le a.least number) || (t && nat_le b.least number)) (sym second)) in
-      or-assoc (is_of name spec a && nat_le a.least number) (is_of name spec b && nat_le b.least number)
-      (has_up_to number name spec rest) (is_of name spec e && nat_le e.least number) here;
+      let here : (is_of name spec e && has_feature feature e)
+      ≡ ((is_of name spec a && has_feature feature a) || (is_of name spec b && has_feature feature b)) =
+      ap (λ t. t && has_feature feature e) first
+      ∙ (both-had of_a (has_feature feature e) (has_feature feature a) (has_feature feature b)
+      (both.features feature)
+      ∙ ap (λ t. (of_a && has_feature feature a) || (t && has_feature feature b)) (sym second)) in
+      or-assoc (is_of name spec a && has_feature feature a) (is_of name spec b && has_feature feature b)
+      (is_had feature name spec rest) (is_of name spec e && has_feature feature e) here;
 }
 
 -- the first parts of both lists, as one
@@ -153,3 +154,9 @@ quantities-both a b e keys sum mark redundant images Amounts = sum
 quantities-both a b e keys sum mark redundant images AmountMarks = mark
 quantities-both a b e keys sum mark redundant images Redundant = ap pos redundant
 quantities-both a b e keys sum mark redundant images Images = ap pos images
+
+-- every feature, where the keys are and the least number is
+pub features-both : (a b e : Part) → SameKeys e.keys (a.keys ++ b.keys) → e.least ≡ min a.least b.least
+    → (feature : Feature) → has_feature feature e ≡ (has_feature feature a || has_feature feature b)
+features-both a b e keys least (HasKey key) = keys.values key ∙ list_any-append (λ k. int_eq k.value key) a.keys b.keys
+features-both a b e keys least (IsUpTo number) = ap (λ n. nat_le n number) least ∙ min-up_to a.least b.least number

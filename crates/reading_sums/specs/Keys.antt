@@ -1,6 +1,6 @@
 -- The keys of histograms, and what lists of them have together.
-use Rattle.std.specs.Prelude.{◌≡◌, ℕ, ◌+◌, ◌<◌, ℤ, pos, List, length, map, slice_index, get_or, sum_by, if◌then◌else◌}
-use Rattle.std.specs.List.{range_with_len}
+use Rattle.std.specs.Prelude.{◌≡◌, Bool, ℕ, ◌+◌, ◌<◌, ℤ, pos, List, length, map, slice_index, get_or, sum_by, if◌then◌else◌}
+use Rattle.std.specs.List.{range_with_len, list_any}
 use Rattle.std.specs.Ordering.{int_eq}
 use Rattle.reading_sums.specs.declared.key.KeySum.{KeySum}
 use Rattle.reading_sums.specs.declared.order.Side.{Side}
@@ -26,8 +26,13 @@ units_at keys value = sum_by (λ key. if int_eq key.value value then key.units e
 abbrev pub marks_at : List KeySum → ℤ → ℕ
 marks_at keys value = sum_by (λ key. if int_eq key.value value then key.marks else 0) keys
 
--- two lists have of each value the same units and the same marks
+-- whether a value is among the keys
+abbrev pub has_key : List KeySum → ℤ → Bool
+has_key keys value = list_any (λ key. int_eq key.value value) keys
+
+-- two lists have the same values, and of each the same units and the same marks
 pub record SameKeys (a b : List KeySum) : Type 0 where
+  pub values : (value : ℤ) → has_key a value ≡ has_key b value
   pub units : (value : ℤ) → units_at a value ≡ units_at b value
   pub marks : (value : ℤ) → marks_at a value ≡ marks_at b value
 

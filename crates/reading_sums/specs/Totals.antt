@@ -1,12 +1,12 @@
 -- What histograms have together. A part is what some histograms of one name and one spec have, such as one histogram.
-use Rattle.std.specs.Prelude.{◌≡◌, Bool, ◌&&◌, nat_le, if◌then◌else◌, ℕ, min, ℤ, pos, ◌+ℤ◌, List, [], ◌∷◌}
+use Rattle.std.specs.Prelude.{◌≡◌, Bool, ◌&&◌, ◌||◌, nat_le, if◌then◌else◌, ℕ, ℤ, pos, ◌+ℤ◌, List, [], ◌∷◌}
 use Rattle.std.specs.List.{list_any}
 use Rattle.std.specs.Str.{bytes_eq}
 use Rattle.bucket_ranges.specs.declared.spec.Spec.{Spec}
 use Rattle.bucket_ranges.specs.Spec.{spec_fields, spec_ranges}
 use Rattle.bucket_ranges.specs.Reading.{Histogram}
 use Rattle.reading_sums.specs.declared.key.KeySum.{KeySum}
-use Rattle.reading_sums.specs.Keys.{keys_from, units_at, marks_at}
+use Rattle.reading_sums.specs.Keys.{keys_from, has_key, units_at, marks_at}
 
 -- a part: the keys, the sum and its mark, the redundant count, how many histograms it is of, and the least number of an
 -- image that has one
@@ -73,18 +73,29 @@ abbrev pub total : Quantity → List ℕ → Spec → List Part → ℤ
 total quantity name spec [] = pos 0
 total quantity name spec (part ∷ rest) = share_of quantity name spec part +ℤ total quantity name spec rest
 
--- whether a part of a name and a spec is of an image with a number up to this one
-abbrev pub has_up_to : ℕ → List ℕ → Spec → List Part → Bool
-has_up_to number name spec parts = list_any (λ part. is_of name spec part && nat_le part.least number) parts
+-- what a part may have: a key, or an image with a number up to this one
+pub data Feature : Type 0 where
+  HasKey : (key : ℤ) → Feature
+  IsUpTo : (number : ℕ) → Feature
 
--- two lists of parts have the same totals: of each name and spec everything that is added up, and the least number
+-- whether a part has it
+abbrev pub has_feature : Feature → Part → Bool
+has_feature (HasKey key) part = has_key part.keys key
+has_feature (IsUpTo number) part = nat_le part.least number
+
+-- whether some part of a name and a spec has it
+abbrev pub is_had : Feature → List ℕ → Spec → List Part → Bool
+is_had feature name spec parts = list_any (λ part. is_of name spec part && has_feature feature part) parts
+
+-- two lists of parts have the same totals: of each name and spec everything that is added up, the same keys, and the same
+-- least number
 pub record SameTotals (a b : List Part) : Type 0 where
   pub totals : (quantity : Quantity) (name : List ℕ) (spec : Spec) → total quantity name spec a ≡ total quantity name spec b
-  pub least : (number : ℕ) (name : List ℕ) (spec : Spec) → has_up_to number name spec a ≡ has_up_to number name spec b
+  pub features : (feature : Feature) (name : List ℕ) (spec : Spec) → is_had feature name spec a ≡ is_had feature name spec b
 
 -- a part is two parts of one name and one spec together
 pub record IsBoth (a b both : Part) : Type 0 where
   pub name : both.name ≡ a.name
   pub spec : both.spec ≡ a.spec
   pub quantities : (quantity : Quantity) → quantity_of quantity both ≡ quantity_of quantity a +ℤ quantity_of quantity b
-  pub least : both.least ≡ min a.least b.least
+  pub features : (feature : Feature) → has_feature feature both ≡ (has_feature feature a || has_feature feature b)

@@ -152,7 +152,6 @@ fn next_hist(
     ensures left { IfOk result (λ next. next.1 ≤ length left.now) }
     ensures right { IfOk result (λ next. next.2 ≤ length right.now) }
     ensures some { IfOk result (λ next. 0 < next.1 + next.2) }
-    ensures few { IfOk result (λ next. (next.1 ≤ 1) × (next.2 ≤ 1)) }
     ensures same { IfOk result (λ next. SameTotals (part_of next.0 ∷ (map part_of (drop next.1 left.now) ++ map part_of (drop next.2 right.now))) (map part_of left.now ++ map part_of right.now)) }
 {
     match side_of(left, right) {

@@ -86,7 +86,6 @@ fn next_key(left: &[KeySum], right: &[KeySum]) -> Result<(KeySum, usize, usize),
     ensures left { IfOk result (λ next. next.1 ≤ length left.now) }
     ensures right { IfOk result (λ next. next.2 ≤ length right.now) }
     ensures some { IfOk result (λ next. 0 < next.1 + next.2) }
-    ensures few { IfOk result (λ next. (next.1 ≤ 1) × (next.2 ≤ 1)) }
     ensures same { IfOk result (λ next. SameKeys (next.0 ∷ (drop next.1 left.now ++ drop next.2 right.now)) (left.now ++ right.now)) }
 {
     match side_of(left, right) {
@@ -109,8 +108,8 @@ pub(crate) fn keys_of_both(
     while !(left_rest.is_empty() && right_rest.is_empty()) {
         let (key, of_left, of_right) = next_key(left_rest, right_rest)?;
         keys.push(key)?;
-        left_rest = &left_rest[of_left..];
-        right_rest = &right_rest[of_right..];
+        left_rest = left_rest.split_at(of_left).1;
+        right_rest = right_rest.split_at(of_right).1;
     }
     Ok(keys)
 }

@@ -106,7 +106,7 @@ impl Sums {
         self.notes
     }
 
-    /// Returns the histograms, ascending by name.
+    /// Returns the histograms of the sum, which has them ascending by name.
     pub fn hists(&self) -> &[HistSum]
         ensures { result.now ≡ self.now.hists.items }
     {

@@ -12,7 +12,7 @@ use Rattle.reading_sums.specs.declared.notes.Notes.{Notes}
 use Rattle.reading_sums.specs.declared.sums.Sums.{Sums}
 use Rattle.reading_sums.specs.Notes.{AreNotesOf, AreNotesOfBoth, one_if}
 use Rattle.reading_sums.specs.Totals.{Part, Quantity, SameTotals, has_feature, total, share_of, is_of}
-use Rattle.reading_sums.specs.Sums.{AreNotesIn, HaveSameSum, IsSumOf, IsSumOfBoth, parts_in, parts_of_one}
+use Rattle.reading_sums.specs.Sums.{AreNotesIn, HaveSameSum, IsSumOver, IsSumOfBoth, parts_in, parts_of_one}
 use Rattle.reading_sums.specs.Views.{parts_of}
 use Rattle.reading_sums.proofs.Integers.{isum, isum-flat_map, isum-permutation, any-flat_map}
 use Rattle.reading_sums.proofs.Totals.{same-append, same-equal, same-trans, same-sym}
@@ -98,7 +98,7 @@ notes-known xs a b first second = λ i. record {
   bad = (first.bad ∙ sym second.bad) i;
 }
 
-pub sum-known : (xs : List (ℕ × Reading)) (a b : Sums) → IsSumOf xs a → IsSumOf xs b → HaveSameSum a b
+pub sum-known : (xs : List (ℕ × Reading)) (a b : Sums) → IsSumOver xs a → IsSumOver xs b → HaveSameSum a b
 sum-known xs a b first second = record {
   hists = same-trans (parts_of a) (parts_in xs) (parts_of b) first.hists (same-sym (parts_of b) (parts_in xs) second.hists);
   notes = notes-known xs a.notes b.notes first.notes second.notes;
@@ -114,13 +114,13 @@ notes-sum xs ys a b c first second both = record {
   bad = both.bad ∙ (sum_by-append (λ numbered. length numbered.1.bad) xs ys ∙ sym (λ i. first.bad i + second.bad i));
 }
 
-pub sum-both : (xs ys : List (ℕ × Reading)) (a b c : Sums) → IsSumOf xs a → IsSumOf ys b → IsSumOfBoth a b c → IsSumOf (xs ++ ys) c
+pub sum-both : (xs ys : List (ℕ × Reading)) (a b c : Sums) → IsSumOver xs a → IsSumOver ys b → IsSumOfBoth a b c → IsSumOver (xs ++ ys) c
 sum-both xs ys a b c first second both = record {
   hists = parts-both xs ys (parts_of a) (parts_of b) (parts_of c) first.hists second.hists both.hists;
   notes = notes-both xs ys a.notes b.notes c.notes first.notes second.notes both.notes;
 }
 
-pub both-sum : (xs ys : List (ℕ × Reading)) (a b c : Sums) → IsSumOf xs a → IsSumOf ys b → IsSumOf (xs ++ ys) c → IsSumOfBoth a b c
+pub both-sum : (xs ys : List (ℕ × Reading)) (a b c : Sums) → IsSumOver xs a → IsSumOver ys b → IsSumOver (xs ++ ys) c → IsSumOfBoth a b c
 both-sum xs ys a b c first second both = record {
   hists = same-trans (parts_of c) (parts_in (xs ++ ys)) (parts_of a ++ parts_of b) both.hists
       (same-trans (parts_in (xs ++ ys)) (parts_in xs ++ parts_in ys) (parts_of a ++ parts_of b)

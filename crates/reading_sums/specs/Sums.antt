@@ -26,7 +26,7 @@ pub record AreNotesIn (readings : List (ℕ × Reading)) (notes : Notes) : Type 
 
 -- A sum is that of a list of numbered readings: of each name and spec it has the totals of all their histograms of that
 -- name and spec, and its notes are theirs.
-pub record IsSumOf (readings : List (ℕ × Reading)) (sums : Sums) : Type 0 where
+pub record IsSumOver (readings : List (ℕ × Reading)) (sums : Sums) : Type 0 where
   pub hists : SameTotals (parts_of sums) (parts_in readings)
   pub notes : AreNotesIn readings sums.notes
 

@@ -6,7 +6,7 @@ ghost use Rattle.bucket_ranges.specs.Reading as definition;
 ghost use Rattle.image_reader.specs.Views.{histogram_view, reading_view};
 ghost use Rattle.reading_sums.specs.Totals.{part_from, SameTotals};
 ghost use Rattle.reading_sums.specs.Views.{part_of};
-ghost use Rattle.reading_sums.specs.Sums.{IsSumOf};
+ghost use Rattle.reading_sums.specs.Sums.{IsSumOver};
 
 use crate::fault::SumsFault;
 use crate::hist::{HistSum, sum_of, sums_of_both};
@@ -51,7 +51,7 @@ fn sums_of_one(
 impl Sums {
     /// Returns the sum of no images.
     pub fn new(alloc: Global) -> Sums
-        ensures { IsSumOf [] result }
+        ensures { IsSumOver [] result }
     {
         Sums {
             alloc,
@@ -72,7 +72,7 @@ impl Sums {
     /// It is refused if a total would not fit, `TooMany`, or if there is no memory, `NoMemory`. The sum is then as it
     /// was [refused].
     pub fn add(&mut self, number: u64, reading: &Reading) -> Result<(), SumsFault>
-        ensures added { OnOk result ((readings : List (ℕ × definition.Reading)) → IsSumOf readings self.old → IsSumOf (readings ++ (number, reading_view reading.now) ∷ []) self.new) }
+        ensures added { OnOk result ((readings : List (ℕ × definition.Reading)) → IsSumOver readings self.old → IsSumOver (readings ++ (number, reading_view reading.now) ∷ []) self.new) }
         ensures refused { OnErr result (self.new ≡ self.old) }
     {
         let notes = notes_of_both(&self.notes, &notes_of(reading))?;
@@ -89,7 +89,7 @@ impl Sums {
     /// It is refused if a total would not fit, `TooMany`, or if there is no memory, `NoMemory`. The sum is then as it
     /// was [refused].
     pub fn append(&mut self, other: &Sums) -> Result<(), SumsFault>
-        ensures added { OnOk result ((readings more : List (ℕ × definition.Reading)) → IsSumOf readings self.old → IsSumOf more other.now → IsSumOf (readings ++ more) self.new) }
+        ensures added { OnOk result ((readings more : List (ℕ × definition.Reading)) → IsSumOver readings self.old → IsSumOver more other.now → IsSumOver (readings ++ more) self.new) }
         ensures refused { OnErr result (self.new ≡ self.old) }
     {
         let notes = notes_of_both(&self.notes, &other.notes)?;

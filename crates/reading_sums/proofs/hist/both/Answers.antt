@@ -1,0 +1,35 @@
+-- What two have together has the sum of everything that each has.
+use Rattle.reading_sums.specs.declared.key.KeySum.{KeySum}
+use Rattle.std.proofs.Common.{◌++◌, List, ◌∙◌, subst, rules}
+use mir.Val.{to_z, of_z}
+use Rattle.reading_sums.specs.Keys.{SameKeys}
+use mir.Syntax.{w128}
+use Rattle.std.proofs.lemmas.Int.{to_z-of_z}
+use Rattle.reading_sums.specs.Totals.{Part}
+use Rattle.reading_sums.specs.Views.{part_of}
+use Rattle.reading_sums.proofs.Totals.{quantities-both, features-both}
+use Rattle.reading_sums.proofs.hist.both.Goals as goal
+
+pub returns : goal.returns
+returns c =
+    let P : List KeySum → Type 0 = λ z. SameKeys c.in_ok-keys_of_both.field-0.items z in
+    let keys : SameKeys c.in_ok-keys_of_both.field-0.items (c.args.left.now.keys.items ++ c.args.right.now.keys.items) =
+    subst P (λ i. c.deref-2.ensures.value i ++ c.deref-3.ensures.value i) c.in_ok-keys_of_both.ensures in
+    let both : Part = part_of record {
+      name = c.in_ok-from_slice.field-0;
+      spec = c.in_ok-copy_of_spec.field-0;
+      keys = c.in_ok-keys_of_both.field-0;
+      sum = to_z w128 (of_z w128 c.in_ok-amount_of_both.field-0);
+      sum_mark = to_z w128 (of_z w128 c.in_ok-amount_of_both-2.field-0);
+      redundant = c.in_ok-number_of_both.field-0;
+      images = c.in_ok-number_of_both-2.field-0;
+      least = c.min.result;
+    } in record {
+      name = search rules;
+      spec = search rules;
+      quantities = quantities-both (part_of c.args.left.now) (part_of c.args.right.now) both keys
+          (to_z-of_z w128 c.in_ok-amount_of_both.field-0 c.in_ok-amount_of_both.ensures.fits ∙ c.in_ok-amount_of_both.ensures.sum)
+          (to_z-of_z w128 c.in_ok-amount_of_both-2.field-0 c.in_ok-amount_of_both-2.ensures.fits ∙ c.in_ok-amount_of_both-2.ensures.sum)
+          c.in_ok-number_of_both.ensures c.in_ok-number_of_both-2.ensures;
+      features = features-both (part_of c.args.left.now) (part_of c.args.right.now) both keys c.min.ensures;
+    }

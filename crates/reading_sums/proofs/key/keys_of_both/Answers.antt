@@ -1,0 +1,19 @@
+-- The key that comes next goes behind what was taken before.
+use Rattle.std.proofs.Common.{◌≡◌, ◌++◌, ◌∷◌, [], List, drop, subst, sym}
+use Rattle.reading_sums.specs.declared.key.KeySum.{KeySum}
+use Rattle.reading_sums.specs.Keys.{SameKeys}
+use Rattle.reading_sums.proofs.Keys.{keys-step}
+use Rattle.reading_sums.proofs.key.keys_of_both.Goals as goal
+
+pub loop-left_rest-preserved : goal.loop-left_rest-preserved
+loop-left_rest-preserved c =
+    let left : List KeySum = c.loop-left_rest.left_rest.now in
+    let right : List KeySum = c.loop-left_rest.right_rest.now in
+    let all : List KeySum = c.args.left.now ++ c.args.right.now in
+    let rest : c.split_at.result.1.now ++ c.split_at-in-loop-left_rest.result.1.now ≡ drop c.in_ok-key.of_left left ++ drop c.in_ok-key.of_right right =
+    λ i. c.split_at.ensures.back i ++ c.split_at-in-loop-left_rest.ensures.back i in
+    let P : List KeySum → Type 0 = λ z. SameKeys (z ++ (c.split_at.result.1.now ++ c.split_at-in-loop-left_rest.result.1.now)) all in
+    let Q : List KeySum → Type 0 = λ z. SameKeys ((c.loop-left_rest.keys.items ++ c.in_ok-key.key ∷ []) ++ z) all in
+    subst P (sym c.in_ok-push.ensures.items) (subst Q (sym rest)
+    (keys-step c.loop-left_rest.keys.items (left ++ right) (drop c.in_ok-key.of_left left ++ drop c.in_ok-key.of_right right) all c.in_ok-key.key
+    c.loop-left_rest.invariant c.in_ok-key.ensures.same))

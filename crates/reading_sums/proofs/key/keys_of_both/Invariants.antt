@@ -1,0 +1,10 @@
+use Rattle.std.proofs.Common.{◌+◌, ◌++◌, length}
+use Rattle.reading_sums.specs.Keys.{SameKeys}
+use Rattle.reading_sums.proofs.key.keys_of_both.Given as goal
+
+-- the keys so far, with what is left of both lists, are those of both
+abbrev pub invariant-loop-left_rest : goal.invariant-loop-left_rest
+invariant-loop-left_rest l = SameKeys (l.keys.items ++ (l.left_rest ++ l.right_rest)) (l.left ++ l.right)
+
+abbrev pub decreases-loop-left_rest : goal.decreases-loop-left_rest
+decreases-loop-left_rest l = length l.left_rest + length l.right_rest

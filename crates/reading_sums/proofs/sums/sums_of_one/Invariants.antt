@@ -1,0 +1,10 @@
+use Rattle.std.proofs.Common.{◌≡◌, map, take}
+use Rattle.image_reader.specs.Views.{histogram_view}
+use Rattle.reading_sums.specs.Totals.{part_from}
+use Rattle.reading_sums.specs.Views.{part_of}
+use Rattle.reading_sums.proofs.sums.sums_of_one.Given as goal
+
+-- the histograms so far
+abbrev pub invariant-loop-hist : goal.invariant-loop-hist
+invariant-loop-hist l =
+    map part_of l.sums.items ≡ map (λ hist. part_from l.number (histogram_view hist.now)) (take l.hist-index l.hist-items)

@@ -1,0 +1,5 @@
+pub mod Keys
+pub mod Totals
+pub mod Views
+pub mod Notes
+pub mod Sums

@@ -1,0 +1,32 @@
+-- What the values of this crate are as values of the definitions.
+use Rattle.std.specs.Prelude.{◌≡◌, ◌<◌, List, length, map, get_or}
+use Rattle.reading_sums.specs.declared.hist.HistSum.{HistSum}
+use Rattle.reading_sums.specs.declared.sums.Sums.{Sums}
+use Rattle.reading_sums.specs.declared.order.Side.{Side}
+use Rattle.reading_sums.specs.declared.order.Side.TheVariants.{Left, Right, Both}
+use Rattle.reading_sums.specs.Totals.{Part}
+
+-- a histogram of a sum, as a part
+abbrev pub part_of : HistSum → Part
+part_of hist = record {
+  name = hist.name.items;
+  spec = hist.spec;
+  keys = hist.keys.items;
+  sum = hist.sum;
+  sum_mark = hist.sum_mark;
+  redundant = hist.redundant;
+  images = hist.images;
+  least = hist.least;
+}
+
+-- the parts of a sum
+abbrev pub parts_of : Sums → List Part
+parts_of sums = map part_of sums.hists.items
+
+-- where the least histogram stands there is one, and where it stands in both lists these are of one name and one spec
+abbrev pub IsSideOf : List HistSum → List HistSum → Side → Type 0
+IsSideOf a b Left = 0 < length a
+IsSideOf a b Right = 0 < length b
+IsSideOf a b Both = (0 < length a) × (0 < length b)
+    × ((d : HistSum) → (get_or a 0 d).name.items ≡ (get_or b 0 d).name.items)
+    × ((d : HistSum) → (get_or a 0 d).spec ≡ (get_or b 0 d).spec)

@@ -1,0 +1,115 @@
+//! The keys of histograms, and their sums.
+
+ghost use Rattle.std.specs.Prelude.{◌≡◌, ◌∷◌, ◌++◌, ◌+◌, ◌<◌, ◌≤◌, drop, length, slice_index, IfOk};
+ghost use Rattle.reading_sums.specs.Keys.{keys_from, IsKeyOfBoth, SameKeys, IsSide};
+
+use crate::fault::SumsFault;
+use crate::order::Side;
+use std::alloc::{AllocError, Global};
+
+/// What images have of one key together: of a bucket, or of a value of a sparse histogram.
+#[derive(Clone, Copy, Debug, PartialEq, Eq)]
+pub struct KeySum {
+    /// The least value of the bucket, or the value.
+    pub value: i32,
+    /// The units.
+    pub units: u64,
+    /// The units that deltas have taken.
+    pub marks: u64,
+}
+
+// The mark beside the key of an index, or 0.
+fn mark_beside(marks: &[u64], index: usize) -> u64
+    ensures { result ≡ slice_index marks.now index }
+{
+    marks.get(index).copied().unwrap_or(0)
+}
+
+/// The keys of a histogram, in their order. A key without a mark beside it has the mark 0.
+pub(crate) fn keys_of(
+    alloc: Global,
+    counts: &[(i32, u64)],
+    marks: &[u64],
+) -> Result<Vec<KeySum>, AllocError>
+    ensures { IfOk result (λ keys. keys.items ≡ keys_from counts.now marks.now) }
+{
+    let mut keys = Vec::with_capacity(alloc, counts.len())?;
+    for i in 0..counts.len() {
+        let (value, units) = counts[i];
+        let marks = mark_beside(marks, i);
+        keys.push(KeySum {
+            value,
+            units,
+            marks,
+        })?;
+    }
+    Ok(keys)
+}
+
+// What two have of a key, or nothing where a total would pass 64 bits.
+fn key_of_both(left: &KeySum, right: &KeySum) -> Result<KeySum, SumsFault>
+    requires { left.now.value ≡ right.now.value }
+    ensures { IfOk result (IsKeyOfBoth left.now right.now) }
+{
+    let units = left.units.checked_add(right.units);
+    let marks = left.marks.checked_add(right.marks);
+    match (units, marks) {
+        (Some(units), Some(marks)) => Ok(KeySum {
+            value: left.value,
+            units,
+            marks,
+        }),
+        _ => Err(SumsFault::TooMany),
+    }
+}
+
+// Where the least key of two lists stands, each of which ascends.
+fn side_of(left: &[KeySum], right: &[KeySum]) -> Side
+    requires { 0 < length left.now + length right.now }
+    ensures { IsSide left.now right.now result }
+{
+    if right.is_empty() {
+        return Side::Left;
+    }
+    if left.is_empty() || right[0].value < left[0].value {
+        return Side::Right;
+    }
+    if left[0].value < right[0].value {
+        return Side::Left;
+    }
+    Side::Both
+}
+
+// The least key of two lists, and how many keys of each it takes.
+fn next_key(left: &[KeySum], right: &[KeySum]) -> Result<(KeySum, usize, usize), SumsFault>
+    requires { 0 < length left.now + length right.now }
+    ensures left { IfOk result (λ next. next.1 ≤ length left.now) }
+    ensures right { IfOk result (λ next. next.2 ≤ length right.now) }
+    ensures some { IfOk result (λ next. 0 < next.1 + next.2) }
+    ensures same { IfOk result (λ next. SameKeys (next.0 ∷ (drop next.1 left.now ++ drop next.2 right.now)) (left.now ++ right.now)) }
+{
+    match side_of(left, right) {
+        Side::Left => Ok((left[0], 1, 0)),
+        Side::Right => Ok((right[0], 0, 1)),
+        Side::Both => Ok((key_of_both(&left[0], &right[0])?, 1, 1)),
+    }
+}
+
+/// The keys of two lists together: each has the units and the marks of both. Where both lists ascend, so do they.
+pub(crate) fn keys_of_both(
+    alloc: Global,
+    left: &[KeySum],
+    right: &[KeySum],
+) -> Result<Vec<KeySum>, SumsFault>
+    ensures { IfOk result (λ keys. SameKeys keys.items (left.now ++ right.now)) }
+{
+    let mut keys = Vec::with_capacity(alloc, left.len().max(right.len()))?;
+    let (mut left_rest, mut right_rest) = (left, right);
+    while !(left_rest.is_empty() && right_rest.is_empty()) {
+        let (key, of_left, of_right) = next_key(left_rest, right_rest)?;
+        keys.push(key)?;
+        left_rest = left_rest.split_at(of_left).1;
+        right_rest = right_rest.split_at(of_right).1;
+    }
+    Ok(keys)
+}

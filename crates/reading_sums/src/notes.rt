@@ -1,0 +1,56 @@
+//! What images say beside their histograms.
+
+ghost use Rattle.std.specs.Prelude.{◌≡◌, ◌+◌, IfOk};
+ghost use Rattle.image_reader.specs.Views.{reading_view};
+ghost use Rattle.reading_sums.specs.Notes.{AreNotesOfBoth, AreNotesOf};
+
+use crate::fault::SumsFault;
+use image_reader::Reading;
+
+/// What the images of a sum say beside their histograms.
+#[derive(Clone, Copy, Debug, PartialEq, Eq)]
+pub struct Notes {
+    /// How many images there are.
+    pub images: u64,
+    /// How many of them had an allocation that did not fit.
+    pub full: u64,
+    /// How many some thread found corrupt.
+    pub corrupt: u64,
+    /// Of how many the list stops before its end.
+    pub stopped: u64,
+    /// How many bad records they have together.
+    pub bad: u64,
+}
+
+/// Those of one image.
+pub(crate) fn notes_of(reading: &Reading) -> Notes
+    ensures { AreNotesOf (reading_view reading.now) result }
+{
+    Notes {
+        images: 1,
+        full: u64::from(reading.full),
+        corrupt: u64::from(reading.corrupt),
+        stopped: u64::from(reading.stopped.is_some()),
+        bad: reading.bad.len() as u64,
+    }
+}
+
+/// The sum of two numbers, where it fits 64 bits.
+pub(crate) fn number_of_both(left: u64, right: u64) -> Result<u64, SumsFault>
+    ensures { IfOk result (λ sum. sum ≡ left + right) }
+{
+    left.checked_add(right).ok_or(SumsFault::TooMany)
+}
+
+/// Those of two sums together, where each number fits 64 bits.
+pub(crate) fn notes_of_both(left: &Notes, right: &Notes) -> Result<Notes, SumsFault>
+    ensures { IfOk result (AreNotesOfBoth left.now right.now) }
+{
+    Ok(Notes {
+        images: number_of_both(left.images, right.images)?,
+        full: number_of_both(left.full, right.full)?,
+        corrupt: number_of_both(left.corrupt, right.corrupt)?,
+        stopped: number_of_both(left.stopped, right.stopped)?,
+        bad: number_of_both(left.bad, right.bad)?,
+    })
+}

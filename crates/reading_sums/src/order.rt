@@ -1,0 +1,55 @@
+//! The order of the histograms of a sum: by their names, and of one name by their specs.
+
+ghost use Rattle.std.specs.Prelude.{◌≡◌, true};
+ghost use Rattle.std.specs.Ordering.{is_eq};
+
+use bucket_ranges::Spec;
+use std::cmp::Ordering;
+
+/// Where the least of two lists stands.
+#[derive(Clone, Copy, Debug, PartialEq, Eq)]
+pub(crate) enum Side {
+    Left,
+    Right,
+    /// At the front of both.
+    Both,
+}
+
+// The place of a kind among the kinds.
+fn rank(spec: &Spec) -> u32 {
+    match spec {
+        Spec::Linear { .. } => 1,
+        Spec::Boolean => 2,
+        Spec::Custom(_) => 3,
+        Spec::Sparse => 4,
+    }
+}
+
+/// The order of specs: by kind; of linear ones by minimum, maximum and number of buckets, and of custom ones by their
+/// values.
+pub(crate) fn by_spec(left: &Spec, right: &Spec) -> Ordering
+    ensures { is_eq result ≡ true → left.now ≡ right.now }
+{
+    match (left, right) {
+        (
+            Spec::Linear { min, max, n },
+            Spec::Linear {
+                min: other_min,
+                max: other_max,
+                n: other_n,
+            },
+        ) => min
+            .cmp(other_min)
+            .then(max.cmp(other_max))
+            .then(n.cmp(other_n)),
+        (Spec::Custom(values), Spec::Custom(others)) => values.as_slice().cmp(others.as_slice()),
+        (Spec::Boolean, Spec::Boolean) | (Spec::Sparse, Spec::Sparse) => Ordering::Equal,
+        _ => {
+            if rank(left) < rank(right) {
+                Ordering::Less
+            } else {
+                Ordering::Greater
+            }
+        }
+    }
+}

@@ -1,0 +1,204 @@
+//! Sums of readings that are written by hand, and their totals, which are worked out by hand.
+
+use crate::{HistSum, KeySum, Sums, SumsFault};
+use bucket_ranges::{CustomValues, Spec};
+use image_reader::{HistReading, Reading};
+use std::alloc::{AllocError, Global};
+use std::test::Fail;
+
+// A histogram of these keys, with marks of 1, the sum 7 and its mark 2, and the redundant count 3.
+fn hist(
+    alloc: Global,
+    name: &[u8],
+    spec: Spec,
+    counts: &[(i32, u64)],
+) -> Result<HistReading, AllocError> {
+    let mut marks = Vec::with_capacity(alloc, counts.len())?;
+    for _ in 0..counts.len() {
+        marks.push(1)?;
+    }
+    Ok(HistReading {
+        reference: 64,
+        name: Vec::from_slice(alloc, name)?,
+        spec,
+        counts: Vec::from_slice(alloc, counts)?,
+        marks,
+        sum: 7,
+        sum_mark: 2,
+        redundant: 3,
+    })
+}
+
+// A reading of these histograms.
+fn reading(hists: Vec<HistReading>, alloc: Global) -> Reading {
+    Reading {
+        id: 7,
+        full: true,
+        corrupt: false,
+        hists,
+        bad: Vec::new(alloc),
+        stopped: None,
+    }
+}
+
+// A reading of one histogram.
+fn of_one(alloc: Global, hist: HistReading) -> Result<Reading, AllocError> {
+    let mut hists = Vec::with_capacity(alloc, 1)?;
+    hists.push(hist)?;
+    Ok(reading(hists, alloc))
+}
+
+fn key(value: i32, units: u64, marks: u64) -> KeySum {
+    KeySum {
+        value,
+        units,
+        marks,
+    }
+}
+
+#[test]
+fn the_same_histogram_twice(rt: HostRuntime) -> Result<(), Fail> {
+    let alloc = rt.alloc();
+    let mut sums = Sums::new(alloc);
+    let counts = [(0, 4), (1, 5), (2, 6)];
+    sums.add(
+        9,
+        &of_one(alloc, hist(alloc, b"a", Spec::Boolean, &counts)?)?,
+    )?;
+    sums.add(
+        5,
+        &of_one(alloc, hist(alloc, b"a", Spec::Boolean, &counts)?)?,
+    )?;
+    assert_eq!(rt; sums.hists().len(), 1);
+    let one = &sums.hists()[0];
+    assert_eq!(rt;
+        one.keys.as_slice(),
+        [key(0, 8, 2), key(1, 10, 2), key(2, 12, 2)].as_slice()
+    );
+    assert_eq!(rt; one.sum, 14);
+    assert_eq!(rt; one.sum_mark, 4);
+    assert_eq!(rt; one.redundant, 6);
+    assert_eq!(rt; one.images, 2);
+    assert_eq!(rt; one.least, 5);
+    assert_eq!(rt; sums.notes().images, 2);
+    assert_eq!(rt; sums.notes().full, 2);
+    assert_eq!(rt; sums.notes().corrupt, 0);
+    Ok(())
+}
+
+#[test]
+fn specs_stay_apart(rt: HostRuntime) -> Result<(), Fail> {
+    let alloc = rt.alloc();
+    let mut sums = Sums::new(alloc);
+    let linear = Spec::Linear {
+        min: 1,
+        max: 2,
+        n: 3,
+    };
+    let counts = [(0, 4), (1, 5), (2, 6)];
+    sums.add(
+        1,
+        &of_one(alloc, hist(alloc, b"a", Spec::Boolean, &counts)?)?,
+    )?;
+    sums.add(2, &of_one(alloc, hist(alloc, b"a", linear, &counts)?)?)?;
+    let values = CustomValues::from(Vec::from_slice(alloc, &[1, 2])?);
+    sums.add(
+        3,
+        &of_one(alloc, hist(alloc, b"a", Spec::Custom(values), &counts)?)?,
+    )?;
+    sums.add(
+        4,
+        &of_one(alloc, hist(alloc, b"a", Spec::Boolean, &counts)?)?,
+    )?;
+    assert_eq!(rt; sums.hists().len(), 3);
+    assert_eq!(rt; sums.hists()[0].images, 1);
+    assert_eq!(rt; sums.hists()[0].least, 2);
+    assert_eq!(rt; sums.hists()[1].images, 2);
+    assert_eq!(rt; sums.hists()[1].least, 1);
+    assert_eq!(rt; sums.hists()[2].images, 1);
+    Ok(())
+}
+
+#[test]
+fn values_of_sparse_histograms(rt: HostRuntime) -> Result<(), Fail> {
+    let alloc = rt.alloc();
+    let mut sums = Sums::new(alloc);
+    sums.add(
+        1,
+        &of_one(
+            alloc,
+            hist(alloc, b"s", Spec::Sparse, &[(-5, 1), (3, 2), (9, 4)])?,
+        )?,
+    )?;
+    let mut other = Sums::new(alloc);
+    other.add(
+        2,
+        &of_one(
+            alloc,
+            hist(alloc, b"s", Spec::Sparse, &[(-7, 8), (3, 16), (10, 32)])?,
+        )?,
+    )?;
+    other.add(3, &of_one(alloc, hist(alloc, b"r", Spec::Sparse, &[])?)?)?;
+    sums.append(&other)?;
+    assert_eq!(rt; sums.hists().len(), 2);
+    assert_eq!(rt; sums.hists()[0].name.as_slice(), b"r".as_slice());
+    let keys = [
+        key(-7, 8, 1),
+        key(-5, 1, 1),
+        key(3, 18, 2),
+        key(9, 4, 1),
+        key(10, 32, 1),
+    ];
+    assert_eq!(rt; sums.hists()[1].keys.as_slice(), keys.as_slice());
+    assert_eq!(rt; sums.notes().images, 3);
+    assert_eq!(rt; other.notes().images, 2);
+    Ok(())
+}
+
+#[test]
+fn names_are_ordered(rt: HostRuntime) -> Result<(), Fail> {
+    let alloc = rt.alloc();
+    let mut hists = Vec::new(alloc);
+    hists.push(hist(alloc, b"b", Spec::Boolean, &[(0, 1), (1, 1), (2, 1)])?)?;
+    hists.push(hist(alloc, b"c", Spec::Boolean, &[(0, 1), (1, 1), (2, 1)])?)?;
+    hists.push(hist(alloc, b"a", Spec::Boolean, &[(0, 1), (1, 1), (2, 1)])?)?;
+    let mut sums = Sums::new(alloc);
+    sums.add(1, &reading(hists, alloc))?;
+    assert_eq!(rt; sums.hists().len(), 3);
+    assert_eq!(rt; sums.hists()[0].name.as_slice(), b"a".as_slice());
+    assert_eq!(rt; sums.hists()[1].name.as_slice(), b"b".as_slice());
+    assert_eq!(rt; sums.hists()[2].name.as_slice(), b"c".as_slice());
+    Ok(())
+}
+
+#[test]
+fn a_total_that_would_not_fit(rt: HostRuntime) -> Result<(), Fail> {
+    let alloc = rt.alloc();
+    let mut sums = Sums::new(alloc);
+    let most = u64::MAX;
+    sums.add(
+        1,
+        &of_one(
+            alloc,
+            hist(alloc, b"s", Spec::Sparse, &[(3, most), (4, 1)])?,
+        )?,
+    )?;
+    sums.add(
+        2,
+        &of_one(alloc, hist(alloc, b"s", Spec::Sparse, &[(4, most - 1)])?)?,
+    )?;
+    let refused = sums.add(
+        3,
+        &of_one(alloc, hist(alloc, b"s", Spec::Sparse, &[(3, 1)])?)?,
+    );
+    assert_eq!(rt; refused, Err(SumsFault::TooMany));
+    assert_eq!(rt; sums.notes().images, 2);
+    assert_eq!(rt; sums.hists().len(), 1);
+    let one: &HistSum = &sums.hists()[0];
+    assert_eq!(rt;
+        one.keys.as_slice(),
+        [key(3, most, 1), key(4, most, 2)].as_slice()
+    );
+    assert_eq!(rt; one.images, 2);
+    Ok(())
+}

@@ -21,7 +21,7 @@ use Rattle.live_segment.specs.List.Records.{HasWalked}
 use Rattle.live_segment.specs.RecorderState.{IsRecorderAt, KnowsOn, view_of_state}
 use Rattle.live_segment.specs.Standing.{HasList}
 use Rattle.live_reading.specs.declared.live_reading.LiveHistogram.{LiveHistogram}
-use Rattle.live_reading.specs.Reading.{GoesOnLooking, HasNames, IsOutcome, IsReadOf, KnowsRead, OpensNone, ReadsList, read_of}
+use Rattle.live_reading.specs.Reading.{GoesOnLooking, KnowsEachOnce, IsOutcome, IsReadOf, KnowsRead, OpensNone, ReadsList, read_of}
 use Rattle.live_reading.proofs.Enough.{enough_before}
 use Rattle.live_reading.proofs.Looks.{goes_not, goes_then}
 
@@ -225,7 +225,7 @@ under_way_more segment passed hists after reference (Some histogram) listed mid 
 
 -- it is done
 pub has_names : (segment : Segment) (passed : List ℕ) (hists : List LiveHistogram) (listed new : RecorderState) → IsUnderWay segment passed hists listed new
-    → HasNames hists new
+    → KnowsEachOnce hists new
 has_names segment passed hists listed new way = record {
   known = All-weaker (KnowsOf passed new) (KnowsRead new) (λ histogram (known, has, named, same, among). (known, has, named, same)) hists way.known;
   once = way.once;

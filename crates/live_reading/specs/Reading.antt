@@ -98,7 +98,7 @@ abbrev pub KnowsRead : RecorderState → LiveHistogram → Type 0
 KnowsRead state histogram =
     (known : Known) × Contains (view_of_state state).answers.names known × (known.name ≡ histogram.name.items) × (known.spec ≡ histogram.spec)
 
--- its recorder knows each of its histograms, and no two of them have the same name
-pub record HasNames (hists : List LiveHistogram) (new : RecorderState) : Type 0 where
+-- a recorder knows each of these histograms, and no two of them have the same name
+pub record KnowsEachOnce (hists : List LiveHistogram) (new : RecorderState) : Type 0 where
   pub known : All (KnowsRead new) hists
   pub once : AllPairs (λ one other. one.name.items ≢ other.name.items) hists

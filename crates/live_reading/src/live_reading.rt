@@ -4,7 +4,7 @@ ghost use Rattle.std.specs.Prelude.{◌≡◌, ◌++◌, IfOk, MatchResult};
 ghost use Rattle.segment_calls.specs.declared.refusal.Refusal.TheVariants.{NoMemory};
 ghost use Rattle.live_segment.specs.RecorderState.{KnowsOn, Knows};
 ghost use Rattle.live_segment.specs.Holders.{view_of_recorder};
-ghost use Rattle.live_reading.specs.Reading.{GoesOnLooking, HasNames, IsOutcome, OnlyLooks, ReadsList, read_of};
+ghost use Rattle.live_reading.specs.Reading.{GoesOnLooking, IsOutcome, KnowsEachOnce, OnlyLooks, ReadsList, read_of};
 
 use bucket_ranges::{CustomValues, Spec};
 use live_segment::Recorder;
@@ -50,7 +50,7 @@ pub fn reading(alloc: Global, recorder: &mut Recorder) -> Result<LiveReading, Re
     ensures same { KnowsOn recorder.old.state recorder.new.state }
     ensures looks { OnlyLooks (view_of_recorder recorder.old) (view_of_recorder recorder.new) }
     ensures each { MatchResult result (λ reading. ReadsList recorder.new.segment.now recorder.old.state reading.hists.items recorder.new.state) (λ why. why ≡ NoMemory) }
-    ensures names { IfOk result (λ reading. HasNames reading.hists.items recorder.new.state) }
+    ensures names { IfOk result (λ reading. KnowsEachOnce reading.hists.items recorder.new.state) }
 {
     let records = recorder.records()?;
     let mut hists = Vec::new(alloc);

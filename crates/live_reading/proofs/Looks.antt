@@ -10,7 +10,7 @@ use Rattle.segment_machine.specs.declared.actor.Actor.{Actor}
 use Rattle.segment_machine.specs.declared.actor.Known.{Known}
 use Rattle.segment_machine.specs.declared.seen.Seen.{Seen}
 use Rattle.segment_machine.specs.Actor.{looking}
-use Rattle.segment_invariant.proofs.Lists.Elements.{below_length}
+use Rattle.list_lemmas.proofs.Elements.{below_length}
 use Rattle.segment_promises.specs.Onward.{Grows, SeesOn}
 use Rattle.segment_promises.proofs.Growing.{grows_not, grows_on, grows_same}
 use Rattle.live_segment.specs.declared.recorder.Hist.{Hist}

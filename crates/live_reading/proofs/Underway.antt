@@ -11,7 +11,7 @@ use Rattle.segment_machine.specs.declared.actor.Actor.{Actor}
 use Rattle.segment_machine.specs.declared.actor.Answers.{Answers}
 use Rattle.segment_machine.specs.declared.actor.Known.{Known}
 use Rattle.segment_promises.specs.Values.{NoRepeats}
-use Rattle.segment_invariant.proofs.Lists.Elements.{at_from, below_length, contains_at, from_map, index_at}
+use Rattle.list_lemmas.proofs.Elements.{at_from, below_length, contains_at, from_map, index_at}
 use Rattle.live_segment.specs.declared.recorder.KnownHistogram.{KnownHistogram}
 use Rattle.live_segment.specs.declared.recorder.state.RecorderState.{RecorderState}
 use Rattle.live_segment.specs.declared.segment.Segment.{Segment}

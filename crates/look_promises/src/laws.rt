@@ -4,6 +4,7 @@
 //! The functions do nothing. What each promises is a law of the definitions in `specs/`.
 
 ghost use Rattle.look_promises.specs.Looks.{LooksHaveHeaders, LooksFollow, CopiesShowBlocks, RecordsStartAtZero, LooksNameCounts, LooksCountBetween};
+ghost use Rattle.look_promises.specs.Images.{LooksShowRecords};
 
 /// Three copies of the words of a running segment, one after the other, have no fault: a look is made of them.
 ///
@@ -48,4 +49,15 @@ pub fn looks_name_counts()
 /// its mark and its count. So it is of the words of the first copy and of those of the second.
 pub fn looks_count_between()
     ensures { LooksCountBetween }
+{}
+
+/// A look has each record that it follows with the words that it has at the last moment, but for its next and for what of it
+/// changes.
+///
+/// Its next gives the record behind, or ends the list. Of a histogram its single word and its sum are those of the second copy, its
+/// single mark, its sum mark and its redundant count those of the first; its counts reference is that of the second, or of the
+/// third, where the second has none yet but a single word that is off. Of a sample its count is that of the second, and its mark
+/// that of the first.
+pub fn looks_show_records()
+    ensures { LooksShowRecords }
 {}

@@ -6,7 +6,7 @@ use Rattle.list_core.proofs.Chains.{one_place, linked_of}
 use Rattle.segment_image.specs.declared.head.SegmentHead.{SegmentHead}
 use Rattle.segment_looks.specs.Looks.{counts_reference}
 use Rattle.segment_machine.specs.State.{State}
-use Rattle.segment_invariant.proofs.Blocks.Pieces.{one_index}
+use Rattle.segment_invariant.proofs.Blocks.Pieces.{one_index, one_stands}
 use Rattle.look_promises.specs.Runs.{RunsThrough, Moments, AreLoaded}
 use Rattle.look_promises.proofs.Runs.{kept_at, chain_is}
 use Rattle.look_promises.proofs.Walks.{Gives}
@@ -133,23 +133,32 @@ module _ (shape : Dimensions) (opened : Anatomy) (at : ℕ → State) (first las
     )
 
     -- and of its counts
-    pub apart_from_counts : (k i : ℕ) → Gives hd two list k → j ≢ k → word_at three (slice_index list k + 2) ≡ 1 → reference_of k ≢ 0 → i < 4 + (buckets_at k + buckets_at k)
+    pub apart_from_counts : (k i : ℕ) (block : Body) → k < length list → j ≢ k → reference_of k ≢ 0 → Has (reference_of k) block
+        → IsOwned shape opened at run last (slice_index list k) (reference_of k) block → i < length (words_of block)
         → IsApart hd one two three (reference_of k + i) y
-    apart_from_counts k i other_one ne is_histogram some_there inside =
-        let (block, stands, long, owned) = counts_block shape opened at first last moments one two three run loaded k other_one is_histogram some_there in (
-          length (words_of its.0),
-          lies (reference_of k + i)
-              (λ m within same.
-              let (place, is) = one_block y (reference_of k) m i its.0 block its.1 stands within (omega (arith, inside, long)) same in
-              owned_not_listed k j block its.0 g.within
-              (subst (λ (n : ℕ). IsOwned shape opened at run last (slice_index list k) n block) (sym place) owned) (subst IsOfList is its.2)
-              (subst (λ (n : ℕ). Has n block) (sym place) stands))
-              (λ one_is names m from few same.
-              let (mine, stood, most, held_by) = counts_block shape opened at first last moments one two three run loaded j g one_is names in
-              let (place, is) = one_block (reference_of j) (reference_of k) m i mine block stood stands (omega (arith, few, most)) (omega (arith, inside, long)) same in
-              ne (one_record j k g.within other_one.within (one_owner y (slice_index list k) (reference_of k) block some_there
-              (subst (λ (n : ℕ). IsOwned shape opened at run last y n block) place (subst (IsOwned shape opened at run last y (reference_of j)) is held_by)) owned))),
-        )
+    apart_from_counts k i block below ne some_there stands owned inside = (
+      length (words_of its.0),
+      lies (reference_of k + i)
+          (λ m within same.
+          let (place, is) = one_block y (reference_of k) m i its.0 block its.1 stands within inside same in
+          owned_not_listed k j block its.0 g.within
+          (subst (λ (n : ℕ). IsOwned shape opened at run last (slice_index list k) n block) (sym place) owned) (subst IsOfList is its.2)
+          (subst (λ (n : ℕ). Has n block) (sym place) stands))
+          (λ one_is names m from few same.
+          let (mine, stood, most, held_by) = counts_block shape opened at first last moments one two three run loaded j g one_is names in
+          let (place, is) = one_block (reference_of j) (reference_of k) m i mine block stood stands (omega (arith, few, most)) inside same in
+          ne (one_record j k g.within below (one_owner y (slice_index list k) (reference_of k) block some_there
+          (subst (λ (n : ℕ). IsOwned shape opened at run last y n block) place (subst (IsOwned shape opened at run last y (reference_of j)) is held_by)) owned))),
+    )
+
+    -- its own counts lie apart from its block
+    pub counts_from_own : (i m : ℕ) (block body : Body) → Has y body → i < length (words_of body) → Has (reference_of j) block
+        → IsOwned shape opened at run last y (reference_of j) block → m < length (words_of block) → reference_of j + m ≢ y + i
+    counts_from_own i m block body has inside stands owned within same =
+        let (place, is) = one_block (reference_of j) y m i block body stands has within inside same in
+        let mine = (one_stands shape (at last).words late.anatomy late.shown y none none its.0 body its.1 has).1 in
+        owned_not_listed j j block body g.within (subst (λ (n : ℕ). IsOwned shape opened at run last y n block) place owned)
+        (subst IsOfList (mine ∙ sym is) its.2) (subst (λ (n : ℕ). Has n block) place stands)
 
   -- a record's own counts lie apart from its block
   pub own_apart : (k i m : ℕ) (body : Body) → (g : Gives hd two list k) → word_at three (slice_index list k + 2) ≡ 1 → reference_of k ≢ 0 → Has (slice_index list k) body → IsOfList body

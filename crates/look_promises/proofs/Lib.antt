@@ -21,3 +21,4 @@ pub mod Room
 pub mod Mounted
 pub mod Records
 pub mod Images
+pub mod Counted

@@ -55,6 +55,9 @@ module _ (shape : Dimensions) (opened : Anatomy) (at : ℕ → State) (first las
       let ends = block_below shape opened at run t (moments.three 7) x before (before_free shape opened at first last moments one two three run loaded k le) stands in
       omega (arith, ends, long)
 
+  pub seven : 7 < shape.size
+  seven = let size = many shape opened at first last moments one two three run loaded in omega (arith, size)
+
   -- ---- when its counts were mounted
 
   module _ (k : ℕ) (below : k < length list) (r : Record) (has : HasRecord late.anatomy.pieces (slice_index list k) r) where
@@ -64,7 +67,7 @@ module _ (shape : Dimensions) (opened : Anatomy) (at : ℕ → State) (first las
     -- at a moment before the free pointer was loaded the record named these counts
     pub record IsMounted : Type 0 where
       pub when : ℕ
-      pub early : when ≤ moments.three 7
+      pub early : (j : ℕ) → j < shape.size → when ≤ moments.three j
       pub before : when ≤ last
       pub there : k < length (chain_at shape opened at run when)
       pub named : (record_was shape opened at run when last k before r has there).of.counts ≡ reference_of k
@@ -99,7 +102,7 @@ module _ (shape : Dimensions) (opened : Anatomy) (at : ℕ → State) (first las
         let there = was_there 8 (omega arith) (omega arith) (omega arith) ne in
         record {
           when = t;
-          early = early_two 8 (omega arith);
+          early = λ j lt. loaded.ordered.third (x + 8) j (spot 8 (omega arith)) lt;
           before = late_two 8 (omega arith);
           there = there;
           named = sym (word_was shape opened at run t last k (late_two 8 (omega arith)) r has there 8 (omega arith))
@@ -122,7 +125,7 @@ module _ (shape : Dimensions) (opened : Anatomy) (at : ℕ → State) (first las
           | inl nothing ↦ absurd (ne nothing)
           | inr own ↦ own
         ] in
-        record { when = t; early = early_two 9 (omega arith); before = before; there = there; named = sym (its ∙ same) }
+        record { when = t; early = λ j lt. loaded.ordered.third (x + 9) j (spot 9 (omega arith)) lt; before = before; there = there; named = sym (its ∙ same) }
 
     pub is_mounted : reference_of k ≢ 0 → IsMounted
     is_mounted ne = by_test ((word_at two (x + 8) == 0) && is_frozen two x) refl
@@ -145,7 +148,7 @@ module _ (shape : Dimensions) (opened : Anatomy) (at : ℕ → State) (first las
         by_none false ne =
             let mounts = is_mounted (ne refl) in
             let own = mounts.named in
-            let (same, from, below) = counts_below shape opened at run mounts.when last k mounts.before r has mounts.there (moments.three 7) mounts.early
+            let (same, from, below) = counts_below shape opened at run mounts.when last k mounts.before r has mounts.there (moments.three 7) (mounts.early 7 seven)
             (λ nothing. ne refl (sym own ∙ nothing)) in
             and_from _ _ (le-leb 16 (reference_of k) (omega (arith, from, own))) (le-leb (reference_of k + (4 + 2 * n)) hd.free (omega (arith, below, own, is)))
 

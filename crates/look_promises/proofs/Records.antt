@@ -132,10 +132,10 @@ module _ (shape : Dimensions) (opened : Anatomy) (at : ℕ → State) (first las
       type_one : word_at three (x + 2) ≡ 1
       type_one = third 2 (histogram r) has (inl (omega arith)) (omega arith)
 
-      buckets_its : buckets ≡ buckets_of r.spec
+      pub buckets_its : buckets ≡ buckets_of r.spec
       buckets_its = third 7 (histogram r) has (inr (inl (omega arith))) (omega arith) ∙ buckets_said r.spec
 
-      patches_are : patches ≡ record { from = x + 8; words = histogram_words one two three x } ∷ counts_patches one two x named buckets
+      pub patches_are : patches ≡ record { from = x + 8; words = histogram_words one two three x } ∷ counts_patches one two x named buckets
       patches_are =
           ap (λ (b : Bool). if b then histogram_patches hd one two three x else (if word_at three (x + 2) == 3 then sample_patches hd one two x else []))
           (eq-eqb (word_at three (x + 2)) 1 type_one)

@@ -4,7 +4,7 @@
 //! The functions do nothing. What each promises is a law of the definitions in `specs/`.
 
 ghost use Rattle.look_promises.specs.Looks.{LooksHaveHeaders, LooksFollow, CopiesShowBlocks, RecordsStartAtZero, LooksNameCounts, LooksCountBetween};
-ghost use Rattle.look_promises.specs.Images.{LooksShowRecords};
+ghost use Rattle.look_promises.specs.Images.{LooksShowRecords, LooksShowCounts};
 
 /// Three copies of the words of a running segment, one after the other, have no fault: a look is made of them.
 ///
@@ -60,4 +60,11 @@ pub fn looks_count_between()
 /// that of the first.
 pub fn looks_show_records()
     ensures { LooksShowRecords }
+{}
+
+/// Where a look takes a counts reference of a record that it follows, it has the counts block there, as it is at the last moment,
+/// but for its counts and marks: the counts are those of the second copy, or 0 where the single word of the record was not off
+/// there; the marks are those of the first copy.
+pub fn looks_show_counts()
+    ensures { LooksShowCounts }
 {}

@@ -22,3 +22,7 @@ pub mod Mounted
 pub mod Records
 pub mod Images
 pub mod Counted
+pub mod Mounting
+pub mod Earlier
+pub mod Unmounted
+pub mod Units

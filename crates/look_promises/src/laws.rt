@@ -3,7 +3,7 @@
 //!
 //! The functions do nothing. What each promises is a law of the definitions in `specs/`.
 
-ghost use Rattle.look_promises.specs.Looks.{LooksHaveHeaders, LooksFollow, CopiesShowBlocks, RecordsStartAtZero, LooksNameCounts, LooksCountBetween};
+ghost use Rattle.look_promises.specs.Looks.{LooksHaveHeaders, LooksFollow, CopiesShowBlocks, RecordsStartAtZero, LooksNameCounts, LooksCountBetween, CountsStartAtZero, LooksCountUnits};
 ghost use Rattle.look_promises.specs.Images.{LooksShowRecords, LooksShowCounts};
 
 /// Three copies of the words of a running segment, one after the other, have no fault: a look is made of them.
@@ -67,4 +67,18 @@ pub fn looks_show_records()
 /// there; the marks are those of the first copy.
 pub fn looks_show_counts()
     ensures { LooksShowCounts }
+{}
+
+/// Each count and each mark of a counts block is 0 at each moment at which its record does not name the block yet.
+///
+/// A block is mounted with nothing stored in it, by an actor that has had it in hand since its words were claimed, and what is stored
+/// of a block in hand stays. So a copy that loaded such a word too early has 0 there.
+pub fn counts_start_at_zero()
+    ensures { CountsStartAtZero }
+{}
+
+/// The counts and marks of each counts block that a record names at the last moment are, in the first copy and in the second, no less
+/// than those that it had at the first moment, if it was there, and no more than those that it has at the last.
+pub fn looks_count_units()
+    ensures { LooksCountUnits }
 {}

@@ -26,3 +26,4 @@ pub mod Mounting
 pub mod Earlier
 pub mod Unmounted
 pub mod Units
+pub mod Sums

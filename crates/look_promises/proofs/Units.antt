@@ -24,7 +24,7 @@ module _ (shape : Dimensions) (opened : Anatomy) (at : ℕ → State) (run : Run
   list = chain_at shape opened at run last
 
   -- a record is on the list
-  place_of : (reference : ℕ) (r : Record) → HasRecord late.anatomy.pieces reference r → (k : ℕ) × (k < length list) × (slice_index list k ≡ reference)
+  pub place_of : (reference : ℕ) (r : Record) → HasRecord late.anatomy.pieces reference r → (k : ℕ) × (k < length list) × (slice_index list k ≡ reference)
   place_of reference r has =
       let among = late.list.alone reference (histogram r) has in
       let there : Contains list reference = contains_map (λ (l : Listed). l.reference) late.anatomy.records _ among in

@@ -1,10 +1,12 @@
 -- What a look shows of the records that it follows: which of its words come from which copy.
-use Rattle.std.specs.Prelude.{◌≢◌, ℕ, suc, ◌+◌, ◌<◌, List, drop, length, slice_index}
+use Rattle.std.specs.Prelude.{◌≡◌, false, ◌≢◌, ℕ, suc, ◌+◌, ◌<◌, List, drop, length, slice_index}
+use Rattle.std.specs.Int.{w64, cast_signed}
 use Rattle.std.specs.List.{Contains, slice_range}
 use mathlib.Core.Option.{none}
 use Rattle.segment_image.specs.Blocks.{field_at}
 use Rattle.segment_image.specs.Shape.{Dimensions}
 use Rattle.segment_image.specs.declared.layout.TheConstants.{BLOCK_HEADER, HISTOGRAM_SINGLE, HISTOGRAM_SINGLE_MARK, HISTOGRAM_SUM, HISTOGRAM_SUM_MARK, HISTOGRAM_REDUNDANT, SAMPLE_COUNT, SAMPLE_MARK}
+use Rattle.bucket_ranges.specs.Reading.{is_bad_sum}
 use Rattle.bucket_ranges.specs.Spec.{buckets_of}
 use Rattle.segment_looks.specs.Looks.{IsLook, counts_looked, counts_reference, followed_records, list_start}
 use Rattle.segment_machine.specs.State.{State}
@@ -62,3 +64,11 @@ LooksShowCounts = (shape : Dimensions) (opened : Anatomy) (at : ℕ → State) (
     × ((reference : ℕ) (r : Record) (c : Counts) → Contains (followed_records (head_loaded shape opened at moments.three) two) reference
     → HasRecord late.anatomy.pieces reference r → counts_reference two three reference ≢ 0 → HasCounts late.anatomy.pieces r.counts c
     → HasWords image r.counts (counts (looked_counts one two reference r.counts (buckets_of r.spec) c)))
+
+-- The sum that a look takes of a record, and its sum mark, are such as a reader takes: near 0 and near each other.
+abbrev pub LooksHaveSums : Type 0
+LooksHaveSums = (shape : Dimensions) (opened : Anatomy) (at : ℕ → State) (first last : ℕ) (moments : Moments) (one two three : List ℕ)
+    → RunsThrough shape opened at → AreLoaded shape at first last moments one two three
+    → (late : Invariant shape opened (at last))
+    × ((reference : ℕ) (r : Record) → HasRecord late.anatomy.pieces reference r
+    → is_bad_sum (cast_signed w64 (field_at two reference HISTOGRAM_SUM)) (cast_signed w64 (field_at one reference HISTOGRAM_SUM_MARK)) ≡ false)

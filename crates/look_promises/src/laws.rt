@@ -4,7 +4,7 @@
 //! The functions do nothing. What each promises is a law of the definitions in `specs/`.
 
 ghost use Rattle.look_promises.specs.Looks.{LooksHaveHeaders, LooksFollow, CopiesShowBlocks, RecordsStartAtZero, LooksNameCounts, LooksCountBetween, CountsStartAtZero, LooksCountUnits};
-ghost use Rattle.look_promises.specs.Images.{LooksShowRecords, LooksShowCounts};
+ghost use Rattle.look_promises.specs.Images.{LooksShowRecords, LooksShowCounts, LooksHaveSums};
 
 /// Three copies of the words of a running segment, one after the other, have no fault: a look is made of them.
 ///
@@ -81,4 +81,10 @@ pub fn counts_start_at_zero()
 /// than those that it had at the first moment, if it was there, and no more than those that it has at the last.
 pub fn looks_count_units()
     ensures { LooksCountUnits }
+{}
+
+/// The sum that a look takes of a record, which the second copy has, and its sum mark, which the first has, are such as a reader
+/// takes: near 0 and near each other.
+pub fn looks_have_sums()
+    ensures { LooksHaveSums }
 {}

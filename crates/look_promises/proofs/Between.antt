@@ -50,7 +50,7 @@ changing (counts c) i list counter = absurd list
 
 module _ (shape : Dimensions) (opened : Anatomy) (at : ℕ → State) (run : RunsThrough shape opened at) where
   -- what it was is no more than what is loaded later
-  at_least : (first m x i : ℕ) (before : Body) → first ≤ m → Stands (kept_at shape opened at run first).anatomy.pieces x none before → IsCounterIn before i
+  pub at_least : (first m x i : ℕ) (before : Body) → first ≤ m → Stands (kept_at shape opened at run first).anatomy.pieces x none before → IsCounterIn before i
       → slice_index (words_of before) i ≤ word_at (at m).words (x + i)
   at_least first m x i before le stands counter =
       let kept = kept_at shape opened at run m in

@@ -1,6 +1,6 @@
 -- Before a record is on the list its counts reference, its single word, its marks, its sums and its counts are 0: it is linked with these,
 -- and what was stored of a block stays.
-use Rattle.segment_invariant.proofs.Prelude.Std.{◌≡◌, ◌≢◌, ◌⊎◌, ℕ, ◌+◌, ◌-◌, ◌<◌, ◌≤◌, Bool, List, [], ◌∷◌, ◌++◌, length, inl, inr, ⊎_elim, refl, sym, ap, subst, ◌∙◌, arith, if◌then◌else◌, eq-eqb, slice_index, get_or_append_left, replicate, length-append, length-replicate, some, none, some-ne-none, some-injective, get_elem?, All, All-contains, All-weaker, Contains, Contains-append_right, Contains-push, All-nil, at_from, index_at, below_length}
+use Rattle.segment_invariant.proofs.Prelude.Std.{◌≡◌, ◌≢◌, ◌⊎◌, ℕ, ◌+◌, ◌-◌, ◌<◌, ◌≤◌, Bool, List, [], ◌∷◌, ◌++◌, length, inl, inr, ⊎_elim, refl, sym, ap, subst, ◌∙◌, arith, if◌then◌else◌, eq-eqb, slice_index, get_or_append_left, replicate, length-append, length-replicate, some, none, some-ne-none, some-injective, get_elem?, All, all_at, All-contains, All-weaker, Contains, Contains-append_right, Contains-push, All-nil, at_from, index_at, below_length}
 use Rattle.segment_invariant.proofs.Prelude.Machine.{Actor, Own, Place, Spent, purse, Event, publishing_event, link, State, Dimensions, word_at, head_of}
 use Rattle.segment_invariant.proofs.Prelude.Invariant.{Anatomy, Piece, Body, queue, plain, held, histogram, counts, sample, other, words_of, layout_of, order_of, Stands, StandsRight, HoldsOwn, Invariant}
 use Rattle.std.proofs.Math.Decide.{dec_lt}
@@ -13,7 +13,7 @@ use Rattle.segment_machine.specs.declared.place.Place.TheVariants as place
 use Rattle.segment_machine.specs.Allocating.{size_at}
 use Rattle.list_lemmas.proofs.Elements.{all_from}
 use Rattle.segment_machine.specs.Reached.{IsReached, stepped}
-use Rattle.segment_machine.specs.State.{memory}
+use Rattle.segment_machine.specs.State.{IsStep, memory}
 use Rattle.segment_invariant.proofs.Blocks.Pieces.{piece_word, one_index}
 use Rattle.segment_invariant.proofs.Notes.Announcements.{with_actor, notes_follow}
 use Rattle.segment_invariant.proofs.Walking.Walks.{stop_stands}
@@ -24,7 +24,7 @@ use Rattle.segment_promises.proofs.Readings.Lists.{is_chain}
 use Rattle.look_promises.proofs.Linking.{LinksAt}
 use Rattle.look_promises.proofs.Shown.{listed_in}
 use Rattle.look_promises.proofs.Hands.{handled}
-use Rattle.look_promises.proofs.Carried.{OfHand, linker_has}
+use Rattle.look_promises.proofs.Carried.{OfHand, all_carried, at_event, linker_has}
 use Rattle.look_promises.proofs.Unlinked.{spent_or_not}
 use Rattle.look_promises.proofs.Payloads.{HasStored, Stores, stores_carried}
 use Rattle.look_promises.proofs.Unchanged.{IsOfList, IsUnchanging, list_claimed, list_long, goes_unchanged}
@@ -245,3 +245,13 @@ module _ (shape : Dimensions) (opened : Anatomy) (start : State) (kept : Invaria
       let hand = linker_has x (Stores x p v some_word) (stores_carried x p v some_word) shape opened start kept claimed_before
       (all_from (OfHand (Stores x p v some_word)) start.actors stores) state links in
       All-contains (HasStored x p v some_word) links.step.at.hand.own links.step.ready.0 hand.1 links.step.ready.3.0 links.step.ready.4
+
+  -- and who does a step later has it so in hand at its event
+  pub hand_at : (old new : State) (id : ℕ) (event : Event) → IsReached opened.version start old → (step : IsStep opened.version old id event new)
+      → OfHand (Stores x p v some_word) step.at
+  hand_at old new id event before step =
+      let all = all_carried x (Stores x p v some_word) (stores_carried x p v some_word) shape opened start kept claimed_before
+      (all_from (OfHand (Stores x p v some_word)) start.actors stores) old before in
+      at_event x (Stores x p v some_word) (stores_carried x p v some_word) shape opened start kept claimed_before
+      (all_from (OfHand (Stores x p v some_word)) start.actors stores) old new id event step
+      (all_at (OfHand (Stores x p v some_word)) old.actors id step.actor all step.there)

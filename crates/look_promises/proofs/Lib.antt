@@ -13,3 +13,17 @@ pub mod Blank
 pub mod Starts
 pub mod References
 pub mod Between
+pub mod Patches
+pub mod Grounds
+pub mod Named
+pub mod Apart
+pub mod Room
+pub mod Mounted
+pub mod Records
+pub mod Images
+pub mod Counted
+pub mod Mounting
+pub mod Earlier
+pub mod Unmounted
+pub mod Units
+pub mod Sums

@@ -76,7 +76,7 @@ module _ (shape : Dimensions) (opened : Anatomy) (at : ℕ → State) (first las
   chosen true n second third early late_one = late_one
   chosen false n second third early late_one = early
 
-  looked : (k : ℕ) → k < length list → (r : Record) → HasRecord late.anatomy.pieces (slice_index list k) r → IsNoneOr r.counts (counts_reference two three (slice_index list k))
+  pub looked : (k : ℕ) → k < length list → (r : Record) → HasRecord late.anatomy.pieces (slice_index list k) r → IsNoneOr r.counts (counts_reference two three (slice_index list k))
   looked k below r has =
       let x : ℕ = slice_index list k in
       let ends = ends_at shape opened at run last x (histogram r) has in

@@ -30,7 +30,7 @@ IsUnchanging (other size tag next payload) i = (i < 3) ⊎ (4 ≤ i)
 IsUnchanging _ i = ⊥
 
 -- with other words that change, a record has the same others
-record_but : (r q : Record) (i : ℕ) → IsUnchanging (histogram r) i
+pub record_but : (r q : Record) (i : ℕ) → IsUnchanging (histogram r) i
     → slice_index (record_words (record r { next = q.next; counts = q.counts; single = q.single; mark = q.mark; sum = q.sum; sum_mark = q.sum_mark; noted = q.noted })) i
     ≡ slice_index (record_words r) i
 record_but r q zero is = refl
@@ -50,7 +50,7 @@ record_but r q (suc (suc (suc (suc (suc (suc (suc (suc (suc (suc (suc (suc (suc 
 record_but r q (suc (suc (suc (suc (suc (suc (suc (suc (suc (suc (suc (suc (suc (suc i)))))))))))))) is = refl
 
 -- so it is of a sample
-sample_but : (s t : Sample) (i : ℕ) → IsUnchanging (sample s) i
+pub sample_but : (s t : Sample) (i : ℕ) → IsUnchanging (sample s) i
     → slice_index (sample_words (record s { next = t.next; units = t.units; mark = t.mark })) i ≡ slice_index (sample_words s) i
 sample_but s t zero is = refl
 sample_but s t (suc zero) is = refl
@@ -62,7 +62,7 @@ sample_but s t (suc (suc (suc (suc (suc (suc zero)))))) is = absurd (omega (arit
 sample_but s t (suc (suc (suc (suc (suc (suc (suc zero))))))) is = absurd (omega (arith, is))
 sample_but s t (suc (suc (suc (suc (suc (suc (suc (suc i)))))))) is = refl
 
-other_but : (size tag next n : ℕ) (payload : List ℕ) (i : ℕ) → IsUnchanging (other size tag next payload) i
+pub other_but : (size tag next n : ℕ) (payload : List ℕ) (i : ℕ) → IsUnchanging (other size tag next payload) i
     → slice_index (words_of (other size tag n payload)) i ≡ slice_index (words_of (other size tag next payload)) i
 other_but size tag next n payload zero is = refl
 other_but size tag next n payload (suc zero) is = refl

@@ -1,5 +1,5 @@
 -- What three copies of a run give when they are put together to a look.
-use Rattle.std.specs.Prelude.{◌≡◌, ◌⊎◌, ℕ, ◌+◌, ◌<◌, ◌≤◌, List, length, slice_index, Ok}
+use Rattle.std.specs.Prelude.{◌≡◌, ◌≢◌, ◌⊎◌, ℕ, ◌+◌, ◌<◌, ◌≤◌, List, length, slice_index, Ok}
 use Rattle.std.specs.List.{All, Contains}
 use mathlib.Core.Option.{none}
 use Rattle.segment_image.specs.Blocks.{field_at}
@@ -12,8 +12,8 @@ use Rattle.list_core.specs.Chain.{IsChain}
 use Rattle.list_core.specs.Walk.{IsPrefix}
 use Rattle.segment_looks.specs.Looks.{head_of_copies, followed_records, counts_reference}
 use Rattle.segment_machine.specs.State.{State}
-use Rattle.segment_invariant.specs.Body.{Record, Sample, Body, histogram, sample, other, words_of, Piece, Anatomy, order_of}
-use Rattle.segment_invariant.specs.Seen.{Stands, HasRecord, IsCounterIn}
+use Rattle.segment_invariant.specs.Body.{Record, Counts, Sample, Body, histogram, counts, sample, other, words_of, Piece, Anatomy, order_of}
+use Rattle.segment_invariant.specs.Seen.{Stands, HasRecord, HasCounts, IsCounterIn}
 use Rattle.segment_invariant.specs.Invariant.{Invariant}
 use Rattle.look_promises.specs.Runs.{RunsThrough, Moments, AreLoaded}
 
@@ -136,3 +136,22 @@ LooksCountBetween = (shape : Dimensions) (opened : Anatomy) (at : ℕ → State)
     × ((reference i : ℕ) (body : Body) → Contains (followed_records (head_loaded shape opened at moments.three) two) reference
     → Stands late.anatomy.pieces reference none body → IsCounterIn body i
     → IsBetween early.anatomy.pieces reference i body (field_at one reference i) × IsBetween early.anatomy.pieces reference i body (field_at two reference i))
+
+-- ---- its counts
+
+-- Each count and each mark of a counts block is 0 at each moment at which its record does not name it yet.
+abbrev pub CountsStartAtZero : Type 0
+CountsStartAtZero = (shape : Dimensions) (opened : Anatomy) (at : ℕ → State) (early last : ℕ) → RunsThrough shape opened at → early ≤ last
+    → (late : Invariant shape opened (at last))
+    × ((reference i : ℕ) (r : Record) (c : Counts) → HasRecord late.anatomy.pieces reference r → HasCounts late.anatomy.pieces r.counts c
+    → IsCounterIn (counts c) i → field_at (at early).words reference HISTOGRAM_COUNTS ≢ r.counts → field_at (at early).words r.counts i ≡ 0)
+
+-- The counts and marks of each counts block that a record names, as the first copy and the second have them, lie between those of the first
+-- moment and those of the last.
+abbrev pub LooksCountUnits : Type 0
+LooksCountUnits = (shape : Dimensions) (opened : Anatomy) (at : ℕ → State) (first last : ℕ) (moments : Moments) (one two three : List ℕ)
+    → RunsThrough shape opened at → AreLoaded shape at first last moments one two three
+    → (early : Invariant shape opened (at first)) × (late : Invariant shape opened (at last))
+    × ((reference i : ℕ) (r : Record) (c : Counts) → HasRecord late.anatomy.pieces reference r → HasCounts late.anatomy.pieces r.counts c
+    → IsCounterIn (counts c) i
+    → IsBetween early.anatomy.pieces r.counts i (counts c) (field_at one r.counts i) × IsBetween early.anatomy.pieces r.counts i (counts c) (field_at two r.counts i))

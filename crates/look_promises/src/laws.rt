@@ -3,7 +3,8 @@
 //!
 //! The functions do nothing. What each promises is a law of the definitions in `specs/`.
 
-ghost use Rattle.look_promises.specs.Looks.{LooksHaveHeaders, LooksFollow, CopiesShowBlocks, RecordsStartAtZero, LooksNameCounts, LooksCountBetween};
+ghost use Rattle.look_promises.specs.Looks.{LooksHaveHeaders, LooksFollow, CopiesShowBlocks, RecordsStartAtZero, LooksNameCounts, LooksCountBetween, CountsStartAtZero, LooksCountUnits};
+ghost use Rattle.look_promises.specs.Images.{LooksShowRecords, LooksShowCounts, LooksHaveSums};
 
 /// Three copies of the words of a running segment, one after the other, have no fault: a look is made of them.
 ///
@@ -48,4 +49,42 @@ pub fn looks_name_counts()
 /// its mark and its count. So it is of the words of the first copy and of those of the second.
 pub fn looks_count_between()
     ensures { LooksCountBetween }
+{}
+
+/// A look has each record that it follows with the words that it has at the last moment, but for its next and for what of it
+/// changes.
+///
+/// Its next gives the record behind, or ends the list. Of a histogram its single word and its sum are those of the second copy, its
+/// single mark, its sum mark and its redundant count those of the first; its counts reference is that of the second, or of the
+/// third, where the second has none yet but a single word that is off. Of a sample its count is that of the second, and its mark
+/// that of the first.
+pub fn looks_show_records()
+    ensures { LooksShowRecords }
+{}
+
+/// Where a look takes a counts reference of a record that it follows, it has the counts block there, as it is at the last moment,
+/// but for its counts and marks: the counts are those of the second copy, or 0 where the single word of the record was not off
+/// there; the marks are those of the first copy.
+pub fn looks_show_counts()
+    ensures { LooksShowCounts }
+{}
+
+/// Each count and each mark of a counts block is 0 at each moment at which its record does not name the block yet.
+///
+/// A block is mounted with nothing stored in it, by an actor that has had it in hand since its words were claimed, and what is stored
+/// of a block in hand stays. So a copy that loaded such a word too early has 0 there.
+pub fn counts_start_at_zero()
+    ensures { CountsStartAtZero }
+{}
+
+/// The counts and marks of each counts block that a record names at the last moment are, in the first copy and in the second, no less
+/// than those that it had at the first moment, if it was there, and no more than those that it has at the last.
+pub fn looks_count_units()
+    ensures { LooksCountUnits }
+{}
+
+/// The sum that a look takes of a record, which the second copy has, and its sum mark, which the first has, are such as a reader
+/// takes: near 0 and near each other.
+pub fn looks_have_sums()
+    ensures { LooksHaveSums }
 {}

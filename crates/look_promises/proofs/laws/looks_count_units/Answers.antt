@@ -1,0 +1,5 @@
+use Rattle.look_promises.proofs.Units.{looks_count_units}
+use Rattle.look_promises.proofs.laws.looks_count_units.Goals as goal
+
+pub returns : goal.returns
+returns c = looks_count_units

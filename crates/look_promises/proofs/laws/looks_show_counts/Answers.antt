@@ -1,0 +1,5 @@
+use Rattle.look_promises.proofs.Counted.{looks_show_counts}
+use Rattle.look_promises.proofs.laws.looks_show_counts.Goals as goal
+
+pub returns : goal.returns
+returns c = looks_show_counts

@@ -1,0 +1,74 @@
+-- What a look shows of the records that it follows: which of its words come from which copy.
+use Rattle.std.specs.Prelude.{◌≡◌, false, ◌≢◌, ℕ, suc, ◌+◌, ◌<◌, List, drop, length, slice_index}
+use Rattle.std.specs.Int.{w64, cast_signed}
+use Rattle.std.specs.List.{Contains, slice_range}
+use mathlib.Core.Option.{none}
+use Rattle.segment_image.specs.Blocks.{field_at}
+use Rattle.segment_image.specs.Shape.{Dimensions}
+use Rattle.segment_image.specs.declared.layout.TheConstants.{BLOCK_HEADER, HISTOGRAM_SINGLE, HISTOGRAM_SINGLE_MARK, HISTOGRAM_SUM, HISTOGRAM_SUM_MARK, HISTOGRAM_REDUNDANT, SAMPLE_COUNT, SAMPLE_MARK}
+use Rattle.bucket_ranges.specs.Reading.{is_bad_sum}
+use Rattle.bucket_ranges.specs.Spec.{buckets_of}
+use Rattle.segment_looks.specs.Looks.{IsLook, counts_looked, counts_reference, followed_records, list_start}
+use Rattle.segment_machine.specs.State.{State}
+use Rattle.segment_invariant.specs.Body.{Record, Counts, Body, histogram, counts, sample, other, Anatomy}
+use Rattle.segment_invariant.specs.Seen.{Stands, HasRecord, HasCounts}
+use Rattle.segment_invariant.specs.Invariant.{Invariant}
+use Rattle.look_promises.specs.Runs.{RunsThrough, Moments, AreLoaded}
+use Rattle.look_promises.specs.Looks.{head_loaded, HasWords}
+
+-- A block with a next, and with the words of the copies that change: of a histogram its single word and its sum of the second copy, its
+-- single mark, its sum mark and its redundant count of the first, and its counts reference, which is that of the second copy, or of the
+-- third where the second has a single word that is off and no reference yet; of a sample its count of the second and its mark of the
+-- first.
+abbrev pub looked_block : List ℕ → List ℕ → List ℕ → ℕ → ℕ → Body → Body
+looked_block one two three at next (histogram r) = histogram (record r {
+  next = next;
+  counts = counts_reference two three at;
+  single = field_at two at HISTOGRAM_SINGLE;
+  mark = field_at one at HISTOGRAM_SINGLE_MARK;
+  sum = field_at two at HISTOGRAM_SUM;
+  sum_mark = field_at one at HISTOGRAM_SUM_MARK;
+  noted = field_at one at HISTOGRAM_REDUNDANT;
+})
+looked_block one two three at next (sample s) = sample (record s { next = next; units = field_at two at SAMPLE_COUNT; mark = field_at one at SAMPLE_MARK })
+looked_block one two three at next (other size tag n payload) = other size tag next payload
+looked_block one two three at next body = body
+
+-- A look has each record that it follows, as it is at the last moment, but for its next, which gives the record behind, and what of it
+-- changes.
+abbrev pub LooksShowRecords : Type 0
+LooksShowRecords = (shape : Dimensions) (opened : Anatomy) (at : ℕ → State) (first last : ℕ) (moments : Moments) (one two three image : List ℕ)
+    → RunsThrough shape opened at → AreLoaded shape at first last moments one two three
+    → IsLook (head_loaded shape opened at moments.three) one two three image
+    → (late : Invariant shape opened (at last))
+    × ((k : ℕ) (body : Body) → k < length (followed_records (head_loaded shape opened at moments.three) two)
+    → Stands late.anatomy.pieces (slice_index (followed_records (head_loaded shape opened at moments.three) two) k) none body
+    → HasWords image (slice_index (followed_records (head_loaded shape opened at moments.three) two) k)
+    (looked_block one two three (slice_index (followed_records (head_loaded shape opened at moments.three) two) k)
+    (list_start (drop (suc k) (followed_records (head_loaded shape opened at moments.three) two))) body))
+
+-- A counts block with the counts of the second copy, or none where the single word of its record was not off there, and the marks of the
+-- first.
+abbrev pub looked_counts : List ℕ → List ℕ → ℕ → ℕ → ℕ → Counts → Counts
+looked_counts one two at place n c = record c {
+  units = counts_looked two at (place + BLOCK_HEADER) n;
+  marks = slice_range one (place + BLOCK_HEADER + n) (place + BLOCK_HEADER + n + n);
+}
+
+-- Where a look takes a counts reference of a record that it follows, it has the counts block so, and as it is at the last moment otherwise.
+abbrev pub LooksShowCounts : Type 0
+LooksShowCounts = (shape : Dimensions) (opened : Anatomy) (at : ℕ → State) (first last : ℕ) (moments : Moments) (one two three image : List ℕ)
+    → RunsThrough shape opened at → AreLoaded shape at first last moments one two three
+    → IsLook (head_loaded shape opened at moments.three) one two three image
+    → (late : Invariant shape opened (at last))
+    × ((reference : ℕ) (r : Record) (c : Counts) → Contains (followed_records (head_loaded shape opened at moments.three) two) reference
+    → HasRecord late.anatomy.pieces reference r → counts_reference two three reference ≢ 0 → HasCounts late.anatomy.pieces r.counts c
+    → HasWords image r.counts (counts (looked_counts one two reference r.counts (buckets_of r.spec) c)))
+
+-- The sum that a look takes of a record, and its sum mark, are such as a reader takes: near 0 and near each other.
+abbrev pub LooksHaveSums : Type 0
+LooksHaveSums = (shape : Dimensions) (opened : Anatomy) (at : ℕ → State) (first last : ℕ) (moments : Moments) (one two three : List ℕ)
+    → RunsThrough shape opened at → AreLoaded shape at first last moments one two three
+    → (late : Invariant shape opened (at last))
+    × ((reference : ℕ) (r : Record) → HasRecord late.anatomy.pieces reference r
+    → is_bad_sum (cast_signed w64 (field_at two reference HISTOGRAM_SUM)) (cast_signed w64 (field_at one reference HISTOGRAM_SUM_MARK)) ≡ false)

@@ -27,3 +27,4 @@ pub mod Earlier
 pub mod Unmounted
 pub mod Units
 pub mod Sums
+pub mod Totals

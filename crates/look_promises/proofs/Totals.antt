@@ -8,7 +8,7 @@ use Rattle.segment_looks.specs.Looks.{counts_looked, counts_reference, is_frozen
 use Rattle.segment_invariant.specs.Rises.{RecordGoes}
 use Rattle.segment_invariant.proofs.Blocks.Pieces.{piece_word, one_stands}
 use Rattle.look_promises.specs.Runs.{RunsThrough, Moments, AreLoaded}
-use Rattle.look_promises.specs.Images.{HasTotal, total_looked, LooksCountTotals}
+use Rattle.look_promises.specs.Images.{IsTotalAmong, total_looked, LooksCountTotals}
 use Rattle.look_promises.proofs.Runs.{kept_at, rises_at, chain_at}
 use Rattle.look_promises.proofs.Shown.{ends_at}
 use Rattle.look_promises.proofs.Starts.{not_yet}
@@ -223,7 +223,7 @@ module _ (shape : Dimensions) (opened : Anatomy) (at : ℕ → State) (first las
               omega (arith, is, word, most, unit)
           by_test false off = let is = looked_off off in omega (arith, is)
 
-    pub total_up : (total : ℕ) → HasTotal 2 late.anatomy.pieces x i total → total_looked two x place n i ≤ total
+    pub total_up : (total : ℕ) → IsTotalAmong 2 late.anatomy.pieces x i total → total_looked two x place n i ≤ total
     total_up total (q, there, which) =
         let same : q ≡ r = one_there shape opened at run last x q r there has in
         by_counts (subst (λ (z : Record). ((z.counts ≡ 0) × (total ≡ units_packed (form_at 2 z) i))
@@ -270,7 +270,7 @@ module _ (shape : Dimensions) (opened : Anatomy) (at : ℕ → State) (first las
           by_off false is = is
           by_off true is = absurd (true≢false (sym is ∙ (ap is_off (off_leads 2 n q.single w is (leads_on q was)) ∙ off)))
 
-    pub total_down : (total : ℕ) → HasTotal 2 early.anatomy.pieces x i total → total ≤ total_looked two x place n i
+    pub total_down : (total : ℕ) → IsTotalAmong 2 early.anatomy.pieces x i total → total ≤ total_looked two x place n i
     total_down total (q, was, which) = by_counts which
       where
         form_is : units_packed (form_at 2 q) i ≡ units_packed (single_of 2 n q.single) i
@@ -307,12 +307,12 @@ module _ (shape : Dimensions) (opened : Anatomy) (at : ℕ → State) (first las
                 let nothing = unused q was c stands mounts off in omega (arith, nothing)
 
   pub totals_between : (reference i : ℕ) (r : Record) → HasRecord late.anatomy.pieces reference r → i < buckets_of r.spec
-      → ((total : ℕ) → HasTotal 2 early.anatomy.pieces reference i total → total ≤ total_looked two reference (counts_reference two three reference) (buckets_of r.spec) i)
-      × ((total : ℕ) → HasTotal 2 late.anatomy.pieces reference i total → total_looked two reference (counts_reference two three reference) (buckets_of r.spec) i ≤ total)
+      → ((total : ℕ) → IsTotalAmong 2 early.anatomy.pieces reference i total → total ≤ total_looked two reference (counts_reference two three reference) (buckets_of r.spec) i)
+      × ((total : ℕ) → IsTotalAmong 2 late.anatomy.pieces reference i total → total_looked two reference (counts_reference two three reference) (buckets_of r.spec) i ≤ total)
   totals_between reference i r has bucket =
       let (k, below, place) = place_of shape opened at run last reference r has in
-      subst (λ (x : ℕ). ((total : ℕ) → HasTotal 2 early.anatomy.pieces x i total → total ≤ total_looked two x (counts_reference two three x) (buckets_of r.spec) i)
-      × ((total : ℕ) → HasTotal 2 late.anatomy.pieces x i total → total_looked two x (counts_reference two three x) (buckets_of r.spec) i ≤ total)) place
+      subst (λ (x : ℕ). ((total : ℕ) → IsTotalAmong 2 early.anatomy.pieces x i total → total ≤ total_looked two x (counts_reference two three x) (buckets_of r.spec) i)
+      × ((total : ℕ) → IsTotalAmong 2 late.anatomy.pieces x i total → total_looked two x (counts_reference two three x) (buckets_of r.spec) i ≤ total)) place
       (let there = subst (λ (x : ℕ). HasRecord late.anatomy.pieces x r) (sym place) has in
       (total_down k i below r there bucket, total_up k i below r there bucket))
 

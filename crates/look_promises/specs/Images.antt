@@ -78,8 +78,8 @@ LooksHaveSums = (shape : Dimensions) (opened : Anatomy) (at : ℕ → State) (fi
 -- ---- totals
 
 -- the total of a bucket of a record among blocks
-abbrev pub HasTotal : ℕ → List Piece → ℕ → ℕ → ℕ → Type 0
-HasTotal version pieces at i total = (r : Record) × HasRecord pieces at r
+abbrev pub IsTotalAmong : ℕ → List Piece → ℕ → ℕ → ℕ → Type 0
+IsTotalAmong version pieces at i total = (r : Record) × HasRecord pieces at r
     × (((r.counts ≡ 0) × (total ≡ units_packed (form_at version r) i))
     ⊎ ((c : Counts) × HasCounts pieces r.counts c × (total ≡ total_in version r c i)))
 
@@ -96,7 +96,7 @@ LooksCountTotals = (shape : Dimensions) (opened : Anatomy) (at : ℕ → State) 
     → RunsThrough shape opened at → AreLoaded shape at first last moments one two three
     → (early : Invariant shape opened (at first)) × (late : Invariant shape opened (at last))
     × ((reference i : ℕ) (r : Record) → HasRecord late.anatomy.pieces reference r → i < buckets_of r.spec
-    → ((total : ℕ) → HasTotal VERSION_FROZEN early.anatomy.pieces reference i total
+    → ((total : ℕ) → IsTotalAmong VERSION_FROZEN early.anatomy.pieces reference i total
     → total ≤ total_looked two reference (counts_reference two three reference) (buckets_of r.spec) i)
-    × ((total : ℕ) → HasTotal VERSION_FROZEN late.anatomy.pieces reference i total
+    × ((total : ℕ) → IsTotalAmong VERSION_FROZEN late.anatomy.pieces reference i total
     → total_looked two reference (counts_reference two three reference) (buckets_of r.spec) i ≤ total))

@@ -28,3 +28,4 @@ pub mod Unmounted
 pub mod Units
 pub mod Sums
 pub mod Totals
+pub mod Starting

@@ -5,7 +5,9 @@ use Rattle.std.specs.List.{Contains, slice_range}
 use mathlib.Core.Option.{none}
 use Rattle.segment_image.specs.Blocks.{field_at}
 use Rattle.segment_image.specs.Shape.{Dimensions}
-use Rattle.segment_image.specs.declared.layout.TheConstants.{VERSION_FROZEN, BLOCK_HEADER, HISTOGRAM_SINGLE, HISTOGRAM_SINGLE_MARK, HISTOGRAM_SUM, HISTOGRAM_SUM_MARK, HISTOGRAM_REDUNDANT, SAMPLE_COUNT, SAMPLE_MARK}
+use Rattle.segment_image.specs.Words.{word_at}
+use Rattle.bucket_ranges.specs.Listed.{before}
+use Rattle.segment_image.specs.declared.layout.TheConstants.{VERSION_FROZEN, BLOCK_HEADER, BLOCK_NEXT, HEADER_WORDS, QUEUE, TAIL_WORD, HISTOGRAM_SINGLE, HISTOGRAM_SINGLE_MARK, HISTOGRAM_SUM, HISTOGRAM_SUM_MARK, HISTOGRAM_REDUNDANT, SAMPLE_COUNT, SAMPLE_MARK}
 use Rattle.bucket_ranges.specs.Reading.{is_bad_sum}
 use Rattle.bucket_ranges.specs.Single.{single_of, units_packed}
 use Rattle.bucket_ranges.specs.Spec.{buckets_of}
@@ -100,3 +102,14 @@ LooksCountTotals = (shape : Dimensions) (opened : Anatomy) (at : ℕ → State) 
     → total ≤ total_looked two reference (counts_reference two three reference) (buckets_of r.spec) i)
     × ((total : ℕ) → IsTotalAmong VERSION_FROZEN late.anatomy.pieces reference i total
     → total_looked two reference (counts_reference two three reference) (buckets_of r.spec) i ≤ total))
+
+-- ---- the rest
+
+-- A look has the header of the third copy, but for its tail and the start of its list, which are those of the records that it follows.
+abbrev pub LooksKeepHeaders : Type 0
+LooksKeepHeaders = (shape : Dimensions) (opened : Anatomy) (at : ℕ → State) (first last : ℕ) (moments : Moments) (one two three image : List ℕ)
+    → RunsThrough shape opened at → AreLoaded shape at first last moments one two three
+    → IsLook (head_loaded shape opened at moments.three) one two three image
+    → ((n : ℕ) → n < HEADER_WORDS → n ≢ TAIL_WORD → n ≢ QUEUE + BLOCK_NEXT → word_at image n ≡ word_at three n)
+    × (word_at image TAIL_WORD ≡ before (followed_records (head_loaded shape opened at moments.three) two) (length (followed_records (head_loaded shape opened at moments.three) two)))
+    × (field_at image QUEUE BLOCK_NEXT ≡ list_start (followed_records (head_loaded shape opened at moments.three) two))

@@ -4,7 +4,7 @@
 //! The functions do nothing. What each promises is a law of the definitions in `specs/`.
 
 ghost use Rattle.look_promises.specs.Looks.{LooksHaveHeaders, LooksFollow, CopiesShowBlocks, RecordsStartAtZero, LooksNameCounts, LooksCountBetween, CountsStartAtZero, LooksCountUnits};
-ghost use Rattle.look_promises.specs.Images.{LooksShowRecords, LooksShowCounts, LooksHaveSums, LooksCountTotals};
+ghost use Rattle.look_promises.specs.Images.{LooksShowRecords, LooksShowCounts, LooksHaveSums, LooksCountTotals, LooksKeepHeaders};
 
 /// Three copies of the words of a running segment, one after the other, have no fault: a look is made of them.
 ///
@@ -96,4 +96,10 @@ pub fn looks_have_sums()
 /// units, and counts are 0 until it is off.
 pub fn looks_count_totals()
     ensures { LooksCountTotals }
+{}
+
+/// A look has the header of the third copy, but for its tail, which is the last of the records that it follows, and the start of its
+/// list, which is the first; where it follows none, both are the queue block.
+pub fn looks_keep_headers()
+    ensures { LooksKeepHeaders }
 {}

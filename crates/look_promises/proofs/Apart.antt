@@ -106,7 +106,7 @@ module _ (shape : Dimensions) (opened : Anatomy) (at : ℕ → State) (first las
         let four = four_words body of_list in
         third_word shape opened at first last moments one two three run loaded j 2 body g has (type_stays body of_list) (omega (arith, four))
 
-    lies : (n : ℕ) → ((i : ℕ) → i < length (words_of its.0) → y + i ≢ n)
+    pub lies : (n : ℕ) → ((i : ℕ) → i < length (words_of its.0) → y + i ≢ n)
         → (word_at three (y + 2) ≡ 1 → reference_of j ≢ 0 → (i : ℕ) → 4 ≤ i → i < 4 + (buckets_at j + buckets_at j) → reference_of j + i ≢ n)
         → LiesBeside hd one two three y n (length (words_of its.0))
     lies n block named = record {

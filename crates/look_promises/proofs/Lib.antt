@@ -27,3 +27,5 @@ pub mod Earlier
 pub mod Unmounted
 pub mod Units
 pub mod Sums
+pub mod Totals
+pub mod Starting

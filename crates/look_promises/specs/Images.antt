@@ -1,18 +1,22 @@
 -- What a look shows of the records that it follows: which of its words come from which copy.
-use Rattle.std.specs.Prelude.{◌≡◌, false, ◌≢◌, ℕ, suc, ◌+◌, ◌<◌, List, drop, length, slice_index}
+use Rattle.std.specs.Prelude.{◌≡◌, false, ◌≢◌, ◌⊎◌, ◌==◌, if◌then◌else◌, ℕ, suc, ◌+◌, ◌<◌, ◌≤◌, List, drop, length, slice_index}
 use Rattle.std.specs.Int.{w64, cast_signed}
 use Rattle.std.specs.List.{Contains, slice_range}
 use mathlib.Core.Option.{none}
 use Rattle.segment_image.specs.Blocks.{field_at}
 use Rattle.segment_image.specs.Shape.{Dimensions}
-use Rattle.segment_image.specs.declared.layout.TheConstants.{BLOCK_HEADER, HISTOGRAM_SINGLE, HISTOGRAM_SINGLE_MARK, HISTOGRAM_SUM, HISTOGRAM_SUM_MARK, HISTOGRAM_REDUNDANT, SAMPLE_COUNT, SAMPLE_MARK}
+use Rattle.segment_image.specs.Words.{word_at}
+use Rattle.bucket_ranges.specs.Listed.{before}
+use Rattle.segment_image.specs.declared.layout.TheConstants.{VERSION_FROZEN, BLOCK_HEADER, BLOCK_NEXT, HEADER_WORDS, QUEUE, TAIL_WORD, HISTOGRAM_SINGLE, HISTOGRAM_SINGLE_MARK, HISTOGRAM_SUM, HISTOGRAM_SUM_MARK, HISTOGRAM_REDUNDANT, SAMPLE_COUNT, SAMPLE_MARK}
 use Rattle.bucket_ranges.specs.Reading.{is_bad_sum}
+use Rattle.bucket_ranges.specs.Single.{single_of, units_packed}
 use Rattle.bucket_ranges.specs.Spec.{buckets_of}
 use Rattle.segment_looks.specs.Looks.{IsLook, counts_looked, counts_reference, followed_records, list_start}
 use Rattle.segment_machine.specs.State.{State}
-use Rattle.segment_invariant.specs.Body.{Record, Counts, Body, histogram, counts, sample, other, Anatomy}
+use Rattle.segment_invariant.specs.Body.{Record, Counts, Body, histogram, counts, sample, other, Piece, Anatomy}
 use Rattle.segment_invariant.specs.Seen.{Stands, HasRecord, HasCounts}
-use Rattle.segment_invariant.specs.Invariant.{Invariant}
+use Rattle.segment_invariant.specs.Invariant.{Invariant, total_in}
+use Rattle.segment_invariant.specs.Ledger.{form_at}
 use Rattle.look_promises.specs.Runs.{RunsThrough, Moments, AreLoaded}
 use Rattle.look_promises.specs.Looks.{head_loaded, HasWords}
 
@@ -72,3 +76,40 @@ LooksHaveSums = (shape : Dimensions) (opened : Anatomy) (at : ℕ → State) (fi
     → (late : Invariant shape opened (at last))
     × ((reference : ℕ) (r : Record) → HasRecord late.anatomy.pieces reference r
     → is_bad_sum (cast_signed w64 (field_at two reference HISTOGRAM_SUM)) (cast_signed w64 (field_at one reference HISTOGRAM_SUM_MARK)) ≡ false)
+
+-- ---- totals
+
+-- the total of a bucket of a record among blocks
+abbrev pub IsTotalAmong : ℕ → List Piece → ℕ → ℕ → ℕ → Type 0
+IsTotalAmong version pieces at i total = (r : Record) × HasRecord pieces at r
+    × (((r.counts ≡ 0) × (total ≡ units_packed (form_at version r) i))
+    ⊎ ((c : Counts) × HasCounts pieces r.counts c × (total ≡ total_in version r c i)))
+
+-- the total of bucket i of n that a look has of a record for which it takes a counts reference
+abbrev pub total_looked : List ℕ → ℕ → ℕ → ℕ → ℕ → ℕ
+total_looked two at place n i =
+    (if place == 0 then 0 else slice_index (counts_looked two at (place + BLOCK_HEADER) n) i)
+    + units_packed (single_of VERSION_FROZEN n (field_at two at HISTOGRAM_SINGLE)) i
+
+-- The total that a look has of each bucket of a record is no less than that of the first moment, where the record was there, and no more than
+-- that of the last.
+abbrev pub LooksCountTotals : Type 0
+LooksCountTotals = (shape : Dimensions) (opened : Anatomy) (at : ℕ → State) (first last : ℕ) (moments : Moments) (one two three : List ℕ)
+    → RunsThrough shape opened at → AreLoaded shape at first last moments one two three
+    → (early : Invariant shape opened (at first)) × (late : Invariant shape opened (at last))
+    × ((reference i : ℕ) (r : Record) → HasRecord late.anatomy.pieces reference r → i < buckets_of r.spec
+    → ((total : ℕ) → IsTotalAmong VERSION_FROZEN early.anatomy.pieces reference i total
+    → total ≤ total_looked two reference (counts_reference two three reference) (buckets_of r.spec) i)
+    × ((total : ℕ) → IsTotalAmong VERSION_FROZEN late.anatomy.pieces reference i total
+    → total_looked two reference (counts_reference two three reference) (buckets_of r.spec) i ≤ total))
+
+-- ---- the rest
+
+-- A look has the header of the third copy, but for its tail and the start of its list, which are those of the records that it follows.
+abbrev pub LooksKeepHeaders : Type 0
+LooksKeepHeaders = (shape : Dimensions) (opened : Anatomy) (at : ℕ → State) (first last : ℕ) (moments : Moments) (one two three image : List ℕ)
+    → RunsThrough shape opened at → AreLoaded shape at first last moments one two three
+    → IsLook (head_loaded shape opened at moments.three) one two three image
+    → ((n : ℕ) → n < HEADER_WORDS → n ≢ TAIL_WORD → n ≢ QUEUE + BLOCK_NEXT → word_at image n ≡ word_at three n)
+    × (word_at image TAIL_WORD ≡ before (followed_records (head_loaded shape opened at moments.three) two) (length (followed_records (head_loaded shape opened at moments.three) two)))
+    × (field_at image QUEUE BLOCK_NEXT ≡ list_start (followed_records (head_loaded shape opened at moments.three) two))

@@ -4,7 +4,7 @@
 //! The functions do nothing. What each promises is a law of the definitions in `specs/`.
 
 ghost use Rattle.look_promises.specs.Looks.{LooksHaveHeaders, LooksFollow, CopiesShowBlocks, RecordsStartAtZero, LooksNameCounts, LooksCountBetween, CountsStartAtZero, LooksCountUnits};
-ghost use Rattle.look_promises.specs.Images.{LooksShowRecords, LooksShowCounts, LooksHaveSums};
+ghost use Rattle.look_promises.specs.Images.{LooksShowRecords, LooksShowCounts, LooksHaveSums, LooksCountTotals, LooksKeepHeaders};
 
 /// Three copies of the words of a running segment, one after the other, have no fault: a look is made of them.
 ///
@@ -87,4 +87,19 @@ pub fn looks_count_units()
 /// takes: near 0 and near each other.
 pub fn looks_have_sums()
     ensures { LooksHaveSums }
+{}
+
+/// The total of each bucket that a look takes of a record, its count and the units that the single word packs, is no less than that
+/// of the first moment, if the record was there, and no more than that of the last.
+///
+/// The counts are loaded at moments of their own, and so is the single word; but in version 2 a single word that is off keeps its
+/// units, and counts are 0 until it is off.
+pub fn looks_count_totals()
+    ensures { LooksCountTotals }
+{}
+
+/// A look has the header of the third copy, but for its tail, which is the last of the records that it follows, and the start of its
+/// list, which is the first; where it follows none, both are the queue block.
+pub fn looks_keep_headers()
+    ensures { LooksKeepHeaders }
 {}

@@ -28,4 +28,5 @@ pub mod Unmounted
 pub mod Units
 pub mod Sums
 pub mod Totals
+pub mod Marks
 pub mod Starting

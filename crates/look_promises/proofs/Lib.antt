@@ -30,3 +30,4 @@ pub mod Sums
 pub mod Totals
 pub mod Marks
 pub mod Starting
+pub mod Cleared

@@ -129,3 +129,10 @@ LooksKeepHeaders = (shape : Dimensions) (opened : Anatomy) (at : ℕ → State) 
     → ((n : ℕ) → n < HEADER_WORDS → n ≢ TAIL_WORD → n ≢ QUEUE + BLOCK_NEXT → word_at image n ≡ word_at three n)
     × (word_at image TAIL_WORD ≡ before (followed_records (head_loaded shape opened at moments.three) two) (length (followed_records (head_loaded shape opened at moments.three) two)))
     × (field_at image QUEUE BLOCK_NEXT ≡ list_start (followed_records (head_loaded shape opened at moments.three) two))
+
+-- A look is 0 from the free pointer of the third copy on.
+abbrev pub LooksEndInZeros : Type 0
+LooksEndInZeros = (shape : Dimensions) (opened : Anatomy) (at : ℕ → State) (first last : ℕ) (moments : Moments) (one two three image : List ℕ)
+    → RunsThrough shape opened at → AreLoaded shape at first last moments one two three
+    → IsLook (head_loaded shape opened at moments.three) one two three image
+    → (n : ℕ) → (head_loaded shape opened at moments.three).free ≤ n → n < shape.size → word_at image n ≡ 0

@@ -4,7 +4,7 @@
 //! The functions do nothing. What each promises is a law of the definitions in `specs/`.
 
 ghost use Rattle.look_promises.specs.Looks.{LooksHaveHeaders, LooksFollow, CopiesShowBlocks, RecordsStartAtZero, LooksNameCounts, LooksCountBetween, CountsStartAtZero, LooksCountUnits};
-ghost use Rattle.look_promises.specs.Images.{LooksShowRecords, LooksShowCounts, LooksHaveSums, LooksCountTotals, LooksBoundMarks, LooksKeepHeaders};
+ghost use Rattle.look_promises.specs.Images.{LooksShowRecords, LooksShowCounts, LooksHaveSums, LooksCountTotals, LooksBoundMarks, LooksKeepHeaders, LooksEndInZeros};
 
 /// Three copies of the words of a running segment, one after the other, have no fault: a look is made of them.
 ///
@@ -111,4 +111,11 @@ pub fn looks_bound_marks()
 /// list, which is the first; where it follows none, both are the queue block.
 pub fn looks_keep_headers()
     ensures { LooksKeepHeaders }
+{}
+
+/// A look is 0 from its free pointer to its end, whatever was claimed since that was loaded.
+///
+/// All that it takes of records lies before the free pointer, and the rest is cleared.
+pub fn looks_end_in_zeros()
+    ensures { LooksEndInZeros }
 {}

@@ -28,4 +28,6 @@ pub mod Unmounted
 pub mod Units
 pub mod Sums
 pub mod Totals
+pub mod Marks
 pub mod Starting
+pub mod Cleared

@@ -38,7 +38,7 @@ none_if : (b : Bool) (ps : List Patch) (n : ℕ) → HaveNone ps n → HaveNone 
 none_if true ps n none = none
 none_if false ps n none = none_of_none n
 
-none_unless : (b : Bool) (ps : List Patch) (n : ℕ) → (b ≡ false → HaveNone ps n) → HaveNone (if b then [] else ps) n
+pub none_unless : (b : Bool) (ps : List Patch) (n : ℕ) → (b ≡ false → HaveNone ps n) → HaveNone (if b then [] else ps) n
 none_unless true ps n none = none_of_none n
 none_unless false ps n none = none refl
 

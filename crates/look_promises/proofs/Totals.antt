@@ -150,7 +150,7 @@ module _ (shape : Dimensions) (opened : Anatomy) (at : ℕ → State) (first las
 
     -- the record of the first moment
     module _ (q : Record) (was : HasRecord early.anatomy.pieces x q) where
-      kinds : n ≡ buckets_of q.spec
+      pub kinds : n ≡ buckets_of q.spec
       kinds =
           let size = spot 9 (omega arith) in
           let order : first ≤ last = let a = within 9 (omega arith) in omega (arith, a.0, a.1) in
@@ -158,7 +158,7 @@ module _ (shape : Dimensions) (opened : Anatomy) (at : ℕ → State) (first las
           let same : p ≡ r = one_there shape opened at run last x p r there has in
           ap (λ (z : Record). buckets_of z.spec) (sym same ∙ goes.is)
 
-      leads_on : Leads 2 n q.single w
+      pub leads_on : Leads 2 n q.single w
       leads_on =
           let (p, there, goes) = goes_to shape opened at run first (moments.two (x + 9)) x q (within 9 (omega arith)).0 was in
           let word : w ≡ p.single = loaded.copy_two.each (x + 9) (spot 9 (omega arith)) ∙ word_of shape opened at run (moments.two (x + 9)) x 9 p there (omega arith) in

@@ -9,7 +9,7 @@ use Rattle.segment_image.specs.Words.{word_at}
 use Rattle.bucket_ranges.specs.Listed.{before}
 use Rattle.segment_image.specs.declared.layout.TheConstants.{VERSION_FROZEN, BLOCK_HEADER, BLOCK_NEXT, HEADER_WORDS, QUEUE, TAIL_WORD, HISTOGRAM_SINGLE, HISTOGRAM_SINGLE_MARK, HISTOGRAM_SUM, HISTOGRAM_SUM_MARK, HISTOGRAM_REDUNDANT, SAMPLE_COUNT, SAMPLE_MARK}
 use Rattle.bucket_ranges.specs.Reading.{is_bad_sum}
-use Rattle.bucket_ranges.specs.Single.{single_of, units_packed}
+use Rattle.bucket_ranges.specs.Single.{is_packed_bucket, single_of, units_packed}
 use Rattle.bucket_ranges.specs.Spec.{buckets_of}
 use Rattle.segment_looks.specs.Looks.{IsLook, counts_looked, counts_reference, followed_records, list_start}
 use Rattle.segment_machine.specs.State.{State}
@@ -103,6 +103,22 @@ LooksCountTotals = (shape : Dimensions) (opened : Anatomy) (at : ℕ → State) 
     × ((total : ℕ) → IsTotalAmong VERSION_FROZEN late.anatomy.pieces reference i total
     → total_looked two reference (counts_reference two three reference) (buckets_of r.spec) i ≤ total))
 
+-- the mark of bucket i of n that a look has of a record for which it takes a counts reference: that of the packed bucket is the single mark
+abbrev pub mark_looked : List ℕ → List ℕ → ℕ → ℕ → ℕ → ℕ → ℕ
+mark_looked one two at place n i =
+    if is_packed_bucket (single_of VERSION_FROZEN n (field_at two at HISTOGRAM_SINGLE)) i then field_at one at HISTOGRAM_SINGLE_MARK
+    else (if place == 0 then 0 else field_at one place (BLOCK_HEADER + n + i))
+
+-- No total that a look has of a bucket is above what a segment may count, and no mark above its total.
+abbrev pub LooksBoundMarks : Type 0
+LooksBoundMarks = (shape : Dimensions) (opened : Anatomy) (at : ℕ → State) (first last : ℕ) (moments : Moments) (one two three : List ℕ)
+    → RunsThrough shape opened at → AreLoaded shape at first last moments one two three
+    → (late : Invariant shape opened (at last))
+    × ((reference i : ℕ) (r : Record) → HasRecord late.anatomy.pieces reference r → i < buckets_of r.spec
+    → (total_looked two reference (counts_reference two three reference) (buckets_of r.spec) i ≤ 4294967295)
+    × (mark_looked one two reference (counts_reference two three reference) (buckets_of r.spec) i
+    ≤ total_looked two reference (counts_reference two three reference) (buckets_of r.spec) i))
+
 -- ---- the rest
 
 -- A look has the header of the third copy, but for its tail and the start of its list, which are those of the records that it follows.
@@ -113,3 +129,10 @@ LooksKeepHeaders = (shape : Dimensions) (opened : Anatomy) (at : ℕ → State) 
     → ((n : ℕ) → n < HEADER_WORDS → n ≢ TAIL_WORD → n ≢ QUEUE + BLOCK_NEXT → word_at image n ≡ word_at three n)
     × (word_at image TAIL_WORD ≡ before (followed_records (head_loaded shape opened at moments.three) two) (length (followed_records (head_loaded shape opened at moments.three) two)))
     × (field_at image QUEUE BLOCK_NEXT ≡ list_start (followed_records (head_loaded shape opened at moments.three) two))
+
+-- A look is 0 from the free pointer of the third copy on.
+abbrev pub LooksEndInZeros : Type 0
+LooksEndInZeros = (shape : Dimensions) (opened : Anatomy) (at : ℕ → State) (first last : ℕ) (moments : Moments) (one two three image : List ℕ)
+    → RunsThrough shape opened at → AreLoaded shape at first last moments one two three
+    → IsLook (head_loaded shape opened at moments.three) one two three image
+    → (n : ℕ) → (head_loaded shape opened at moments.three).free ≤ n → n < shape.size → word_at image n ≡ 0

@@ -4,7 +4,7 @@
 //! The functions do nothing. What each promises is a law of the definitions in `specs/`.
 
 ghost use Rattle.look_promises.specs.Looks.{LooksHaveHeaders, LooksFollow, CopiesShowBlocks, RecordsStartAtZero, LooksNameCounts, LooksCountBetween, CountsStartAtZero, LooksCountUnits};
-ghost use Rattle.look_promises.specs.Images.{LooksShowRecords, LooksShowCounts, LooksHaveSums, LooksCountTotals, LooksKeepHeaders};
+ghost use Rattle.look_promises.specs.Images.{LooksShowRecords, LooksShowCounts, LooksHaveSums, LooksCountTotals, LooksBoundMarks, LooksKeepHeaders, LooksEndInZeros};
 
 /// Three copies of the words of a running segment, one after the other, have no fault: a look is made of them.
 ///
@@ -98,8 +98,24 @@ pub fn looks_count_totals()
     ensures { LooksCountTotals }
 {}
 
+/// No total that a look takes of a record is above 4,294,967,295, which is all that a segment may count, and no mark above the total of
+/// its bucket.
+///
+/// A mark is no more than the total of the moment at which it was loaded, and the total that a look takes is no less than that: marks
+/// come from the first copy, and totals from the second. The mark of a bucket that the single word names is the single mark.
+pub fn looks_bound_marks()
+    ensures { LooksBoundMarks }
+{}
+
 /// A look has the header of the third copy, but for its tail, which is the last of the records that it follows, and the start of its
 /// list, which is the first; where it follows none, both are the queue block.
 pub fn looks_keep_headers()
     ensures { LooksKeepHeaders }
+{}
+
+/// A look is 0 from its free pointer to its end, whatever was claimed since that was loaded.
+///
+/// All that it takes of records lies before the free pointer, and the rest is cleared.
+pub fn looks_end_in_zeros()
+    ensures { LooksEndInZeros }
 {}

@@ -1,0 +1,5 @@
+use Rattle.look_promises.proofs.Marks.{looks_bound_marks}
+use Rattle.look_promises.proofs.laws.looks_bound_marks.Goals as goal
+
+pub returns : goal.returns
+returns c = looks_bound_marks

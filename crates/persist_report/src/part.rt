@@ -19,7 +19,7 @@ pub struct Part<F> {
 
 // A word of bytes.
 fn word_at(bytes: &[u8], place: usize) -> Option<u64> {
-    let word = bytes.get(8 * place..8 * place + 8)?;
+    let word = bytes.chunks_exact(8).nth(place)?;
     Some(u64::from_le_bytes(word.try_into().ok()?))
 }
 
@@ -52,7 +52,7 @@ impl<F: Read + Seek + Drop> Part<F> {
             if more == 0 {
                 break;
             }
-            count += more;
+            count = count.saturating_add(more);
         }
         let front = bytes.get(..count).unwrap_or_default();
         let left = length_of(front).map_or(0, |length| length.saturating_sub(count as u64));

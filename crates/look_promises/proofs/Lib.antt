@@ -29,5 +29,6 @@ pub mod Units
 pub mod Sums
 pub mod Totals
 pub mod Marks
+pub mod Samples
 pub mod Starting
 pub mod Cleared

@@ -13,8 +13,8 @@ use Rattle.bucket_ranges.specs.Single.{is_packed_bucket, single_of, units_packed
 use Rattle.bucket_ranges.specs.Spec.{buckets_of}
 use Rattle.segment_looks.specs.Looks.{IsLook, counts_looked, counts_reference, followed_records, list_start}
 use Rattle.segment_machine.specs.State.{State}
-use Rattle.segment_invariant.specs.Body.{Record, Counts, Body, histogram, counts, sample, other, Piece, Anatomy}
-use Rattle.segment_invariant.specs.Seen.{Stands, HasRecord, HasCounts}
+use Rattle.segment_invariant.specs.Body.{Record, Counts, Sample, Body, histogram, counts, sample, other, Piece, Anatomy}
+use Rattle.segment_invariant.specs.Seen.{Stands, HasRecord, HasCounts, HasSample}
 use Rattle.segment_invariant.specs.Invariant.{Invariant, total_in}
 use Rattle.segment_invariant.specs.Ledger.{form_at}
 use Rattle.look_promises.specs.Runs.{RunsThrough, Moments, AreLoaded}
@@ -118,6 +118,14 @@ LooksBoundMarks = (shape : Dimensions) (opened : Anatomy) (at : ℕ → State) (
     → (total_looked two reference (counts_reference two three reference) (buckets_of r.spec) i ≤ 4294967295)
     × (mark_looked one two reference (counts_reference two three reference) (buckets_of r.spec) i
     ≤ total_looked two reference (counts_reference two three reference) (buckets_of r.spec) i))
+
+-- So it is of the count of a sample, and its mark.
+abbrev pub LooksBoundSamples : Type 0
+LooksBoundSamples = (shape : Dimensions) (opened : Anatomy) (at : ℕ → State) (first last : ℕ) (moments : Moments) (one two three : List ℕ)
+    → RunsThrough shape opened at → AreLoaded shape at first last moments one two three
+    → (late : Invariant shape opened (at last))
+    × ((reference : ℕ) (s : Sample) → HasSample late.anatomy.pieces reference s
+    → (field_at two reference SAMPLE_COUNT ≤ 4294967295) × (field_at one reference SAMPLE_MARK ≤ field_at two reference SAMPLE_COUNT))
 
 -- ---- the rest
 

@@ -4,7 +4,7 @@
 //! The functions do nothing. What each promises is a law of the definitions in `specs/`.
 
 ghost use Rattle.look_promises.specs.Looks.{LooksHaveHeaders, LooksFollow, CopiesShowBlocks, RecordsStartAtZero, LooksNameCounts, LooksCountBetween, CountsStartAtZero, LooksCountUnits};
-ghost use Rattle.look_promises.specs.Images.{LooksShowRecords, LooksShowCounts, LooksHaveSums, LooksCountTotals, LooksBoundMarks, LooksKeepHeaders, LooksEndInZeros};
+ghost use Rattle.look_promises.specs.Images.{LooksShowRecords, LooksShowCounts, LooksHaveSums, LooksCountTotals, LooksBoundMarks, LooksBoundSamples, LooksKeepHeaders, LooksEndInZeros};
 
 /// Three copies of the words of a running segment, one after the other, have no fault: a look is made of them.
 ///
@@ -105,6 +105,11 @@ pub fn looks_count_totals()
 /// come from the first copy, and totals from the second. The mark of a bucket that the single word names is the single mark.
 pub fn looks_bound_marks()
     ensures { LooksBoundMarks }
+{}
+
+/// The count that a look takes of a sample is no more than 4,294,967,295, and its mark no more than its count.
+pub fn looks_bound_samples()
+    ensures { LooksBoundSamples }
 {}
 
 /// A look has the header of the third copy, but for its tail, which is the last of the records that it follows, and the start of its

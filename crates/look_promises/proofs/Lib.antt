@@ -30,5 +30,6 @@ pub mod Sums
 pub mod Totals
 pub mod Marks
 pub mod Samples
+pub mod Calls
 pub mod Starting
 pub mod Cleared

@@ -1,7 +1,7 @@
 -- What a look shows of the records that it follows: which of its words come from which copy.
 use Rattle.std.specs.Prelude.{◌≡◌, false, ◌≢◌, ◌⊎◌, ◌==◌, if◌then◌else◌, ℕ, suc, ◌+◌, ◌<◌, ◌≤◌, List, drop, length, slice_index}
 use Rattle.std.specs.Int.{w64, cast_signed}
-use Rattle.std.specs.List.{Contains, slice_range}
+use Rattle.std.specs.List.{Contains, flat_map, slice_range}
 use mathlib.Core.Option.{none}
 use Rattle.segment_image.specs.Blocks.{field_at}
 use Rattle.segment_image.specs.Shape.{Dimensions}
@@ -14,9 +14,12 @@ use Rattle.bucket_ranges.specs.Spec.{buckets_of}
 use Rattle.segment_looks.specs.Looks.{IsLook, counts_looked, counts_reference, followed_records, list_start}
 use Rattle.segment_machine.specs.State.{State}
 use Rattle.segment_invariant.specs.Body.{Record, Counts, Sample, Body, histogram, counts, sample, other, Piece, Anatomy}
-use Rattle.segment_invariant.specs.Seen.{Stands, HasRecord, HasCounts, HasSample}
+use Rattle.segment_invariant.specs.Seen.{Stands, HasRecord, HasCounts, HasSample, IsFirst}
 use Rattle.segment_invariant.specs.Invariant.{Invariant, total_in}
-use Rattle.segment_invariant.specs.Ledger.{form_at}
+use Rattle.segment_invariant.specs.Ledger.{form_at, key_of_bucket}
+use Rattle.segment_machine.specs.Entry.{tally_units}
+use Rattle.segment_machine.specs.Actor.{log_of}
+use Rattle.segment_promises.specs.Reads.{begun_of}
 use Rattle.look_promises.specs.Runs.{RunsThrough, Moments, AreLoaded}
 use Rattle.look_promises.specs.Looks.{head_loaded, HasWords}
 
@@ -126,6 +129,21 @@ LooksBoundSamples = (shape : Dimensions) (opened : Anatomy) (at : ℕ → State)
     → (late : Invariant shape opened (at last))
     × ((reference : ℕ) (s : Sample) → HasSample late.anatomy.pieces reference s
     → (field_at two reference SAMPLE_COUNT ≤ 4294967295) × (field_at one reference SAMPLE_MARK ≤ field_at two reference SAMPLE_COUNT))
+
+-- ---- calls
+
+-- A look has of each bucket of a histogram at least the units of all calls that had ended at the first moment, and at most those of the
+-- calls that had begun at the last.
+abbrev pub LooksCountCalls : Type 0
+LooksCountCalls = (shape : Dimensions) (opened : Anatomy) (at : ℕ → State) (first last : ℕ) (moments : Moments) (one two three : List ℕ)
+    → RunsThrough shape opened at → AreLoaded shape at first last moments one two three
+    → (late : Invariant shape opened (at last))
+    × ((reference i : ℕ) (r : Record) → HasRecord late.anatomy.pieces reference r → IsFirst late.anatomy.records r.name r.spec reference
+    → i < buckets_of r.spec
+    → (tally_units (flat_map log_of (at first).actors) r.name (key_of_bucket r.spec i)
+    ≤ total_looked two reference (counts_reference two three reference) (buckets_of r.spec) i)
+    × (total_looked two reference (counts_reference two three reference) (buckets_of r.spec) i
+    ≤ tally_units (flat_map begun_of (at last).actors) r.name (key_of_bucket r.spec i)))
 
 -- ---- the rest
 

@@ -4,7 +4,7 @@
 //! The functions do nothing. What each promises is a law of the definitions in `specs/`.
 
 ghost use Rattle.look_promises.specs.Looks.{LooksHaveHeaders, LooksFollow, CopiesShowBlocks, RecordsStartAtZero, LooksNameCounts, LooksCountBetween, CountsStartAtZero, LooksCountUnits};
-ghost use Rattle.look_promises.specs.Images.{LooksShowRecords, LooksShowCounts, LooksHaveSums, LooksCountTotals, LooksBoundMarks, LooksBoundSamples, LooksKeepHeaders, LooksEndInZeros};
+ghost use Rattle.look_promises.specs.Images.{LooksShowRecords, LooksShowCounts, LooksHaveSums, LooksCountTotals, LooksBoundMarks, LooksBoundSamples, LooksCountCalls, LooksKeepHeaders, LooksEndInZeros};
 
 /// Three copies of the words of a running segment, one after the other, have no fault: a look is made of them.
 ///
@@ -110,6 +110,15 @@ pub fn looks_bound_marks()
 /// The count that a look takes of a sample is no more than 4,294,967,295, and its mark no more than its count.
 pub fn looks_bound_samples()
     ensures { LooksBoundSamples }
+{}
+
+/// The total of each bucket that a look takes of a histogram is no less than the units of all calls that had ended at the first moment,
+/// and no more than those of the calls that had begun at the last.
+///
+/// The record is the first of its name on the list, as a reader takes it. The calls that had ended include all that the segment was
+/// opened with.
+pub fn looks_count_calls()
+    ensures { LooksCountCalls }
 {}
 
 /// A look has the header of the third copy, but for its tail, which is the last of the records that it follows, and the start of its

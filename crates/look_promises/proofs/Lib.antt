@@ -31,5 +31,6 @@ pub mod Totals
 pub mod Marks
 pub mod Samples
 pub mod Calls
+pub mod Values
 pub mod Starting
 pub mod Cleared

@@ -14,7 +14,7 @@ use Rattle.bucket_ranges.specs.Spec.{buckets_of}
 use Rattle.segment_looks.specs.Looks.{IsLook, counts_looked, counts_reference, followed_records, list_start}
 use Rattle.segment_machine.specs.State.{State}
 use Rattle.segment_invariant.specs.Body.{Record, Counts, Sample, Body, histogram, counts, sample, other, Piece, Anatomy}
-use Rattle.segment_invariant.specs.Seen.{Stands, HasRecord, HasCounts, HasSample, IsFirst}
+use Rattle.segment_invariant.specs.Seen.{Stands, HasRecord, HasCounts, HasSample, IsFirst, IsFirstOf}
 use Rattle.segment_invariant.specs.Invariant.{Invariant, total_in}
 use Rattle.segment_invariant.specs.Ledger.{form_at, key_of_bucket}
 use Rattle.segment_machine.specs.Entry.{tally_units}
@@ -144,6 +144,15 @@ LooksCountCalls = (shape : Dimensions) (opened : Anatomy) (at : ℕ → State) (
     ≤ total_looked two reference (counts_reference two three reference) (buckets_of r.spec) i)
     × (total_looked two reference (counts_reference two three reference) (buckets_of r.spec) i
     ≤ tally_units (flat_map begun_of (at last).actors) r.name (key_of_bucket r.spec i)))
+
+-- So it does of each value of a sparse histogram: the count of its first sample.
+abbrev pub LooksCountValues : Type 0
+LooksCountValues = (shape : Dimensions) (opened : Anatomy) (at : ℕ → State) (first last : ℕ) (moments : Moments) (one two three : List ℕ)
+    → RunsThrough shape opened at → AreLoaded shape at first last moments one two three
+    → (late : Invariant shape opened (at last))
+    × ((reference : ℕ) (s : Sample) → HasSample late.anatomy.pieces reference s → IsFirstOf late.anatomy.records s.of s.value reference
+    → (tally_units (flat_map log_of (at first).actors) s.name s.value ≤ field_at two reference SAMPLE_COUNT)
+    × (field_at two reference SAMPLE_COUNT ≤ tally_units (flat_map begun_of (at last).actors) s.name s.value))
 
 -- ---- the rest
 

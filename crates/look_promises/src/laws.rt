@@ -4,7 +4,7 @@
 //! The functions do nothing. What each promises is a law of the definitions in `specs/`.
 
 ghost use Rattle.look_promises.specs.Looks.{LooksHaveHeaders, LooksFollow, CopiesShowBlocks, RecordsStartAtZero, LooksNameCounts, LooksCountBetween, CountsStartAtZero, LooksCountUnits};
-ghost use Rattle.look_promises.specs.Images.{LooksShowRecords, LooksShowCounts, LooksHaveSums, LooksCountTotals, LooksBoundMarks, LooksBoundSamples, LooksCountCalls, LooksKeepHeaders, LooksEndInZeros};
+ghost use Rattle.look_promises.specs.Images.{LooksShowRecords, LooksShowCounts, LooksHaveSums, LooksCountTotals, LooksBoundMarks, LooksBoundSamples, LooksCountCalls, LooksCountValues, LooksKeepHeaders, LooksEndInZeros};
 
 /// Three copies of the words of a running segment, one after the other, have no fault: a look is made of them.
 ///
@@ -119,6 +119,12 @@ pub fn looks_bound_samples()
 /// opened with.
 pub fn looks_count_calls()
     ensures { LooksCountCalls }
+{}
+
+/// The count that a look takes of a value of a sparse histogram is no less than the units of all calls that had ended at the first moment,
+/// and no more than those of the calls that had begun at the last. It is that of the first sample of the value.
+pub fn looks_count_values()
+    ensures { LooksCountValues }
 {}
 
 /// A look has the header of the third copy, but for its tail, which is the last of the records that it follows, and the start of its

@@ -32,5 +32,6 @@ pub mod Marks
 pub mod Samples
 pub mod Calls
 pub mod Values
+pub mod Rising
 pub mod Starting
 pub mod Cleared

@@ -154,6 +154,17 @@ LooksCountValues = (shape : Dimensions) (opened : Anatomy) (at : ℕ → State) 
     → (tally_units (flat_map log_of (at first).actors) s.name s.value ≤ field_at two reference SAMPLE_COUNT)
     × (field_at two reference SAMPLE_COUNT ≤ tally_units (flat_map begun_of (at last).actors) s.name s.value))
 
+-- ---- two looks
+
+-- A look that begins where another has ended, or later, has no total below that look's.
+abbrev pub LooksRise : Type 0
+LooksRise = (shape : Dimensions) (opened : Anatomy) (at : ℕ → State) (first middle last : ℕ) (moments later : Moments) (one two three four five six : List ℕ)
+    → RunsThrough shape opened at → AreLoaded shape at first middle moments one two three → AreLoaded shape at middle last later four five six
+    → (between : Invariant shape opened (at middle))
+    × ((reference i : ℕ) (r : Record) → HasRecord between.anatomy.pieces reference r → i < buckets_of r.spec
+    → total_looked two reference (counts_reference two three reference) (buckets_of r.spec) i
+    ≤ total_looked five reference (counts_reference five six reference) (buckets_of r.spec) i)
+
 -- ---- the rest
 
 -- A look has the header of the third copy, but for its tail and the start of its list, which are those of the records that it follows.

@@ -4,7 +4,7 @@
 //! The functions do nothing. What each promises is a law of the definitions in `specs/`.
 
 ghost use Rattle.look_promises.specs.Looks.{LooksHaveHeaders, LooksFollow, CopiesShowBlocks, RecordsStartAtZero, LooksNameCounts, LooksCountBetween, CountsStartAtZero, LooksCountUnits};
-ghost use Rattle.look_promises.specs.Images.{LooksShowRecords, LooksShowCounts, LooksHaveSums, LooksCountTotals, LooksBoundMarks, LooksBoundSamples, LooksCountCalls, LooksCountValues, LooksKeepHeaders, LooksEndInZeros};
+ghost use Rattle.look_promises.specs.Images.{LooksShowRecords, LooksShowCounts, LooksHaveSums, LooksCountTotals, LooksBoundMarks, LooksBoundSamples, LooksCountCalls, LooksCountValues, LooksRise, LooksKeepHeaders, LooksEndInZeros};
 
 /// Three copies of the words of a running segment, one after the other, have no fault: a look is made of them.
 ///
@@ -125,6 +125,12 @@ pub fn looks_count_calls()
 /// and no more than those of the calls that had begun at the last. It is that of the first sample of the value.
 pub fn looks_count_values()
     ensures { LooksCountValues }
+{}
+
+/// Of two looks, one behind the other, the second has no total of a bucket below that of the first. So the difference of the two is what
+/// came between them, and never negative.
+pub fn looks_rise()
+    ensures { LooksRise }
 {}
 
 /// A look has the header of the third copy, but for its tail, which is the last of the records that it follows, and the start of its

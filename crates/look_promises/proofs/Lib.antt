@@ -32,6 +32,7 @@ pub mod Marks
 pub mod Samples
 pub mod Calls
 pub mod Values
+pub mod OneMoment
 pub mod Rising
 pub mod Starting
 pub mod Cleared

@@ -4,7 +4,7 @@
 //! The functions do nothing. What each promises is a law of the definitions in `specs/`.
 
 ghost use Rattle.look_promises.specs.Looks.{LooksHaveHeaders, LooksFollow, CopiesShowBlocks, RecordsStartAtZero, LooksNameCounts, LooksCountBetween, CountsStartAtZero, LooksCountUnits};
-ghost use Rattle.look_promises.specs.Images.{LooksShowRecords, LooksShowCounts, LooksHaveSums, LooksCountTotals, LooksBoundMarks, LooksBoundSamples, LooksCountCalls, LooksCountValues, LooksRise, LooksKeepHeaders, LooksEndInZeros};
+ghost use Rattle.look_promises.specs.Images.{LooksShowRecords, LooksShowCounts, LooksHaveSums, LooksCountTotals, LooksBoundMarks, LooksBoundSamples, LooksCountCalls, LooksCountValues, LooksAreOfOneMoment, LooksRise, LooksKeepHeaders, LooksEndInZeros};
 
 /// Three copies of the words of a running segment, one after the other, have no fault: a look is made of them.
 ///
@@ -125,6 +125,14 @@ pub fn looks_count_calls()
 /// and no more than those of the calls that had begun at the last. It is that of the first sample of the value.
 pub fn looks_count_values()
     ensures { LooksCountValues }
+{}
+
+/// Where all units that a look takes of a record are no more than those that the record had at a moment before the second copy, each total
+/// that it takes is the one of that moment.
+///
+/// No total is less than then, so none can be more. A redundant count is such a sum of units that is loaded as one word, in the first copy.
+pub fn looks_are_of_one_moment()
+    ensures { LooksAreOfOneMoment }
 {}
 
 /// Of two looks, one behind the other, the second has no total of a bucket below that of the first. So the difference of the two is what

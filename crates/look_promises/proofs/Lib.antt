@@ -14,6 +14,7 @@ pub mod Starts
 pub mod References
 pub mod Between
 pub mod Patches
+pub mod Others
 pub mod Grounds
 pub mod Named
 pub mod Apart

@@ -3,7 +3,7 @@
 //!
 //! The functions do nothing. What each promises is a law of the definitions in `specs/`.
 
-ghost use Rattle.look_promises.specs.Looks.{LooksHaveHeaders, LooksFollow, CopiesShowBlocks, RecordsStartAtZero, LooksNameCounts, LooksCountBetween, CountsStartAtZero, LooksCountUnits};
+ghost use Rattle.look_promises.specs.Looks.{LooksHaveHeaders, LooksFollow, CopiesShowBlocks, CopiesKeepOthers, RecordsStartAtZero, LooksNameCounts, LooksCountBetween, CountsStartAtZero, LooksCountUnits};
 ghost use Rattle.look_promises.specs.Images.{LooksShowRecords, LooksShowCounts, LooksHaveSums, LooksCountTotals, LooksBoundMarks, LooksBoundSamples, LooksCountCalls, LooksCountValues, LooksAreOfOneMoment, LooksRise, LooksKeepHeaders, LooksEndInZeros};
 
 /// Three copies of the words of a running segment, one after the other, have no fault: a look is made of them.
@@ -28,6 +28,12 @@ pub fn looks_follow()
 /// as these are at the last moment.
 pub fn copies_show_blocks()
     ensures { CopiesShowBlocks }
+{}
+
+/// Each copy has the blocks of the opening in which nobody counts as they were, but for their nexts: records that are passed over and their
+/// counts, and blocks of other types.
+pub fn copies_keep_others()
+    ensures { CopiesKeepOthers }
 {}
 
 /// What of a record changes once it is published is 0 at each moment at which it is not on the list yet: of a histogram its

@@ -110,7 +110,7 @@ module _ (shape : Dimensions) (opened : Anatomy) (at : ℕ → State) (first las
         omega (arith, most, is),
       )
 
-  between : (k i : ℕ) (body : Body) → k < length list → Stands late.anatomy.pieces (slice_index list k) none body → IsCounterIn body i
+  pub between : (k i : ℕ) (body : Body) → k < length list → Stands late.anatomy.pieces (slice_index list k) none body → IsCounterIn body i
       → IsBetween early.anatomy.pieces (slice_index list k) i body (word_at one (slice_index list k + i))
       × IsBetween early.anatomy.pieces (slice_index list k) i body (word_at two (slice_index list k + i))
   between k i body below has counter =

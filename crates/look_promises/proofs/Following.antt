@@ -185,7 +185,7 @@ module _ (shape : Dimensions) (opened : Anatomy) (at : ℕ → State) (first las
 
   -- ---- from the first moment to the last
 
-  first_last : first ≤ last
+  pub first_last : first ≤ last
   first_last =
       let early = behind_first 0 (omega arith) in
       let late = before_last 0 (omega arith) in

@@ -14,6 +14,7 @@ pub mod Starts
 pub mod References
 pub mod Between
 pub mod Patches
+pub mod Others
 pub mod Grounds
 pub mod Named
 pub mod Apart
@@ -29,5 +30,10 @@ pub mod Units
 pub mod Sums
 pub mod Totals
 pub mod Marks
+pub mod Samples
+pub mod Calls
+pub mod Values
+pub mod OneMoment
+pub mod Rising
 pub mod Starting
 pub mod Cleared

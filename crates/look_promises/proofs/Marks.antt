@@ -151,10 +151,10 @@ module _ (shape : Dimensions) (opened : Anatomy) (at : ℕ → State) (first las
   version_at m = (kept_at shape opened at run m).same.0 ∙ run.version
 
   -- the words of one moment are a first copy of those that come later
-  abbrev from_moment : ℕ → Moments
+  abbrev pub from_moment : ℕ → Moments
   from_moment m = record { one = λ j. m; two = moments.two; three = moments.three }
 
-  loaded_from : (m : ℕ) → ((j : ℕ) → j < shape.size → m ≤ moments.two j) → AreLoaded shape at m last (from_moment m) (at m).words two three
+  pub loaded_from : (m : ℕ) → ((j : ℕ) → j < shape.size → m ≤ moments.two j) → AreLoaded shape at m last (from_moment m) (at m).words two three
   loaded_from m before = record {
     copy_one = record { long = length_shown shape (at m).words (layout_of (kept_at shape opened at run m).anatomy) (kept_at shape opened at run m).shown; each = λ j lt. refl };
     copy_two = loaded.copy_two;

@@ -82,7 +82,7 @@ module _ (shape : Dimensions) (opened : Anatomy) (at : ℕ → State) (run : Run
   version_at m = (kept_at shape opened at run m).same.0 ∙ run.version
 
   -- a record goes on
-  goes_to : (a b x : ℕ) (r : Record) → a ≤ b → HasRecord (kept_at shape opened at run a).anatomy.pieces x r
+  pub goes_to : (a b x : ℕ) (r : Record) → a ≤ b → HasRecord (kept_at shape opened at run a).anatomy.pieces x r
       → (q : Record) × HasRecord (kept_at shape opened at run b).anatomy.pieces x q × RecordGoes 2 r q
   goes_to a b x r le has =
       let (body, stands, (q, is, goes)) = (rises_at shape opened at run a b le).goes x (histogram r) refl has in

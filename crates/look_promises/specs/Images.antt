@@ -1,22 +1,25 @@
 -- What a look shows of the records that it follows: which of its words come from which copy.
-use Rattle.std.specs.Prelude.{◌≡◌, false, ◌≢◌, ◌⊎◌, ◌==◌, if◌then◌else◌, ℕ, suc, ◌+◌, ◌<◌, ◌≤◌, List, drop, length, slice_index}
+use Rattle.std.specs.Prelude.{◌≡◌, false, ◌≢◌, ◌⊎◌, ◌==◌, if◌then◌else◌, ℕ, suc, ◌+◌, ◌<◌, ◌≤◌, List, drop, length, slice_index, sum_by}
 use Rattle.std.specs.Int.{w64, cast_signed}
-use Rattle.std.specs.List.{Contains, slice_range}
+use Rattle.std.specs.List.{Contains, flat_map, range_with_len, slice_range}
 use mathlib.Core.Option.{none}
 use Rattle.segment_image.specs.Blocks.{field_at}
 use Rattle.segment_image.specs.Shape.{Dimensions}
 use Rattle.segment_image.specs.Words.{word_at}
 use Rattle.bucket_ranges.specs.Listed.{before}
 use Rattle.segment_image.specs.declared.layout.TheConstants.{VERSION_FROZEN, BLOCK_HEADER, BLOCK_NEXT, HEADER_WORDS, QUEUE, TAIL_WORD, HISTOGRAM_SINGLE, HISTOGRAM_SINGLE_MARK, HISTOGRAM_SUM, HISTOGRAM_SUM_MARK, HISTOGRAM_REDUNDANT, SAMPLE_COUNT, SAMPLE_MARK}
-use Rattle.bucket_ranges.specs.Reading.{is_bad_sum}
+use Rattle.bucket_ranges.specs.Reading.{is_bad_sum, total_of}
 use Rattle.bucket_ranges.specs.Single.{is_packed_bucket, single_of, units_packed}
 use Rattle.bucket_ranges.specs.Spec.{buckets_of}
 use Rattle.segment_looks.specs.Looks.{IsLook, counts_looked, counts_reference, followed_records, list_start}
 use Rattle.segment_machine.specs.State.{State}
-use Rattle.segment_invariant.specs.Body.{Record, Counts, Body, histogram, counts, sample, other, Piece, Anatomy}
-use Rattle.segment_invariant.specs.Seen.{Stands, HasRecord, HasCounts}
+use Rattle.segment_invariant.specs.Body.{Record, Counts, Sample, Body, histogram, counts, sample, other, Piece, Anatomy}
+use Rattle.segment_invariant.specs.Seen.{Stands, HasRecord, HasCounts, HasSample, IsFirst, IsFirstOf}
 use Rattle.segment_invariant.specs.Invariant.{Invariant, total_in}
-use Rattle.segment_invariant.specs.Ledger.{form_at}
+use Rattle.segment_invariant.specs.Ledger.{form_at, key_of_bucket}
+use Rattle.segment_machine.specs.Entry.{tally_units}
+use Rattle.segment_machine.specs.Actor.{log_of}
+use Rattle.segment_promises.specs.Reads.{begun_of}
 use Rattle.look_promises.specs.Runs.{RunsThrough, Moments, AreLoaded}
 use Rattle.look_promises.specs.Looks.{head_loaded, HasWords}
 
@@ -118,6 +121,69 @@ LooksBoundMarks = (shape : Dimensions) (opened : Anatomy) (at : ℕ → State) (
     → (total_looked two reference (counts_reference two three reference) (buckets_of r.spec) i ≤ 4294967295)
     × (mark_looked one two reference (counts_reference two three reference) (buckets_of r.spec) i
     ≤ total_looked two reference (counts_reference two three reference) (buckets_of r.spec) i))
+
+-- So it is of the count of a sample, and its mark.
+abbrev pub LooksBoundSamples : Type 0
+LooksBoundSamples = (shape : Dimensions) (opened : Anatomy) (at : ℕ → State) (first last : ℕ) (moments : Moments) (one two three : List ℕ)
+    → RunsThrough shape opened at → AreLoaded shape at first last moments one two three
+    → (late : Invariant shape opened (at last))
+    × ((reference : ℕ) (s : Sample) → HasSample late.anatomy.pieces reference s
+    → (field_at two reference SAMPLE_COUNT ≤ 4294967295) × (field_at one reference SAMPLE_MARK ≤ field_at two reference SAMPLE_COUNT))
+
+-- ---- calls
+
+-- A look has of each bucket of a histogram at least the units of all calls that had ended at the first moment, and at most those of the
+-- calls that had begun at the last.
+abbrev pub LooksCountCalls : Type 0
+LooksCountCalls = (shape : Dimensions) (opened : Anatomy) (at : ℕ → State) (first last : ℕ) (moments : Moments) (one two three : List ℕ)
+    → RunsThrough shape opened at → AreLoaded shape at first last moments one two three
+    → (late : Invariant shape opened (at last))
+    × ((reference i : ℕ) (r : Record) → HasRecord late.anatomy.pieces reference r → IsFirst late.anatomy.records r.name r.spec reference
+    → i < buckets_of r.spec
+    → (tally_units (flat_map log_of (at first).actors) r.name (key_of_bucket r.spec i)
+    ≤ total_looked two reference (counts_reference two three reference) (buckets_of r.spec) i)
+    × (total_looked two reference (counts_reference two three reference) (buckets_of r.spec) i
+    ≤ tally_units (flat_map begun_of (at last).actors) r.name (key_of_bucket r.spec i)))
+
+-- So it does of each value of a sparse histogram: the count of its first sample.
+abbrev pub LooksCountValues : Type 0
+LooksCountValues = (shape : Dimensions) (opened : Anatomy) (at : ℕ → State) (first last : ℕ) (moments : Moments) (one two three : List ℕ)
+    → RunsThrough shape opened at → AreLoaded shape at first last moments one two three
+    → (late : Invariant shape opened (at last))
+    × ((reference : ℕ) (s : Sample) → HasSample late.anatomy.pieces reference s → IsFirstOf late.anatomy.records s.of s.value reference
+    → (tally_units (flat_map log_of (at first).actors) s.name s.value ≤ field_at two reference SAMPLE_COUNT)
+    × (field_at two reference SAMPLE_COUNT ≤ tally_units (flat_map begun_of (at last).actors) s.name s.value))
+
+-- ---- one moment
+
+-- all units that a look has of a record with n buckets for which it takes a counts reference, and all that words have
+abbrev pub units_looked : List ℕ → ℕ → ℕ → ℕ → ℕ
+units_looked two at place n = sum_by (total_looked two at place n) (range_with_len 0 n)
+
+abbrev pub units_in_words : List ℕ → ℕ → ℕ → ℕ
+units_in_words words at n = sum_by (total_of VERSION_FROZEN words at) (range_with_len 0 n)
+
+-- Where the units that a look has of a record are no more than those that it had at a moment before the second copy, each total of the look
+-- is the one of that moment.
+abbrev pub LooksAreOfOneMoment : Type 0
+LooksAreOfOneMoment = (shape : Dimensions) (opened : Anatomy) (at : ℕ → State) (first last moment : ℕ) (moments : Moments) (one two three : List ℕ)
+    → RunsThrough shape opened at → AreLoaded shape at first last moments one two three
+    → ((j : ℕ) → j < shape.size → moment ≤ moments.two j)
+    → (then_is : Invariant shape opened (at moment))
+    × ((reference i : ℕ) (r : Record) → HasRecord then_is.anatomy.pieces reference r → i < buckets_of r.spec
+    → units_looked two reference (counts_reference two three reference) (buckets_of r.spec) ≤ units_in_words (at moment).words reference (buckets_of r.spec)
+    → total_looked two reference (counts_reference two three reference) (buckets_of r.spec) i ≡ total_of VERSION_FROZEN (at moment).words reference i)
+
+-- ---- two looks
+
+-- A look that begins where another has ended, or later, has no total below that look's.
+abbrev pub LooksRise : Type 0
+LooksRise = (shape : Dimensions) (opened : Anatomy) (at : ℕ → State) (first middle last : ℕ) (moments later : Moments) (one two three four five six : List ℕ)
+    → RunsThrough shape opened at → AreLoaded shape at first middle moments one two three → AreLoaded shape at middle last later four five six
+    → (between : Invariant shape opened (at middle))
+    × ((reference i : ℕ) (r : Record) → HasRecord between.anatomy.pieces reference r → i < buckets_of r.spec
+    → total_looked two reference (counts_reference two three reference) (buckets_of r.spec) i
+    ≤ total_looked five reference (counts_reference five six reference) (buckets_of r.spec) i)
 
 -- ---- the rest
 

@@ -1,5 +1,5 @@
 -- What three copies of a run give when they are put together to a look.
-use Rattle.std.specs.Prelude.{◌≡◌, ◌≢◌, ◌⊎◌, ℕ, ◌+◌, ◌<◌, ◌≤◌, List, length, slice_index, Ok}
+use Rattle.std.specs.Prelude.{◌≡◌, ◌≢◌, ◌⊎◌, ℕ, ◌+◌, ◌<◌, ◌≤◌, List, [], ◌∷◌, length, slice_index, Ok}
 use Rattle.std.specs.List.{All, Contains}
 use mathlib.Core.Option.{none}
 use Rattle.segment_image.specs.Blocks.{field_at}
@@ -7,13 +7,13 @@ use Rattle.segment_image.specs.Head.{head_of}
 use Rattle.segment_image.specs.Shape.{Dimensions}
 use Rattle.segment_image.specs.Words.{word_at}
 use Rattle.segment_image.specs.declared.head.SegmentHead.{SegmentHead}
-use Rattle.segment_image.specs.declared.layout.TheConstants.{VERSION_FROZEN, FLAGS_WORD, FREE_WORD, TAIL_WORD, HISTOGRAM_COUNTS, HISTOGRAM_REDUNDANT, SAMPLE_COUNT, SAMPLE_MARK}
+use Rattle.segment_image.specs.declared.layout.TheConstants.{VERSION_FROZEN, BLOCK_NEXT, FLAGS_WORD, FREE_WORD, TAIL_WORD, HISTOGRAM_COUNTS, HISTOGRAM_REDUNDANT, SAMPLE_COUNT, SAMPLE_MARK}
 use Rattle.list_core.specs.Chain.{IsChain}
 use Rattle.list_core.specs.Walk.{IsPrefix}
 use Rattle.segment_looks.specs.Looks.{head_of_copies, followed_records, counts_reference}
 use Rattle.segment_machine.specs.State.{State}
 use Rattle.segment_invariant.specs.Body.{Record, Counts, Sample, Body, histogram, counts, sample, other, words_of, Piece, Anatomy, order_of}
-use Rattle.segment_invariant.specs.Seen.{Stands, HasRecord, HasCounts, IsCounterIn}
+use Rattle.segment_invariant.specs.Seen.{Stands, HasRecord, HasCounts, HasStill, IsCounterIn}
 use Rattle.segment_invariant.specs.Invariant.{Invariant}
 use Rattle.look_promises.specs.Runs.{RunsThrough, Moments, AreLoaded}
 
@@ -91,6 +91,14 @@ CopiesShowBlocks = (shape : Dimensions) (opened : Anatomy) (at : ℕ → State) 
     → RunsThrough shape opened at → AreLoaded shape at first last moments one two three
     → (late : Invariant shape opened (at last))
     × All (ShowsBlock late.anatomy three) (followed_records (head_loaded shape opened at moments.three) two)
+
+-- each copy has a block of the opening in which nobody counts as it was, but for its next: a record that is passed over, or its counts
+abbrev pub CopiesKeepOthers : Type 0
+CopiesKeepOthers = (shape : Dimensions) (opened : Anatomy) (at : ℕ → State) (first last : ℕ) (moments : Moments) (one two three : List ℕ)
+    → RunsThrough shape opened at → AreLoaded shape at first last moments one two three
+    → (reference i size tag : ℕ) (payload : List ℕ) → HasStill opened.pieces reference size tag payload → i ≢ BLOCK_NEXT
+    → i < length (words_of (other size tag 0 payload))
+    → All (λ copy. field_at copy reference i ≡ slice_index (words_of (other size tag 0 payload)) i) (one ∷ two ∷ three ∷ [])
 
 -- ---- before a record is on the list
 

@@ -3,8 +3,8 @@
 //!
 //! The functions do nothing. What each promises is a law of the definitions in `specs/`.
 
-ghost use Rattle.look_promises.specs.Looks.{LooksHaveHeaders, LooksFollow, CopiesShowBlocks, RecordsStartAtZero, LooksNameCounts, LooksCountBetween, CountsStartAtZero, LooksCountUnits};
-ghost use Rattle.look_promises.specs.Images.{LooksShowRecords, LooksShowCounts, LooksHaveSums, LooksCountTotals, LooksBoundMarks, LooksKeepHeaders, LooksEndInZeros};
+ghost use Rattle.look_promises.specs.Looks.{LooksHaveHeaders, LooksFollow, CopiesShowBlocks, CopiesKeepOthers, RecordsStartAtZero, LooksNameCounts, LooksCountBetween, CountsStartAtZero, LooksCountUnits};
+ghost use Rattle.look_promises.specs.Images.{LooksShowRecords, LooksShowCounts, LooksHaveSums, LooksCountTotals, LooksBoundMarks, LooksBoundSamples, LooksCountCalls, LooksCountValues, LooksAreOfOneMoment, LooksRise, LooksKeepHeaders, LooksEndInZeros};
 
 /// Three copies of the words of a running segment, one after the other, have no fault: a look is made of them.
 ///
@@ -28,6 +28,12 @@ pub fn looks_follow()
 /// as these are at the last moment.
 pub fn copies_show_blocks()
     ensures { CopiesShowBlocks }
+{}
+
+/// Each copy has the blocks of the opening in which nobody counts as they were, but for their nexts: records that are passed over and their
+/// counts, and blocks of other types.
+pub fn copies_keep_others()
+    ensures { CopiesKeepOthers }
 {}
 
 /// What of a record changes once it is published is 0 at each moment at which it is not on the list yet: of a histogram its
@@ -105,6 +111,40 @@ pub fn looks_count_totals()
 /// come from the first copy, and totals from the second. The mark of a bucket that the single word names is the single mark.
 pub fn looks_bound_marks()
     ensures { LooksBoundMarks }
+{}
+
+/// The count that a look takes of a sample is no more than 4,294,967,295, and its mark no more than its count.
+pub fn looks_bound_samples()
+    ensures { LooksBoundSamples }
+{}
+
+/// The total of each bucket that a look takes of a histogram is no less than the units of all calls that had ended at the first moment,
+/// and no more than those of the calls that had begun at the last.
+///
+/// The record is the first of its name on the list, as a reader takes it. The calls that had ended include all that the segment was
+/// opened with.
+pub fn looks_count_calls()
+    ensures { LooksCountCalls }
+{}
+
+/// The count that a look takes of a value of a sparse histogram is no less than the units of all calls that had ended at the first moment,
+/// and no more than those of the calls that had begun at the last. It is that of the first sample of the value.
+pub fn looks_count_values()
+    ensures { LooksCountValues }
+{}
+
+/// Where all units that a look takes of a record are no more than those that the record had at a moment before the second copy, each total
+/// that it takes is the one of that moment.
+///
+/// No total is less than then, so none can be more. A redundant count is such a sum of units that is loaded as one word, in the first copy.
+pub fn looks_are_of_one_moment()
+    ensures { LooksAreOfOneMoment }
+{}
+
+/// Of two looks, one behind the other, the second has no total of a bucket below that of the first. So the difference of the two is what
+/// came between them, and never negative.
+pub fn looks_rise()
+    ensures { LooksRise }
 {}
 
 /// A look has the header of the third copy, but for its tail, which is the last of the records that it follows, and the start of its

@@ -24,8 +24,8 @@ batch,ACTOR,NAME,SUM,VALUE,COUNT,..
 delta,ACTOR,NAME
 snapshot,ACTOR,NAME
 set_corrupt,ACTOR
-step,ACTOR,TIMES                     and who does the next TIMES steps,
-look,COPY,WORD                       or a load of a look, into copy 1, 2 or 3";
+step,ACTOR,TIMES                     and who does TIMES steps next,
+look,COPY,WORD                       or a load of a look: COPY 1 to 3";
 
 // Examples that work in an empty folder, one after the other.
 const EXAMPLES: &str = "Examples:

@@ -200,6 +200,16 @@ std::uint32_t povundiri_proved_next_shared(povundiri_handle* recorder, std::size
     return kind(recorder, false) == POVUNDIRI_DONE ? std::uint32_t{POVUNDIRI_LIST_ENDS} : kind(recorder, false);
 }
 
+std::uint32_t povundiri_proved_compose(const std::uint64_t*, std::size_t, const std::uint64_t*, std::size_t, const std::uint64_t*,
+                                       std::size_t, std::uint64_t*, std::size_t) {
+    return POVUNDIRI_DONE;
+}
+
+std::uint32_t povundiri_proved_segment_look(povundiri_handle* segment, std::uint64_t*, std::size_t, std::size_t* needed) {
+    *needed = 0;
+    return kind(segment, true);
+}
+
 std::uint32_t povundiri_proved_report(const std::uint64_t*, std::size_t, std::uint8_t*, std::size_t, std::size_t* needed) {
     *needed = 0;
     return POVUNDIRI_DONE;

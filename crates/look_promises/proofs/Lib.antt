@@ -30,6 +30,8 @@ pub mod Units
 pub mod Sums
 pub mod Totals
 pub mod Marks
+pub mod Forms
+pub mod Unpacked
 pub mod Samples
 pub mod Calls
 pub mod Values

@@ -46,7 +46,7 @@ packs_it form i is = by_packed (packed_bucket form) refl
     by_packed (Some bucket) here = let same : bucket ≡ i = cc (is, here) in ap (λ (packed : Option ℕ). unwrap_or (option_map (λ (b : ℕ). b == i) packed) false) here ∙ eq-eqb bucket i same
 
 -- a word leads to those that name the same bucket, or names none
-same_packed : (n old new : ℕ) → Leads 2 n old new → (packed_bucket (single_of 2 n old) ≡ None) ⊎ (packed_bucket (single_of 2 n new) ≡ packed_bucket (single_of 2 n old))
+pub same_packed : (n old new : ℕ) → Leads 2 n old new → (packed_bucket (single_of 2 n old) ≡ None) ⊎ (packed_bucket (single_of 2 n new) ≡ packed_bucket (single_of 2 n old))
 same_packed n old new (inl same) = inr (ap (λ (w : ℕ). packed_bucket (single_of 2 n w)) (sym same))
 same_packed n old new (inr (inl nothing)) = inl (ap (λ (w : ℕ). packed_bucket (single_of 2 n w)) nothing)
 same_packed n old new (inr (inr (on, packed, rest))) = inr packed

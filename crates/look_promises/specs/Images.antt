@@ -1,5 +1,5 @@
 -- What a look shows of the records that it follows: which of its words come from which copy.
-use Rattle.std.specs.Prelude.{◌≡◌, false, ◌≢◌, ◌⊎◌, ◌==◌, if◌then◌else◌, ℕ, suc, ◌+◌, ◌<◌, ◌≤◌, List, drop, length, slice_index, sum_by}
+use Rattle.std.specs.Prelude.{◌≡◌, false, true, ◌≢◌, ◌⊎◌, ◌==◌, if◌then◌else◌, ℕ, suc, ◌+◌, ◌<◌, ◌≤◌, List, drop, length, slice_index, sum_by, None}
 use Rattle.std.specs.Int.{w64, cast_signed}
 use Rattle.std.specs.List.{Contains, flat_map, range_with_len, slice_range}
 use mathlib.Core.Option.{none}
@@ -9,9 +9,9 @@ use Rattle.segment_image.specs.Words.{word_at}
 use Rattle.bucket_ranges.specs.Listed.{before}
 use Rattle.segment_image.specs.declared.layout.TheConstants.{VERSION_FROZEN, BLOCK_HEADER, BLOCK_NEXT, HEADER_WORDS, QUEUE, TAIL_WORD, HISTOGRAM_SINGLE, HISTOGRAM_SINGLE_MARK, HISTOGRAM_SUM, HISTOGRAM_SUM_MARK, HISTOGRAM_REDUNDANT, SAMPLE_COUNT, SAMPLE_MARK}
 use Rattle.bucket_ranges.specs.Reading.{is_bad_sum, total_of}
-use Rattle.bucket_ranges.specs.Single.{is_packed_bucket, single_of, units_packed}
+use Rattle.bucket_ranges.specs.Single.{is_packed_bucket, packed_bucket, single_of, units_packed}
 use Rattle.bucket_ranges.specs.Spec.{buckets_of}
-use Rattle.segment_looks.specs.Looks.{IsLook, counts_looked, counts_reference, followed_records, list_start}
+use Rattle.segment_looks.specs.Looks.{IsLook, counts_looked, counts_reference, followed_records, is_frozen, list_start}
 use Rattle.segment_machine.specs.State.{State}
 use Rattle.segment_invariant.specs.Body.{Record, Counts, Sample, Body, histogram, counts, sample, other, Piece, Anatomy}
 use Rattle.segment_invariant.specs.Seen.{Stands, HasRecord, HasCounts, HasSample, IsFirst, IsFirstOf}
@@ -122,7 +122,25 @@ LooksBoundMarks = (shape : Dimensions) (opened : Anatomy) (at : ℕ → State) (
     × (mark_looked one two reference (counts_reference two three reference) (buckets_of r.spec) i
     ≤ total_looked two reference (counts_reference two three reference) (buckets_of r.spec) i))
 
--- So it is of the count of a sample, and its mark.
+-- The single word that a look has of a record has a form; and where it is off, the look takes a counts reference.
+abbrev pub LooksHaveForms : Type 0
+LooksHaveForms = (shape : Dimensions) (opened : Anatomy) (at : ℕ → State) (first last : ℕ) (moments : Moments) (one two three : List ℕ)
+    → RunsThrough shape opened at → AreLoaded shape at first last moments one two three
+    → (late : Invariant shape opened (at last))
+    × ((reference : ℕ) (r : Record) → HasRecord late.anatomy.pieces reference r
+    → (single_of VERSION_FROZEN (buckets_of r.spec) (field_at two reference HISTOGRAM_SINGLE) ≢ None)
+    × (is_frozen two reference ≡ true → counts_reference two three reference ≢ 0))
+
+-- Where the single word that a look has of a record packs no bucket, its single mark is 0.
+abbrev pub LooksMarkPacked : Type 0
+LooksMarkPacked = (shape : Dimensions) (opened : Anatomy) (at : ℕ → State) (first last : ℕ) (moments : Moments) (one two three : List ℕ)
+    → RunsThrough shape opened at → AreLoaded shape at first last moments one two three
+    → (late : Invariant shape opened (at last))
+    × ((reference : ℕ) (r : Record) → HasRecord late.anatomy.pieces reference r
+    → packed_bucket (single_of VERSION_FROZEN (buckets_of r.spec) (field_at two reference HISTOGRAM_SINGLE)) ≡ None
+    → field_at one reference HISTOGRAM_SINGLE_MARK ≡ 0)
+
+-- No count of a sample that a look has is above what a segment may count, and no mark of one above its count.
 abbrev pub LooksBoundSamples : Type 0
 LooksBoundSamples = (shape : Dimensions) (opened : Anatomy) (at : ℕ → State) (first last : ℕ) (moments : Moments) (one two three : List ℕ)
     → RunsThrough shape opened at → AreLoaded shape at first last moments one two three

@@ -4,7 +4,7 @@
 //! The functions do nothing. What each promises is a law of the definitions in `specs/`.
 
 ghost use Rattle.look_promises.specs.Looks.{LooksHaveHeaders, LooksFollow, CopiesShowBlocks, CopiesKeepOthers, RecordsStartAtZero, LooksNameCounts, LooksCountBetween, CountsStartAtZero, LooksCountUnits};
-ghost use Rattle.look_promises.specs.Images.{LooksShowRecords, LooksShowCounts, LooksHaveSums, LooksCountTotals, LooksBoundMarks, LooksBoundSamples, LooksCountCalls, LooksCountValues, LooksAreOfOneMoment, LooksRise, LooksKeepHeaders, LooksEndInZeros};
+ghost use Rattle.look_promises.specs.Images.{LooksShowRecords, LooksShowCounts, LooksHaveSums, LooksCountTotals, LooksBoundMarks, LooksHaveForms, LooksMarkPacked, LooksBoundSamples, LooksCountCalls, LooksCountValues, LooksAreOfOneMoment, LooksRise, LooksKeepHeaders, LooksEndInZeros};
 
 /// Three copies of the words of a running segment, one after the other, have no fault: a look is made of them.
 ///
@@ -111,6 +111,16 @@ pub fn looks_count_totals()
 /// come from the first copy, and totals from the second. The mark of a bucket that the single word names is the single mark.
 pub fn looks_bound_marks()
     ensures { LooksBoundMarks }
+{}
+
+/// The single word that a look takes of a record has a form of version 2; and where it is off, the look takes a counts reference.
+pub fn looks_have_forms()
+    ensures { LooksHaveForms }
+{}
+
+/// Where the single word that a look takes of a record packs no bucket, the single mark that it takes is 0.
+pub fn looks_mark_packed()
+    ensures { LooksMarkPacked }
 {}
 
 /// The count that a look takes of a sample is no more than 4,294,967,295, and its mark no more than its count.

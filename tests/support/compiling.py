@@ -149,7 +149,8 @@ def mixed(installed: native.Installed, folder: pathlib.Path) -> Iterator[Case]:
 def thread_sanitized(folder: pathlib.Path) -> Iterator[Case]:
     """What is in `c/` alone, with a stand-in for the proved functions: the sanitizer cannot see into those."""
     flags = ["-fsanitize=thread", "-DSTAND_IN"]
-    sources = [native.LIBRARY / name for name in ("povundiri.c", "povundiri_file.c", "povundiri_look.c", "povundiri_raise.cpp")]
+    names = ("povundiri.c", "povundiri_file.c", "povundiri_look.c", "povundiri_raise.cpp")
+    sources = [native.LIBRARY / name for name in names]
     objects = [compiled(folder, source, *flags) for source in (*sources, native.PROGRAMS / "stand_in.cpp")]
     for name, words, is_race in SANITIZED_RUNS:
         program = folder / f"{name}_threads"

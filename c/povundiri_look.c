@@ -13,11 +13,10 @@ static size_t words_of(const uint64_t *words, size_t length) {
     return size != 0 && size < length ? (size_t)size : length;
 }
 
-/* Loads each word once, all of them before anything that is loaded after this. */
+/* Loads each word once. Since each load acquires, whatever is loaded after this is loaded later. */
 static void copy(uint64_t *to, const uint64_t *words, size_t length) {
     size_t i;
-    for (i = 0; i < length; i += 1) to[i] = __atomic_load_n(words + i, __ATOMIC_RELAXED);
-    __atomic_thread_fence(__ATOMIC_ACQUIRE);
+    for (i = 0; i < length; i += 1) to[i] = __atomic_load_n(words + i, __ATOMIC_ACQUIRE);
 }
 
 uint32_t povundiri_look(const uint64_t *words, size_t length, uint64_t *image, size_t image_length, size_t *needed) {

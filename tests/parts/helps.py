@@ -1,5 +1,5 @@
 """The help of both programs, short and long: no line is wider than a terminal, `-h` fits one screen, `--help` has all
-that `-h` has, and the examples work in an empty folder, one after the other."""
+that `-h` has, and what that leaves out is known, and the examples work in an empty folder, one after the other."""
 
 from __future__ import annotations
 
@@ -44,6 +44,8 @@ SENTENCES: dict[tuple[str, ...], list[str]] = {
         "Print the report of the segment at the end, or where --stop ended",
     ],
 }
+# Options that `-h` of a command leaves out.
+ONLY_LONG: dict[tuple[str, ...], list[str]] = {(name,): ["--at"] for name in ("report", "show", "export", "info")}
 # What `-h` says.
 SHORT_SENTENCES: dict[tuple[str, ...], list[str]] = {("report",): ["Image file [default: standard input]"]}
 
@@ -84,8 +86,11 @@ def wrong_shape(text: str, most_lines: int | None) -> str | None:
 
 def wrong_texts(short: str, long: str, words: Sequence[str]) -> str | None:
     """What is wrong with the short and the long help of a command, or None."""
-    if options_in(short) != options_in(long):
+    only_long = [option for option in options_in(long) if option not in options_in(short)]
+    if [*options_in(short), *only_long] != sorted(options_in(long), key=only_long.__contains__):
         return f"the options of -h are {options_in(short)}, those of --help {options_in(long)}"
+    if only_long != ONLY_LONG.get(tuple(words), []):
+        return f"-h leaves out {only_long}"
     options = [option for option in options_in(short) if option != "--version"]
     if "--explain" in options and options[-2:] != ["--explain", "--help"] and words:
         return f"--explain and --help are not last: {options_in(short)}"

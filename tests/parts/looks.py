@@ -28,6 +28,8 @@ STOOD = b"what stood there before"
 # The first histogram of the example, and its units, which are also its redundant count.
 FIRST_NAME, FIRST_UNITS = b"request.ms", 70
 HISTOGRAM_TAG, HISTOGRAM_REDUNDANT = 1, 13
+# A header's word with the segment's id: the first words, up to this one, tell a segment from another.
+ID = 4
 # A word of a header that no running program changes is damaged in so many of the copies.
 DAMAGED = 0.1
 
@@ -66,6 +68,8 @@ def copies_of(chance: random.Random) -> list[list[int]]:
         return [words] * 2 + [words[: chance.randrange(len(words) + 1)]]
     words[1] = 2 if chance.random() > DAMAGED else words[1]
     copies = [changed(words, chance) for _ in range(3)]
+    if chance.random() < DAMAGED:
+        copies[chance.randrange(3)][ID] += 1
     copies[0][layout.FREE] = chance.choice([words[layout.FREE], layout.FIRST])
     return copies
 
@@ -82,6 +86,8 @@ def looked(copies: Sequence[bytes]) -> tuple[Answer, bytes | None]:
         return fault("Image BadSize", 3), None
     if three[1] != 2:
         return fault("Adopt OldVersion", 3), None
+    if not one[: ID + 1] == two[: ID + 1] == three[: ID + 1]:
+        return fault("Changed", 3), None
     return Answer(), layout.data_of(plain_look.look_of(one, two, three))
 
 
@@ -103,8 +109,10 @@ def forged(program: pathlib.Path, folder: pathlib.Path, seed: int | str) -> Iter
         yield f"look {number} of seed {seed}", wrong
 
 
-def live(program: pathlib.Path, closed: pathlib.Path, look: bytes) -> Iterator[Case]:
+def live(program: pathlib.Path, closed: pathlib.Path, look: bytes, folder: pathlib.Path) -> Iterator[Case]:
     """With `--live` a text is that of the look, and standard input cannot be looked at."""
+    far = folder / "far"
+    far.write_bytes(bytes(24) + closed.read_bytes() + b"more")
     for words in (["report"], ["show"], ["export"], ["info"], ["report", "--rows"], ["show", "--list"]):
         title = " ".join(words)
         wanted = answer(program, words, look)
@@ -112,6 +120,9 @@ def live(program: pathlib.Path, closed: pathlib.Path, look: bytes) -> Iterator[C
         yield f"{title} --live", difference(wanted, answer(program, [*words, "--live", str(closed)]))
         for refused in (answer(program, [*words, "--live"], look), answer(program, [*words, "--live", "-"], look)):
             yield f"{title} --live of standard input", None if refused.status == 2 else str(refused)
+        yield f"{title} --live --at", difference(wanted, answer(program, [*words, "--live", "--at", "24", far]))
+        alone = answer(program, [*words, "--at", "24", far])
+        yield f"{title} --at without --live", None if alone.status == 2 else str(alone)
     old = answer(program, ["report", "--live", EXAMPLE])
     yield "version 1, --live", difference(fault("Adopt OldVersion", 3), old)
 
@@ -181,7 +192,7 @@ def cases(program: pathlib.Path, options: argparse.Namespace) -> Iterator[Case]:
     with tempfile.TemporaryDirectory() as name:
         folder = pathlib.Path(name)
         yield "standard output", difference(Answer(look), answer(program, ["look", closed]))
-        yield from live(program, closed, look)
+        yield from live(program, closed, look, folder)
         yield from repeated(program, closed, look, folder)
         yield from meanwhile(program, folder, closed)
         yield "version 1", difference(fault("Adopt OldVersion", 3), answer(program, ["look", EXAMPLE]))

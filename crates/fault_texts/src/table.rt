@@ -78,7 +78,7 @@ pub fn fault_text(name: &str) -> Option<FaultText<'static>>
 
 /// Each fault by its name, with what it means and what to do: those of the program, of the header of an image, of what is
 /// refused, of specs, and of the lines of a report that begin with `!`.
-pub const TEXTS: [(&str, &str, &str); 55] = [
+pub const TEXTS: [(&str, &str, &str); 56] = [
     (
         "Read",
         "An input cannot be opened, or a read of it failed.",
@@ -148,6 +148,11 @@ pub const TEXTS: [(&str, &str, &str); 55] = [
         "NoSegment",
         "The file that was searched has fewer than N segments. A segment is a valid header with all its words before the end.",
         "Leave --nth out, to see whether there is any. Was the file written completely, and while the segment was in use?",
+    ),
+    (
+        "Changed",
+        "Between the three reads of a look another segment took the place of the one in the file: its cookie, version, size, page or id is another.",
+        "Look once more.",
     ),
     (
         "NoHistogram",

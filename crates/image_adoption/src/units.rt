@@ -12,10 +12,10 @@ use segment_image::SegmentHead;
 use std::alloc::{AllocError, Global};
 
 // How much of a sum's size a unit stands for.
-const UNIT_AMOUNT: u64 = 1 << 31;
+const UNIT_AMOUNT: u128 = 1 << 31;
 
 // The units that an amount of this size stands for.
-fn units_for(size: u64) -> u64
+fn units_for(size: u128) -> u128
     ensures { result ≡ (size + 2147483647) / 2147483648 }
 {
     size.div_ceil(UNIT_AMOUNT)
@@ -31,14 +31,25 @@ fn units(counts: &[(i32, u64)]) -> u64
 
 // The units that a histogram has used: the greatest of its units, its redundant count, and what its sum, its sum mark and the
 // difference of these stand for.
-fn used_by(hist: &HistReading) -> u64
+fn used_by(hist: &HistReading) -> u128
     requires { sum_by (λ count. count.1) hist.now.counts.items < 2 ^ 64 }
     ensures { result ≡ used_by_of (histogram_view hist.now) }
 {
     let sum = units_for(hist.sum.unsigned_abs());
     let mark = units_for(hist.sum_mark.unsigned_abs());
     let rest = units_for(hist.sum.abs_diff(hist.sum_mark));
-    units(&hist.counts).max(hist.redundant.max(sum.max(mark.max(rest))))
+    let counted = u128::from(units(&hist.counts));
+    counted.max(u128::from(hist.redundant).max(sum.max(mark.max(rest))))
+}
+
+// So many units and those that come to them; more than 2^64 - 1 are answered as that.
+fn used_with(used: u64, more: u128) -> u64
+    ensures { result ≡ min (used + more) 18446744073709551615 }
+{
+    match u64::try_from(more) {
+        Ok(more) => used.saturating_add(more),
+        Err(_) => u64::MAX,
+    }
 }
 
 /// The units that the histograms of an image have used; more than 2^64 - 1 are answered as that. Of one histogram after the other
@@ -56,7 +67,7 @@ pub(crate) fn used_of(
     let mut used: u64 = 0;
     for reference in &survey.hists {
         let hist = survey.hist(alloc, words, head, *reference)?;
-        used = used.saturating_add(used_by(&hist));
+        used = used_with(used, used_by(&hist));
     }
     Ok(used)
 }

@@ -49,8 +49,8 @@ pub(crate) fn histogram(
         spec,
         counts,
         marks,
-        sum: words[at + HISTOGRAM_SUM].cast_signed(),
-        sum_mark: words[at + HISTOGRAM_SUM_MARK].cast_signed(),
+        sum: i128::from(words[at + HISTOGRAM_SUM].cast_signed()),
+        sum_mark: i128::from(words[at + HISTOGRAM_SUM_MARK].cast_signed()),
         redundant: words[at + HISTOGRAM_REDUNDANT],
     })
 }

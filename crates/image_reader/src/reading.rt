@@ -18,10 +18,10 @@ pub struct HistReading {
     pub counts: Vec<(i32, u64)>,
     /// Beside each of these the units that deltas have taken.
     pub marks: Vec<u64>,
-    /// The sum of the samples.
-    pub sum: i64,
+    /// The sum of the samples. That of a record fits 64 bits.
+    pub sum: i128,
     /// The part of the sum that deltas have taken.
-    pub sum_mark: i64,
+    pub sum_mark: i128,
     /// The units that were counted a second time, apart from the buckets.
     pub redundant: u64,
 }

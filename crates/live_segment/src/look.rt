@@ -15,8 +15,8 @@ impl Segment {
     {
         let size = self.size() as usize;
         let mut words = Vec::with_capacity(alloc, size)?;
-        while words.len() < size {
-            words.push(self.table.shared.peek(words.len() + 1))?;
+        for i in 0..size {
+            words.push_reserved(self.table.shared.peek(i + 1));
         }
         Ok(words)
     }

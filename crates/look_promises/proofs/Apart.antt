@@ -38,7 +38,7 @@ module _ (shape : Dimensions) (opened : Anatomy) (at : ℕ → State) (first las
   Has place body = Stands late.anatomy.pieces place none body
 
   -- two blocks that share a word are one
-  one_block : (a b i m : ℕ) (x y : Body) → Has a x → Has b y → i < length (words_of x) → m < length (words_of y) → a + i ≡ b + m → (a ≡ b) × (x ≡ y)
+  pub one_block : (a b i m : ℕ) (x y : Body) → Has a x → Has b y → i < length (words_of x) → m < length (words_of y) → a + i ≡ b + m → (a ≡ b) × (x ≡ y)
   one_block a b i m x y (p, here) (q, there) inside within same =
       let index = one_index shape (at last).words late.anatomy late.shown p q (record { at = a; owner = none; body = x }) (record { at = b; owner = none; body = y })
       i m here there inside within same in

@@ -72,16 +72,19 @@ module _ (shape : Dimensions) (opened : Anatomy) (at : ℕ → State) (first las
     abbrev total : ℕ
     total = total_looked two x (counts_reference two three x) (buckets_of r.spec) i
 
-    begun : total ≤ tally_units (flat_map begun_of (at last).actors) r.name key
-    begun =
+    -- what was counted at the last moment
+    pub counted_most : total ≤ tally_units (all_counted (at last).actors) r.name key
+    counted_most =
         let up = (totals_between shape opened at first last moments one two three run loaded x i r has below).1 _
         (total_there shape opened (at last) late (version_at last) x r has i below) in
         let counted = counted_is shape opened (at last) late (version_at last) x r has its i below in
-        let most = all_begun shape opened (at last) late r.name key in
-        omega (arith, up, counted, most)
+        omega (arith, up, counted)
+
+    pub begun : total ≤ tally_units (flat_map begun_of (at last).actors) r.name key
+    begun = let counted = counted_most in let most = all_begun shape opened (at last) late r.name key in omega (arith, counted, most)
 
     -- where something was counted at the first moment, the record was the first of its name then
-    some_counted : 0 < tally_units (all_counted (at first).actors) r.name key → tally_units (all_counted (at first).actors) r.name key ≤ total
+    pub some_counted : 0 < tally_units (all_counted (at first).actors) r.name key → tally_units (all_counted (at first).actors) r.name key ≤ total
     some_counted more =
         let (entry, among, named, keyed, some_units) = tally_at (all_counted (at first).actors) r.name key more in
         let (kind, place, here, by) = early.keys entry among some_units in
@@ -103,7 +106,7 @@ module _ (shape : Dimensions) (opened : Anatomy) (at : ℕ → State) (first las
         (λ j. tally_units (all_counted (at first).actors) (called j) (key_of_bucket (specified j) i)) in
         omega (arith, counted, up, tally)
 
-    ended : tally_units (flat_map log_of (at first).actors) r.name key ≤ total
+    pub ended : tally_units (flat_map log_of (at first).actors) r.name key ≤ total
     ended =
         let least = all_ended shape opened (at first) early r.name key in
         elim (dec_lt 0 (tally_units (all_counted (at first).actors) r.name key)) [

@@ -67,7 +67,7 @@ still_some : (a b : ℕ) → a ≡ b → b ≢ 0 → a ≢ 0
 still_some a b same some nothing = some (sym same ∙ nothing)
 
 -- its counts, and its marks
-unit_word : (c : Counts) (n m : ℕ) → length c.units ≡ n → 4 ≤ m → m < 4 + n → slice_index (counts_words c) m ≡ slice_index c.units (m - 4)
+pub unit_word : (c : Counts) (n m : ℕ) → length c.units ≡ n → 4 ≤ m → m < 4 + n → slice_index (counts_words c) m ≡ slice_index c.units (m - 4)
 unit_word c n m units from below =
     let long = length-append c.units c.marks in
     let same : m ≡ suc (suc (suc (suc (m - 4)))) = omega (arith, from) in
@@ -75,7 +75,7 @@ unit_word c n m units from below =
     ∙ (get_or_append_left (c.units ++ c.marks) c.rest 0 (m - 4) (omega (arith, long, units, from, below))
     ∙ get_or_append_left c.units c.marks 0 (m - 4) (omega (arith, units, from, below)))
 
-mark_word : (c : Counts) (n m : ℕ) → length c.units ≡ n → length c.marks ≡ n → 4 + n ≤ m → m < 4 + (n + n)
+pub mark_word : (c : Counts) (n m : ℕ) → length c.units ≡ n → length c.marks ≡ n → 4 + n ≤ m → m < 4 + (n + n)
     → slice_index (counts_words c) m ≡ slice_index c.marks (m - 4 - n)
 mark_word c n m units marks from below =
     let long = length-append c.units c.marks in
@@ -85,13 +85,13 @@ mark_word c n m units marks from below =
     ∙ get_or-append_right c.units c.marks n (m - 4) 0 units (omega (arith, from)))
 
 -- a range that lies in words is as long as it says
-range_long : (words : List ℕ) (from many : ℕ) → from + many ≤ length words → length (slice_range words from (from + many)) ≡ many
+pub range_long : (words : List ℕ) (from many : ℕ) → from + many ≤ length words → length (slice_range words from (from + many)) ≡ many
 range_long words from many fits =
     let left = length-drop from words in
     let same : from + many - from ≡ many = omega arith in
     ap (λ (n : ℕ). length (take n (drop from words))) same ∙ length-take-le many (drop from words) (omega (arith, left, fits))
 
-looked_long : (b : Bool) (two : List ℕ) (from many : ℕ) → from + many ≤ length two
+pub looked_long : (b : Bool) (two : List ℕ) (from many : ℕ) → from + many ≤ length two
     → length (if b then slice_range two from (from + many) else replicate {A = ℕ} many 0) ≡ many
 looked_long true two from many fits = range_long two from many fits
 looked_long false two from many fits = length-replicate {A = ℕ} many 0
@@ -151,11 +151,11 @@ module _ (shape : Dimensions) (opened : Anatomy) (at : ℕ → State) (first las
       spot : place + m < shape.size
       spot = let ends = ends_at shape opened at run last place (counts c) stands in omega (arith, ends, inside)
 
-      load : ℕ
+      pub load : ℕ
       load = moments.three (place + m)
 
       -- from when it was mounted
-      stood : (d : Counts) × Stands (kept_at shape opened at run load).anatomy.pieces place none (counts d) × CountsGo d c × (place + length (counts_words c) ≤ hd.free) × (16 ≤ place)
+      pub stood : (d : Counts) × Stands (kept_at shape opened at run load).anatomy.pieces place none (counts d) × CountsGo d c × (place + length (counts_words c) ≤ hd.free) × (16 ≤ place)
       unfolding load
       stood =
           let mounts = is_mounted shape opened at first last moments one two three run loaded k g.within r has some_there in

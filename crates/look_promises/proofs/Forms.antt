@@ -95,7 +95,7 @@ module _ (shape : Dimensions) (opened : Anatomy) (at : ℕ → State) (first las
         by_test true some_there is = third_there off
         by_test false some_there is = some_there is
 
-  both : (reference : ℕ) (r : Record) → HasRecord late.anatomy.pieces reference r
+  pub both : (reference : ℕ) (r : Record) → HasRecord late.anatomy.pieces reference r
       → (single_of 2 (buckets_of r.spec) (word_at two (reference + 9)) ≢ None) × (is_frozen two reference ≡ true → counts_reference two three reference ≢ 0)
   both reference r has =
       let (k, below, place) = place_of shape opened at run last reference r has in

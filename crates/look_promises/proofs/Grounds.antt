@@ -93,7 +93,7 @@ module _ (shape : Dimensions) (opened : Anatomy) (at : ℕ → State) (run : Run
       )
 
   -- it was on the list at each moment
-  from_opening : (m x : ℕ) → Contains opened.records (record { reference = x; made = None })
+  pub from_opening : (m x : ℕ) → Contains opened.records (record { reference = x; made = None })
       → (j : ℕ) × (j < length (chain_at shape opened at run m)) × (slice_index (chain_at shape opened at run m) j ≡ x)
   from_opening m x has =
       let kept = kept_at shape opened at run m in

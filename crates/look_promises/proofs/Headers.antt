@@ -17,16 +17,16 @@ use Rattle.look_promises.specs.Looks.{head_loaded, LooksHaveHeaders}
 use Rattle.look_promises.proofs.Runs.{kept_at}
 
 -- a lawful shape is one that a header may have
-page_lawful : (shape : Dimensions) → IsShape shape → is_page shape.page ≡ true
+pub page_lawful : (shape : Dimensions) → IsShape shape → is_page shape.page ≡ true
 page_lawful shape lawful =
     and_from _ _ (and_from _ _ (le-leb 64 shape.page lawful.wide) (le-leb shape.page 65536 lawful.narrow)) (eq-eqb (shape.page % 16) 0 lawful.even)
 
-size_lawful : (shape : Dimensions) → IsShape shape → is_size shape.size shape.page ≡ true
+pub size_lawful : (shape : Dimensions) → IsShape shape → is_size shape.size shape.page ≡ true
 size_lawful shape lawful =
     and_from _ _ (and_from _ _ (le-leb shape.page shape.size lawful.one) (le-leb shape.size 1048576 lawful.many)) (eq-eqb (shape.size % shape.page) 0 lawful.whole)
 
 -- the words of the queue block of a kept state, but for its next
-queue_word : (shape : Dimensions) (opened : Anatomy) (state : State) (kept : Invariant shape opened state) (j : ℕ) → j < 4
+pub queue_word : (shape : Dimensions) (opened : Anatomy) (state : State) (kept : Invariant shape opened state) (j : ℕ) → j < 4
     → word_at state.words (12 + j) ≡ slice_index (4 ∷ 1 ∷ 0 ∷ kept.shown.sound.queue.0 ∷ []) j
 queue_word shape opened state kept j below =
     let (next, first) = kept.shown.sound.queue in

@@ -47,7 +47,7 @@ module _ (shape : Dimensions) (opened : Anatomy) (at : ℕ → State) (first las
 
   module _ (look : IsLook hd one two three image) where
     -- a word behind the header and below the free pointer is one of the records'
-    list_word : (n : ℕ) → 16 ≤ n → n < hd.free → word_at image n ≡ patched_word (records_patches hd one two three records) n (word_at three n)
+    pub list_word : (n : ℕ) → 16 ≤ n → n < hd.free → word_at image n ≡ patched_word (records_patches hd one two three records) n (word_at three n)
     list_word n from below =
         let behind : List Patch = unclaimed hd (length three) ∷ [] in
         let rest : List Patch = records_patches hd one two three records ++ behind in

@@ -36,6 +36,10 @@ pub mod Samples
 pub mod Calls
 pub mod Values
 pub mod OneMoment
+pub mod Firsts
+pub mod Behind
 pub mod Rising
 pub mod Starting
 pub mod Cleared
+pub mod Kept
+pub mod Looked

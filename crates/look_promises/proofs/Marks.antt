@@ -38,7 +38,7 @@ packs form i is = by_packed (packed_bucket form) refl
     by_packed None here = cc (is, here)
     by_packed (Some bucket) here = here ∙ ap Some (eqb-true bucket i (cc (is, here)))
 
-packs_it : (form : Option SingleWord) (i : ℕ) → packed_bucket form ≡ Some i → is_packed_bucket form i ≡ true
+pub packs_it : (form : Option SingleWord) (i : ℕ) → packed_bucket form ≡ Some i → is_packed_bucket form i ≡ true
 packs_it form i is = by_packed (packed_bucket form) refl
   where
     by_packed : (packed : Option ℕ) → packed_bucket form ≡ packed → is_packed_bucket form i ≡ true

@@ -13,7 +13,7 @@ use Rattle.look_promises.proofs.Totals.{goes_to, totals_between}
 
 -- ---- sums over a range
 
-sum_below : (f g : ℕ → ℕ) (n start : ℕ) → ((i : ℕ) → start ≤ i → i < start + n → f i ≤ g i) → sum_by f (range_with_len start n) ≤ sum_by g (range_with_len start n)
+pub sum_below : (f g : ℕ → ℕ) (n start : ℕ) → ((i : ℕ) → start ≤ i → i < start + n → f i ≤ g i) → sum_by f (range_with_len start n) ≤ sum_by g (range_with_len start n)
 sum_below f g zero start below = omega arith
 sum_below f g (suc n) start below =
     let here = below start (omega arith) (omega arith) in

@@ -135,7 +135,7 @@ module _ (head : SegmentHead) (one two three : List ℕ) (n : ℕ) where
   abbrev pub IsApart : ℕ → Type 0
   IsApart x = (long : ℕ) × LiesBeside head one two three x n long
 
-  linked_none : (x next : ℕ) (rest : List Patch) → IsApart x → HaveNone rest n → HaveNone (link x next ∷ rest) n
+  pub linked_none : (x next : ℕ) (rest : List Patch) → IsApart x → HaveNone rest n → HaveNone (link x next ∷ rest) n
   linked_none x next rest (long, lies) none =
       none_more (link x next) rest n (apart (x + 3) 1 n (λ i below same. let four = lies.four in lies.block (3 + i) (omega (arith, below, four)) (omega (arith, same)))) none
 

@@ -65,7 +65,7 @@ module _ (one two three : List ℕ) (x next : ℕ) where
   sample_patched s (suc (suc p)) lt = absurd (omega (arith, lt))
 
   -- its next
-  next_shown : (body : Body) → IsOfList body → slice_index (words_of (looked_block one two three x next body)) 3 ≡ next
+  pub next_shown : (body : Body) → IsOfList body → slice_index (words_of (looked_block one two three x next body)) 3 ≡ next
   next_shown (histogram r) list = refl
   next_shown (sample s) list = refl
   next_shown (other size tag n payload) list = refl

@@ -17,7 +17,7 @@ use Rattle.look_promises.proofs.Between.{at_least, between}
 use Rattle.look_promises.proofs.Named.{one_within}
 
 -- what goes on as a sample is one
-goes_sample : (version : ℕ) (before : Body) (s : Sample) → IsOfList before → GoesAs version before (sample s) → (t : Sample) × (before ≡ sample t)
+pub goes_sample : (version : ℕ) (before : Body) (s : Sample) → IsOfList before → GoesAs version before (sample s) → (t : Sample) × (before ≡ sample t)
 goes_sample version (sample t) s list goes = (t, refl)
 goes_sample version (histogram r) s list (q, is, goes) = absurd (cc is)
 goes_sample version (other size tag next payload) s list (n, is) = absurd (cc is)
@@ -101,7 +101,7 @@ module _ (shape : Dimensions) (opened : Anatomy) (at : ℕ → State) (first las
       ],
     )
 
-  samples_bounded : (reference : ℕ) (s : Sample) → HasSample late.anatomy.pieces reference s
+  pub samples_bounded : (reference : ℕ) (s : Sample) → HasSample late.anatomy.pieces reference s
       → (word_at two (reference + 6) ≤ 4294967295) × (word_at one (reference + 7) ≤ word_at two (reference + 6))
   samples_bounded reference s has =
       let among = late.list.alone reference (sample s) has in

@@ -68,7 +68,7 @@ module _ (shape : Dimensions) (opened : Anatomy) (at : ℕ → State) (first las
   tail = record { from = 8; words = before records (length records) ∷ [] }
 
   module _ (look : IsLook hd one two three image) where
-    header_word : (n : ℕ) → n < 16 → n ≢ 8 → n ≢ 15 → word_at image n ≡ word_at three n
+    pub header_word : (n : ℕ) → n < 16 → n ≢ 8 → n ≢ 15 → word_at image n ≡ word_at three n
     header_word n low no_tail no_start =
         look.each n
         ∙ (first_not (link 12 (list_start records)) (tail ∷ rest) n (word_at three n) (inl (omega (arith, low, no_start)))
@@ -77,13 +77,13 @@ module _ (shape : Dimensions) (opened : Anatomy) (at : ℕ → State) (first las
         aside : (n : ℕ) → n ≢ 8 → (n < 8) ⊎ (8 + 1 ≤ n)
         aside n ne = elim (dec_lt n 8) [ yes low ↦ inl low | no high ↦ inr (omega (arith, high, ne)) ]
 
-    tail_word : word_at image 8 ≡ before records (length records)
+    pub tail_word : word_at image 8 ≡ before records (length records)
     tail_word =
         look.each 8
         ∙ (first_not (link 12 (list_start records)) (tail ∷ rest) 8 (word_at three 8) (inl (omega arith))
         ∙ first_has tail rest 8 (word_at three 8) (omega arith) (omega arith))
 
-    start_word : word_at image 15 ≡ list_start records
+    pub start_word : word_at image 15 ≡ list_start records
     start_word = look.each 15 ∙ first_has (link 12 (list_start records)) (tail ∷ rest) 15 (word_at three 15) (omega arith) (omega arith)
 
 pub looks_keep_headers : LooksKeepHeaders

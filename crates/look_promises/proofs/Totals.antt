@@ -25,7 +25,7 @@ use Rattle.segment_invariant.proofs.Prelude.Invariant.{Anatomy, Record, Counts, 
 -- ---- packed units
 
 -- a number for a bucket, where it is the packed one
-abbrev for_bucket : Option ℕ → ℕ → ℕ → ℕ
+abbrev pub for_bucket : Option ℕ → ℕ → ℕ → ℕ
 for_bucket None i n = 0
 for_bucket (Some bucket) i n = if bucket == i then n else 0
 
@@ -33,7 +33,7 @@ none_for : (b : Bool) (m : ℕ) → (if b then m else m) ≡ m
 none_for true m = refl
 none_for false m = refl
 
-packed_as : (form : Option SingleWord) (i : ℕ) → units_packed form i ≡ for_bucket (packed_bucket form) i (units_in form)
+pub packed_as : (form : Option SingleWord) (i : ℕ) → units_packed form i ≡ for_bucket (packed_bucket form) i (units_in form)
 packed_as (Some (Packed bucket units)) i = refl
 packed_as (Some Empty) i = refl
 packed_as (Some (Disabled None)) i = refl
@@ -72,7 +72,8 @@ unit_at c i below =
     ap (slice_index (words_of (counts c))) same
     ∙ get_or_append_left (c.units ++ c.marks) c.rest 0 i (omega (arith, long, below)) ∙ get_or_append_left c.units c.marks 0 i below
 
-range_word : (words : List ℕ) (from n i : ℕ) → i < n → slice_index (slice_range words from (from + n)) i ≡ word_at words (from + i)
+-- a word of a range
+pub range_word : (words : List ℕ) (from n i : ℕ) → i < n → slice_index (slice_range words from (from + n)) i ≡ word_at words (from + i)
 range_word words from n i below =
     let same : from + n - from ≡ n = omega arith in
     ap (λ (m : ℕ). slice_index (take m (drop from words)) i) same ∙ (get_or-take n (drop from words) i 0 below ∙ get_or-drop from words i 0)

@@ -60,7 +60,7 @@ module _ (shape : Dimensions) (opened : Anatomy) (at : ℕ → State) (first las
       | no far ↦ not_yet shape opened at run m last k 10 down (histogram r) below (omega (arith, far)) has (omega arith, omega arith)
     ]
 
-  marks_packed : (reference : ℕ) (r : Record) → HasRecord late.anatomy.pieces reference r
+  pub marks_packed : (reference : ℕ) (r : Record) → HasRecord late.anatomy.pieces reference r
       → packed_bucket (single_of 2 (buckets_of r.spec) (word_at two (reference + 9))) ≡ None → word_at one (reference + 10) ≡ 0
   marks_packed reference r has none_packed =
       let (k, below, place) = place_of shape opened at run last reference r has in

@@ -55,12 +55,11 @@ module _ (shape : Dimensions) (opened : Anatomy) (at : ℕ → State) (first las
     abbrev x : ℕ
     x = slice_index list k
 
-    begun : word_at two (x + 6) ≤ tally_units (flat_map begun_of (at last).actors) s.name s.value
-    begun =
+    counted_most : word_at two (x + 6) ≤ tally_units (all_counted (at last).actors) s.name s.value
+    counted_most =
         let up = (between shape opened at first last moments one two three run loaded k 6 (sample s) below has (inl refl)).1.1 in
         let counted = counted_is shape opened (at last) late (version_at last) x s has its in
-        let most = all_begun shape opened (at last) late s.name s.value in
-        omega (arith, up, counted, most)
+        omega (arith, up, counted)
 
     -- its histogram is the first of its name
     its_histogram : IsFirst late.anatomy.records s.name spec.Sparse s.of
@@ -70,7 +69,7 @@ module _ (shape : Dimensions) (opened : Anatomy) (at : ℕ → State) (first las
     Later more = late.anatomy.records ≡ early.anatomy.records ++ more
 
     -- where something was counted of a key at the first moment, this was the first sample of the value then
-    some_counted : 0 < tally_units (all_counted (at first).actors) s.name s.value → tally_units (all_counted (at first).actors) s.name s.value ≤ word_at two (x + 6)
+    pub some_counted : 0 < tally_units (all_counted (at first).actors) s.name s.value → tally_units (all_counted (at first).actors) s.name s.value ≤ word_at two (x + 6)
     some_counted more =
         let (entry, among, named, keyed, some_units) = tally_at (all_counted (at first).actors) s.name s.value more in
         let key : HasKey early.anatomy.records s.name s.value = subst (λ (p : List ℕ × ℤ). HasKey early.anatomy.records p.0 p.1) (λ j. (named j, keyed j)) (early.keys entry among some_units) in
@@ -118,21 +117,30 @@ module _ (shape : Dimensions) (opened : Anatomy) (at : ℕ → State) (first las
         ]
 
     pub both : (tally_units (flat_map log_of (at first).actors) s.name s.value ≤ word_at two (x + 6))
-        × (word_at two (x + 6) ≤ tally_units (flat_map begun_of (at last).actors) s.name s.value)
-    both = (ended, begun)
+        × (word_at two (x + 6) ≤ tally_units (all_counted (at last).actors) s.name s.value)
+    both = (ended, counted_most)
 
-  values_counted : (reference : ℕ) (s : Sample) → HasSample late.anatomy.pieces reference s → IsFirstOf late.anatomy.records s.of s.value reference
+  -- what was counted at the last moment
+  pub values_held : (reference : ℕ) (s : Sample) → HasSample late.anatomy.pieces reference s → IsFirstOf late.anatomy.records s.of s.value reference
       → (tally_units (flat_map log_of (at first).actors) s.name s.value ≤ word_at two (reference + 6))
-      × (word_at two (reference + 6) ≤ tally_units (flat_map begun_of (at last).actors) s.name s.value)
-  values_counted reference s has its =
+      × (word_at two (reference + 6) ≤ tally_units (all_counted (at last).actors) s.name s.value)
+  values_held reference s has its =
       let among = late.list.alone reference (sample s) has in
       let there : Contains list reference = contains_map (λ (l : Listed). l.reference) late.anatomy.records _ among in
       let (k, here) = at_from list reference there in
       let place = index_at list k reference 0 here in
       subst (λ (x : ℕ). (tally_units (flat_map log_of (at first).actors) s.name s.value ≤ word_at two (x + 6))
-      × (word_at two (x + 6) ≤ tally_units (flat_map begun_of (at last).actors) s.name s.value)) place
+      × (word_at two (x + 6) ≤ tally_units (all_counted (at last).actors) s.name s.value)) place
       (both k (below_length list k reference here) s (subst (λ (x : ℕ). HasSample late.anatomy.pieces x s) (sym place) has)
       (subst (IsFirstOf late.anatomy.records s.of s.value) (sym place) its))
+
+  values_counted : (reference : ℕ) (s : Sample) → HasSample late.anatomy.pieces reference s → IsFirstOf late.anatomy.records s.of s.value reference
+      → (tally_units (flat_map log_of (at first).actors) s.name s.value ≤ word_at two (reference + 6))
+      × (word_at two (reference + 6) ≤ tally_units (flat_map begun_of (at last).actors) s.name s.value)
+  values_counted reference s has its =
+      let (least, counted) = values_held reference s has its in
+      let most = all_begun shape opened (at last) late s.name s.value in
+      (least, omega (arith, counted, most))
 
 pub looks_count_values : LooksCountValues
 looks_count_values shape opened at first last moments one two three run loaded =

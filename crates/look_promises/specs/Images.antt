@@ -194,14 +194,17 @@ LooksAreOfOneMoment = (shape : Dimensions) (opened : Anatomy) (at : ℕ → Stat
 
 -- ---- two looks
 
--- A look that begins where another has ended, or later, has no total below that look's.
+-- A look whose second copy was loaded when another's had been loaded, or later, has no total of a bucket below that look's, and no count of a
+-- sample. Their other copies may have been loaded beside one another.
 abbrev pub LooksRise : Type 0
-LooksRise = (shape : Dimensions) (opened : Anatomy) (at : ℕ → State) (first middle last : ℕ) (moments later : Moments) (one two three four five six : List ℕ)
-    → RunsThrough shape opened at → AreLoaded shape at first middle moments one two three → AreLoaded shape at middle last later four five six
-    → (between : Invariant shape opened (at middle))
-    × ((reference i : ℕ) (r : Record) → HasRecord between.anatomy.pieces reference r → i < buckets_of r.spec
+LooksRise = (shape : Dimensions) (opened : Anatomy) (at : ℕ → State) (first other last : ℕ) (moments later : Moments) (one two three four five six : List ℕ)
+    → RunsThrough shape opened at → AreLoaded shape at first last moments one two three → AreLoaded shape at other last later four five six
+    → ((i j : ℕ) → i < shape.size → j < shape.size → moments.two i ≤ later.two j)
+    → (late : Invariant shape opened (at last))
+    × ((reference i : ℕ) (r : Record) → HasRecord late.anatomy.pieces reference r → i < buckets_of r.spec
     → total_looked two reference (counts_reference two three reference) (buckets_of r.spec) i
     ≤ total_looked five reference (counts_reference five six reference) (buckets_of r.spec) i)
+    × ((reference : ℕ) (s : Sample) → HasSample late.anatomy.pieces reference s → field_at two reference SAMPLE_COUNT ≤ field_at five reference SAMPLE_COUNT)
 
 -- ---- the rest
 

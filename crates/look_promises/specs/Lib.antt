@@ -1,3 +1,5 @@
 pub mod Runs
 pub mod Looks
 pub mod Images
+pub mod Reading
+pub mod OneMoment

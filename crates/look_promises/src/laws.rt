@@ -5,6 +5,8 @@
 
 ghost use Rattle.look_promises.specs.Looks.{LooksHaveHeaders, LooksFollow, CopiesShowBlocks, CopiesKeepOthers, RecordsStartAtZero, LooksNameCounts, LooksCountBetween, CountsStartAtZero, LooksCountUnits};
 ghost use Rattle.look_promises.specs.Images.{LooksShowRecords, LooksShowCounts, LooksHaveSums, LooksCountTotals, LooksBoundMarks, LooksHaveForms, LooksMarkPacked, LooksBoundSamples, LooksCountCalls, LooksCountValues, LooksAreOfOneMoment, LooksRise, LooksKeepHeaders, LooksEndInZeros};
+ghost use Rattle.look_promises.specs.OneMoment.{LoneOpenersCountFirst, OpeningsNoteNoMore, LooksTellTheirMoment, ReadingsTellTheirMoment, ReadingsNoteNoMore};
+ghost use Rattle.look_promises.specs.Reading.{LooksRead, LooksAreAdoptable, ReadingsRise};
 
 /// Three copies of the words of a running segment, one after the other, have no fault: a look is made of them.
 ///
@@ -151,8 +153,10 @@ pub fn looks_are_of_one_moment()
     ensures { LooksAreOfOneMoment }
 {}
 
-/// Of two looks, one behind the other, the second has no total of a bucket below that of the first. So the difference of the two is what
-/// came between them, and never negative.
+/// Of two looks, of which the second's second copy was loaded after the first's, the second has no total of a bucket below that of the first, and
+/// no count of a sample. So the difference of the two is what came between them, and never negative.
+///
+/// Nothing is asked of the other copies: two looks may be taken beside one another.
 pub fn looks_rise()
     ensures { LooksRise }
 {}
@@ -168,4 +172,72 @@ pub fn looks_keep_headers()
 /// All that it takes of records lies before the free pointer, and the rest is cleared.
 pub fn looks_end_in_zeros()
     ensures { LooksEndInZeros }
+{}
+
+/// In a kept state whose one actor is its opener, as at each opening, nothing is noted that is not counted: nobody counts.
+///
+/// So a run may begin there where a law asks for that.
+pub fn lone_openers_count_first()
+    ensures { LoneOpenersCountFirst }
+{}
+
+/// A new segment has noted nothing; and one that was adopted has noted no more of a name than it was opened with, if of no histogram of that
+/// name in the image a redundant count is read that is above its units.
+///
+/// So the laws of moments, which ask for that, hold of each new segment, and of one that was adopted from an image which is so, as a look at such
+/// a segment is (`readings_note_no_more`).
+pub fn openings_note_no_more()
+    ensures { OpeningsNoteNoMore }
+{}
+
+/// Where the units that a look takes of a histogram are no more than the redundant count that it takes of it, each total is the one of the
+/// moment at which the redundant count was loaded; or 0, if the record was not on the list then.
+///
+/// Whoever counts adds to the redundant count last, so at no moment it is more than the units; and units rise until they are loaded. Where the
+/// opening had a redundant count above the units of its image, as a forged one may, nothing is told.
+pub fn looks_tell_their_moment()
+    ensures { LooksTellTheirMoment }
+{}
+
+/// A look has a lawful header, and reads without a bad record and without a stop.
+///
+/// - The histograms are those of all records that were on the list at the first moment, and maybe of some that were linked by the last: of each
+///   name the first record, with its spec.
+/// - Of each key a histogram has at least the units of all calls that had ended at the first moment, and at most those of the calls that had
+///   begun at the last.
+/// - No mark is more than the units of its key.
+pub fn looks_read()
+    ensures { LooksRead }
+{}
+
+/// Of no histogram of a look a redundant count is read that is above its units, if the opening had none such.
+///
+/// The redundant count comes from the first copy, and the units from the second.
+pub fn readings_note_no_more()
+    ensures { ReadingsNoteNoMore }
+{}
+
+/// Where all units that are read of a histogram of a look are no more than the redundant count that is read of it, it has of each key just what
+/// had been counted of its name at the moment at which the redundant count was loaded: its counts are of one moment.
+///
+/// So it is of a sparse histogram too. It asks that the redundant count at the opening was at most the units there; and of the run that no call
+/// had noted at its beginning what it had not counted, as at an opening, where none runs.
+pub fn readings_tell_their_moment()
+    ensures { ReadingsTellTheirMoment }
+{}
+
+/// A look may be adopted, where the corrupt flag was not loaded: it has none of the faults of adoption.
+///
+/// Its blocks do not overlap, it is 0 behind its free pointer, and its histograms have used no more units than a segment has. So a recorder may
+/// go on from it as from an image of a segment that was stopped.
+pub fn looks_are_adoptable()
+    ensures { LooksAreAdoptable }
+{}
+
+/// Of two looks, of which the second's second copy was loaded after the first's, the second reads as all histograms of the first, and of each key
+/// it has no fewer units. So the difference of the two readings is what came between them, and never negative.
+///
+/// Nothing is asked of the other copies: two looks may be taken beside one another.
+pub fn readings_rise()
+    ensures { ReadingsRise }
 {}

@@ -2,7 +2,7 @@
 
 ghost use Rattle.std.specs.Prelude.{◌≡◌, ◌≢◌, ◌↔◌, ◌⊎◌, ℕ, List, true, false, OnOk, IfOk, IfErr, IfSome, IsErrOf};
 ghost use Rattle.std.specs.Io.KnownBytes.{Appends};
-ghost use Rattle.persist_commands.specs.LookFile.{IsFaultOfLook, IsLookOfFiles, HaveNoLook, fault_of_look as fault_of};
+ghost use Rattle.persist_commands.specs.LookFile.{IsFaultOfLook, IsLookOfFiles, IsFaultOfCopies, AreOfOneSegment, fault_of_look as fault_of, identity as identity_of};
 ghost use Rattle.persist_report_core.specs.Report.{AreWordsOf, IsCausedByImage};
 ghost use Rattle.segment_image.specs.Watched.{has_failed, is_flushed, watched_inner};
 ghost use Rattle.segment_image.specs.Words.{bytes_of_words};
@@ -10,6 +10,7 @@ ghost use Rattle.segment_image.specs.Words.{bytes_of_words};
 use crate::outputs::write_image;
 use persist_report_core::{CliFault, image_in, read_input};
 use segment_calls::AdoptFault;
+use segment_image::layout::ID_WORD;
 use segment_image::{Image, Watched};
 use segment_looks::{LookFault, compose};
 use std::alloc::Global;
@@ -26,6 +27,21 @@ fn fault_of_look(fault: LookFault) -> CliFault
     }
 }
 
+// The words that tell a segment from another while it is in use: its cookie, version, size, page and id.
+fn identity(words: &[u64]) -> &[u64]
+    ensures { result.now ≡ identity_of words.now }
+{
+    words.split_at(words.len().min(ID_WORD + 1)).0
+}
+
+// Whether three copies are of one segment.
+fn are_of_one_segment(one: &[u64], two: &[u64], three: &[u64]) -> bool
+    ensures one { result ≡ true → AreOfOneSegment one.now two.now three.now }
+    ensures several { AreOfOneSegment one.now two.now three.now → result ≡ true }
+{
+    identity(one) == identity(three) && identity(two) == identity(three)
+}
+
 // The look that the images in the words of three inputs give.
 fn look_of_words(
     alloc: Global,
@@ -34,13 +50,18 @@ fn look_of_words(
     third: &[u64],
 ) -> Result<Image, CliFault>
     ensures look { IfOk result (IsLookOfFiles (bytes_of_words first.now) (bytes_of_words second.now) (bytes_of_words third.now)) }
-    ensures cause { IfErr result (λ fault. (fault ≡ CliFault.NoMemory) ⊎ HaveNoLook (bytes_of_words first.now) (bytes_of_words second.now) (bytes_of_words third.now) fault) }
+    ensures cause { IfErr result (λ fault. (fault ≡ CliFault.NoMemory) ⊎ IsFaultOfCopies (bytes_of_words first.now) (bytes_of_words second.now) (bytes_of_words third.now) fault) }
     ensures other { IfErr result (λ fault. (fault ≢ CliFault.Read) × (fault ≢ CliFault.Write)) }
 {
-    let look = compose(alloc, image_in(first), image_in(second), image_in(third));
-    match look {
-        Ok(image) => Ok(image),
-        Err(fault) => Err(fault_of_look(fault)),
+    let (one, two, three) = (image_in(first), image_in(second), image_in(third));
+    let image = match compose(alloc, one, two, three) {
+        Ok(image) => image,
+        Err(fault) => return Err(fault_of_look(fault)),
+    };
+    if are_of_one_segment(one, two, three) {
+        Ok(image)
+    } else {
+        Err(CliFault::Changed)
     }
 }
 
@@ -69,12 +90,13 @@ fn read_look<A: Read, B: Read, C: Read>(
 /// Each reader has left the file from its start: a mapped file, or a closed image. The readers and the writer have not
 /// failed before.
 ///
-/// On `Ok` the images in what the readers had left give a look, and the bytes of its words were written [image]. The
-/// writer is flushed [flushed].
+/// On `Ok` the images in what the readers had left are of one segment and give a look, and the bytes of its words were
+/// written [image]. The writer is flushed [flushed].
 ///
 /// A fault has its cause in the bytes of one read: `TooLong` and `NotWords` as for a report. Or all were read, and give no
 /// look: `Image` with the first fault of the header of the last, or with `BadSize` where the images have different
-/// lengths; `Adopt` with `OldVersion` where the segment is of version 1 [cause]. `Read` comes exactly where a read failed
+/// lengths; `Adopt` with `OldVersion` where the segment is of version 1; `Changed` where the headers of the reads are of
+/// different segments [cause]. `Read` comes exactly where a read failed
 /// [read], and `Write` exactly where the write or the flush did [write]. `NoMemory` comes where memory runs out. After
 /// every fault but `Write` nothing was written [untouched].
 pub fn look_file<A: Read, B: Read, C: Read, W: Write>(

@@ -5,7 +5,7 @@ use Rattle.clap.specs.declared.error.Error.{Error}
 use Rattle.clap.specs.declared.error.kind.ErrorKind.{ErrorKind}
 use Rattle.clap.specs.declared.error.kind.ErrorKind.TheVariants.{DisplayHelp, DisplayVersion, OutOfMemory}
 use Rattle.persist_report_core.specs.declared.fault.CliFault.{CliFault}
-use Rattle.persist_report_core.specs.declared.fault.CliFault.TheVariants.{Read, Write, TooLong, NotWords, Image, BadLine, Refused, Gate, Merge, NoThread, NoMemory, Adopt, NoSegment, NoHistogram, Bad, Stopped}
+use Rattle.persist_report_core.specs.declared.fault.CliFault.TheVariants.{Read, Write, TooLong, NotWords, Image, BadLine, Refused, Gate, Merge, NoThread, NoMemory, Adopt, NoSegment, NoHistogram, Bad, Stopped, Changed}
 use Rattle.persist_report.specs.declared.failure.Failure.{Failure}
 use Rattle.persist_report.specs.declared.failure.Failure.TheVariants.{Usage, Fault, Explained, Busy, Scale, Clash}
 use Rattle.persist_report.specs.declared.lock.Unopened.{Unopened}
@@ -30,6 +30,7 @@ fault_status NoSegment = 3
 fault_status (NoHistogram name) = 3
 fault_status (Bad reference fault) = 3
 fault_status (Stopped fault) = 3
+fault_status Changed = 3
 
 -- the status of a failure: 2 for a command line that the program does not support, 4 for a file that another process has
 -- locked, and 3 for a scale that has a fault and for families that clash

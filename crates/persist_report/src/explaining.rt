@@ -81,9 +81,8 @@ fn lines_of(
         CliFault::NoHistogram(name) => missing_lines(alloc, known.input, name.as_slice())?,
         CliFault::Bad { reference, fault } => bad_lines(alloc, known.input, *reference, *fault)?,
         CliFault::Stopped(fault) => stopped_lines(alloc, known.input, *fault)?,
-        CliFault::Gate | CliFault::NoThread | CliFault::NoMemory | CliFault::NoSegment => {
-            String::new(alloc)
-        }
+        CliFault::Gate | CliFault::NoThread | CliFault::NoMemory => String::new(alloc),
+        CliFault::NoSegment | CliFault::Changed => String::new(alloc),
     };
     let more = remedy_lines(alloc, fault)?;
     lines.push_str(more.as_str())?;

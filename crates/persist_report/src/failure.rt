@@ -57,7 +57,7 @@ fn fault_status(fault: &CliFault) -> u8
         CliFault::TooLong | CliFault::NotWords | CliFault::Image(_) => 3,
         CliFault::BadLine(_) | CliFault::Refused { .. } => 3,
         CliFault::Gate | CliFault::Merge { .. } | CliFault::Adopt(_) => 3,
-        CliFault::NoSegment => 3,
+        CliFault::NoSegment | CliFault::Changed => 3,
         CliFault::NoHistogram(_) | CliFault::Bad { .. } | CliFault::Stopped(_) => 3,
         CliFault::Read | CliFault::Write => 4,
         CliFault::NoThread | CliFault::NoMemory => 5,

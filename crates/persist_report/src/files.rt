@@ -172,7 +172,7 @@ fn say_what_is_read<R: Files + Eprint>(rt: &R) {
 
 /// Opens the file of an image, or standard input if no file is named, or `-`; or a look at the file, if that is asked for. If no
 /// file is named and standard input is a terminal, this is said. On `Ok` it has not failed [file]; `Usage` comes only for a mistake on the command line [fault].
-pub fn open_image<'a, R: Files + Input + Eprint + AllocGlobal>(
+pub fn open_image<'a, R: Files<File = File> + Input + Eprint + AllocGlobal>(
     context: &Context<'_, R>,
     file: Option<&'a str>,
 ) -> Result<Stream<'a, Incoming<R::File, R::Reader>>, Failure>
@@ -191,7 +191,7 @@ pub fn open_image<'a, R: Files + Input + Eprint + AllocGlobal>(
 /// Writes a form of the image in a file to standard output; of that on standard input if no file is named, or `-`. If no file
 /// is named and standard input is a terminal, this is said. If what was read is not whole and has to be, or lacks a histogram
 /// of a name, that is a fault, which comes after the text. `Usage` comes only for a mistake on the command line.
-pub fn write_file<R: Files + Input + Print + Eprint + AllocGlobal>(
+pub fn write_file<R: Files<File = File> + Input + Print + Eprint + AllocGlobal>(
     context: &Context<'_, R>,
     form: Form<'_>,
     file: Option<&str>,

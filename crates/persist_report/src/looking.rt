@@ -89,15 +89,15 @@ pub fn look_into<'a, R: Files<File = File> + Clock + Input + Print + RandomSourc
 }
 
 // The bytes of the image of a look at the segment in a file, which is read three times.
-fn look_at<R: Files + Input + AllocGlobal>(
+fn look_at<R: Files<File = File> + Input + AllocGlobal>(
     context: &Context<'_, R>,
     file: &str,
 ) -> Result<VecDeque<u8>, Failure>
     ensures { IfErr result UsageIsMistake }
 {
-    let mut first = open(context, file, None)?;
-    let mut second = open(context, file, None)?;
-    let mut third = open(context, file, context.copy())?;
+    let mut first = open_at(context, file, context.at, None)?;
+    let mut second = open_at(context, file, context.at, None)?;
+    let mut third = open_at(context, file, context.at, context.copy())?;
     let mut bytes = Noted::stream(VecDeque::new(context.alloc()), Origin::Output, None);
     let outcome = look_file(
         context.alloc(),
@@ -119,7 +119,7 @@ fn look_at<R: Files + Input + AllocGlobal>(
 
 /// Opens the image of a look at the segment in a file that is in use. On `Ok` it has not failed [file]; `Usage` comes only for
 /// a mistake on the command line, as where no file is named, or `-` [fault].
-pub fn open_look<'a, R: Files + Input + AllocGlobal>(
+pub fn open_look<'a, R: Files<File = File> + Input + AllocGlobal>(
     context: &Context<'_, R>,
     file: Option<&'a str>,
 ) -> Result<Stream<'a, Incoming<R::File, R::Reader>>, Failure>

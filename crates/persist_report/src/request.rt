@@ -40,8 +40,9 @@ pub struct Request<'a> {
     pub explains: bool,
     /// Whether an image that is not whole is a fault.
     pub wants_whole: bool,
-    /// Whether a file in use is looked at.
+    /// Whether a file in use is looked at, and where the segment begins in it.
     pub is_live: bool,
+    pub at: Option<u64>,
     /// How often its text is written; once where that is not said.
     pub repeat: Option<Repeat>,
 }
@@ -204,6 +205,7 @@ impl<'a> Request<'a> {
                     explains,
                     wants_whole: found.get_flag("whole"),
                     is_live: found.get_flag("live"),
+                    at: found.get_one::<u64>("at"),
                     repeat: repeat_found(found),
                 });
             }

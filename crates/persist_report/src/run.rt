@@ -53,6 +53,7 @@ pub fn run<
                 explains,
                 wants_whole,
                 is_live,
+                at,
                 repeat,
             } = request;
             let context = Context {
@@ -60,6 +61,7 @@ pub fn run<
                 explains: explains || is_asked(rt),
                 wants_whole,
                 is_live,
+                at,
             };
             match repeat {
                 None => meet(&context, &task)?,

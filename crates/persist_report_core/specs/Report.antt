@@ -6,7 +6,7 @@ use Rattle.segment_image.specs.declared.head.SegmentHead.{SegmentHead}
 use Rattle.bucket_ranges.specs.Reading.{Reading, IsReading}
 use Rattle.persist_report_core.specs.Input.{image_in, most_bytes}
 use Rattle.persist_report_core.specs.declared.fault.CliFault.{CliFault}
-use Rattle.persist_report_core.specs.declared.fault.CliFault.TheVariants.{Read, Write, TooLong, NotWords, Image, BadLine, Refused, Gate, Merge, NoThread, NoMemory, Adopt, NoSegment, NoHistogram, Bad, Stopped}
+use Rattle.persist_report_core.specs.declared.fault.CliFault.TheVariants.{Read, Write, TooLong, NotWords, Image, BadLine, Refused, Gate, Merge, NoThread, NoMemory, Adopt, NoSegment, NoHistogram, Bad, Stopped, Changed}
 use Rattle.reading_texts.specs.Text.{IsTextOf}
 
 -- The words of the image in an input with these bytes. The words of the input have 64 bits: a number past them would have the bytes of another word.
@@ -35,8 +35,8 @@ abbrev pub IsReportOfBytes : List ℕ → List ℕ → Type 0
 IsReportOfBytes bytes text = IsOfBytes IsTextOf bytes text
 
 -- A fault has its cause in the bytes of the image. Devices that fail and want of memory have none there. The faults of
--- scripts, of merges, of workers and of images that are recorded into again come of no report; nor do those of a reading of
--- which there is a text.
+-- scripts, of merges, of workers, of looks and of images that are recorded into again come of no report; nor do those of a
+-- reading of which there is a text.
 abbrev pub IsCausedByImage : List ℕ → CliFault → Type 0
 IsCausedByImage bytes Read = ⊤
 IsCausedByImage bytes Write = ⊤
@@ -54,3 +54,4 @@ IsCausedByImage bytes NoSegment = ⊥
 IsCausedByImage bytes (NoHistogram name) = ⊥
 IsCausedByImage bytes (Bad reference fault) = ⊥
 IsCausedByImage bytes (Stopped fault) = ⊥
+IsCausedByImage bytes Changed = ⊥

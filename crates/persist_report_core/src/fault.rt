@@ -59,6 +59,9 @@ pub enum CliFault {
     /// The list of the image's records stops before its end, for this reason; the text has all before it.
     #[error("Stopped {0}")]
     Stopped(ImageFault),
+    /// Between the reads of a look another segment took the place of the one in the file.
+    #[error("Changed")]
+    Changed,
 }
 
 // The bytes of a name as text on one line: blanks, letters, digits and signs of ASCII as they are, and any other byte by its
@@ -103,6 +106,7 @@ impl CliFault {
             CliFault::NoHistogram(_) => 14,
             CliFault::Bad { .. } => 15,
             CliFault::Stopped(_) => 16,
+            CliFault::Changed => 17,
         }
     }
 }

@@ -9,5 +9,5 @@ mod numbers;
 mod overview;
 mod spent;
 
-pub use numbers::{put_digits, put_number, put_sign, put_signed};
+pub use numbers::{put_difference, put_digits, put_number, put_sign, put_signed};
 pub use overview::{overview_text, put_overview};

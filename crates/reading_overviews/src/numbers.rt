@@ -1,6 +1,6 @@
 //! How numbers are written.
 
-ghost use Rattle.std.specs.Prelude.{◌≡◌, ◌<◌, ◌++◌, length, OnOk};
+ghost use Rattle.std.specs.Prelude.{◌≡◌, ◌<◌, ◌++◌, ◌-ℤ◌, length, OnOk};
 ghost use Rattle.reading_overviews.specs.Numbers.{has_comma as has_comma_of, comma_text, digit_at, grouped, written, number, sign, signed};
 
 use itoa::Buffer;
@@ -81,5 +81,35 @@ pub fn put_signed(text: &mut Vec<u8>, is_human: bool, n: i128) -> Result<(), All
     put_sign(text, n)?;
     let mut digits = Buffer::new();
     put_digits(text, is_human, digits.format(n.unsigned_abs()).as_bytes())?;
+    Ok(())
+}
+
+// Puts the sign of the difference of two numbers.
+fn put_sign_of_difference(text: &mut Vec<u8>, left: i128, right: i128) -> Result<(), AllocError>
+    ensures { OnOk result (text.new.items ≡ text.old.items ++ sign (left -ℤ right)) }
+{
+    if left < right {
+        text.push(b'-')?;
+    }
+    Ok(())
+}
+
+/// Appends the first number less the second to a text, with its sign, and with a comma between thousands if it is for
+/// people. The difference may be one that no `i128` has. The one error is that memory runs out.
+pub fn put_difference(
+    text: &mut Vec<u8>,
+    is_human: bool,
+    left: i128,
+    right: i128,
+) -> Result<(), AllocError>
+    ensures { OnOk result (text.new.items ≡ text.old.items ++ signed is_human (left -ℤ right)) }
+{
+    put_sign_of_difference(text, left, right)?;
+    let mut digits = Buffer::new();
+    put_digits(
+        text,
+        is_human,
+        digits.format(left.abs_diff(right)).as_bytes(),
+    )?;
     Ok(())
 }

@@ -1,6 +1,6 @@
 //! The units that an image has used.
 
-ghost use Rattle.std.specs.Prelude.{◌≡◌, ◌+◌, ◌/◌, ◌<◌, ◌^◌, All, map};
+ghost use Rattle.std.specs.Prelude.{◌≡◌, ◌+◌, ◌/◌, ◌<◌, ◌^◌, All, map, min};
 ghost use Rattle.image_reader.specs.Readable.{IsReadable};
 ghost use Rattle.image_reader.specs.Views.{histogram_view};
 ghost use Rattle.image_rules.specs.Adoption.{used_by as used_by_of};
@@ -13,7 +13,7 @@ use segment_image::SegmentHead;
 use segment_image::layout::VERSION_FROZEN;
 
 // How much of a sum's size a unit stands for.
-const UNIT_AMOUNT: u64 = 1 << 31;
+const UNIT_AMOUNT: u128 = 1 << 31;
 
 // Whether an image is of version 2.
 pub(crate) fn is_frozen(head: &SegmentHead) -> bool
@@ -23,29 +23,44 @@ pub(crate) fn is_frozen(head: &SegmentHead) -> bool
 }
 
 // The units that an amount of this size stands for.
-fn units_for(size: u64) -> u64
+fn units_for(size: u128) -> u128
     ensures { result ≡ (size + 2147483647) / 2147483648 }
 {
     size.div_ceil(UNIT_AMOUNT)
 }
 
 // The units that a histogram has used as adoption counts them.
-fn used_by(hist: &HistReading) -> u64
+fn used_by(hist: &HistReading) -> u128
     requires { IsReadable (histogram_view hist.now) }
     ensures { result ≡ used_by_of (histogram_view hist.now) }
 {
     let sum = units_for(hist.sum.unsigned_abs());
     let mark = units_for(hist.sum_mark.unsigned_abs());
     let rest = units_for(hist.sum.abs_diff(hist.sum_mark));
-    units(hist).max(hist.redundant.max(sum.max(mark.max(rest))))
+    let counted = u128::from(units(hist));
+    counted.max(u128::from(hist.redundant).max(sum.max(mark.max(rest))))
 }
 
 // The units that a histogram has used: in version 2 those that adoption counts, in version 1 its units.
-fn spent_by(frozen: bool, hist: &HistReading) -> u64
+fn spent_by(frozen: bool, hist: &HistReading) -> u128
     requires { IsReadable (histogram_view hist.now) }
     ensures { result ≡ spent_by_of frozen (histogram_view hist.now) }
 {
-    if frozen { used_by(hist) } else { units(hist) }
+    if frozen {
+        used_by(hist)
+    } else {
+        u128::from(units(hist))
+    }
+}
+
+// So many units and those that come to them; more than 2^64 - 1 count as that.
+fn spent_with(spent: u64, more: u128) -> u64
+    ensures { result ≡ min (spent + more) 18446744073709551615 }
+{
+    match u64::try_from(more) {
+        Ok(more) => spent.saturating_add(more),
+        Err(_) => u64::MAX,
+    }
 }
 
 // Those of all histograms; more than 2^64 - 1 count as that.
@@ -55,7 +70,7 @@ pub(crate) fn spent(frozen: bool, hists: &[HistReading]) -> u64
 {
     let mut spent: u64 = 0;
     for hist in hists {
-        spent = spent.saturating_add(spent_by(frozen, hist));
+        spent = spent_with(spent, spent_by(frozen, hist));
     }
     spent
 }

@@ -12,7 +12,7 @@ ghost use Rattle.reading_shows.specs.Showing.{reaches as reaches_of, quantile as
 use crate::naming::{Naming, is_truth, naming_of, put_range};
 use crate::shares::put_mean;
 use image_reader::HistReading;
-use reading_overviews::{put_number, put_signed};
+use reading_overviews::{put_difference, put_number, put_signed};
 use reading_texts::{HistRow, kind_word, units};
 use std::alloc::AllocError;
 
@@ -133,19 +133,12 @@ fn put_ranks(
     put_ends(text, naming, total, rows)
 }
 
-// Puts a sum.
-fn put_sum(text: &mut Vec<u8>, is_human: bool, sum: i64) -> Result<(), AllocError>
-    ensures { OnOk result (text.new.items ≡ text.old.items ++ signed is_human sum) }
-{
-    put_signed(text, is_human, i128::from(sum))
-}
-
 // Puts the line of the kind, the units, the sum and the mean.
 fn put_number_line(
     text: &mut Vec<u8>,
     is_human: bool,
     kind: &[u8],
-    sum: i64,
+    sum: i128,
     units: u64,
 ) -> Result<(), AllocError>
     ensures { OnOk result (text.new.items ≡ text.old.items ++ number_line is_human kind.now sum units) }
@@ -155,7 +148,7 @@ fn put_number_line(
     text.extend_from_slice(b", units ")?;
     put_number(text, is_human, units)?;
     text.extend_from_slice(b", sum ")?;
-    put_sum(text, is_human, sum)?;
+    put_signed(text, is_human, sum)?;
     text.extend_from_slice(b", mean ")?;
     put_mean(text, is_human, sum, units)?;
     text.extend_from_slice(b"\n")?;
@@ -184,26 +177,20 @@ fn left(hist: &HistReading) -> u64
     left
 }
 
-// The part of the sum that no delta has taken.
-fn sum_left(sum: i64, mark: i64) -> i128
-    ensures { result ≡ sum -ℤ mark }
-{
-    i128::from(sum) - i128::from(mark)
-}
-
-// Puts the line of these units and this sum, which no delta has taken.
+// Puts the line of these units and of a sum less its mark, which no delta has taken.
 fn put_left_text(
     text: &mut Vec<u8>,
     is_human: bool,
     units: u64,
     sum: i128,
+    mark: i128,
 ) -> Result<(), AllocError>
-    ensures { OnOk result (text.new.items ≡ text.old.items ++ left_text is_human units sum) }
+    ensures { OnOk result (text.new.items ≡ text.old.items ++ left_text is_human units (sum -ℤ mark)) }
 {
     text.extend_from_slice(b"  not yet taken by deltas: units ")?;
     put_number(text, is_human, units)?;
     text.extend_from_slice(b", sum ")?;
-    put_signed(text, is_human, sum)?;
+    put_difference(text, is_human, sum, mark)?;
     text.extend_from_slice(b"\n")?;
     Ok(())
 }
@@ -232,12 +219,7 @@ fn put_left(text: &mut Vec<u8>, is_human: bool, hist: &HistReading) -> Result<()
     requires { IsReadable (histogram_view hist.now) }
     ensures { OnOk result (text.new.items ≡ text.old.items ++ left_line is_human (histogram_view hist.now)) }
 {
-    put_left_text(
-        text,
-        is_human,
-        left(hist),
-        sum_left(hist.sum, hist.sum_mark),
-    )
+    put_left_text(text, is_human, left(hist), hist.sum, hist.sum_mark)
 }
 
 // Puts the same line, where a delta has taken something.

@@ -68,7 +68,7 @@ fn number_text(alloc: Global, is_human: bool, n: u64) -> Result<Vec<u8>, AllocEr
 }
 
 // A sum over so many units as a text of its own.
-fn mean_text(alloc: Global, is_human: bool, sum: i64, units: u64) -> Result<Vec<u8>, AllocError>
+fn mean_text(alloc: Global, is_human: bool, sum: i128, units: u64) -> Result<Vec<u8>, AllocError>
     ensures { IfOk result (λ text. text.items ≡ mean is_human sum units) }
 {
     let mut text = Vec::new(alloc);

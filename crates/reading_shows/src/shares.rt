@@ -74,7 +74,7 @@ struct Scaled {
 }
 
 // A size with as many digits after its point as a mean over so many units has.
-fn scale(size: u64, units: u64) -> Scaled
+fn scale(size: u128, units: u64) -> Scaled
     requires { 0 < size }
     ensures digits { result.digits ≡ digits_of_mean size units }
     ensures power { result.power ≡ 10 ^ result.digits }
@@ -82,7 +82,7 @@ fn scale(size: u64, units: u64) -> Scaled
 {
     let wanted = 100 * u128::from(units);
     let mut power = 1;
-    let mut scaled = u128::from(size);
+    let mut scaled = size;
     for digits in 0..23 {
         if wanted <= scaled {
             return Scaled {
@@ -97,7 +97,7 @@ fn scale(size: u64, units: u64) -> Scaled
     Scaled {
         digits: 0,
         power: 1,
-        size: u128::from(size),
+        size,
     }
 }
 
@@ -127,7 +127,7 @@ fn put_with_point(
 fn put_size_of_mean(
     text: &mut Vec<u8>,
     is_human: bool,
-    size: u64,
+    size: u128,
     units: u64,
 ) -> Result<(), AllocError>
     requires { 0 < units }
@@ -146,24 +146,17 @@ fn put_size_of_mean(
     )
 }
 
-// Puts the sign of a sum that is below 0.
-fn put_sign_of(text: &mut Vec<u8>, sum: i64) -> Result<(), AllocError>
-    ensures { OnOk result (text.new.items ≡ text.old.items ++ sign sum) }
-{
-    put_sign(text, i128::from(sum))
-}
-
 // Puts a sum over so many units.
 fn put_mean_of_some(
     text: &mut Vec<u8>,
     is_human: bool,
-    sum: i64,
+    sum: i128,
     units: u64,
 ) -> Result<(), AllocError>
     requires { 0 < units }
     ensures { OnOk result (text.new.items ≡ text.old.items ++ mean_of_some is_human sum units) }
 {
-    put_sign_of(text, sum)?;
+    put_sign(text, sum)?;
     put_size_of_mean(text, is_human, sum.unsigned_abs(), units)?;
     Ok(())
 }
@@ -172,7 +165,7 @@ fn put_mean_of_some(
 pub(crate) fn put_mean(
     text: &mut Vec<u8>,
     is_human: bool,
-    sum: i64,
+    sum: i128,
     units: u64,
 ) -> Result<(), AllocError>
     ensures { OnOk result (text.new.items ≡ text.old.items ++ mean is_human sum units) }

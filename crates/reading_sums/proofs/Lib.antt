@@ -5,3 +5,11 @@ pub mod Totals
 pub mod Nexts
 pub mod Orders
 pub mod Readings
+pub mod Ascending
+pub mod KeyOrder
+pub mod Values
+pub mod HistOrder
+pub mod OneReading
+pub mod Readable
+pub mod Neighbours
+pub mod Buckets

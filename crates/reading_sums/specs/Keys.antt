@@ -1,5 +1,5 @@
 -- The keys of histograms, and what lists of them have together.
-use Rattle.std.specs.Prelude.{◌≡◌, Bool, ℕ, ◌+◌, ◌<◌, ℤ, pos, List, length, map, slice_index, get_or, sum_by, if◌then◌else◌}
+use Rattle.std.specs.Prelude.{◌≡◌, Bool, ℕ, ◌+◌, ◌<◌, ℤ, ◌<ℤ◌, pos, List, length, map, slice_index, get_or, sum_by, if◌then◌else◌}
 use Rattle.std.specs.List.{range_with_len, list_any}
 use Rattle.std.specs.Ordering.{int_eq}
 use Rattle.reading_sums.specs.declared.key.KeySum.{KeySum}
@@ -42,8 +42,9 @@ pub record IsKeyOfBoth (a b both : KeySum) : Type 0 where
   pub units : both.units ≡ a.units + b.units
   pub marks : both.marks ≡ a.marks + b.marks
 
--- where the least key stands there is one, and where it stands in both lists these are keys of one value
+-- where the least key stands there is one, which is below the first of the other list, if that has one; and where it
+-- stands in both lists these are keys of one value
 abbrev pub IsSide : List KeySum → List KeySum → Side → Type 0
-IsSide a b Left = 0 < length a
-IsSide a b Right = 0 < length b
+IsSide a b Left = (0 < length a) × ((d : KeySum) → 0 < length b → (get_or a 0 d).value <ℤ (get_or b 0 d).value)
+IsSide a b Right = (0 < length b) × ((d : KeySum) → 0 < length a → (get_or b 0 d).value <ℤ (get_or a 0 d).value)
 IsSide a b Both = (0 < length a) × (0 < length b) × ((d : KeySum) → (get_or a 0 d).value ≡ (get_or b 0 d).value)

@@ -9,7 +9,8 @@ pub enum SumsFault {
     /// There was no memory.
     #[error("NoMemory")]
     NoMemory = 1,
-    /// A total would not fit: one of units, of marks, of redundant counts or of images 64 bits, or one of amounts 128.
+    /// A total would not fit: the units of a histogram together, or one of marks, of redundant counts or of images 64
+    /// bits, or one of amounts 128.
     #[error("TooMany")]
     TooMany = 2,
 }

@@ -5,10 +5,13 @@ ghost use Rattle.std.specs.Int.{w128};
 ghost use Rattle.std.specs.Ordering.{is_eq};
 ghost use Rattle.image_reader.specs.Views.{histogram_view};
 ghost use Rattle.reading_sums.specs.Totals.{part_from, IsBoth, SameTotals};
+ghost use Rattle.std.specs.List.{All};
+ghost use Rattle.reading_sums.specs.Orders.{hist_cmp, ComesNext};
 ghost use Rattle.reading_sums.specs.Views.{part_of, IsSideOf};
+ghost use Rattle.reading_sums.specs.Whole.{AreWhole, IsWholeHist};
 
 use crate::fault::SumsFault;
-use crate::key::{KeySum, keys_of, keys_of_both};
+use crate::key::{KeySum, fitting_keys_of_both, keys_of};
 use crate::notes::number_of_both;
 use crate::order::{Side, by_spec};
 use bucket_ranges::{CustomValues, Spec};
@@ -38,8 +41,8 @@ pub struct HistSum {
     pub least: u64,
 }
 
-// A copy of a spec.
-fn copy_of_spec(alloc: Global, spec: &Spec) -> Result<Spec, AllocError>
+/// A copy of a spec.
+pub(crate) fn copy_of_spec(alloc: Global, spec: &Spec) -> Result<Spec, AllocError>
     ensures { IfOk result (λ copy. copy ≡ spec.now) }
 {
     Ok(match spec {
@@ -64,8 +67,8 @@ pub(crate) fn sum_of(alloc: Global, number: u64, hist: &HistReading) -> Result<H
         name: Vec::from_slice(alloc, &hist.name)?,
         spec: copy_of_spec(alloc, &hist.spec)?,
         keys: keys_of(alloc, &hist.counts, &hist.marks)?,
-        sum: i128::from(hist.sum),
-        sum_mark: i128::from(hist.sum_mark),
+        sum: hist.sum,
+        sum_mark: hist.sum_mark,
         redundant: hist.redundant,
         images: 1,
         least: number,
@@ -98,12 +101,13 @@ fn amount_of_both(left: &i128, right: &i128) -> Result<i128, SumsFault>
 
 // What two have together, which are of one name and one spec.
 fn both(alloc: Global, left: &HistSum, right: &HistSum) -> Result<HistSum, SumsFault>
-    ensures { IfOk result (λ sum. IsBoth (part_of left.now) (part_of right.now) (part_of sum)) }
+    ensures both { IfOk result (λ sum. IsBoth (part_of left.now) (part_of right.now) (part_of sum)) }
+    ensures whole { IfOk result (λ sum. left.now.spec ≡ right.now.spec → IsWholeHist left.now → IsWholeHist right.now → IsWholeHist sum) }
 {
     Ok(HistSum {
         name: Vec::from_slice(alloc, &left.name)?,
         spec: copy_of_spec(alloc, &left.spec)?,
-        keys: keys_of_both(alloc, &left.keys, &right.keys)?,
+        keys: fitting_keys_of_both(alloc, &left.keys, &right.keys)?,
         sum: amount_of_both(&left.sum, &right.sum)?,
         sum_mark: amount_of_both(&left.sum_mark, &right.sum_mark)?,
         redundant: number_of_both(left.redundant, right.redundant)?,
@@ -112,8 +116,9 @@ fn both(alloc: Global, left: &HistSum, right: &HistSum) -> Result<HistSum, SumsF
     })
 }
 
-// The order of two by name, and of one name by spec.
-fn by_name_and_spec(left: &HistSum, right: &HistSum) -> Ordering
+/// The order of two by name, and of one name by spec.
+pub(crate) fn by_name_and_spec(left: &HistSum, right: &HistSum) -> Ordering
+    ensures order { result ≡ hist_cmp left.now right.now }
     ensures name { is_eq result ≡ true → left.now.name.items ≡ right.now.name.items }
     ensures spec { is_eq result ≡ true → left.now.spec ≡ right.now.spec }
 {
@@ -153,6 +158,8 @@ fn next_hist(
     ensures right { IfOk result (λ next. next.2 ≤ length right.now) }
     ensures some { IfOk result (λ next. 0 < next.1 + next.2) }
     ensures same { IfOk result (λ next. SameTotals (part_of next.0 ∷ (map part_of (drop next.1 left.now) ++ map part_of (drop next.2 right.now))) (map part_of left.now ++ map part_of right.now)) }
+    ensures ordered { IfOk result (λ next. ComesNext hist_cmp next.0 next.1 next.2 left.now right.now) }
+    ensures whole { IfOk result (λ next. All IsWholeHist left.now → All IsWholeHist right.now → IsWholeHist next.0) }
 {
     match side_of(left, right) {
         Side::Left => Ok((copy_of(alloc, &left[0])?, 1, 0)),
@@ -168,7 +175,8 @@ pub(crate) fn sums_of_both(
     left: &[HistSum],
     right: &[HistSum],
 ) -> Result<Vec<HistSum>, SumsFault>
-    ensures { IfOk result (λ hists. SameTotals (map part_of hists.items) (map part_of left.now ++ map part_of right.now)) }
+    ensures same { IfOk result (λ hists. SameTotals (map part_of hists.items) (map part_of left.now ++ map part_of right.now)) }
+    ensures whole { IfOk result (λ hists. AreWhole left.now → AreWhole right.now → AreWhole hists.items) }
 {
     let mut hists = Vec::with_capacity(alloc, left.len().max(right.len()))?;
     let (mut left_rest, mut right_rest) = (left, right);

@@ -1,7 +1,11 @@
 //! The keys of histograms, and their sums.
 
-ghost use Rattle.std.specs.Prelude.{◌≡◌, ◌∷◌, ◌++◌, ◌+◌, ◌<◌, ◌≤◌, drop, length, slice_index, IfOk};
+ghost use Rattle.std.specs.Prelude.{◌≡◌, ◌∷◌, ◌++◌, ◌+◌, ◌<◌, ◌≤◌, ◌^◌, ◌↔◌, true, min, drop, length, slice_index, IfOk};
+ghost use Rattle.std.specs.List.Sorted.{IsStrictlySortedBy};
 ghost use Rattle.reading_sums.specs.Keys.{keys_from, IsKeyOfBoth, SameKeys, IsSide};
+ghost use Rattle.reading_sums.specs.Orders.{key_cmp, ComesNext};
+ghost use Rattle.reading_sums.specs.Shown.{counts_of, marks_of};
+ghost use Rattle.reading_sums.specs.Whole.{units_of};
 
 use crate::fault::SumsFault;
 use crate::order::Side;
@@ -87,6 +91,7 @@ fn next_key(left: &[KeySum], right: &[KeySum]) -> Result<(KeySum, usize, usize),
     ensures right { IfOk result (λ next. next.2 ≤ length right.now) }
     ensures some { IfOk result (λ next. 0 < next.1 + next.2) }
     ensures same { IfOk result (λ next. SameKeys (next.0 ∷ (drop next.1 left.now ++ drop next.2 right.now)) (left.now ++ right.now)) }
+    ensures ordered { IfOk result (λ next. ComesNext key_cmp next.0 next.1 next.2 left.now right.now) }
 {
     match side_of(left, right) {
         Side::Left => Ok((left[0], 1, 0)),
@@ -95,13 +100,10 @@ fn next_key(left: &[KeySum], right: &[KeySum]) -> Result<(KeySum, usize, usize),
     }
 }
 
-/// The keys of two lists together: each has the units and the marks of both. Where both lists ascend, so do they.
-pub(crate) fn keys_of_both(
-    alloc: Global,
-    left: &[KeySum],
-    right: &[KeySum],
-) -> Result<Vec<KeySum>, SumsFault>
-    ensures { IfOk result (λ keys. SameKeys keys.items (left.now ++ right.now)) }
+// The keys of two lists together: each has the units and the marks of both. Where both lists ascend, so do they.
+fn keys_of_both(alloc: Global, left: &[KeySum], right: &[KeySum]) -> Result<Vec<KeySum>, SumsFault>
+    ensures same { IfOk result (λ keys. SameKeys keys.items (left.now ++ right.now)) }
+    ensures ordered { IfOk result (λ keys. IsStrictlySortedBy key_cmp left.now → IsStrictlySortedBy key_cmp right.now → IsStrictlySortedBy key_cmp keys.items) }
 {
     let mut keys = Vec::with_capacity(alloc, left.len().max(right.len()))?;
     let (mut left_rest, mut right_rest) = (left, right);
@@ -112,4 +114,69 @@ pub(crate) fn keys_of_both(
         right_rest = right_rest.split_at(of_right).1;
     }
     Ok(keys)
+}
+
+/// Whether the units of all keys together fit 64 bits.
+pub(crate) fn units_fit(keys: &[KeySum]) -> bool
+    ensures { (result ≡ true) ↔ (units_of keys.now < 2 ^ 64) }
+{
+    let mut units: u64 = 0;
+    for key in keys {
+        match units.checked_add(key.units) {
+            Some(more) => units = more,
+            None => return false,
+        }
+    }
+    true
+}
+
+/// The keys of two lists together, where their units together fit 64 bits.
+pub(crate) fn fitting_keys_of_both(
+    alloc: Global,
+    left: &[KeySum],
+    right: &[KeySum],
+) -> Result<Vec<KeySum>, SumsFault>
+    ensures same { IfOk result (λ keys. SameKeys keys.items (left.now ++ right.now)) }
+    ensures ordered { IfOk result (λ keys. IsStrictlySortedBy key_cmp left.now → IsStrictlySortedBy key_cmp right.now → IsStrictlySortedBy key_cmp keys.items) }
+    ensures small { IfOk result (λ keys. units_of keys.items < 2 ^ 64) }
+{
+    let keys = keys_of_both(alloc, left, right)?;
+    if units_fit(&keys) {
+        Ok(keys)
+    } else {
+        Err(SumsFault::TooMany)
+    }
+}
+
+/// The keys as a reading has them: each value beside its units.
+pub(crate) fn counts_in(alloc: Global, keys: &[KeySum]) -> Result<Vec<(i32, u64)>, AllocError>
+    ensures { IfOk result (λ counts. counts.items ≡ counts_of keys.now) }
+{
+    let mut counts = Vec::with_capacity(alloc, keys.len())?;
+    for key in keys {
+        counts.push((key.value, key.units))?;
+    }
+    Ok(counts)
+}
+
+/// The marks of the keys.
+pub(crate) fn marks_in(alloc: Global, keys: &[KeySum]) -> Result<Vec<u64>, AllocError>
+    ensures { IfOk result (λ marks. marks.items ≡ marks_of keys.now) }
+{
+    let mut marks = Vec::with_capacity(alloc, keys.len())?;
+    for key in keys {
+        marks.push(key.marks)?;
+    }
+    Ok(marks)
+}
+
+/// The units of all keys; where they would pass 64 bits, the greatest number of 64 bits.
+pub(crate) fn units_in(keys: &[KeySum]) -> u64
+    ensures { result ≡ min (units_of keys.now) 18446744073709551615 }
+{
+    let mut units: u64 = 0;
+    for key in keys {
+        units = units.saturating_add(key.units);
+    }
+    units
 }

@@ -6,12 +6,14 @@
 //! they were grouped. A refused call changes nothing.
 #![tactic(auto)]
 
+mod check;
 mod fault;
 mod hist;
 mod key;
 mod laws;
 mod notes;
 mod order;
+mod shown;
 mod sums;
 
 pub use fault::SumsFault;
@@ -19,6 +21,7 @@ pub use hist::HistSum;
 pub use key::KeySum;
 pub use laws::{order_is_nothing, parts_append};
 pub use notes::Notes;
+pub use shown::OtherSpec;
 pub use sums::Sums;
 
 #[cfg(test)]

@@ -1,7 +1,8 @@
 //! The order of the histograms of a sum: by their names, and of one name by their specs.
 
-ghost use Rattle.std.specs.Prelude.{◌≡◌, true};
+ghost use Rattle.std.specs.Prelude.{◌≡◌, true, slice_index};
 ghost use Rattle.std.specs.Ordering.{is_eq};
+ghost use Rattle.reading_sums.specs.Orders.{spec_numbers, spec_cmp};
 
 use bucket_ranges::Spec;
 use std::cmp::Ordering;
@@ -16,7 +17,9 @@ pub(crate) enum Side {
 }
 
 // The place of a kind among the kinds.
-fn rank(spec: &Spec) -> u32 {
+fn rank(spec: &Spec) -> u32
+    ensures { result ≡ slice_index (spec_numbers spec.now) 0 }
+{
     match spec {
         Spec::Linear { .. } => 1,
         Spec::Boolean => 2,
@@ -28,7 +31,8 @@ fn rank(spec: &Spec) -> u32 {
 /// The order of specs: by kind; of linear ones by minimum, maximum and number of buckets, and of custom ones by their
 /// values.
 pub(crate) fn by_spec(left: &Spec, right: &Spec) -> Ordering
-    ensures { is_eq result ≡ true → left.now ≡ right.now }
+    ensures order { result ≡ spec_cmp left.now right.now }
+    ensures same { is_eq result ≡ true → left.now ≡ right.now }
 {
     match (left, right) {
         (
@@ -40,8 +44,7 @@ pub(crate) fn by_spec(left: &Spec, right: &Spec) -> Ordering
             },
         ) => min
             .cmp(other_min)
-            .then(max.cmp(other_max))
-            .then(n.cmp(other_n)),
+            .then(max.cmp(other_max).then(n.cmp(other_n))),
         (Spec::Custom(values), Spec::Custom(others)) => values.as_slice().cmp(others.as_slice()),
         (Spec::Boolean, Spec::Boolean) | (Spec::Sparse, Spec::Sparse) => Ordering::Equal,
         _ => {

@@ -172,7 +172,7 @@ fn names_are_ordered(rt: HostRuntime) -> Result<(), Fail> {
 }
 
 #[test]
-fn a_total_that_would_not_fit(rt: HostRuntime) -> Result<(), Fail> {
+fn units_that_would_not_fit_together(rt: HostRuntime) -> Result<(), Fail> {
     let alloc = rt.alloc();
     let mut sums = Sums::new(alloc);
     let most = u64::MAX;
@@ -180,13 +180,14 @@ fn a_total_that_would_not_fit(rt: HostRuntime) -> Result<(), Fail> {
         1,
         &of_one(
             alloc,
-            hist(alloc, b"s", Spec::Sparse, &[(3, most), (4, 1)])?,
+            hist(alloc, b"s", Spec::Sparse, &[(3, most - 5), (4, 1)])?,
         )?,
     )?;
     sums.add(
         2,
-        &of_one(alloc, hist(alloc, b"s", Spec::Sparse, &[(4, most - 1)])?)?,
+        &of_one(alloc, hist(alloc, b"s", Spec::Sparse, &[(4, 4)])?)?,
     )?;
+    // the units are 2^64 - 1 now: one more fits its key, and does not fit the histogram
     let refused = sums.add(
         3,
         &of_one(alloc, hist(alloc, b"s", Spec::Sparse, &[(3, 1)])?)?,
@@ -197,8 +198,106 @@ fn a_total_that_would_not_fit(rt: HostRuntime) -> Result<(), Fail> {
     let one: &HistSum = &sums.hists()[0];
     assert_eq!(rt;
         one.keys.as_slice(),
-        [key(3, most, 1), key(4, most, 2)].as_slice()
+        [key(3, most - 5, 1), key(4, 5, 2)].as_slice()
     );
     assert_eq!(rt; one.images, 2);
+    Ok(())
+}
+
+// A linear spec of three buckets.
+fn linear() -> Spec {
+    Spec::Linear {
+        min: 1,
+        max: 2,
+        n: 3,
+    }
+}
+
+#[test]
+fn a_reading_has_the_least_number_of_each_name(rt: HostRuntime) -> Result<(), Fail> {
+    let alloc = rt.alloc();
+    let mut sums = Sums::new(alloc);
+    let counts = [(0, 4), (1, 5), (2, 6)];
+    sums.add(3, &of_one(alloc, hist(alloc, b"a", linear(), &counts)?)?)?;
+    sums.add(
+        2,
+        &of_one(alloc, hist(alloc, b"a", Spec::Boolean, &counts)?)?,
+    )?;
+    sums.add(4, &of_one(alloc, hist(alloc, b"a", linear(), &counts)?)?)?;
+    sums.add(
+        9,
+        &of_one(alloc, hist(alloc, b"b", Spec::Sparse, &[(-5, 1)])?)?,
+    )?;
+    let shown = sums.reading(alloc)?;
+    assert_eq!(rt; shown.hists.len(), 2);
+    assert_eq!(rt; shown.hists[0].reference, 0);
+    assert_eq!(rt; shown.hists[0].name.as_slice(), b"a".as_slice());
+    assert_eq!(rt; matches!(&shown.hists[0].spec, Spec::Boolean), true);
+    assert_eq!(rt; shown.hists[0].counts.as_slice(), counts.as_slice());
+    assert_eq!(rt; shown.hists[0].marks.as_slice(), [1, 1, 1].as_slice());
+    assert_eq!(rt; shown.hists[0].redundant, 3);
+    assert_eq!(rt; shown.hists[1].reference, 1);
+    assert_eq!(rt; shown.hists[1].name.as_slice(), b"b".as_slice());
+    assert_eq!(rt; shown.hists[1].counts.as_slice(), [(-5, 1)].as_slice());
+    assert_eq!(rt; shown.full, true);
+    assert_eq!(rt; shown.corrupt, false);
+    let others = sums.others(alloc)?;
+    assert_eq!(rt; others.len(), 1);
+    assert_eq!(rt; others[0].name.as_slice(), b"a".as_slice());
+    assert_eq!(rt; others[0].images, 2);
+    assert_eq!(rt; others[0].units, 30);
+    Ok(())
+}
+
+// What a histogram of a sum has, of a spec and with keys.
+fn hist_sum(
+    alloc: Global,
+    name: &[u8],
+    spec: Spec,
+    keys: &[KeySum],
+) -> Result<HistSum, AllocError> {
+    Ok(HistSum {
+        name: Vec::from_slice(alloc, name)?,
+        spec,
+        keys: Vec::from_slice(alloc, keys)?,
+        sum: 7,
+        sum_mark: 2,
+        redundant: 3,
+        images: 1,
+        least: 5,
+    })
+}
+
+// Whether two histograms are those of a sum.
+fn are_taken(alloc: Global, first: HistSum, second: HistSum) -> Result<bool, AllocError> {
+    let mut hists = Vec::with_capacity(alloc, 2)?;
+    hists.push(first)?;
+    hists.push(second)?;
+    let notes = Sums::new(alloc).notes();
+    Ok(Sums::from_hists(alloc, hists, notes)?.is_some())
+}
+
+#[test]
+fn histograms_of_a_sum(rt: HostRuntime) -> Result<(), Fail> {
+    let alloc = rt.alloc();
+    let buckets = [key(0, 4, 0), key(1, 5, 0), key(2, 6, 0)];
+    let values = [key(-7, 1, 0), key(3, 2, 0)];
+    let turned = [key(3, 2, 0), key(-7, 1, 0)];
+    let most = [key(-7, u64::MAX, 0), key(3, 1, 0)];
+    let boolean = hist_sum(alloc, b"a", Spec::Boolean, &buckets)?;
+    let sparse = hist_sum(alloc, b"a", Spec::Sparse, &values)?;
+    assert_eq!(rt; are_taken(alloc, boolean, sparse)?, true);
+    let boolean = hist_sum(alloc, b"a", Spec::Boolean, &buckets)?;
+    let sparse = hist_sum(alloc, b"a", Spec::Sparse, &values)?;
+    assert_eq!(rt; are_taken(alloc, sparse, boolean)?, false);
+    let boolean = hist_sum(alloc, b"a", Spec::Boolean, &buckets)?;
+    let sparse = hist_sum(alloc, b"a", Spec::Sparse, &turned)?;
+    assert_eq!(rt; are_taken(alloc, boolean, sparse)?, false);
+    let boolean = hist_sum(alloc, b"a", Spec::Boolean, &buckets)?;
+    let sparse = hist_sum(alloc, b"a", Spec::Sparse, &most)?;
+    assert_eq!(rt; are_taken(alloc, boolean, sparse)?, false);
+    let boolean = hist_sum(alloc, b"a", Spec::Boolean, &values)?;
+    let sparse = hist_sum(alloc, b"a", Spec::Sparse, &values)?;
+    assert_eq!(rt; are_taken(alloc, boolean, sparse)?, false);
     Ok(())
 }

@@ -1,6 +1,7 @@
 //! What a histogram of a reading has that its deltas have not taken.
 
-ghost use Rattle.std.specs.Prelude.{◌≡◌, slice_index, IfOk};
+ghost use Rattle.std.specs.Prelude.{◌≡◌, ◌-ℤ◌, slice_index, FitsSigned, IfOk, MatchOption};
+ghost use Rattle.std.specs.Int.{w64};
 ghost use Rattle.segment_merge.specs.Remainder.{IsLeftOf};
 
 use image_reader::HistReading;
@@ -23,7 +24,7 @@ pub struct Remainder {
 pub fn remainder_of(alloc: Global, histogram: &HistReading) -> Result<Option<Remainder>, AllocError>
     ensures { IfOk result (IsLeftOf histogram.now) }
 {
-    let Some(sum) = histogram.sum.checked_sub(histogram.sum_mark) else {
+    let Some(sum) = sum_left(histogram) else {
         return Ok(None);
     };
     let mut items = Vec::with_capacity(alloc, histogram.counts.len())?;
@@ -38,6 +39,14 @@ pub fn remainder_of(alloc: Global, histogram: &HistReading) -> Result<Option<Rem
         }
     }
     Ok(Some(Remainder { items, sum }))
+}
+
+// What is left of the sum, where it fits 64 bits.
+fn sum_left(histogram: &HistReading) -> Option<i64>
+    ensures { MatchOption result (¬ (FitsSigned w64 (histogram.now.sum -ℤ histogram.now.sum_mark))) (λ left. left ≡ histogram.now.sum -ℤ histogram.now.sum_mark) }
+{
+    let left = histogram.sum.checked_sub(histogram.sum_mark)?;
+    i64::try_from(left).ok()
 }
 
 // The mark beside the key of an index, or 0.

@@ -131,7 +131,7 @@ fn reads(
     image: &Image,
     alloc: Global,
     counts: &[(i32, u64)],
-    (sum, redundant): (i64, u64),
+    (sum, redundant): (i128, u64),
 ) -> Result<bool, Fail> {
     let reading = read(alloc, image.words())?;
     Ok(match reading.hists.as_slice() {

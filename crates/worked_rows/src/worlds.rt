@@ -39,7 +39,7 @@ enum Act<'a> {
     // The words have these from an index on.
     Words(usize, &'a [u64]),
     // The words read as one histogram with this reference, these counts and this sum.
-    Reads(u64, &'a [(i32, u64)], i64),
+    Reads(u64, &'a [(i32, u64)], i128),
 }
 
 fn call_of(alloc: Global, name: &[u8], asks: &Asks) -> Result<Call, AllocError> {
@@ -77,7 +77,7 @@ fn has_taken(answer: Option<Answer>, counts: &[(i32, u64)], sum: i64) -> bool {
     }
 }
 
-fn reads(world: &World, alloc: Global, hist: (u64, &[(i32, u64)], i64)) -> Result<bool, Fail> {
+fn reads(world: &World, alloc: Global, hist: (u64, &[(i32, u64)], i128)) -> Result<bool, Fail> {
     let (reference, counts, sum) = hist;
     let reading = read(alloc, world.words())?;
     Ok(match reading.hists.as_slice() {

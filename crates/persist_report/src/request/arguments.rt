@@ -1,7 +1,7 @@
 //! The arguments that several commands have.
 
-use clap::{Arg, ArgAction};
-use std::alloc::Global;
+use clap::{Arg, ArgAction, Command, value_parser};
+use std::alloc::{AllocError, Global};
 
 /// A file that has to be named.
 pub fn file<'a>(alloc: Global, name: &'a str, help: &'a str) -> Arg<'a> {
@@ -26,11 +26,25 @@ pub fn image<'a>(alloc: Global) -> Arg<'a> {
         .long_help("Image file; standard input if it is left out or -")
 }
 
-/// Asks for a look at a file that a process is using.
-pub fn live_flag<'a>(alloc: Global) -> Arg<'a> {
-    Arg::new(alloc, "live")
+/// Where a segment begins that is looked at.
+pub fn at_option<'a>(alloc: Global) -> Arg<'a> {
+    Arg::new(alloc, "at")
+        .long("at")
+        .value_name("BYTE")
+        .value_parser(value_parser!(u64))
+        .help("Where the segment begins in FILE")
+        .long_help(
+            "Where the segment begins in FILE, as in /proc/PID/mem: at the zeros of\na mapped file, or at its image",
+        )
+}
+
+/// Asks for a look at a file that a process is using, and where the segment begins in it.
+pub fn live_options<'a>(alloc: Global, command: Command<'a>) -> Result<Command<'a>, AllocError> {
+    let live = Arg::new(alloc, "live")
         .long("live")
         .action(ArgAction::SetTrue)
         .help("Look at FILE while a process is using it")
-        .long_help("Look at FILE while a process is using it, as `look` does")
+        .long_help("Look at FILE while a process is using it, as `look` does");
+    let at = at_option(alloc).hide_short_help(true).requires_arg("live")?;
+    command.arg(live)?.arg(at)
 }

@@ -1,7 +1,7 @@
 //! The command `info`, and the options of lists.
 
 use crate::request::Task;
-use crate::request::arguments::{explain_flag, image, live_flag};
+use crate::request::arguments::{explain_flag, image, live_options};
 use clap::{Arg, ArgAction, ArgMatches, Command};
 use reading_shows::{ListStyle, Style};
 use std::alloc::{AllocError, Global};
@@ -24,13 +24,12 @@ pub fn info_command<'a>(alloc: Global) -> Result<Command<'a>, AllocError> {
         .long("human")
         .action(ArgAction::SetTrue)
         .help("Write numbers with separators: 1,234,567");
-    Command::new(alloc, "info")
+    let command = Command::new(alloc, "info")
         .about("Show what an image is: version, size, room, units, kinds and damage")
         .after_help("Example:\n  persist_report info my.img")
         .arg(image(alloc))?
-        .arg(human)?
-        .arg(live_flag(alloc))?
-        .arg(explain_flag(alloc))
+        .arg(human)?;
+    live_options(alloc, command)?.arg(explain_flag(alloc))
 }
 
 /// What `info` is asked for.

@@ -1,6 +1,6 @@
 //! The commands that read an image, and `explain`: their arguments, and what these ask for.
 
-use crate::request::arguments::{explain_flag, image, live_flag};
+use crate::request::arguments::{explain_flag, image, live_options};
 use crate::request::info::{list_options, list_style};
 use crate::request::{Task, texts};
 use crate::text_options::{
@@ -29,14 +29,14 @@ pub fn report_command<'a>(alloc: Global) -> Result<Command<'a>, AllocError> {
         .long_help(
             "Print the buckets alone, after a line with the names of the columns:\nfor engines that read CSV",
         );
-    Command::new(alloc, "report")
+    let command = Command::new(alloc, "report")
         .about("Print the histograms of an image as CSV")
         .long_about(texts::REPORT)
         .after_help("Example:\n  persist_report report my.img")
         .arg(image(alloc))?
         .arg(rows)?
-        .arg(to_option(alloc))?
-        .arg(live_flag(alloc))?
+        .arg(to_option(alloc))?;
+    live_options(alloc, command)?
         .arg(whole_flag(alloc))?
         .arg(explain_flag(alloc))
 }
@@ -56,8 +56,8 @@ pub fn export_command<'a>(alloc: Global) -> Result<Command<'a>, AllocError> {
         .arg(prefix)?
         .arg(label_option(alloc))?
         .arg(families_flag(alloc))?
-        .arg(to_option(alloc))?
-        .arg(live_flag(alloc))?;
+        .arg(to_option(alloc))?;
+    let command = live_options(alloc, command)?;
     repeat_options(alloc, command)?
         .arg(whole_flag(alloc))?
         .arg(explain_flag(alloc))
@@ -122,9 +122,8 @@ pub fn show_command<'a>(alloc: Global) -> Result<Command<'a>, AllocError> {
         .arg(part)?
         .arg(html)?;
     let command = list_options(alloc, command)?;
-    let command = style_options(alloc, command)?
-        .arg(to_option(alloc))?
-        .arg(live_flag(alloc))?;
+    let command = style_options(alloc, command)?.arg(to_option(alloc))?;
+    let command = live_options(alloc, command)?;
     repeat_options(alloc, command)?
         .arg(whole_flag(alloc))?
         .arg(explain_counts_flag(alloc))

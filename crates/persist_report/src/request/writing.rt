@@ -1,7 +1,7 @@
 //! The commands that write an image: their arguments, and what these ask for.
 
 use crate::nth::Nth;
-use crate::request::arguments::{explain_flag, file};
+use crate::request::arguments::{at_option, explain_flag, file};
 use crate::request::{Task, texts};
 use crate::workers::Workers;
 use clap::{Arg, ArgMatches, Command, value_parser};
@@ -61,21 +61,13 @@ pub fn merge_command<'a>(alloc: Global) -> Result<Command<'a>, AllocError> {
 
 pub fn look_command<'a>(alloc: Global) -> Result<Command<'a>, AllocError> {
     let out = Arg::new(alloc, "OUT").help("File for the image [default: standard output]");
-    let at = Arg::new(alloc, "at")
-        .long("at")
-        .value_name("BYTE")
-        .value_parser(value_parser!(u64))
-        .help("Where the segment begins in FILE")
-        .long_help(
-            "Where the segment begins in FILE, as in /proc/PID/mem: at the zeros of\na mapped file, or at its image",
-        );
     Command::new(alloc, "look")
         .about("Write the image of a segment that a process is using")
         .long_about(texts::LOOK)
         .after_help("Example:\n  persist_report look my.img now.img")
         .arg(file(alloc, "FILE", "File that a process has mapped, or an image"))?
         .arg(out)?
-        .arg(at)?
+        .arg(at_option(alloc))?
         .arg(explain_flag(alloc))
 }
 

@@ -20,8 +20,8 @@ loop-reference-preserved c =
     let below : i < length read = subst (λ (read : List ℕ). i < length read) value c.loop-reference-test.true in
     let is : histogram_view c.in_ok-hist.hist ≡ view (get_or read i 0) =
     c.in_ok-hist.ensures.hist ∙ ap (λ (read : List ℕ). view (get_or read i 0)) value in
-    used_more view read i below (histogram_view c.in_ok-hist.hist) is c.loop-reference.used c.saturating_add-used.result c.loop-reference.invariant
-    (c.saturating_add-used.ensures ∙ ap (λ n. min (c.loop-reference.used + n) 18446744073709551615) c.used_by.ensures)
+    used_more view read i below (histogram_view c.in_ok-hist.hist) is c.loop-reference.used c.used_with-used.result c.loop-reference.invariant
+    (c.used_with-used.ensures ∙ ap (λ n. min (c.loop-reference.used + n) 18446744073709551615) c.used_by.ensures)
 
 pub returns : goal.returns
 returns c =

@@ -1,5 +1,5 @@
 use Rattle.std.proofs.Common.{◌≡◌, ℕ, ◌≤◌, List, arith, refl, ap, ◌∙◌}
-use mir.Syntax.{w64}
+use mir.Syntax.{w128}
 use mir.Val.{to_z, of_z}
 use Rattle.std.proofs.lemmas.Int.{to_z-of_z}
 use Rattle.segment_image.specs.Blocks.{field_at}
@@ -39,8 +39,8 @@ pub returns : goal.returns
 returns c = λ listed holds.
     let words : List ℕ = c.args.words.now in
     let version : ℕ = c.args.head.now.version in
-    let sum : to_z w64 (of_z w64 c.cast_signed.result) ≡ sum_of words c.args.at = grind (arith, to_z-of_z) in
-    let mark : to_z w64 (of_z w64 c.cast_signed-2.result) ≡ sum_mark_of words c.args.at = grind (arith, to_z-of_z) in
+    let sum : to_z w128 (of_z w128 c.from.result) ≡ sum_of words c.args.at = grind (arith, to_z-of_z) in
+    let mark : to_z w128 (of_z w128 c.from-2.result) ≡ sum_mark_of words c.args.at = grind (arith, to_z-of_z) in
     same_histogram _ (histogram_of version words listed c.args.at) refl c.in_ok-name.ensures c.in_ok-spec.ensures
     (elim c.if-words-at-eq-KIND_SPARSE.branch [
       | then-words-at-eq-KIND_SPARSE+in_ok-of w ↦ ap (λ lists. lists.0.items) w.counts-is

@@ -1,5 +1,5 @@
 use Rattle.std.proofs.Common.{[], ◌∷◌, ◌++◌, rules}
-use mir.Syntax.{w64}
+use mir.Syntax.{w128}
 use mir.Val.{SFits}
 use Rattle.std.proofs.lemmas.Int.{to_z-of_z}
 use Rattle.std.specs.Prelude.{codes}
@@ -12,13 +12,13 @@ use Rattle.reading_shows.proofs.heading.put_number_line.Goals as goal
 pub returns : goal.returns
 returns c =
     let first = c.args.text.now.items in
-    let fits : SFits w64 c.args.sum = search rules in
+    let fits : SFits w128 c.args.sum = search rules in
     let kind = c.args.kind.now in
     let units = number c.args.is_human c.args.units in
     let sum = signed c.args.is_human c.args.sum in
     let average = mean c.args.is_human c.args.sum c.args.units in
-    let summed = rw (to_z-of_z w64 c.args.sum fits) at c.in_ok-put_sum.ensures in
-    let averaged = rw (to_z-of_z w64 c.args.sum fits) at c.in_ok-put_mean.ensures in
+    let summed = rw (to_z-of_z w128 c.args.sum fits) at c.in_ok-put_signed.ensures in
+    let averaged = rw (to_z-of_z w128 c.args.sum fits) at c.in_ok-put_mean.ensures in
     let p1 = codes "  " ∷ kind ∷ [] in
     let p2 = p1 ++ codes ", units " ∷ units ∷ [] in
     let p3 = p2 ++ codes ", sum " ∷ sum ∷ [] in

@@ -1,7 +1,22 @@
 -- What comes next goes behind what was taken before.
+use Rattle.reading_sums.specs.Orders.{hist_cmp}
+use Rattle.reading_sums.proofs.Ascending.{order-step, order-front}
+use Rattle.reading_sums.proofs.HistOrder.{whole-step}
 use Rattle.reading_sums.proofs.Nexts.{parts-step}
 use Rattle.reading_sums.proofs.hist.sums_of_both.Goals as goal
 
 pub loop-left_rest-preserved : goal.loop-left_rest-preserved
-loop-left_rest-preserved c =
-    parts-step _ _ _ _ _ _ _ _ _ _ c.in_ok-push.ensures.items c.split_at.ensures.back c.split_at-in-loop-left_rest.ensures.back c.loop-left_rest.invariant c.in_ok-hist.ensures.same
+loop-left_rest-preserved c = (
+  parts-step _ _ _ _ _ _ _ _ _ _ c.in_ok-push.ensures.items c.split_at.ensures.back c.split_at-in-loop-left_rest.ensures.back c.loop-left_rest.invariant.0 c.in_ok-hist.ensures.same,
+  λ first second. order-step hist_cmp _ _ _ _ _ _ _ _ _ c.in_ok-push.ensures.items c.split_at.ensures.back c.split_at-in-loop-left_rest.ensures.back
+      c.in_ok-hist.ensures.ordered (c.loop-left_rest.invariant.1 first second),
+  λ first second. whole-step _ _ _ _ _ _ _ _ _ c.in_ok-push.ensures.items c.split_at.ensures.back c.split_at-in-loop-left_rest.ensures.back
+      c.in_ok-hist.ensures.whole (c.loop-left_rest.invariant.2 first second),
+)
+
+pub returns-clause-whole : goal.returns-clause-whole
+returns-clause-whole c = λ first second. record {
+  ascending = order-front hist_cmp c.loop-left_rest.hists.items c.loop-left_rest.left_rest.now
+      (c.loop-left_rest.invariant.1 first.ascending second.ascending).0;
+  whole = (c.loop-left_rest.invariant.2 first.whole second.whole).0;
+}

@@ -3,6 +3,8 @@ use Rattle.std.proofs.Common.{◌≡◌, ◌++◌, ◌∷◌, [], List, drop, su
 use Rattle.reading_sums.specs.declared.key.KeySum.{KeySum}
 use Rattle.reading_sums.specs.Keys.{SameKeys}
 use Rattle.reading_sums.proofs.Keys.{keys-step}
+use Rattle.reading_sums.proofs.Ascending.{order-step, order-front}
+use Rattle.reading_sums.specs.Orders.{key_cmp}
 use Rattle.reading_sums.proofs.key.keys_of_both.Goals as goal
 
 pub loop-left_rest-preserved : goal.loop-left_rest-preserved
@@ -13,7 +15,14 @@ loop-left_rest-preserved c =
     let rest : c.split_at.result.1.now ++ c.split_at-in-loop-left_rest.result.1.now ≡ drop c.in_ok-key.of_left left ++ drop c.in_ok-key.of_right right =
     λ i. c.split_at.ensures.back i ++ c.split_at-in-loop-left_rest.ensures.back i in
     let P : List KeySum → Type 0 = λ z. SameKeys (z ++ (c.split_at.result.1.now ++ c.split_at-in-loop-left_rest.result.1.now)) all in
-    let Q : List KeySum → Type 0 = λ z. SameKeys ((c.loop-left_rest.keys.items ++ c.in_ok-key.key ∷ []) ++ z) all in
-    subst P (sym c.in_ok-push.ensures.items) (subst Q (sym rest)
-    (keys-step c.loop-left_rest.keys.items (left ++ right) (drop c.in_ok-key.of_left left ++ drop c.in_ok-key.of_right right) all c.in_ok-key.key
-    c.loop-left_rest.invariant c.in_ok-key.ensures.same))
+    let Q : List KeySum → Type 0 = λ z. SameKeys ((c.loop-left_rest.keys.items ++ c.in_ok-key.key ∷ []) ++ z) all in (
+      subst P (sym c.in_ok-push.ensures.items) (subst Q (sym rest)
+          (keys-step c.loop-left_rest.keys.items (left ++ right) (drop c.in_ok-key.of_left left ++ drop c.in_ok-key.of_right right) all c.in_ok-key.key
+          c.loop-left_rest.invariant.0 c.in_ok-key.ensures.same)),
+      λ first second. order-step key_cmp _ _ _ _ _ _ _ _ _ c.in_ok-push.ensures.items c.split_at.ensures.back c.split_at-in-loop-left_rest.ensures.back
+          c.in_ok-key.ensures.ordered (c.loop-left_rest.invariant.1 first second),
+    )
+
+pub returns-clause-ordered : goal.returns-clause-ordered
+returns-clause-ordered c = λ first second.
+    order-front key_cmp c.loop-left_rest.keys.items c.loop-left_rest.left_rest.now (c.loop-left_rest.invariant.1 first second).0

@@ -6,8 +6,8 @@ use Rattle.bucket_ranges.specs.declared.spec.Spec.TheVariants.{Custom}
 use Rattle.reading_sums.proofs.Orders.{equal-is, lists-equal}
 use Rattle.reading_sums.proofs.order.by_spec.Goals as goal
 
-pub returns-in-Custom-Custom : goal.returns-in-Custom-Custom
-returns-in-Custom-Custom c = λ e.
+pub returns-in-Custom-Custom-clause-same : goal.returns-in-Custom-Custom-clause-same
+returns-in-Custom-Custom-clause-same c = λ e.
     let equal = equal-is c.cmp-in-Custom-Custom.result e in
     let same : c.in-Custom-Custom.values ≡ c.in-Custom-Custom.others =
     lists-equal c.in-Custom-Custom.values c.in-Custom-Custom.others

@@ -1,11 +1,18 @@
 -- The histograms in their order are those of the reading in another.
-use Rattle.std.proofs.Common.{◌≡◌, ◌≤◌, ◌<◌, ◌∷◌, ◌++◌, [], List, Bor, length, map, get_or, ap, sym, ◌∙◌, subst, arith}
+use Rattle.std.proofs.Common.{◌≡◌, ◌≤◌, ◌<◌, ◌∷◌, ◌++◌, [], ℕ, List, Bor, nat_cmp, length, map, get_or, ap, sym, ◌∙◌, subst, arith}
 use Rattle.std.proofs.lemmas.Simd.{map-map}
 use Rattle.std.proofs.lemmas.List.{map-append, map_more, take_all}
-use Rattle.std.proofs.lemmas.List.Sorted.{IsPermutation-map}
+use Rattle.std.proofs.lemmas.List.Sorted.{IsPermutation-map, IsPermutation-sym}
 use Rattle.image_reader.specs.Views.{histogram_view}
 use Rattle.image_reader.specs.declared.reading.HistReading.{HistReading}
 use Rattle.bucket_ranges.specs.Reading.{Histogram}
+use Rattle.std.specs.Str.{bytes_eq}
+use Rattle.std.specs.List.{IsDistinct}
+use Rattle.std.specs.List.Sorted.{IsStrictlySortedBy}
+use Rattle.std.specs.Cmp.Lexicographic.{slice_cmp}
+use Rattle.reading_sums.specs.declared.hist.HistSum.{HistSum}
+use Rattle.reading_sums.specs.Whole.{HasNamesOnce}
+use Rattle.reading_sums.proofs.OneReading.{once-moved, names-ascend, by-name, one-whole}
 use Rattle.reading_sums.specs.Totals.{Part, SameTotals, part_from}
 use Rattle.reading_sums.specs.Views.{part_of}
 use Rattle.reading_sums.proofs.Readings.{same-permutation}
@@ -24,8 +31,8 @@ loop-hist-preserved c =
     ∙ ((λ i. c.loop-hist.invariant i ++ here i ∷ [])
     ∙ sym (map_more part items c.loop-hist.hist-index c.hist-item.result within)))
 
-pub returns : goal.returns
-returns c =
+pub returns-clause-same : goal.returns-clause-same
+returns-clause-same c =
     let part : Bor HistReading → Part = λ hist. part_from c.args.number (histogram_view hist.now) in
     let view : Bor HistReading → Histogram = λ hist. histogram_view hist.now in
     let items : List (Bor HistReading) = c.deref-hist-items.result.now in
@@ -37,8 +44,33 @@ returns c =
     let hists : List Histogram = map histogram_view c.args.hists.now in
     let moved : SameTotals (map (part_from c.args.number) (map view listed)) (map (part_from c.args.number) hists) =
     same-permutation (map (part_from c.args.number) (map view listed)) (map (part_from c.args.number) hists)
-    (IsPermutation-map (part_from c.args.number) (map view listed) hists c.in_ok-ordered.ensures) in
+    (IsPermutation-map (part_from c.args.number) (map view listed) hists c.in_ok-ordered.ensures.same) in
     let P : List Part → Type 0 = λ z. SameTotals (map part_of c.loop-hist.sums.items) z in
     subst P (map-map (part_from c.args.number) histogram_view c.args.hists.now)
     (same-trans (map part_of c.loop-hist.sums.items) (map (part_from c.args.number) (map view listed)) (map (part_from c.args.number) hists)
     (same-equal (map part_of c.loop-hist.sums.items) (map (part_from c.args.number) (map view listed)) parts) moved)
+
+pub returns-clause-whole : goal.returns-clause-whole
+returns-clause-whole c = λ once whole.
+    let part : Bor HistReading → Part = λ hist. part_from c.args.number (histogram_view hist.now) in
+    let view : Bor HistReading → Histogram = λ hist. histogram_view hist.now in
+    let name : Bor HistReading → List ℕ = λ hist. hist.now.name.items in
+    let items : List (Bor HistReading) = c.deref-hist-items.result.now in
+    let listed : List (Bor HistReading) = c.in_ok-ordered.ordered.items in
+    let sums : List HistSum = c.loop-hist.sums.items in
+    let all : length items ≤ c.loop-hist.hist-index = omega (arith, c.loop-hist-test.false) in
+    let parts : map part_of sums ≡ map (part_from c.args.number) (map view listed) =
+    c.loop-hist.invariant ∙ (ap (map part) (take_all c.loop-hist.hist-index items all ∙ c.deref-hist-items.ensures.value)
+    ∙ sym (map-map (part_from c.args.number) view listed)) in
+    let hists : List Histogram = map histogram_view c.args.hists.now in
+    let named : map (λ (h : Histogram). h.name) (map view listed) ≡ map name listed = map-map (λ (h : Histogram). h.name) view listed in
+    let there : HasNamesOnce (map view listed) =
+    once-moved hists (map view listed) (IsPermutation-sym (map view listed) hists c.in_ok-ordered.ensures.same) once in
+    let ascending : IsStrictlySortedBy (slice_cmp nat_cmp) (map name listed) =
+    names-ascend name listed c.in_ok-ordered.ensures.ordered (subst (IsDistinct bytes_eq) named there) in
+    let names : map (λ (h : HistSum). h.name.items) sums ≡ map name listed =
+    sym (map-map (λ (p : Part). p.name) part_of sums) ∙ (ap (map (λ (p : Part). p.name)) parts
+    ∙ (map-map (λ (p : Part). p.name) (part_from c.args.number) (map view listed) ∙ named)) in record {
+      ascending = by-name sums (subst (IsStrictlySortedBy (slice_cmp nat_cmp)) (sym names) ascending);
+      whole = one-whole c.args.number (map view listed) hists sums parts c.in_ok-ordered.ensures.same whole;
+    }

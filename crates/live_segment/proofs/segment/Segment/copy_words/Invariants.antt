@@ -1,8 +1,9 @@
-use Rattle.std.proofs.Common.{length, ◌-◌, ◌≤◌}
+use Rattle.std.proofs.Common.{◌≡◌, ◌≤◌, length, vec_capacity}
 use Rattle.live_segment.proofs.segment.Segment.copy_words.Given as goal
 
-abbrev pub invariant-loop-words : goal.invariant-loop-words
-invariant-loop-words l = length l.words.items ≤ l.size
-
-abbrev pub decreases-loop-words : goal.decreases-loop-words
-decreases-loop-words l = l.size - length l.words.items
+-- so many words are copied, and there is room for all
+abbrev pub invariant-loop-i : goal.invariant-loop-i
+invariant-loop-i l = record {
+  copied : length l.words.items ≡ l.i;
+  room : l.size ≤ vec_capacity l.words;
+}

@@ -1,0 +1,42 @@
+-- What is the first record of its name, or sample of its value, at the last moment, and stood on the list earlier, was the first then.
+use Rattle.segment_invariant.proofs.Prelude.Std.{◌≡◌, ℕ, ◌≤◌, List, refl, sym, ap, subst, ◌∙◌, none, first_longer}
+use Rattle.segment_invariant.proofs.Prelude.Machine.{Dimensions, State, Spec}
+use Rattle.segment_invariant.proofs.Prelude.Invariant.{Anatomy, Record, Sample, Listed, histogram, sample, HasRecord, HasSample, IsFirst, IsFirstOf}
+use Rattle.segment_invariant.specs.Seen.{IsRecordNamed, IsValued}
+use Rattle.segment_invariant.proofs.Blocks.Pieces.{one_stands}
+use Rattle.segment_invariant.proofs.Consistency.Books.{one_first}
+use Rattle.segment_invariant.proofs.Consistency.Firsts.{first_there, first_value_there, record_of_first}
+use Rattle.segment_invariant.proofs.Counting.AddSample.{one_sample}
+use Rattle.segment_invariant.proofs.Frames.LaidOut.{laid_out}
+use Rattle.look_promises.specs.Runs.{RunsThrough}
+use Rattle.look_promises.proofs.Runs.{kept_at, rises_at}
+
+module _ (shape : Dimensions) (opened : Anatomy) (at : ℕ → State) (run : RunsThrough shape opened at) (m last x : ℕ) (le : m ≤ last) where
+  -- the record of a histogram
+  pub first_then : (q r : Record) → HasRecord (kept_at shape opened at run m).anatomy.pieces x q → IsFirst (kept_at shape opened at run last).anatomy.records r.name r.spec x
+      → q.name ≡ r.name → IsFirst (kept_at shape opened at run m).anatomy.records q.name q.spec x
+  first_then q r was its called =
+      let kept = kept_at shape opened at run m in
+      let after = kept_at shape opened at run last in
+      let (kind, place, mine) = first_there kept.anatomy.records q.name _ (kept.list.alone x (histogram q) was) (q.spec, refl) in
+      let (behind, longer) = (rises_at shape opened at run m last le).records in
+      let later : IsFirst after.anatomy.records q.name kind place = subst (λ (records : List Listed). IsFirst records q.name kind place) (sym longer)
+      (first_longer (IsRecordNamed q.name) kept.anatomy.records behind _ mine) in
+      let (at_x, same) = one_first shape opened (at last) after r.name kind r.spec place x
+      (subst (λ (name : List ℕ). IsFirst after.anatomy.records name kind place) called later) its in
+      let here : IsFirst kept.anatomy.records q.name kind x = subst (λ (place : ℕ). IsFirst kept.anatomy.records q.name kind place) at_x mine in
+      let (p, (stands, named, specified)) = record_of_first shape opened (at m).words (laid_out shape opened (at m) kept) q.name kind x here in
+      let one : p ≡ q = cc (one_stands shape (at m).words kept.anatomy kept.shown x none none (histogram p) (histogram q) stands was).1 in
+      subst (λ (kind : Spec). IsFirst kept.anatomy.records q.name kind x) (sym specified ∙ ap (λ (p : Record). p.spec) one) here
+
+  -- a sample
+  pub value_then : (t : Sample) → HasSample (kept_at shape opened at run m).anatomy.pieces x t → IsFirstOf (kept_at shape opened at run last).anatomy.records t.of t.value x
+      → IsFirstOf (kept_at shape opened at run m).anatomy.records t.of t.value x
+  value_then t was its =
+      let kept = kept_at shape opened at run m in
+      let after = kept_at shape opened at run last in
+      let (place, mine) = first_value_there kept.anatomy.records t.of t.value _ (kept.list.alone x (sample t) was) refl in
+      let (behind, longer) = (rises_at shape opened at run m last le).records in
+      let later : IsFirstOf after.anatomy.records t.of t.value place = subst (λ (records : List Listed). IsFirstOf records t.of t.value place) (sym longer)
+      (first_longer (IsValued t.of t.value) kept.anatomy.records behind _ mine) in
+      subst (IsFirstOf kept.anatomy.records t.of t.value) (one_sample after.anatomy.records t.of t.value place x later its) mine

@@ -1,0 +1,10 @@
+pub mod Notes
+pub mod Noted
+pub mod Certificate
+pub mod Views
+pub mod CountWords
+pub mod Records
+pub mod Reads
+pub mod Keys
+pub mod Then
+pub mod Openings

@@ -1,0 +1,7 @@
+use Rattle.std.proofs.Common.{◌≡◌, take}
+use Rattle.reading_sums.specs.Shown.{counts_of}
+use Rattle.reading_sums.proofs.key.counts_in.Given as goal
+
+-- those so far
+abbrev pub invariant-loop-key : goal.invariant-loop-key
+invariant-loop-key l = l.counts.items ≡ counts_of (take l.key-index l.keys)

@@ -1,0 +1,81 @@
+-- Which histograms are whole, and which sums are well formed.
+use Rattle.std.specs.Prelude.{◌≡◌, ℕ, ◌<◌, ◌^◌, ℤ, pos, List, ◌∷◌, map, take, sum_by, None, ⊤}
+use Rattle.std.specs.Ordering.{nat_cmp}
+use Rattle.std.specs.Str.{bytes_eq}
+use Rattle.std.specs.List.{All, IsDistinct}
+use Rattle.std.specs.List.Sorted.{IsStrictlySortedBy}
+use Rattle.bucket_ranges.specs.declared.spec.Spec.{Spec}
+use Rattle.bucket_ranges.specs.declared.spec.Spec.TheVariants.{Linear, Boolean, Custom, Sparse}
+use Rattle.bucket_ranges.specs.Spec.{spec_fault, buckets_of}
+use Rattle.bucket_ranges.specs.Ranges.{boundaries_of}
+use Rattle.bucket_ranges.specs.Reading.{Histogram, Reading}
+use Rattle.reading_sums.specs.declared.hist.HistSum.{HistSum}
+use Rattle.reading_sums.specs.declared.key.KeySum.{KeySum}
+use Rattle.reading_sums.specs.declared.sums.Sums.{Sums}
+use Rattle.reading_sums.specs.Keys.{keys_from}
+use Rattle.reading_sums.specs.Orders.{hist_cmp, key_cmp}
+
+-- the values of keys
+abbrev pub values_of : List KeySum → List ℤ
+values_of keys = map (λ key. key.value) keys
+
+-- the units of all keys
+abbrev pub units_of : List KeySum → ℕ
+units_of keys = sum_by (λ key. key.units) keys
+
+-- the least values of the buckets of a spec
+abbrev pub lows_of : Spec → List ℤ
+lows_of spec = map pos (take (buckets_of spec) (boundaries_of spec))
+
+-- the keys are as many as buckets, each the least value of its bucket; where there are no buckets they may be any
+abbrev pub AreBuckets : Spec → List KeySum → Type 0
+AreBuckets (Linear min max n) keys = values_of keys ≡ lows_of (Linear min max n)
+AreBuckets Boolean keys = values_of keys ≡ lows_of Boolean
+AreBuckets (Custom values) keys = values_of keys ≡ lows_of (Custom values)
+AreBuckets Sparse keys = ⊤
+
+-- the values of a custom spec ascend from 1, as a segment has them
+abbrev pub IsInForm : Spec → Type 0
+IsInForm (Linear min max n) = ⊤
+IsInForm Boolean = ⊤
+IsInForm (Custom values) = IsStrictlySortedBy nat_cmp (0 ∷ values)
+IsInForm Sparse = ⊤
+
+-- a lawful spec and the whole list of keys of a histogram of it: they ascend, they are its buckets, and their units fit 64 bits
+pub record IsWholeList (spec : Spec) (keys : List KeySum) : Type 0 where
+  pub lawful : spec_fault spec ≡ None
+  pub form : IsInForm spec
+  pub ascending : IsStrictlySortedBy key_cmp keys
+  pub buckets : AreBuckets spec keys
+  pub small : units_of keys < 2 ^ 64
+
+-- a histogram of a sum that is whole
+abbrev pub IsWholeHist : HistSum → Type 0
+IsWholeHist hist = IsWholeList hist.spec hist.keys.items
+
+-- a histogram whose spec is lawful, and whose keys are its buckets
+pub record HasItsBuckets (hist : HistSum) : Type 0 where
+  pub lawful : spec_fault hist.spec ≡ None
+  pub buckets : AreBuckets hist.spec hist.keys.items
+
+-- histograms that ascend by name and spec, each of them whole: so each name and spec is there once
+pub record AreWhole (hists : List HistSum) : Type 0 where
+  pub ascending : IsStrictlySortedBy hist_cmp hists
+  pub whole : All IsWholeHist hists
+
+-- a sum whose histograms are so
+abbrev pub IsWellFormed : Sums → Type 0
+IsWellFormed sums = AreWhole sums.hists.items
+
+-- a histogram of a reading that is whole
+abbrev pub IsWholeHistogram : Histogram → Type 0
+IsWholeHistogram hist = IsWholeList hist.spec (keys_from hist.counts hist.marks)
+
+-- each name is there once
+abbrev pub HasNamesOnce : List Histogram → Type 0
+HasNamesOnce hists = IsDistinct bytes_eq (map (λ (hist : Histogram). hist.name) hists)
+
+-- a reading that has each name once, and whose histograms are whole
+pub record IsWholeReading (reading : Reading) : Type 0 where
+  pub names : HasNamesOnce reading.hists
+  pub whole : All IsWholeHistogram reading.hists

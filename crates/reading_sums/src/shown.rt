@@ -1,0 +1,121 @@
+//! Which histograms of a sum are shown: of each name the one of the least number.
+
+ghost use Rattle.std.specs.Prelude.{◌≡◌, ◌<◌, ◌≤◌, length, map, min, IfOk};
+ghost use Rattle.std.specs.List.{All};
+ghost use Rattle.image_reader.specs.Readable.{IsReadable};
+ghost use Rattle.image_reader.specs.Views.{histogram_view};
+ghost use Rattle.reading_sums.specs.Shown.{shown_at, IsOtherOf};
+ghost use Rattle.reading_sums.specs.Views.{part_of};
+ghost use Rattle.reading_sums.specs.Whole.{IsWholeHist};
+
+use crate::hist::{HistSum, copy_of_spec};
+use crate::key::{counts_in, marks_in, units_in};
+use image_reader::HistReading;
+use std::alloc::{AllocError, Global};
+
+/// What a sum has of a name under a spec that is not shown.
+#[derive(Debug, Drop)]
+pub struct OtherSpec {
+    /// The bytes of the name.
+    pub name: Vec<u8>,
+    /// How many images have such a histogram.
+    pub images: u64,
+    /// The units of it; where they would pass 64 bits, the greatest number of 64 bits.
+    pub units: u64,
+}
+
+// How many histograms at the front of a list have the name of its first.
+fn run_length(hists: &[HistSum]) -> usize
+    requires { 0 < length hists.now }
+    ensures some { 0 < result }
+    ensures within { result ≤ length hists.now }
+{
+    for i in 1..hists.len() {
+        if hists[i].name != hists[0].name {
+            return i;
+        }
+    }
+    hists.len()
+}
+
+// Where the least number stands first.
+fn least_of(hists: &[HistSum]) -> usize
+    requires { 0 < length hists.now }
+    ensures { result < length hists.now }
+{
+    let mut least = 0;
+    for i in 1..hists.len() {
+        if hists[i].least < hists[least].least {
+            least = i;
+        }
+    }
+    least
+}
+
+// What a histogram of a sum reads as, with an index as reference.
+fn reading_of(alloc: Global, index: usize, hist: &HistSum) -> Result<HistReading, AllocError>
+    ensures { IfOk result (λ reading. histogram_view reading ≡ shown_at index (part_of hist.now)) }
+{
+    Ok(HistReading {
+        reference: index as u64,
+        name: Vec::from_slice(alloc, &hist.name)?,
+        spec: copy_of_spec(alloc, &hist.spec)?,
+        counts: counts_in(alloc, &hist.keys)?,
+        marks: marks_in(alloc, &hist.keys)?,
+        sum: hist.sum,
+        sum_mark: hist.sum_mark,
+        redundant: hist.redundant,
+    })
+}
+
+/// What the histograms of a sum read as: of each name the first that has the least number. They are readable if those
+/// of the sum are whole.
+pub(crate) fn readings_of(alloc: Global, hists: &[HistSum]) -> Result<Vec<HistReading>, AllocError>
+    ensures { IfOk result (λ readings. All IsWholeHist hists.now → All IsReadable (map histogram_view readings.items)) }
+{
+    let mut readings = Vec::new(alloc);
+    let mut rest = hists;
+    while !rest.is_empty() {
+        let (run, more) = rest.split_at(run_length(rest));
+        let index = readings.len();
+        readings.push(reading_of(alloc, index, &run[least_of(run)])?)?;
+        rest = more;
+    }
+    Ok(readings)
+}
+
+// What is told of a histogram that is not shown.
+fn other_of(alloc: Global, hist: &HistSum) -> Result<OtherSpec, AllocError>
+    ensures { IfOk result (IsOtherOf (part_of hist.now)) }
+{
+    Ok(OtherSpec {
+        name: Vec::from_slice(alloc, &hist.name)?,
+        images: hist.images,
+        units: units_in(&hist.keys),
+    })
+}
+
+// Puts what is told of the histograms of one name behind others, but for the one that is shown.
+fn put_others(alloc: Global, others: &mut Vec<OtherSpec>, run: &[HistSum]) -> Result<(), AllocError>
+    requires { 0 < length run.now }
+{
+    let shown = least_of(run);
+    for i in 0..run.len() {
+        if i != shown {
+            others.push(other_of(alloc, &run[i])?)?;
+        }
+    }
+    Ok(())
+}
+
+/// What is told of the histograms of a sum that are not shown, by their names.
+pub(crate) fn others_of(alloc: Global, hists: &[HistSum]) -> Result<Vec<OtherSpec>, AllocError> {
+    let mut others = Vec::new(alloc);
+    let mut rest = hists;
+    while !rest.is_empty() {
+        let (run, more) = rest.split_at(run_length(rest));
+        put_others(alloc, &mut others, run)?;
+        rest = more;
+    }
+    Ok(others)
+}

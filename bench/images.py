@@ -159,14 +159,16 @@ def sparse(size: int) -> Image:
     return sparse_samples(size, is_scattered=False)
 
 
-def linear_histograms(size: int, spec: tuple[int, int, int], name_length: int, most_count: int) -> Image:
-    """As many linear histograms as fit, with all counts used and names in no order."""
+def linear_histograms(
+    size: int, spec: tuple[int, int, int], names: Iterable[str], most_count: int, seed: int = 3
+) -> Image:
+    """As many linear histograms as fit, at most one for each name, with all counts used."""
     n = spec[2]
     boundaries = linear_boundaries(*spec)
     segment = Segment(size)
-    chance = random.Random(3)
+    chance = random.Random(seed)
     by_name = {}
-    for name in names_of(size // (2 * n), name_length):
+    for name in names:
         name_words = words_of(name)
         at = segment.block(15 + len(name_words), HISTOGRAM)
         counts_at = segment.block(4 + 2 * n, COUNTS) if at is not None else None
@@ -186,12 +188,13 @@ def linear_histograms(size: int, spec: tuple[int, int, int], name_length: int, m
 
 def linear(size: int) -> Image:
     """Linear histograms of 30 buckets, each with its own block of counts, all of them used."""
-    return linear_histograms(size, (1, 10_000, 30), 8, 16_000)
+    return linear_histograms(size, (1, 10_000, 30), names_of(size // 60), 16_000)
 
 
 def largest(size: int) -> Image:
     """Linear histograms of 1,000 buckets with names of 128 bytes and all counts used: the longest of these reports."""
-    return linear_histograms(size, (1_000_000_000, GREATEST - 1, MOST_BUCKETS), 128, 10_000)
+    names = names_of(size // (2 * MOST_BUCKETS), 128)
+    return linear_histograms(size, (1_000_000_000, GREATEST - 1, MOST_BUCKETS), names, 10_000)
 
 
 def distinct_limits(count: int) -> list[int]:

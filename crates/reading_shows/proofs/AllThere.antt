@@ -1,5 +1,5 @@
 -- What is not found, and what holds of all.
-use Rattle.std.proofs.Common.{◌≡◌, ◌||◌, Bool, map, true, false, not, cond, List, [], ◌∷◌, Option, Some, None, All, refl, ap}
+use Rattle.std.proofs.Common.{◌≡◌, ◌||◌, Bool, map, true, false, not, cond, List, [], ◌∷◌, Option, Some, All, refl, ap}
 use Rattle.std.specs.Prelude.{◌↔◌, is_some}
 use Rattle.std.specs.List.{find, list_any}
 use Rattle.std.proofs.lemmas.List.Elements.{All-nil, All-cons, All-head, All-tail}

@@ -23,7 +23,7 @@ units-first hist (suc k) h =
     subst (λ n. sum_by (λ (row : HistRow). row.units) (map (row_at hist) (range_with_len 0 n)) ≡ sum_by (λ count. count.1) (take n hist.counts)) next
     (rows ∙ (ap (λ n. n + (get_or hist.counts k (pos 0, 0)).1) before ∙ sym counts))
 
-units-all : (hist : Histogram) → sum_by (λ (row : HistRow). row.units) (rows_of hist) ≡ units_of hist
+pub units-all : (hist : Histogram) → sum_by (λ (row : HistRow). row.units) (rows_of hist) ≡ units_of hist
 units-all hist =
     units-first hist (length hist.counts) (omega arith) ∙ ap (sum_by (λ count. count.1)) (take_all (length hist.counts) hist.counts (omega arith))
 

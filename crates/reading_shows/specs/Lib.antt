@@ -9,6 +9,8 @@ pub mod Heights
 pub mod Choice
 pub mod Missing
 pub mod Most
+pub mod Since
+pub mod SinceViews
 pub mod Showing
 pub mod Listing
 pub mod ListViews

@@ -3,7 +3,7 @@ use Rattle.std.specs.Prelude.{◌≡◌, Bool, not, true, ℕ, List, [], Option,
 use Rattle.std.specs.Borrow.{Bor}
 use Rattle.std.specs.List.{find, list_any}
 use Rattle.std.specs.Str.{bytes_eq}
-use Rattle.bucket_ranges.specs.Reading.{Histogram, Reading}
+use Rattle.bucket_ranges.specs.Reading.{Reading}
 use Rattle.reading_shows.specs.declared.choice.Choice.{Choice}
 use Rattle.reading_shows.specs.declared.choice.Choice.TheVariants.{All as Everything, Named, Part}
 

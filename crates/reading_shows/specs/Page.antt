@@ -38,7 +38,7 @@ title numbered =
 abbrev pub section : Bool → ℕ × Histogram → List ℕ
 section all numbered =
     title numbered
-    ++ number_lines true numbered.1
+    ++ number_lines true 0 numbered.1
     ++ codes "</p>\n"
     ++ table all numbered.1
 

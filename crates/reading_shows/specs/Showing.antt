@@ -22,16 +22,17 @@ use Rattle.reading_shows.specs.Most.{shown_rows, left_out_rows}
 use Rattle.reading_shows.specs.Naming.{naming_of, is_truth, range_text, has_line}
 use Rattle.reading_shows.specs.Columns.{at_right, times}
 use Rattle.reading_shows.specs.Shares.{mean, percent}
+use Rattle.reading_shows.specs.Since.{Since, untold, told_since, counts_before, came_to_rows, came_to_all, came_text}
 use Rattle.reading_shows.specs.Bars.{bar}
 use Rattle.reading_shows.specs.Heights.{height_of}
 
 -- ---- the head of a histogram
 
--- the line of the kind, the units, the sum and the mean
-abbrev pub number_line : Bool → List ℕ → ℤ → ℕ → List ℕ
-number_line is_human kind sum units =
+-- the line of the kind, the units and what came to them, the sum and the mean
+abbrev pub number_line : Bool → List ℕ → ℤ → ℕ → ℕ → List ℕ
+number_line is_human kind sum units came =
     joined (
-    codes "  " ∷ kind ∷ codes ", units " ∷ number is_human units ∷ codes ", sum "
+    codes "  " ∷ kind ∷ codes ", units " ∷ number is_human units ∷ came_text is_human came ∷ codes ", sum "
     ∷ signed is_human sum ∷ codes ", mean " ∷ mean is_human sum units ∷ codes "\n" ∷ [])
 
 -- whether the units up to a row are so many thousandths of all, or more
@@ -94,10 +95,10 @@ left_line is_human hist = left_text is_human (left_of hist) (hist.sum -ℤ hist.
 abbrev pub taken_line : Bool → Histogram → List ℕ
 taken_line is_human hist = if was_taken hist then left_line is_human hist else []
 
--- the lines of all these numbers
-abbrev pub number_lines : Bool → Histogram → List ℕ
-number_lines is_human hist =
-    number_line is_human (kind_word hist.spec) hist.sum (units_of hist)
+-- the lines of all these numbers, where so many units came
+abbrev pub number_lines : Bool → ℕ → Histogram → List ℕ
+number_lines is_human came hist =
+    number_line is_human (kind_word hist.spec) hist.sum (units_of hist) came
     ++ rank_lines (naming_of hist.spec) (units_of hist) (rows_of hist)
     ++ taken_line is_human hist
 
@@ -120,26 +121,37 @@ begins_gap naming rows i = not (is_truth naming) && ((i == 0) || has_units (row_
 abbrev pub widened : Naming → ℕ → HistRow → ℕ
 widened naming width row = if has_line naming row then max width (length (range_text naming row)) else width
 
+-- how wide the column of the units that came is, a blank before them included: as wide as they or their head need; 0 where
+-- nothing is told of them
+abbrev pub came_width : Bool → Bool → List ℕ → ℕ
+came_width is_human is_told cames = if is_told then max 4 (length (came_text is_human (fold max 0 cames))) else 0
+
 -- how wide the columns of a histogram are: values and units as wide as they or their heads need, and the bars fill the line
-abbrev pub columns_of : Style → Frame → List HistRow → LineColumns
-columns_of style frame rows =
+abbrev pub columns_of : Style → Frame → Bool → List ℕ → List HistRow → LineColumns
+columns_of style frame is_told cames rows =
     let values = fold (widened frame.naming) 6 rows in
     let units = max 5 (length (number style.is_human frame.most)) in
-    record { values = values; bars = style.width - values - units - 20; units = units }
+    let came = came_width style.is_human is_told cames in
+    record { values = values; bars = style.width - values - units - came - 20; units = units; came = came }
+
+-- the head of the column of the units that came, where there is one
+abbrev pub came_head : ℕ → List ℕ
+came_head width = if width == 0 then [] else at_right width (codes " new")
 
 -- the heads of the columns
 abbrev pub head_line : LineColumns → List ℕ
 head_line columns =
     joined (
     codes "  " ∷ at_right columns.values (codes "values") ∷ codes "  " ∷ times columns.bars (codes " ")
-    ∷ at_right columns.units (codes "units") ∷ codes " percent   up to\n" ∷ [])
+    ∷ at_right columns.units (codes "units") ∷ came_head columns.came ∷ codes " percent   up to\n" ∷ [])
 
--- the line of a row: its values, its bar, its units, their percent, and the percent up to it
-abbrev pub unit_line : Style → LineColumns → Frame → HistRow → List ℕ
-unit_line style columns frame row =
+-- the line of a row: its values, its bar, its units and those of them that came, their percent, and the percent up to it
+abbrev pub unit_line : Style → LineColumns → Frame → HistRow → ℕ → List ℕ
+unit_line style columns frame row came =
     joined (
     codes "  " ∷ at_right columns.values (range_text frame.naming row) ∷ codes " "
     ∷ bar style.is_ascii columns.bars (height_of style.is_log row.units) (height_of style.is_log frame.most) ∷ codes " " ∷ at_right columns.units (number style.is_human row.units)
+    ∷ at_right columns.came (came_text style.is_human came)
     ∷ at_right 8 (percent (codes "<0.1%") row.units frame.total)
     ∷ at_right 8 (percent (codes "<0.1%") row.up_to frame.total) ∷ codes "\n" ∷ [])
 
@@ -148,18 +160,20 @@ abbrev pub gap_line : LineColumns → List ℕ
 gap_line columns = joined (codes "  " ∷ at_right columns.values (codes "...") ∷ codes "\n" ∷ [])
 
 -- the line of row `i`; rows without lines that stand side by side have the line of a gap together
-abbrev pub line_at : Style → LineColumns → Frame → List HistRow → ℕ → List ℕ
-line_at style columns frame rows i =
-    if has_line frame.naming (row_or_none rows i) then unit_line style columns frame (row_or_none rows i)
+abbrev pub line_at : Style → LineColumns → Frame → List ℕ → List HistRow → ℕ → List ℕ
+line_at style columns frame cames rows i =
+    if has_line frame.naming (row_or_none rows i) then unit_line style columns frame (row_or_none rows i) (get_or cames i 0)
     else (if begins_gap frame.naming rows i then gap_line columns else [])
 
 -- the lines of rows in these columns
-abbrev pub lines_in : Style → LineColumns → Frame → List HistRow → List ℕ
-lines_in style columns frame rows = head_line columns ++ flat_map (line_at style columns frame rows) (range_with_len 0 (length rows))
+abbrev pub lines_in : Style → LineColumns → Frame → List ℕ → List HistRow → List ℕ
+lines_in style columns frame cames rows =
+    head_line columns ++ flat_map (line_at style columns frame cames rows) (range_with_len 0 (length rows))
 
--- the lines of rows; where there are none, there are no heads either
-abbrev pub row_lines : Style → Frame → List HistRow → List ℕ
-row_lines style frame rows = if length rows == 0 then [] else lines_in style (columns_of style frame rows) frame rows
+-- the lines of rows, to each of which so many units came, where this is told; where there are no rows, there are no heads either
+abbrev pub row_lines : Style → Frame → Bool → List ℕ → List HistRow → List ℕ
+row_lines style frame is_told cames rows =
+    if length rows == 0 then [] else lines_in style (columns_of style frame is_told cames rows) frame cames rows
 
 -- what a word for so many has at its end
 abbrev pub plural : ℕ → List ℕ
@@ -204,17 +218,25 @@ frame_of hist = record {
 abbrev pub shows_all_of : Bool → Histogram → Bool
 shows_all_of all hist = all || not (is_sparse hist.spec)
 
--- a histogram
-abbrev pub histogram_text : Style → Histogram → List ℕ
-histogram_text style hist =
+-- the lines of the rows of a histogram that have some, where it had these counts before
+abbrev pub shown_lines : Style → Bool → List (ℤ × ℕ) → Histogram → List HistRow → List ℕ
+shown_lines style is_told before hist rows = row_lines style (frame_of hist) is_told (came_to_rows is_told before rows) rows
+
+-- a histogram that had these counts before, where it is told what came since
+abbrev pub text_behind : Style → Bool → List (ℤ × ℕ) → Histogram → List ℕ
+text_behind style is_told before hist =
     hist.name
     ++ codes "\n"
     ++ meanwhile_line style hist
-    ++ number_lines style.is_human hist
-    ++ row_lines style (frame_of hist) (shown_rows (shows_all_of style.shows_all hist) (rows_of hist))
+    ++ number_lines style.is_human (came_to_all is_told before (rows_of hist)) hist
+    ++ shown_lines style is_told before hist (shown_rows (shows_all_of style.shows_all hist) (rows_of hist))
     ++ left_out_line style.is_human (left_out_rows (shows_all_of style.shows_all hist) (rows_of hist))
     ++ redundant_line style hist
     ++ codes "\n"
+
+-- a histogram, and what came to it since an earlier reading, where that is told
+abbrev pub histogram_text : Style → Since → Histogram → List ℕ
+histogram_text style since hist = text_behind style since.is_told (counts_before since.hists hist) hist
 
 -- ---- the end
 
@@ -253,9 +275,18 @@ pub record AreShown (choice : Choice) (hists : List Histogram) (reading : Readin
   pub ascending : IsSortedByKey (λ hist. hist.name) (slice_cmp nat_cmp) hists
 
 -- the text of a reading, of which these histograms are shown in this order
-abbrev pub text_in_order : Style → List Histogram → Reading → List ℕ
-text_in_order style hists reading = flat_map (histogram_text style) hists ++ ending hists reading
+abbrev pub text_in_order : Style → Since → List Histogram → Reading → List ℕ
+text_in_order style since hists reading = flat_map (histogram_text style since) hists ++ ending hists reading
+
+-- the text of a reading, and of what came since an earlier one, where that is told
+abbrev pub IsShowTold : Style → Choice → Since → Reading → List ℕ → Type 0
+IsShowTold style choice since reading text =
+    (hists : List Histogram) × AreShown choice hists reading × (text ≡ text_in_order style since hists reading)
 
 -- the text of a reading
 abbrev pub IsShowOf : Style → Choice → Reading → List ℕ → Type 0
-IsShowOf style choice reading text = (hists : List Histogram) × AreShown choice hists reading × (text ≡ text_in_order style hists reading)
+IsShowOf style choice reading text = IsShowTold style choice untold reading text
+
+-- the text of a reading, and of what came to its histograms since an earlier one
+abbrev pub IsShowSince : Style → Choice → Reading → Reading → List ℕ → Type 0
+IsShowSince style choice earlier reading text = IsShowTold style choice (told_since earlier) reading text

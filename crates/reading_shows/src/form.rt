@@ -8,7 +8,7 @@ ghost use Rattle.reading_shows.specs.Writing.{IsTextIn, choice_in};
 use crate::choice::Choice;
 use crate::listing::{ListStyle, list_text};
 use crate::page::page_text;
-use crate::showing::show_text;
+use crate::showing::{show_since_text, show_text};
 use crate::source::Source;
 use crate::style::Style;
 use image_reader::Reading;
@@ -39,6 +39,12 @@ pub enum Form<'a> {
         style: Style,
         choice: Choice<'a>,
     },
+    /// The same, and what came to them since an earlier reading.
+    ShowSince {
+        style: Style,
+        choice: Choice<'a>,
+        earlier: &'a Reading,
+    },
     /// A line for each of the chosen histograms.
     List {
         style: ListStyle,
@@ -60,8 +66,10 @@ impl<'a> Form<'a> {
     {
         match self {
             Form::Report | Form::Rows | Form::Export { .. } | Form::Info { .. } => Choice::All,
-            Form::Show { choice, .. } | Form::List { choice, .. } | Form::Page { choice, .. } =>
-                choice,
+            Form::Show { choice, .. }
+            | Form::ShowSince { choice, .. }
+            | Form::List { choice, .. }
+            | Form::Page { choice, .. } => choice,
         }
     }
 
@@ -83,6 +91,11 @@ impl<'a> Form<'a> {
                 export_text(alloc, reading, prefix.as_bytes(), labels)
             }
             Form::Show { style, choice } => show_text(alloc, reading, style, choice),
+            Form::ShowSince {
+                style,
+                choice,
+                earlier,
+            } => show_since_text(alloc, reading, earlier, style, choice),
             Form::Info { is_human } => overview_text(alloc, is_human, head, reading),
             Form::List { style, choice } => list_text(alloc, reading, style, choice),
             Form::Page {

@@ -11,6 +11,7 @@ ghost use Rattle.reading_shows.specs.Showing.{reaches as reaches_of, quantile as
 
 use crate::naming::{Naming, is_truth, naming_of, put_range};
 use crate::shares::put_mean;
+use crate::since::put_came;
 use image_reader::HistReading;
 use reading_overviews::{put_difference, put_number, put_signed};
 use reading_texts::{HistRow, kind_word, units};
@@ -133,20 +134,22 @@ fn put_ranks(
     put_ends(text, naming, total, rows)
 }
 
-// Puts the line of the kind, the units, the sum and the mean.
+// Puts the line of the kind, the units and what came to them, the sum and the mean.
 fn put_number_line(
     text: &mut Vec<u8>,
     is_human: bool,
     kind: &[u8],
     sum: i128,
     units: u64,
+    came: u64,
 ) -> Result<(), AllocError>
-    ensures { OnOk result (text.new.items ≡ text.old.items ++ number_line is_human kind.now sum units) }
+    ensures { OnOk result (text.new.items ≡ text.old.items ++ number_line is_human kind.now sum units came) }
 {
     text.extend_from_slice(b"  ")?;
     text.extend_from_slice(kind)?;
     text.extend_from_slice(b", units ")?;
     put_number(text, is_human, units)?;
+    put_came(text, is_human, came)?;
     text.extend_from_slice(b", sum ")?;
     put_signed(text, is_human, sum)?;
     text.extend_from_slice(b", mean ")?;
@@ -233,31 +236,33 @@ fn put_taken(text: &mut Vec<u8>, is_human: bool, hist: &HistReading) -> Result<(
     Ok(())
 }
 
-// Puts the line of the kind, the units, the sum and the mean of a histogram, which has so many units.
+// Puts the line of the kind, the units, the sum and the mean of a histogram, which has so many units, of which so many came.
 fn put_summary(
     text: &mut Vec<u8>,
     is_human: bool,
     hist: &HistReading,
     total: u64,
+    came: u64,
 ) -> Result<(), AllocError>
-    ensures { OnOk result (text.new.items ≡ text.old.items ++ number_line is_human (kind_word_of (histogram_view hist.now).spec) (histogram_view hist.now).sum total) }
+    ensures { OnOk result (text.new.items ≡ text.old.items ++ number_line is_human (kind_word_of (histogram_view hist.now).spec) (histogram_view hist.now).sum total came) }
 {
-    put_number_line(text, is_human, kind_word(&hist.spec), hist.sum, total)
+    put_number_line(text, is_human, kind_word(&hist.spec), hist.sum, total, came)
 }
 
-// Puts the lines of all numbers of a histogram, which has these rows.
+// Puts the lines of all numbers of a histogram, which has these rows, and to which so many units came.
 pub(crate) fn put_numbers(
     text: &mut Vec<u8>,
     is_human: bool,
+    came: u64,
     hist: &HistReading,
     rows: &[HistRow],
 ) -> Result<(), AllocError>
     requires readable { IsReadable (histogram_view hist.now) }
     requires rows { rows.now ≡ rows_of_histogram (histogram_view hist.now) }
-    ensures { OnOk result (text.new.items ≡ text.old.items ++ number_lines is_human (histogram_view hist.now)) }
+    ensures { OnOk result (text.new.items ≡ text.old.items ++ number_lines is_human came (histogram_view hist.now)) }
 {
     let total = units(hist);
-    put_summary(text, is_human, hist, total)?;
+    put_summary(text, is_human, hist, total, came)?;
     put_ranks(text, naming_of(&hist.spec), total, rows)?;
     put_taken(text, is_human, hist)?;
     Ok(())

@@ -4,8 +4,8 @@
 //! made of. All numbers in them come from whole-number arithmetic, which `specs/Shares.antt` defines with its rounding. Each is
 //! composed whole and only then written, so that nothing is written but for a writer that fails.
 //!
-//! [`write_text`] reads an image and writes it in one of seven [`Form`]s: these three, the report, its rows, the metrics and the
-//! overview.
+//! [`write_text`] reads an image and writes it in one of eight [`Form`]s: these three, the text with what came since an earlier
+//! reading, the report, its rows, the metrics and the overview.
 #![tactic(auto)]
 
 mod bars;
@@ -28,6 +28,7 @@ mod redundant;
 mod shares;
 mod sheet;
 mod showing;
+mod since;
 mod source;
 mod style;
 mod writing;
@@ -37,7 +38,7 @@ pub use form::Form;
 pub use listing::{ListStyle, list_text};
 pub use missing::first_missing;
 pub use page::page_text;
-pub use showing::show_text;
+pub use showing::{show_since_text, show_text};
 pub use source::Source;
 pub use style::Style;
 pub use writing::write_text;

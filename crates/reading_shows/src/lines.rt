@@ -5,13 +5,15 @@ ghost use Rattle.std.specs.List.{fold};
 ghost use Rattle.reading_overviews.specs.Numbers.{number};
 ghost use Rattle.reading_shows.specs.Columns.{at_right};
 ghost use Rattle.reading_shows.specs.Naming.{range_text};
-ghost use Rattle.reading_shows.specs.Showing.{most_of, begins_gap as begins_gap_of, widened, columns_of as columns_of_rows, head_line, unit_line, gap_line, line_at, lines_in, row_lines, plural as plural_of, left_out_text, left_out_line};
+ghost use Rattle.reading_shows.specs.Since.{came_text};
+ghost use Rattle.reading_shows.specs.Showing.{most_of, begins_gap as begins_gap_of, widened, came_width as came_width_of, columns_of as columns_of_rows, came_head, head_line, unit_line, gap_line, line_at, lines_in, row_lines, plural as plural_of, left_out_text, left_out_line};
 
 use crate::bars::put_bar;
 use crate::columns::{put_at_right, put_bytes};
 use crate::heights::height_of;
 use crate::naming::{Naming, has_line, is_truth, put_range};
 use crate::shares::put_percent;
+use crate::since::{came_at, most_that_came, put_came};
 use crate::style::{Frame, LineColumns, Style};
 use reading_overviews::put_number;
 use reading_texts::HistRow;
@@ -60,27 +62,59 @@ fn units_width(room: &mut Vec<u8>, is_human: bool, most: u64) -> Result<usize, A
     Ok(room.len().max(5))
 }
 
+// How wide the units are that came, and their head, with a blank before them; 0 where nothing is told of them.
+fn came_width(
+    room: &mut Vec<u8>,
+    is_human: bool,
+    is_told: bool,
+    cames: &[u64],
+) -> Result<usize, AllocError>
+    ensures { IfOk result (λ width. width ≡ came_width_of is_human is_told cames.now) }
+{
+    if !is_told {
+        return Ok(0);
+    }
+    room.clear();
+    put_came(room, is_human, most_that_came(cames))?;
+    Ok(room.len().max(4))
+}
+
 // How wide the columns of a histogram are.
 fn columns_of(
     room: &mut Vec<u8>,
     style: Style,
     frame: Frame,
+    is_told: bool,
+    cames: &[u64],
     rows: &[HistRow],
 ) -> Result<LineColumns, AllocError>
-    ensures { IfOk result (λ columns. columns ≡ columns_of_rows style frame rows.now) }
+    ensures { IfOk result (λ columns. columns ≡ columns_of_rows style frame is_told cames.now rows.now) }
 {
     let values = values_width(room, frame.naming, rows)?;
     let units = units_width(room, style.is_human, frame.most)?;
+    let came = came_width(room, style.is_human, is_told, cames)?;
     let width = usize::from(style.width);
     let bars = width
         .saturating_sub(values)
         .saturating_sub(units)
+        .saturating_sub(came)
         .saturating_sub(20);
     Ok(LineColumns {
         values,
         bars: bars as u16,
         units,
+        came,
     })
+}
+
+// Puts the head of the column of the units that came, where there is one.
+fn put_came_head(text: &mut Vec<u8>, width: usize) -> Result<(), AllocError>
+    ensures { OnOk result (text.new.items ≡ text.old.items ++ came_head width) }
+{
+    if width == 0 {
+        return Ok(());
+    }
+    put_at_right(text, width, b" new")
 }
 
 // Puts the heads of the columns.
@@ -92,6 +126,7 @@ fn put_head_line(text: &mut Vec<u8>, columns: LineColumns) -> Result<(), AllocEr
     text.extend_from_slice(b"  ")?;
     put_bytes(text, usize::from(columns.bars), b' ')?;
     put_at_right(text, columns.units, b"units")?;
+    put_came_head(text, columns.came)?;
     text.extend_from_slice(b" percent   up to\n")?;
     Ok(())
 }
@@ -126,7 +161,22 @@ fn put_units_of(
     put_at_right(text, width, room.as_slice())
 }
 
-// Puts the line of a row.
+// Puts units that came at the right end of a column. They are written to `room` first, to see how long they are.
+fn put_came_of(
+    text: &mut Vec<u8>,
+    room: &mut Vec<u8>,
+    width: usize,
+    is_human: bool,
+    came: u64,
+) -> Result<(), AllocError>
+    ensures { OnOk result (text.new.items ≡ text.old.items ++ at_right width (came_text is_human came)) }
+{
+    room.clear();
+    put_came(room, is_human, came)?;
+    put_at_right(text, width, room.as_slice())
+}
+
+// Puts the line of a row, to which so many units came.
 fn put_units(
     text: &mut Vec<u8>,
     room: &mut Vec<u8>,
@@ -134,8 +184,9 @@ fn put_units(
     columns: LineColumns,
     frame: Frame,
     row: &HistRow,
+    came: u64,
 ) -> Result<(), AllocError>
-    ensures { OnOk result (text.new.items ≡ text.old.items ++ unit_line style columns frame row.now) }
+    ensures { OnOk result (text.new.items ≡ text.old.items ++ unit_line style columns frame row.now came) }
 {
     text.extend_from_slice(b"  ")?;
     put_values(text, room, columns.values, frame.naming, row)?;
@@ -145,6 +196,7 @@ fn put_units(
     put_bar(text, style.is_ascii, columns.bars, height, most)?;
     text.push(b' ')?;
     put_units_of(text, room, columns.units, style.is_human, row.units)?;
+    put_came_of(text, room, columns.came, style.is_human, came)?;
     put_percent(text, b"<0.1%", 8, row.units, frame.total)?;
     put_percent(text, b"<0.1%", 8, row.up_to, frame.total)?;
     text.push(b'\n')?;
@@ -168,14 +220,16 @@ fn put_row(
     style: Style,
     columns: LineColumns,
     frame: Frame,
+    cames: &[u64],
     rows: &[HistRow],
     i: usize,
 ) -> Result<(), AllocError>
     requires { i < length rows.now }
-    ensures { OnOk result (text.new.items ≡ text.old.items ++ line_at style columns frame rows.now i) }
+    ensures { OnOk result (text.new.items ≡ text.old.items ++ line_at style columns frame cames.now rows.now i) }
 {
     if has_line(frame.naming, &rows[i]) {
-        return put_units(text, room, style, columns, frame, &rows[i]);
+        let came = came_at(cames, i);
+        return put_units(text, room, style, columns, frame, &rows[i], came);
     }
     if begins_gap(frame.naming, rows, i) {
         put_gap(text, columns)?;
@@ -190,33 +244,36 @@ fn put_lines(
     style: Style,
     columns: LineColumns,
     frame: Frame,
+    cames: &[u64],
     rows: &[HistRow],
 ) -> Result<(), AllocError>
-    ensures { OnOk result (text.new.items ≡ text.old.items ++ lines_in style columns frame rows.now) }
+    ensures { OnOk result (text.new.items ≡ text.old.items ++ lines_in style columns frame cames.now rows.now) }
 {
     put_head_line(text, columns)?;
     for i in 0..rows.len() {
-        put_row(text, room, style, columns, frame, rows, i)?;
+        put_row(text, room, style, columns, frame, cames, rows, i)?;
     }
     Ok(())
 }
 
-// Puts the lines of rows.
+// Puts the lines of rows, to each of which so many units came, where this is told.
 pub(crate) fn put_rows(
     alloc: Global,
     text: &mut Vec<u8>,
     style: Style,
     frame: Frame,
+    is_told: bool,
+    cames: &[u64],
     rows: &[HistRow],
 ) -> Result<(), AllocError>
-    ensures { OnOk result (text.new.items ≡ text.old.items ++ row_lines style frame rows.now) }
+    ensures { OnOk result (text.new.items ≡ text.old.items ++ row_lines style frame is_told cames.now rows.now) }
 {
     if rows.is_empty() {
         return Ok(());
     }
     let mut room = Vec::new(alloc);
-    let columns = columns_of(&mut room, style, frame, rows)?;
-    put_lines(text, &mut room, style, columns, frame, rows)
+    let columns = columns_of(&mut room, style, frame, is_told, cames, rows)?;
+    put_lines(text, &mut room, style, columns, frame, cames, rows)
 }
 
 // The units of rows together.

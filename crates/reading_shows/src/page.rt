@@ -83,7 +83,7 @@ fn put_section(
     let rows = rows_of(alloc, hist)?;
     let rows = rows.as_slice();
     put_title(alloc, text, number, hist)?;
-    put_numbers(text, true, hist, rows)?;
+    put_numbers(text, true, 0, hist, rows)?;
     text.extend_from_slice(b"</p>\n")?;
     put_table(alloc, text, shows_all, hist, rows)?;
     Ok(())

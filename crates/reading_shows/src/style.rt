@@ -51,6 +51,8 @@ pub(crate) struct LineColumns {
     pub(crate) bars: u16,
     // The column of the units.
     pub(crate) units: usize,
+    // That of the units that came, a blank before them included; 0 where nothing is told of them.
+    pub(crate) came: usize,
 }
 
 // What the rows of a histogram have in common, which are these.

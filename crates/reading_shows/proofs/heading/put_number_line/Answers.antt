@@ -7,6 +7,7 @@ use Rattle.reading_texts.proofs.Adding.{joined-more}
 use Rattle.reading_overviews.specs.Numbers.{number, signed}
 use Rattle.reading_overviews.proofs.Texts.{joined-none, joined-two}
 use Rattle.reading_shows.specs.Shares.{mean}
+use Rattle.reading_shows.specs.Since.{came_text}
 use Rattle.reading_shows.proofs.heading.put_number_line.Goals as goal
 
 pub returns : goal.returns
@@ -20,11 +21,14 @@ returns c =
     let summed = rw (to_z-of_z w128 c.args.sum fits) at c.in_ok-put_signed.ensures in
     let averaged = rw (to_z-of_z w128 c.args.sum fits) at c.in_ok-put_mean.ensures in
     let p1 = codes "  " ∷ kind ∷ [] in
+    let came = came_text c.args.is_human c.args.came in
     let p2 = p1 ++ codes ", units " ∷ units ∷ [] in
-    let p3 = p2 ++ codes ", sum " ∷ sum ∷ [] in
+    let told = p2 ++ came ∷ [] in
+    let p3 = told ++ codes ", sum " ∷ sum ∷ [] in
     let p4 = p3 ++ codes ", mean " ∷ average ∷ [] in
     let a1 = joined-two first [] (codes "  ") kind (joined-none first) c.in_ok-extend_from_slice.ensures.items c.in_ok-extend_from_slice-2.ensures.items in
     let a2 = joined-two first p1 (codes ", units ") units a1 c.in_ok-extend_from_slice-3.ensures.items c.in_ok-put_number.ensures in
-    let a3 = joined-two first p2 (codes ", sum ") sum a2 c.in_ok-extend_from_slice-4.ensures.items summed in
+    let t = joined-more first p2 came a2 c.in_ok-put_came.ensures in
+    let a3 = joined-two first told (codes ", sum ") sum t c.in_ok-extend_from_slice-4.ensures.items summed in
     let a4 = joined-two first p3 (codes ", mean ") average a3 c.in_ok-extend_from_slice-5.ensures.items averaged in
     joined-more first p4 (codes "\n") a4 c.in_ok-extend_from_slice-6.ensures.items

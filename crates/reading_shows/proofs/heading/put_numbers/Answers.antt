@@ -12,7 +12,7 @@ returns c =
     let first = c.args.text.now.items in
     let hist = histogram_view c.args.hist.now in
     let ranks = rank_lines (naming_of hist.spec) (units_of hist) (rows_of hist) in
-    let line = number_line c.args.is_human (kind_word hist.spec) hist.sum (units_of hist) in
+    let line = number_line c.args.is_human (kind_word hist.spec) hist.sum (units_of hist) c.args.came in
     let begun = rw c.units-total.ensures at c.in_ok-put_summary.ensures in
     let same : rank_lines c.naming_of.result c.units-total.result c.args.rows.now ≡ ranks =
     ap (λ naming. rank_lines naming c.units-total.result c.args.rows.now) c.naming_of.ensures

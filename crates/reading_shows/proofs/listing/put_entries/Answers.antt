@@ -1,5 +1,3 @@
-use Rattle.std.proofs.Common.{◌≡◌, ◌++◌, map, ap, subst}
-use Rattle.std.specs.List.{flat_map}
 use Rattle.reading_texts.proofs.Adding.{written-all}
 use Rattle.reading_shows.specs.Listing.{list_line}
 use Rattle.reading_shows.specs.ListViews.{entry_view}

@@ -1,10 +1,9 @@
-use Rattle.std.proofs.Common.{◌≡◌, List, ℕ, nat_cmp, rules, IsPermutation}
+use Rattle.std.proofs.Common.{List, ℕ, nat_cmp, rules}
 use Rattle.std.specs.Cmp.Lexicographic.{slice_cmp, nat_list_cmp_total}
 use Rattle.std.proofs.lemmas.Fn.{always_returns_same}
 use Rattle.std.proofs.lemmas.List.Sorted.{ranks_by, IsPermutation-map}
 use Rattle.reading_texts.proofs.Ascending.{IsSortedByKey-map}
 use Rattle.reading_shows.specs.declared.listing.ListEntry.{ListEntry}
-use Rattle.reading_shows.specs.Listing.{AreRanked}
 use Rattle.reading_shows.specs.ListViews.{entry_view}
 use Rattle.reading_shows.proofs.listing.sort_by_rank.Goals as goal
 

@@ -10,6 +10,6 @@ returns c =
     let hist = histogram_view c.args.hist.now in
     let first = c.args.text.now.items in
     let named = title (c.args.number, hist) in
-    let numbers = written-both first named (number_lines true hist) c.in_ok-put_title.ensures c.in_ok-put_numbers.ensures in
-    let ended = written-both first (named ++ number_lines true hist) (codes "</p>\n") numbers c.in_ok-extend_from_slice.ensures.items in
-    written-both first (named ++ number_lines true hist ++ codes "</p>\n") (table c.args.shows_all hist) ended c.in_ok-put_table.ensures
+    let numbers = written-both first named (number_lines true 0 hist) c.in_ok-put_title.ensures c.in_ok-put_numbers.ensures in
+    let ended = written-both first (named ++ number_lines true 0 hist) (codes "</p>\n") numbers c.in_ok-extend_from_slice.ensures.items in
+    written-both first (named ++ number_lines true 0 hist ++ codes "</p>\n") (table c.args.shows_all hist) ended c.in_ok-put_table.ensures

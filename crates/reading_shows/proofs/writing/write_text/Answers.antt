@@ -1,4 +1,3 @@
-use Rattle.std.proofs.Common.{◌≡◌}
 use Rattle.std.proofs.lemmas.Result.{err_from_is_err_and}
 use Rattle.image_reader.specs.Views.{reading_view}
 use Rattle.segment_image.specs.Words.{bytes_of_words}

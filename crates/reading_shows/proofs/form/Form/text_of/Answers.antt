@@ -12,6 +12,9 @@ returns-in-Export c = rw c.in-Export.is (rw c.as_bytes.ensures.value at c.export
 pub returns-in-Show : goal.returns-in-Show
 returns-in-Show c = rw c.in-Show.is c.show_text.ensures
 
+pub returns-in-ShowSince : goal.returns-in-ShowSince
+returns-in-ShowSince c = rw c.in-ShowSince.is c.show_since_text.ensures
+
 pub returns-in-Page : goal.returns-in-Page
 returns-in-Page c = rw c.in-Page.is c.page_text.ensures
 

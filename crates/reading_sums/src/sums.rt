@@ -10,13 +10,14 @@ ghost use Rattle.image_reader.specs.Views.{histogram_view, reading_view};
 ghost use Rattle.image_reader.specs.Readable.{IsReadable};
 ghost use Rattle.reading_sums.specs.Totals.{part_from, SameTotals};
 ghost use Rattle.reading_sums.specs.Views.{part_of};
-ghost use Rattle.reading_sums.specs.Sums.{IsSumOver};
+ghost use Rattle.reading_sums.specs.Sums.{IsSumOver, raised};
 ghost use Rattle.reading_sums.specs.Whole.{AreWhole, HasNamesOnce, IsWellFormed, IsWholeHistogram, IsWholeReading};
 
 use crate::check::are_whole;
 use crate::fault::SumsFault;
 use crate::hist::{HistSum, sum_of, sums_of_both};
 use crate::notes::{Notes, notes_of, notes_of_both};
+use crate::raised::raised_hists;
 use crate::shown::{OtherSpec, others_of, readings_of};
 use image_reader::{HistReading, Reading};
 use std::alloc::{AllocError, Global};
@@ -110,6 +111,27 @@ impl Sums {
         self.notes = notes;
         self.hists = hists;
         Ok(())
+    }
+
+    /// Returns the sum of the same readings, where the number of each is so much greater [raised]. So the sum of what comes
+    /// behind others can be added to theirs.
+    ///
+    /// It is refused if a number would not fit 64 bits, `TooMany`, or if there is no memory, `NoMemory`.
+    pub fn raised(&self, by: u64) -> Result<Sums, SumsFault>
+        ensures raised { IfOk result (λ sums. (readings : List (ℕ × definition.Reading)) → IsSumOver readings self.now → IsSumOver (map (raised by) readings) sums) }
+    {
+        Ok(Sums {
+            alloc: self.alloc,
+            notes: self.notes,
+            hists: raised_hists(self.alloc, &self.hists, by)?,
+        })
+    }
+
+    /// Returns whether the sum is well formed [is].
+    pub fn is_well_formed(&self) -> Result<bool, AllocError>
+        ensures is { IfOk result (λ is. (is ≡ true) ↔ IsWellFormed self.now) }
+    {
+        are_whole(self.alloc, &self.hists)
     }
 
     /// Returns what the images say beside their histograms.

@@ -14,11 +14,12 @@ ghost use Rattle.reading_sums.specs.Sums.{IsSumOver, raised};
 ghost use Rattle.reading_sums.specs.Whole.{AreWhole, HasNamesOnce, IsWellFormed, IsWholeHistogram, IsWholeReading};
 
 use crate::check::are_whole;
-use crate::fault::SumsFault;
+use crate::fault::{MinusFault, SumsFault};
 use crate::hist::{HistSum, sum_of, sums_of_both};
 use crate::notes::{Notes, notes_of, notes_of_both};
 use crate::raised::raised_hists;
 use crate::shown::{OtherSpec, others_of, readings_of};
+use crate::since::hists_since;
 use image_reader::{HistReading, Reading};
 use std::alloc::{AllocError, Global};
 
@@ -132,6 +133,17 @@ impl Sums {
         ensures is { IfOk result (λ is. (is ≡ true) ↔ IsWellFormed self.now) }
     {
         are_whole(self.alloc, &self.hists)
+    }
+
+    /// Returns what came since an earlier sum of the same segment, or of the same folder: of each name and spec of this sum
+    /// what it has more than the earlier one. How many images have a histogram and the least number of one are those of
+    /// this sum, and so are the notes. Amounts may have fallen, since samples may be negative.
+    pub fn minus(&self, earlier: &Sums) -> Result<Sums, MinusFault> {
+        Ok(Sums {
+            alloc: self.alloc,
+            notes: self.notes,
+            hists: hists_since(self.alloc, &self.hists, &earlier.hists)?,
+        })
     }
 
     /// Returns what the images say beside their histograms.

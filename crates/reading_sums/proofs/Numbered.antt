@@ -19,3 +19,18 @@ numbered-raised by first (x ∷ xs) =
 pub numbered-length : (first : ℕ) (xs : List Reading) → length (numbered_from first xs) ≡ length xs
 numbered-length first [] = refl
 numbered-length first (x ∷ xs) = ap suc (numbered-length (first + 1) xs)
+
+-- one more, which has the number of those before it
+pub next-numbered : (number : ℕ) (readings : List Reading) (reading : Reading) → number ≡ length (numbered_from 0 readings)
+    → numbered_from 0 readings ++ (number, reading) ∷ [] ≡ numbered_from 0 (readings ++ reading ∷ [])
+next-numbered number readings reading is =
+    let e : number ≡ 0 + length readings = omega (arith, is, numbered-length 0 readings) in
+    ap (λ n. numbered_from 0 readings ++ (n, reading) ∷ []) e ∙ sym (numbered-append 0 readings (reading ∷ []))
+
+-- others behind them, which are raised by how many they are
+pub behind-numbered : (by : ℕ) (readings others : List Reading) → by ≡ length (numbered_from 0 readings)
+    → numbered_from 0 readings ++ map (raised by) (numbered_from 0 others) ≡ numbered_from 0 (readings ++ others)
+behind-numbered by readings others is =
+    let e : 0 + by ≡ 0 + length readings = omega (arith, is, numbered-length 0 readings) in
+    ap (λ z. numbered_from 0 readings ++ z) (numbered-raised by 0 others ∙ ap (λ n. numbered_from n others) e)
+    ∙ sym (numbered-append 0 readings others)

@@ -21,7 +21,8 @@ pub fn append_next(sums: &mut Sums, more: &Sums) -> Result<(), SumsFault>
     ensures refused { OnErr result (sums.new ≡ sums.old) }
 {
     let raised = more.raised(sums.notes().images)?;
-    sums.append(&raised)
+    sums.append(&raised)?;
+    Ok(())
 }
 
 /// Adds what the image in the words of an input reads as, a closed image or a mapped file, behind the readings of a sum

@@ -13,3 +13,5 @@ pub mod OneReading
 pub mod Readable
 pub mod Neighbours
 pub mod Buckets
+pub mod Walk
+pub mod KeysSince

@@ -1,6 +1,11 @@
 //! What came to the histograms of a sum since an earlier one.
 
-ghost use Rattle.std.specs.Prelude.{◌≡◌, ◌+◌, ◌<◌, length};
+ghost use Rattle.std.specs.Prelude.{◌≡◌, ◌⊎◌, ◌∷◌, ◌++◌, [], ◌+◌, ◌<◌, ◌≤◌, ◌-ℤ◌, FitsSigned, List, length, take, map, IfOk, IfErr, IfSome, IfNone, OnOk};
+ghost use Rattle.std.specs.Option.{option_to_list};
+ghost use Rattle.std.specs.List.Sorted.{IsStrictlySortedBy};
+ghost use Rattle.reading_sums.specs.Keys.{IsKeyOfBoth};
+ghost use Rattle.reading_sums.specs.Orders.{key_cmp, hist_cmp};
+ghost use Rattle.reading_sums.specs.Since.{AreKeysSince, HasKeyFallen, GoesOnAscending};
 
 use crate::fault::MinusFault;
 use crate::hist::{HistSum, copy_of, copy_of_spec};
@@ -10,7 +15,12 @@ use crate::{hist, key};
 use std::alloc::{AllocError, AllocFailed, Global};
 
 // What a later key has more than an earlier one of its value, if nothing of it fell.
-fn key_since(later: &KeySum, earlier: &KeySum) -> Option<KeySum> {
+fn key_since(later: &KeySum, earlier: &KeySum) -> Option<KeySum>
+    requires { later.now.value ≡ earlier.now.value }
+    ensures value { IfSome result (λ since. since.value ≡ later.now.value) }
+    ensures both { IfSome result (λ since. IsKeyOfBoth earlier.now since later.now) }
+    ensures fell { IfNone result ((later.now.units < earlier.now.units) ⊎ (later.now.marks < earlier.now.marks)) }
+{
     let units = later.units.checked_sub(earlier.units);
     let marks = later.marks.checked_sub(earlier.marks);
     match (units, marks) {
@@ -27,6 +37,12 @@ fn key_since(later: &KeySum, earlier: &KeySum) -> Option<KeySum> {
 // fell.
 fn next_key_since(later: &[KeySum], earlier: &[KeySum]) -> Option<(Option<KeySum>, usize, usize)>
     requires { 0 < length later.now + length earlier.now }
+    ensures later { IfSome result (λ next. next.1 ≤ length later.now) }
+    ensures earlier { IfSome result (λ next. next.2 ≤ length earlier.now) }
+    ensures some { IfSome result (λ next. 0 < next.1 + next.2) }
+    ensures since { IfSome result (λ next. AreKeysSince (take next.1 later.now) (take next.2 earlier.now) (option_to_list next.0)) }
+    ensures ordered { IfSome result (λ next. GoesOnAscending key_cmp next.1 next.2 later.now earlier.now) }
+    ensures fell { IfNone result ((done : List _) → IsStrictlySortedBy key_cmp (done ++ later.now) → IsStrictlySortedBy key_cmp (done ++ earlier.now) → HasKeyFallen (done ++ later.now) earlier.now) }
 {
     match key::side_of(later, earlier) {
         Side::Left => Some((Some(later[0]), 1, 0)),
@@ -45,11 +61,13 @@ fn next_key_since(later: &[KeySum], earlier: &[KeySum]) -> Option<(Option<KeySum
 }
 
 // Puts a key behind others, if there is one.
-fn put_key(keys: &mut Vec<KeySum>, key: Option<KeySum>) -> Result<(), AllocFailed<KeySum>> {
-    match key {
-        Some(key) => keys.push(key),
-        None => Ok(()),
+fn put_key(keys: &mut Vec<KeySum>, key: Option<KeySum>) -> Result<(), AllocError>
+    ensures { OnOk result (keys.new.items ≡ keys.old.items ++ option_to_list key) }
+{
+    if let Some(key) = key {
+        keys.push(key)?;
     }
+    Ok(())
 }
 
 // The keys of a later list, each with what it has more than that of an earlier list; or nothing if a key fell.
@@ -57,16 +75,20 @@ fn keys_since(
     alloc: Global,
     later: &[KeySum],
     earlier: &[KeySum],
-) -> Result<Option<Vec<KeySum>>, AllocError> {
+) -> Result<Option<Vec<KeySum>>, AllocError>
+    ensures since { IfOk result (λ found. IfSome found (λ keys. AreKeysSince later.now earlier.now keys.items)) }
+    ensures fell { IfOk result (λ found. IfNone found (IsStrictlySortedBy key_cmp later.now → IsStrictlySortedBy key_cmp earlier.now → HasKeyFallen later.now earlier.now)) }
+{
     let mut keys = Vec::with_capacity(alloc, later.len())?;
-    let (mut later_rest, mut earlier_rest) = (later, earlier);
-    while !(later_rest.is_empty() && earlier_rest.is_empty()) {
-        let Some((key, of_later, of_earlier)) = next_key_since(later_rest, earlier_rest) else {
+    let (mut i, mut j) = (0, 0);
+    while i < later.len() || j < earlier.len() {
+        let next = next_key_since(later.split_at(i).1, earlier.split_at(j).1);
+        let Some((key, of_later, of_earlier)) = next else {
             return Ok(None);
         };
         put_key(&mut keys, key)?;
-        later_rest = later_rest.split_at(of_later).1;
-        earlier_rest = earlier_rest.split_at(of_earlier).1;
+        i += of_later;
+        j += of_earlier;
     }
     Ok(Some(keys))
 }

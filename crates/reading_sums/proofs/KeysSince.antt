@@ -1,11 +1,11 @@
 -- What keys have more than earlier ones.
-use Rattle.std.proofs.Common.{◌≡◌, ◌≢◌, ◌<◌, ℕ, ◌+◌, ℤ, ◌<ℤ◌, true, false, if◌then◌else◌, List, [], ◌∷◌, ◌++◌, ◌⊎◌, ⊎_elim, inl, inr, map, length, take, drop, get_or, sum_by, subst, refl, ap, sym, ◌∙◌, arith}
+use Rattle.std.proofs.Common.{◌≡◌, ◌≢◌, ◌<◌, ◌≤◌, Bool, ℕ, ◌+◌, ℤ, ◌<ℤ◌, true, false, if◌then◌else◌, List, [], ◌∷◌, ◌++◌, ◌⊎◌, ⊎_elim, inl, inr, map, length, take, drop, get_or, sum_by, subst, refl, ap, sym, ◌∙◌, arith}
 use Rattle.std.specs.Ordering.{int_eq, int_cmp, is_eq}
 use Rattle.std.specs.declared.cmp.Ordering.TheVariants.{Less, Equal}
 use Rattle.std.specs.List.{AllByRecursion}
 use Rattle.std.specs.List.Sorted.{IsStrictlySortedBy}
 use Rattle.std.proofs.lemmas.Cmp.{int_cmp_total, int_eq_equiv, tied_itself}
-use Rattle.std.proofs.lemmas.List.Sums.{sum_by-cons, sum_by-append, sum_by-take-drop}
+use Rattle.std.proofs.lemmas.List.Sums.{sum_by-cons, sum_by-append, sum_by-take-drop, sum_by_more, sum_by_more_le}
 use Rattle.std.proofs.lemmas.List.{map-append, take-append-drop}
 use Rattle.std.proofs.Math.Seq.{take-add}
 use Rattle.reading_sums.specs.declared.key.KeySum.{KeySum}
@@ -151,3 +151,24 @@ fallen-whole laters earliers left rest i j cut_left cut_rest fell before one oth
           (λ less. inl (more-whole (λ key. key.units) earliers rest j (units_at laters there.0) there.0 cut_rest less))
           (λ less. inr (more-whole (λ key. key.marks) earliers rest j (marks_at laters there.0) there.0 cut_rest less)) there.1,
     )
+
+-- ---- whether there is something
+
+-- the keys have at least what one of them has
+pub at-element : (f : KeySum → ℕ) (keys : List KeySum) (i : ℕ) (d : KeySum) → i < length keys → f (get_or keys i d) ≤ at f keys (get_or keys i d).value
+at-element f keys i d within =
+    let key = get_or keys i d in
+    let same : (if int_eq key.value key.value then f key else 0) ≡ f key = ap (λ b. if b then f key else 0) (int_eq_equiv.refl key.value) in
+    omega (arith, sum_by_more_le (λ (k : KeySum). if int_eq k.value key.value then f k else 0) keys i d within, same)
+
+nothing-if : (t : Bool) (n : ℕ) → n ≡ 0 → (if t then n else 0) ≡ 0
+nothing-if true n none = none
+nothing-if false n none = refl
+
+-- one key more that has nothing
+pub at-nothing : (f : KeySum → ℕ) (keys : List KeySum) (i : ℕ) (d : KeySum) (v : ℤ) → i < length keys → f (get_or keys i d) ≡ 0 → at f (take i keys) v ≡ 0
+    → at f (take (i + 1) keys) v ≡ 0
+at-nothing f keys i d v within none before =
+    let more = sum_by_more (λ (key : KeySum). if int_eq key.value v then f key else 0) keys i d within in
+    let here = nothing-if (int_eq (get_or keys i d).value v) (f (get_or keys i d)) none in
+    omega (arith, more, here, before)

@@ -15,3 +15,5 @@ pub mod Neighbours
 pub mod Buckets
 pub mod Walk
 pub mod KeysSince
+pub mod HistsSince
+pub mod Between

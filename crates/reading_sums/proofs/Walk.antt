@@ -1,5 +1,5 @@
 -- A walk along two lists that ascend: a later one and an earlier one.
-use Rattle.std.proofs.Common.{◌≡◌, ◌<◌, ◌+◌, ℕ, List, [], ◌∷◌, ◌++◌, length, take, drop, get_or, append_assoc, subst, sym, ap, ◌∙◌, arith}
+use Rattle.std.proofs.Common.{◌≡◌, ◌<◌, ◌+◌, ℕ, List, [], ◌∷◌, ◌++◌, map, length, take, drop, get_or, append_assoc, subst, sym, ap, ◌∙◌, arith}
 use Rattle.std.specs.Cmp.{IsTotalOrder}
 use Rattle.std.specs.declared.cmp.Ordering.{Ordering}
 use Rattle.std.specs.declared.cmp.Ordering.TheVariants.{Less, Equal}
@@ -75,3 +75,28 @@ walk-on {K = K} R laters earliers left rest i j m n cut_left cut_rest goes befor
     let front : take i laters ++ take m left ≡ take (i + m) laters = ap (λ z. take i laters ++ take m z) cut_left ∙ sym (take-add i m laters) in
     let behind : drop n rest ≡ drop (j + n) earliers = ap (drop n) cut_rest ∙ drop-drop n j earliers in
     subst (IsStrictlySortedBy R) (λ k. front k ++ behind k) (goes (take i laters) here there)
+
+-- ---- by what is seen of each
+
+all-seen : {X Y : Type 0} (P : Y → Type 0) (f : X → Y) (xs : List X) → AllByRecursion (λ x. P (f x)) xs → AllByRecursion P (map f xs)
+all-seen P f [] all = tt
+all-seen P f (x ∷ xs) all = (all.0, all-seen P f xs all.1)
+
+all-of-seen : {X Y : Type 0} (P : Y → Type 0) (f : X → Y) (xs : List X) → AllByRecursion P (map f xs) → AllByRecursion (λ x. P (f x)) xs
+all-of-seen P f [] all = tt
+all-of-seen P f (x ∷ xs) all = (all.0, all-of-seen P f xs all.1)
+
+seen-ascends : {X Y : Type 0} (R : Y → Y → Ordering) (f : X → Y) (xs : List X) → IsStrictlySortedBy (λ a b. R (f a) (f b)) xs → IsStrictlySortedBy R (map f xs)
+unfolding IsStrictlySortedBy
+seen-ascends R f [] up = tt
+seen-ascends R f (x ∷ xs) up = (all-seen (λ y. R (f x) y ≡ Less) f xs up.0, seen-ascends R f xs up.1)
+
+ascends-seen : {X Y : Type 0} (R : Y → Y → Ordering) (f : X → Y) (xs : List X) → IsStrictlySortedBy R (map f xs) → IsStrictlySortedBy (λ a b. R (f a) (f b)) xs
+unfolding IsStrictlySortedBy
+ascends-seen R f [] up = tt
+ascends-seen R f (x ∷ xs) up = (all-of-seen (λ y. R (f x) y ≡ Less) f xs up.0, ascends-seen R f xs up.1)
+
+-- lists of which the same is seen ascend alike
+pub alike-ascend : {X Y : Type 0} (R : Y → Y → Ordering) (f : X → Y) (xs ys : List X) → map f xs ≡ map f ys → IsStrictlySortedBy (λ a b. R (f a) (f b)) ys
+    → IsStrictlySortedBy (λ a b. R (f a) (f b)) xs
+alike-ascend R f xs ys same up = ascends-seen R f xs (subst (IsStrictlySortedBy R) (sym same) (seen-ascends R f ys up))

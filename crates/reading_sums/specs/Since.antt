@@ -1,5 +1,5 @@
 -- What came since an earlier sum.
-use Rattle.std.specs.Prelude.{◌≡◌, ◌≢◌, ◌⊎◌, ⊤, ℕ, ◌+◌, ◌<◌, ◌≤◌, ℤ, pos, ◌+ℤ◌, ◌-ℤ◌, ◌<ℤ◌, FitsSigned, List, ◌++◌, map, take, drop}
+use Rattle.std.specs.Prelude.{◌≡◌, ◌≢◌, ◌⊎◌, ⊤, ℕ, ◌+◌, ◌<◌, ◌≤◌, ℤ, pos, ◌+ℤ◌, ◌-ℤ◌, ◌<ℤ◌, FitsSigned, List, ◌∷◌, ◌++◌, map, take, drop}
 use Rattle.std.specs.Int.{w128}
 use Rattle.std.specs.List.{Contains}
 use Rattle.std.specs.List.Sorted.{IsStrictlySortedBy}
@@ -10,6 +10,7 @@ use Rattle.reading_sums.specs.declared.fault.MinusFault.TheVariants.{NoMemory, T
 use Rattle.reading_sums.specs.declared.hist.HistSum.{HistSum}
 use Rattle.reading_sums.specs.declared.key.KeySum.{KeySum}
 use Rattle.reading_sums.specs.Keys.{units_at, marks_at}
+use Rattle.reading_sums.specs.Orders.{hist_cmp}
 use Rattle.reading_sums.specs.Totals.Quantity.{Units, Marks, Amounts, AmountMarks, Redundant, Images}
 use Rattle.reading_sums.specs.Totals.{Part, Quantity, quantity_of, total}
 use Rattle.reading_sums.specs.Views.{part_of}
@@ -92,6 +93,10 @@ HasLongAmount later earlier =
 abbrev pub HasName : List HistSum → List ℕ → Type 0
 HasName hists name = (hist : HistSum) × Contains hists hist × (hist.name.items ≡ name)
 
+-- some histogram of a list has the name and the spec of another
+abbrev pub HasAlike : List HistSum → HistSum → Type 0
+HasAlike hists other = (hist : HistSum) × Contains hists hist × (hist.name.items ≡ other.name.items) × (hist.spec ≡ other.spec)
+
 -- a later histogram and an earlier one, of one name and one spec
 pub record ArePair (laters earliers : List HistSum) (later earlier : HistSum) : Type 0 where
   pub is_later : Contains laters later
@@ -103,7 +108,7 @@ pub record ArePair (laters earliers : List HistSum) (later earlier : HistSum) : 
 pub record IsAlone (laters earliers : List HistSum) (earlier : HistSum) (name : List ℕ) : Type 0 where
   pub is_earlier : Contains earliers earlier
   pub has_name : earlier.name.items ≡ name
-  pub alone : (later : HistSum) → ¬ ArePair laters earliers later earlier
+  pub alone : ¬ HasAlike laters earlier
 
 -- a name fell: of one spec the later histogram has less than the earlier one; or there is no later one of the name, and an
 -- earlier one has something
@@ -127,26 +132,31 @@ pub record IsGrown (laters earliers : List HistSum) : Type 0 where
   pub other_spec : (name : List ℕ) → ¬ HasOtherSpec laters earliers name
   pub too_many : ¬ HasTooMany laters earliers
 
--- what is so of the name that a fault tells, if it is this fault
-abbrev pub IfFell : MinusFault → (List ℕ → Type 0) → Type 0
-IfFell NoMemory P = ⊤
-IfFell TooMany P = ⊤
-IfFell (Fell name) P = P name.items
-IfFell (OtherSpec name) P = ⊤
+-- what is so for each fault; where there was no memory, nothing
+abbrev pub MatchFault : MinusFault → Type 0 → (List ℕ → Type 0) → (List ℕ → Type 0) → Type 0
+MatchFault NoMemory many fell other = ⊤
+MatchFault TooMany many fell other = many
+MatchFault (Fell name) many fell other = fell name.items
+MatchFault (OtherSpec name) many fell other = other name.items
 
-abbrev pub IfOtherSpec : MinusFault → (List ℕ → Type 0) → Type 0
-IfOtherSpec NoMemory P = ⊤
-IfOtherSpec TooMany P = ⊤
-IfOtherSpec (Fell name) P = ⊤
-IfOtherSpec (OtherSpec name) P = P name.items
-
-abbrev pub IfTooMany : MinusFault → Type 0 → Type 0
-IfTooMany NoMemory P = ⊤
-IfTooMany TooMany P = P
-IfTooMany (Fell name) P = ⊤
-IfTooMany (OtherSpec name) P = ⊤
+-- a fault tells what is so
+abbrev pub IsReason : List HistSum → List HistSum → MinusFault → Type 0
+IsReason laters earliers fault =
+    MatchFault fault (HasTooMany laters earliers) (HasFallen laters earliers) (HasOtherSpec laters earliers)
 
 -- ---- the walk
+
+-- an earlier histogram is no reason for a refusal: there is a later one of its name and its spec, which has not less and no
+-- long amount; or there is none of its name, and it has nothing
+abbrev pub IsSettled : List HistSum → HistSum → Type 0
+IsSettled laters earlier =
+    ((later : HistSum) × Contains laters later × (later.name.items ≡ earlier.name.items) × (later.spec ≡ earlier.spec)
+    × (¬ HasLess (part_of later) (part_of earlier)) × (¬ HasLongAmount (part_of later) (part_of earlier)))
+    ⊎ ((¬ HasName laters earlier.name.items) × (¬ HasSomething (part_of earlier)))
+
+-- a histogram stands in its place between others
+abbrev pub IsBetween : List HistSum → HistSum → List HistSum → Type 0
+IsBetween before hist behind = IsStrictlySortedBy hist_cmp (before ++ hist ∷ behind)
 
 -- behind whatever ascends with each of two lists, what is taken of the later list ascends with the rest of the earlier one
 abbrev pub GoesOnAscending : {K : Type 0} → (K → K → Ordering) → ℕ → ℕ → List K → List K → Type 0

@@ -34,7 +34,7 @@ quantities-since later earlier since keys sum mark redundant Images taken = absu
 pub less-key : (later earlier : Part) → HasKeyFallen later.keys earlier.keys → HasLess later earlier
 less-key later earlier fallen =
     elim fallen.1 [
-      inl less ↦ (Units fallen.0, tt, omega (arith, ints, less))
+      | inl less ↦ (Units fallen.0, tt, omega (arith, ints, less))
       | inr less ↦ (Marks fallen.0, tt, omega (arith, ints, less))
     ]
 
@@ -78,12 +78,12 @@ pub whole-since : (spec copy : Spec) (later here earlier since : List KeySum) �
     → IsWholeList spec later → IsWholeList copy since
 whole-since spec copy later here earlier since is same said whole =
     let keys : AreKeysSince later earlier since = subst (λ z. AreKeysSince z earlier since) same said in subst (λ s. IsWholeList s since) (sym is) record {
-  lawful = whole.lawful;
-  form = whole.form;
-  ascending = alike-ascend int_cmp (λ (key : KeySum). key.value) since later keys.values whole.ascending;
-  buckets = buckets-since spec later since keys.values whole.buckets;
-  small = omega (arith, keys.fewer, whole.small);
-}
+      lawful = whole.lawful;
+      form = whole.form;
+      ascending = alike-ascend int_cmp (λ (key : KeySum). key.value) since later keys.values whole.ascending;
+      buckets = buckets-since spec later since keys.values whole.buckets;
+      small = omega (arith, keys.fewer, whole.small);
+    }
 
 -- ---- whether there is something
 
@@ -102,7 +102,7 @@ empty-so : (part : Part) (t : Bool)
 empty-so part true keys sum mark redundant = λ has. has.2 (nothing part keys sum mark redundant has.0 has.1)
 empty-so part false keys sum mark redundant =
     elim keys.1 [
-      inl some ↦ (Units keys.0, (λ e. absurd (cc)), λ e. absurd (omega (arith, ints, e, some)))
+      | inl some ↦ (Units keys.0, (λ e. absurd (cc)), λ e. absurd (omega (arith, ints, e, some)))
       | inr some ↦ (Marks keys.0, (λ e. absurd (cc)), λ e. absurd (omega (arith, ints, e, some)))
     ]
 

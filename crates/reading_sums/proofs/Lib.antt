@@ -17,3 +17,5 @@ pub mod Walk
 pub mod KeysSince
 pub mod HistsSince
 pub mod Between
+pub mod HistsWalk
+pub mod HistsGrown

@@ -1,5 +1,5 @@
-"""Sums of many inputs, beside a plain sum (plain_sums.py): folders of forged images, lists of files, totals that are read
-again, and what came since an earlier sum; each text, for any number of workers."""
+"""Sums of many inputs, beside a plain sum (plain_sums.py): folders of forged images, lists of files, totals that are
+read again, and what came since an earlier sum; each text, for any number of workers."""
 
 from __future__ import annotations
 
@@ -76,8 +76,6 @@ def filled(folder: pathlib.Path, chance: random.Random) -> list[tuple[pathlib.Pa
     return files
 
 
-
-
 def folders(program: pathlib.Path, top: pathlib.Path, seed: int | str) -> Iterator[Case]:
     """Folders of forged images and totals: each text, for any number of workers."""
     for number in range(FOLDERS):
@@ -112,16 +110,19 @@ def listed(
         yield f"{title}, files, {workers} workers", difference(wanted, came)
     yield f"{title}, files", difference(wanted, answer(program, ["report", *paths]))
     yield f"{title}, a list", difference(wanted, answer(program, ["report", "--files-from", names]))
-    yield f"{title}, a list of standard input", difference(wanted, answer(program, ["report", "--files-from", "-"], lines))
+    came = answer(program, ["report", "--files-from", "-"], lines)
+    yield f"{title}, a list of standard input", difference(wanted, came)
     came = answer(program, ["report", paths[0], "--files-from", "-"], lines.split(b"\n", 1)[1])
     yield f"{title}, a file and a list", difference(wanted, came)
     text = plain_sums.text_by(whole, plain_show.text_of)
-    more = [word for path in paths[1:] for word in ("--also", path)]
-    yield f"{title}, show --also", difference(wanted_of(text, left), answer(program, ["show", paths[0], *more]))
+    shown: list[Word] = ["show", paths[0]]
+    for path in paths[1:]:
+        shown += ["--also", path]
+    yield f"{title}, show --also", difference(wanted_of(text, left), answer(program, shown))
     if left:
         refused = fault(f'{left[0][1]}: "{left[0][0]}"', 3)
-        for workers in ("1", "4"):
-            came = answer(program, ["report", *paths, "--strict", "--workers", workers])
+        for workers in (1, 4):
+            came = answer(program, ["report", *paths, "--strict", "--workers", str(workers)])
             yield f"{title}, --strict, {workers} workers", difference(refused, came)
     else:
         yield f"{title}, --strict", difference(wanted, answer(program, ["report", *paths, "--strict"]))
@@ -190,7 +191,7 @@ def earlier(program: pathlib.Path, top: pathlib.Path, seed: int | str) -> Iterat
                 (place / f"{at}.img").write_bytes(data)
         now, left = plain_sums.sum_of((folder / f"{at}.img", data) for at, data in enumerate(new))
         then, _ = plain_sums.sum_of(enumerate(old))
-        totals = top / "old totals"
+        totals = top / f"old totals {number}"
         totals.write_bytes(plain_sums.totals_text(then))
         try:
             since = plain_sums.since(now, then)
@@ -310,7 +311,8 @@ def totals(program: pathlib.Path, top: pathlib.Path, crash: bytes) -> Iterator[C
     wrong.write_bytes(several)
     came = answer(program, ["report", CRASH, wrong])
     one, _ = plain_sums.sum_of([(1, crash)])
-    wanted = Answer(plain_sums.report_of(one, 1), told([(wrong, "BadTotals 3")]), 3)
+    line = next(number for number, text in enumerate(lines, 1) if b"linear,1,1000,10" in text)
+    wanted = Answer(plain_sums.report_of(one, 1), told([(wrong, f"BadTotals {line}")]), 3)
     yield "totals that are no sum", difference(wanted, came)
 
 

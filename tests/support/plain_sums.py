@@ -74,7 +74,8 @@ def spec_of(histogram: plain_reader.ReadHistogram) -> Spec:
 
 def of_image(data: bytes) -> Sum:
     by_name, bad_records, stopped, flags = plain_reader.reading_of(data, collections.Counter())
-    whole = Sum(images=1, full=flags >> 1 & 1, corrupt=flags & 1, stopped=int(stopped is not None), bad=len(bad_records))
+    whole = Sum(images=1, full=flags >> 1 & 1, corrupt=flags & 1)
+    whole.stopped, whole.bad = int(stopped is not None), len(bad_records)
     for name, read in by_name.items():
         units = {low: count for low, (_, count) in read["buckets"].items()}
         marks = {low: read["marks"][low] for low in units}
@@ -83,7 +84,7 @@ def of_image(data: bytes) -> Sum:
 
 
 def has_its_keys(spec: Spec, keys: list[int]) -> bool:
-    """Whether a spec is lawful, and these are the least values of its buckets; any values may be keys of a sparse one."""
+    """Whether a spec is lawful, and these are the least values of its buckets; any may be keys of a sparse one."""
     kind, *numbers = spec
     if kind == LINEAR:
         boundaries = plain_reader.linear_boundaries(*numbers)
@@ -106,8 +107,9 @@ def many(texts: Iterable[str]) -> list[int]:
 
 
 def of_totals(data: bytes) -> Sum:
-    """What the lines of totals say; raises the number of the line that is wrong, as a fault."""
-    at = 0
+    """What the lines of totals say; raises the number of the line that is wrong, as a fault. Where each goes on from
+    those before it, that is the line of the first name that is not above the one before, or lacks keys of its spec."""
+    at, names, wrong = 0, 0, 0
     try:
         lines = [line.split(",") for line in data.decode("latin-1").split("\n")]
         assert lines[0] == ["totals", "1"]
@@ -116,8 +118,9 @@ def of_totals(data: bytes) -> Sum:
         if word != "images" or len(counts) != 5:
             raise ValueError
         whole = Sum(dict(), *many(counts))
-        at, listed, is_formed = 2, [], True
+        at = 2
         while lines[at][0] == "hist":
+            first = at + 1
             _, name, images, least, amounts, taken, redundant, kind, *behind = lines[at]
             spec = (NUMBERS[kind], *(number(text, 0, 2**32 - 1) for text in behind))
             if len(behind) != {LINEAR: 3, BOOLEAN: 0, CUSTOM: len(behind), SPARSE: 0}[spec[0]]:
@@ -133,21 +136,25 @@ def of_totals(data: bytes) -> Sum:
                 keys.append(number(value, -(2**31), 2**31 - 1))
                 part.units[keys[-1]], part.marks[keys[-1]] = many([units, marks])
                 at += 1
-            listed.append((name.encode("latin-1"), spec))
-            whole.parts[listed[-1]] = part
-            is_formed = is_formed and keys == sorted(set(keys)) and has_its_keys(spec, keys) and fits(part)
+            here = (name.encode("latin-1"), spec)
+            is_above = not whole.parts or here > max(whole.parts)
+            has_its = keys == sorted(set(keys)) and has_its_keys(spec, keys)
+            if not is_above or not has_its or sum(part.units.values()) > MOST:
+                wrong = wrong or first
+            whole.parts[here] = part
+            names += 1
         while lines[at][0] in ("of", "fold"):
             many(lines[at][1:])
             at += 1
-        if lines[at] != ["end", str(len(whole.parts))]:
+        if lines[at] != ["end", str(names)]:
             raise ValueError
         at += 1
         if lines[at:] != [[""]]:
             raise ValueError
     except (ValueError, IndexError, KeyError):
         raise Wrong(f"BadTotals {at + 1}") from None
-    if not is_formed or listed != sorted(set(listed)):
-        raise Wrong("BadTotals 3")
+    if wrong:
+        raise Wrong(f"BadTotals {wrong}")
     return whole
 
 

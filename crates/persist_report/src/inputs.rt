@@ -34,10 +34,27 @@ pub struct Inputs<'a> {
     pub has_totals: bool,
 }
 
+// Whether a file is named, and is standard input.
+fn is_dash(path: Option<&str>) -> bool {
+    match path {
+        Some(path) => path == DASH,
+        None => false,
+    }
+}
+
 impl<'a> Inputs<'a> {
     /// Returns the first file that is named.
     pub fn first(&self) -> Option<&'a str> {
         self.files.first().copied()
+    }
+
+    // How many of the other files that are named are standard input.
+    fn other_dashes(&self) -> usize {
+        match (is_dash(self.list), is_dash(self.earlier)) {
+            (true, true) => 2,
+            (false, false) => 0,
+            _ => 1,
+        }
     }
 
     /// Returns whether a sum is asked for, whatever the first file is.
@@ -142,7 +159,10 @@ pub fn put_input<R: Files<File = File> + AllocGlobal>(
 }
 
 // The bytes of a list of files.
-fn list_bytes<R: Files<File = File> + Input + AllocGlobal>(rt: &R, list: &str) -> io::Result<String> {
+fn list_bytes<R: Files<File = File> + Input + AllocGlobal>(
+    rt: &R,
+    list: &str,
+) -> io::Result<String> {
     if list == DASH {
         return io::read_to_string(rt.alloc(), rt.reader());
     }
@@ -169,15 +189,30 @@ fn put_list<R: Files<File = File> + Input + AllocGlobal>(
     Ok(())
 }
 
-/// How many of some names are standard input.
-pub fn dashes_among(names: &[Named]) -> usize {
-    let mut count: usize = 0;
+/// Whether one of some names is standard input.
+pub fn has_dash(names: &[Named]) -> bool {
+    names.iter().any(|name| name.path.as_str() == DASH)
+}
+
+// How many of some names are standard input, counted on from a number.
+fn dashes_among(names: &[Named], others: usize) -> usize {
+    let mut count = others;
     for name in names {
         if name.path.as_str() == DASH {
             count = count.saturating_add(1);
         }
     }
     count
+}
+
+// Refuses standard input as two of some names, or as one of them beside so many others.
+fn check_dashes_among(alloc: Global, names: &[Named], others: usize) -> Result<(), Failure>
+    ensures { IfErr result UsageIsMistake }
+{
+    if dashes_among(names, others) > 1 {
+        return Err(Failure::Usage(two_inputs(alloc)?));
+    }
+    Ok(())
 }
 
 /// Returns the names of all inputs, in their order. `Usage` comes only for a mistake on the command line, as where standard
@@ -192,14 +227,14 @@ pub fn names_of<R: Files<File = File> + Input + AllocGlobal>(
     for file in &inputs.files {
         put_input(context, &mut names, file)?;
     }
-    if let Some(list) = inputs.list {
-        put_list(context, &mut names, list)?;
-    } else if inputs.files.is_empty() {
+    if inputs.files.is_empty() && inputs.list.is_none() {
         put_input(context, &mut names, DASH)?;
     }
-    let others = usize::from(inputs.list == Some(DASH)) + usize::from(inputs.earlier == Some(DASH));
-    if dashes_among(&names).saturating_add(others) > 1 {
-        return Err(Failure::Usage(two_inputs(context.alloc())?));
+    let others = inputs.other_dashes();
+    check_dashes_among(context.alloc(), &names, others)?;
+    if let Some(list) = inputs.list {
+        put_list(context, &mut names, list)?;
+        check_dashes_among(context.alloc(), &names, others)?;
     }
     Ok(names)
 }

@@ -14,9 +14,11 @@ use crate::failure::Failure;
 use crate::families::clash_failure;
 use crate::files::open_out;
 use crate::inputs::{Inputs, Named, names_of, put_input};
-use crate::request::no_page;
-use crate::summing::{Left, Reading, Summed, add_from, origin_of, path_of, sum_of_names, tell_left};
 use crate::noted::Stream;
+use crate::request::no_page;
+use crate::summing::{
+    Left, Reading, Summed, add_from, origin_of, path_of, sum_of_names, tell_left,
+};
 use fault_texts::{Origin, Source};
 use image_reader::Reading as ImageReading;
 use persist_report_core::{CliFault, write_and_flush};
@@ -118,7 +120,15 @@ fn less_earlier<R: Files<File = File> + Input + AllocGlobal + Threads + Sync>(
 {
     let mut names = Vec::new(context.alloc());
     put_input(context, &mut names, earlier)?;
-    let before = sum_of_names(context, &names, 1, Reading { is_live: false, is_strict: true })?;
+    let before = sum_of_names(
+        context,
+        &names,
+        1,
+        Reading {
+            is_live: false,
+            is_strict: true,
+        },
+    )?;
     first_failure(context, &names, before.left)?;
     match sums.minus(&before.sums) {
         Ok(since) => Ok(since),
@@ -180,7 +190,9 @@ fn wrong_with<R: AllocGlobal>(
     if context.wants_whole && is_damaged {
         return Err(Failure::NotWhole(remedies_of(context, "NotWhole")));
     }
-    if let Text::Form(form) = text && let Some(name) = first_missing(form.choice(), reading) {
+    if let Text::Form(form) = text
+        && let Some(name) = first_missing(form.choice(), reading)
+    {
         let name = Vec::from_slice(context.alloc(), name.as_bytes())?;
         let lines = remedies_of(context, "NoHistogram");
         return Err(Failure::Explained(CliFault::NoHistogram(name), lines));

@@ -7,7 +7,7 @@ use crate::context::Context;
 use crate::dashes::DASH;
 use crate::failure::Failure;
 use crate::incoming::Incoming;
-use crate::inputs::{Named, dashes_among};
+use crate::inputs::{Named, has_dash};
 use crate::looking::look_at;
 use crate::peeked::Peeked;
 use fault_texts::Origin;
@@ -15,16 +15,12 @@ use persist_report_core::{CliFault, read_input};
 use reading_sums::Sums;
 use segment_image::{Watched, read_bytes};
 use std::alloc::{AllocError, Global};
-use std::fmt;
-use std::fs;
 use std::fs::File;
 use std::io::Read;
 use std::rt::Files;
-use std::thread;
 use std::thread::Threads;
-use sum_commands::{
-    InputFault, InputKind, add_image, add_totals, append_next, part_of_inputs,
-};
+use std::{fmt, fs, thread};
+use sum_commands::{InputFault, InputKind, add_image, add_totals, append_next, part_of_inputs};
 
 // A totals has at most so many bytes.
 const MAX_TOTALS: usize = 1 << 40;
@@ -102,7 +98,12 @@ fn add_look<R: Files<File = File> + Input + AllocGlobal>(
     path: &str,
 ) -> Result<bool, InputFault> {
     match look_at(context, path) {
-        Ok(bytes) => add_from(context.alloc(), sums, InputKind::Image, &mut Watched::new(bytes)),
+        Ok(bytes) => add_from(
+            context.alloc(),
+            sums,
+            InputKind::Image,
+            &mut Watched::new(bytes),
+        ),
         Err(Failure::Fault(fault)) | Err(Failure::Explained(fault, _)) => {
             Err(InputFault::Image(fault))
         }
@@ -181,9 +182,7 @@ fn add_part<R: Files<File = File> + Input + AllocGlobal>(
     how: Reading,
 ) -> Result<(), CliFault> {
     for place in part.0..part.1 {
-        let Some(name) = names.get(place) else {
-            break
-        };
+        let Some(name) = names.get(place) else { break };
         if summed.is_ended(how) {
             break;
         }
@@ -238,7 +237,7 @@ pub fn sum_of_names<R: Files<File = File> + Input + AllocGlobal + Threads + Sync
     workers: usize,
     how: Reading,
 ) -> Result<Summed, CliFault> {
-    if workers <= 1 || dashes_among(names) > 0 {
+    if workers <= 1 || has_dash(names) {
         return sum_part(context, names, (0, names.len()), how);
     }
     let parts = thread::map_indices(

@@ -10,6 +10,9 @@ use Rattle.segment_image.specs.Words.{bytes_of_words}
 use Rattle.persist_report_core.specs.Report.{IsReadingOf, IsCausedByImage}
 use Rattle.sum_texts.specs.declared.fault.TotalsFault.{TotalsFault}
 use Rattle.sum_texts.specs.declared.fault.TotalsFault.TheVariants as totals
+use Rattle.sum_texts.specs.declared.totals.Totals.{Totals}
+use Rattle.sum_texts.specs.Lines.{totals_text}
+use Rattle.sum_texts.specs.Views.{whole_of}
 use Rattle.sum_commands.specs.declared.fault.InputFault.{InputFault}
 use Rattle.sum_commands.specs.declared.fault.InputFault.TheVariants.{Image, BadTotals, TooMany}
 
@@ -39,3 +42,9 @@ pub record AddsReading (bytes : List ℕ) (before after : Sums) : Type 0 where
 abbrev pub AddsSum : Sums → Sums → Sums → Type 0
 AddsSum more before after = (readings others : List Reading) → IsSumInOrder readings before → IsSumInOrder others more
     → IsSumInOrder (readings ++ others) after
+
+-- a sum became that of the readings more of which a text is the totals
+pub record AddsTotals (text : List ℕ) (before after : Sums) : Type 0 where
+  pub totals : Totals
+  pub text_is : text ≡ totals_text (whole_of totals)
+  pub added : AddsSum totals.sums before after

@@ -16,6 +16,5 @@ pub use fault::InputFault;
 pub use kind::{FRONT, InputKind, kind_of};
 pub use sums::{add_image, add_totals, append_next};
 
-
 #[cfg(test)]
 mod tests;

@@ -2,7 +2,7 @@
 
 ghost use Rattle.std.specs.Prelude.{◌≡◌, IfErr, OnOk, OnErr};
 ghost use Rattle.segment_image.specs.Words.{bytes_of_words};
-ghost use Rattle.sum_commands.specs.Inputs.{AddsReading, AddsSum, IsCausedByInput};
+ghost use Rattle.sum_commands.specs.Inputs.{AddsReading, AddsSum, AddsTotals, IsCausedByInput};
 
 use crate::fault::InputFault;
 use image_reader::Reading;
@@ -45,11 +45,12 @@ pub fn add_image(
     Ok(damage_of(&reading))
 }
 
-/// Adds the readings of a totals to a sum, behind its own, where a text is that of a totals.
+/// Adds the readings of the totals whose text this is to a sum, behind its own [added].
 ///
 /// An input is left out whose bytes are those of no totals, `BadTotals` with a line, or with which a total would not fit,
 /// `TooMany`. The sum is then as it was [refused].
 pub fn add_totals(alloc: Global, sums: &mut Sums, text: &[u8]) -> Result<(), InputFault>
+    ensures added { OnOk result (AddsTotals text.now sums.old sums.new) }
     ensures refused { OnErr result (sums.new ≡ sums.old) }
 {
     let totals = totals_of(alloc, text)?;

@@ -12,7 +12,10 @@ fn kinds(rt: HostRuntime) -> Result<(), Fail> {
     mapped.extend_from_slice(&cookie)?;
     assert_eq!(rt; kind_of(&cookie), InputKind::Image);
     assert_eq!(rt; kind_of(&mapped), InputKind::Image);
-    assert_eq!(rt; kind_of(b"totals,1\nimages,0,0,0,0,0\n".as_slice()), InputKind::Totals);
+    assert_eq!(rt;
+        kind_of(b"totals,1\nimages,0,0,0,0,0\n".as_slice()),
+        InputKind::Totals
+    );
     assert_eq!(rt; kind_of(b"totals,1".as_slice()), InputKind::Other);
     assert_eq!(rt; kind_of(&[]), InputKind::Other);
     Ok(())

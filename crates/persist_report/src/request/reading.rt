@@ -1,8 +1,8 @@
 //! The commands that read an image, and `explain`: their arguments, and what these ask for.
 
 use crate::request::arguments::{explain_flag, image, live_options};
-use crate::request::sums::{also_option, images, sum_options, totals_flag};
 use crate::request::info::{list_options, list_style};
+use crate::request::sums::{also_option, images, sum_options, totals_flag};
 use crate::request::{Task, texts};
 use crate::text_options::{
     families_flag, label_option, labels_found, repeat_options, to_found, to_option,

@@ -60,25 +60,28 @@ pub fn sum_options<'a>(alloc: Global, command: Command<'a>) -> Result<Command<'a
         .long("strict")
         .action(ArgAction::SetTrue)
         .hide_short_help(true)
-        .help("End with the fault of the first FILE that cannot be read, which is\nleft out otherwise");
+        .help(
+            "End with the fault of the first FILE that cannot be read, which is\nleft out otherwise",
+        );
     command.arg(list)?.arg(earlier)?.arg(workers)?.arg(strict)
 }
 
 /// Asks for the sum whole.
 pub fn totals_flag<'a>(alloc: Global) -> Result<Arg<'a>, AllocError> {
-    Ok(Arg::new(alloc, "totals")
-        .long("totals")
-        .action(ArgAction::SetTrue)
-        .conflicts_with("rows")?
-        .help("Print the sum whole, as totals that are read as a FILE")
-        .long_help("Print the sum whole, with specs and marks: totals, which are read like\nan image (not with --rows)"))
+    Ok(
+        Arg::new(alloc, "totals")
+            .long("totals")
+            .action(ArgAction::SetTrue)
+            .conflicts_with("rows")?
+            .help("Print the sum whole, as totals that are read as a FILE")
+            .long_help(
+                "Print the sum whole, with specs and marks: totals, which are read like\nan image (not with --rows)",
+            ),
+    )
 }
 
 /// What a command line names as inputs.
-pub fn inputs_found<'a>(
-    alloc: Global,
-    found: &ArgMatches<'a>,
-) -> Result<Inputs<'a>, AllocError> {
+pub fn inputs_found<'a>(alloc: Global, found: &ArgMatches<'a>) -> Result<Inputs<'a>, AllocError> {
     let mut files = Vec::new(alloc);
     if let Some(named) = found.get_strs("FILE") {
         files.extend_from_slice(named)?;

@@ -39,12 +39,12 @@ pub record AddsReading (bytes : List ℕ) (before after : Sums) : Type 0 where
   pub added : (readings : List Reading) → IsSumInOrder readings before → IsSumInOrder (readings ++ reading ∷ []) after
 
 -- a sum became that of the readings of another one more, behind its own
-abbrev pub AddsSum : Sums → Sums → Sums → Type 0
-AddsSum more before after = (readings others : List Reading) → IsSumInOrder readings before → IsSumInOrder others more
+abbrev pub AddsBehind : Sums → Sums → Sums → Type 0
+AddsBehind more before after = (readings others : List Reading) → IsSumInOrder readings before → IsSumInOrder others more
     → IsSumInOrder (readings ++ others) after
 
 -- a sum became that of the readings more of which a text is the totals
 pub record AddsTotals (text : List ℕ) (before after : Sums) : Type 0 where
   pub totals : Totals
   pub text_is : text ≡ totals_text (whole_of totals)
-  pub added : AddsSum totals.sums before after
+  pub added : AddsBehind totals.sums before after

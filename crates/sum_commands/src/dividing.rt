@@ -15,7 +15,7 @@ fn place_of(inputs: usize, workers: usize, worker: usize) -> usize
 
 /// Returns where the part of a worker begins among so many inputs [begins], and where it ends [ends]: it has as many inputs as
 /// the others, or one more. So the first begins at 0, each other where the one before ends, and the last ends at the end
-/// [first] [last]. Where there is no such worker, the part is empty.
+/// [first] [last], and none ends behind it [within]. Where there is no such worker, the part is empty.
 pub fn part_of_inputs(inputs: usize, workers: usize, worker: usize) -> (usize, usize)
     ensures begins { worker < workers → result.0 ≡ place inputs workers worker }
     ensures ends { worker < workers → result.1 ≡ place inputs workers (worker + 1) }

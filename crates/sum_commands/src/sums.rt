@@ -2,7 +2,7 @@
 
 ghost use Rattle.std.specs.Prelude.{◌≡◌, IfErr, OnOk, OnErr};
 ghost use Rattle.segment_image.specs.Words.{bytes_of_words};
-ghost use Rattle.sum_commands.specs.Inputs.{AddsReading, AddsSum, AddsTotals, IsCausedByInput};
+ghost use Rattle.sum_commands.specs.Inputs.{AddsReading, AddsBehind, AddsTotals, IsCausedByInput};
 
 use crate::fault::InputFault;
 use image_reader::Reading;
@@ -17,7 +17,7 @@ use sum_texts::totals_of;
 /// It is refused if a total or a number would not fit, `TooMany`, or if there is no memory, `NoMemory`. The sum is then as
 /// it was [refused].
 pub fn append_next(sums: &mut Sums, more: &Sums) -> Result<(), SumsFault>
-    ensures added { OnOk result (AddsSum more.now sums.old sums.new) }
+    ensures added { OnOk result (AddsBehind more.now sums.old sums.new) }
     ensures refused { OnErr result (sums.new ≡ sums.old) }
 {
     let raised = more.raised(sums.notes().images)?;

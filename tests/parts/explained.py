@@ -324,7 +324,7 @@ def devices(program: pathlib.Path, folder: pathlib.Path) -> Iterator[Case]:
     answer(program, ["run", SCRIPT, base])
     reads: dict[str, tuple[list[Word], str]] = {
         "a missing image": (["report", "no\nfile"], f'"no\\nfile": {missing}'),
-        "a folder as an image": (["report", folder], f'"{folder}": Is a directory (os error 21)'),
+        "a folder as an image": (["info", folder], f'"{folder}": Is a directory (os error 21)'),
         "a missing script": (["run", "missing", out], f'"missing": {missing}'),
         "a missing base": (["merge", "missing", EXAMPLE, out], f'"missing": {missing}'),
         "a missing dead": (["merge", EXAMPLE, "missing", out], f'"missing": {missing}'),

@@ -24,12 +24,14 @@ COMMANDS = ["report", "export", "show", "run", "resume", "merge", "look", "extra
 SENTENCES: dict[tuple[str, ...], list[str]] = {
     (): ["Show, convert, merge and continue the histograms of a Povundiri segment"],
     ("report",): [
-        "Print the histograms of an image as CSV",
+        "Print the histograms of an image, or of the sum of several, as CSV",
+        "to make one image of two, use `merge`",
         "Explain errors: file, line, reason and what to do (on by default in a terminal)",
     ],
     ("show",): ["Write one self-contained HTML page (not with --width, --ascii or --log)"],
     ("merge",): [
         "Add two images into a new one; counts that a delta has already taken are left out",
+        "To see what images have together, use `report` or `show` of all of them",
         "Image whose counts are added to BASE",
     ],
     ("extract",): [
@@ -45,9 +47,18 @@ SENTENCES: dict[tuple[str, ...], list[str]] = {
     ],
 }
 # Options that `-h` of a command leaves out.
-ONLY_LONG: dict[tuple[str, ...], list[str]] = {(name,): ["--at"] for name in ("report", "show", "export", "info")}
+OF_SUMS = ["--files-from", "--minus", "--workers", "--strict"]
+ONLY_LONG: dict[tuple[str, ...], list[str]] = {
+    ("report",): ["--at", *OF_SUMS],
+    ("show",): ["--also", "--at", *OF_SUMS],
+    ("export",): ["--at", *OF_SUMS],
+    ("info",): ["--at"],
+}
 # What `-h` says.
-SHORT_SENTENCES: dict[tuple[str, ...], list[str]] = {("report",): ["Image file [default: standard input]"]}
+SHORT_SENTENCES: dict[tuple[str, ...], list[str]] = {
+    ("report",): ["Images, totals or folders [default: standard input]"],
+    ("info",): ["Image file [default: standard input]"],
+}
 
 
 def asked(program: pathlib.Path, words: Sequence[str]) -> str:

@@ -78,7 +78,7 @@ pub fn fault_text(name: &str) -> Option<FaultText<'static>>
 
 /// Each fault by its name, with what it means and what to do: those of the program, of the header of an image, of what is
 /// refused, of specs, and of the lines of a report that begin with `!`.
-pub const TEXTS: [(&str, &str, &str); 56] = [
+pub const TEXTS: [(&str, &str, &str); 59] = [
     (
         "Read",
         "An input cannot be opened, or a read of it failed.",
@@ -163,6 +163,21 @@ pub const TEXTS: [(&str, &str, &str); 56] = [
         "Clash",
         "With --families: the two that are named would have metrics of one name. Two histograms are of one family, and of two kinds or with the same labels; or the family of one is that of the other with _bucket, _sum or _count; or it is bad_records or segment_flag, which every export has.",
         "Give one of them another name, or export without --families.",
+    ),
+    (
+        "BadTotals",
+        "An input begins as totals, and is none: the line with this number, from 1, does not go on from those before it; or it is that of the first name, and the names do not ascend or their keys are not those of their specs.",
+        "Write the totals again by `report --totals`. A file that was cut off lacks its last line.",
+    ),
+    (
+        "Fell",
+        "With --minus: the histogram that is named has less than in OLD, or is not there, and counts only grow.",
+        "Let OLD be an earlier image, look or totals of the same segment or folder. A segment that began anew has nothing of the one before: show it whole.",
+    ),
+    (
+        "NotWhole",
+        "With --whole, of several inputs: a record of an image is bad, or its list of records stops early. The text has all that is valid.",
+        "Look for it by `report --whole` of each image alone.",
     ),
     (
         "Bad",
@@ -266,7 +281,7 @@ pub const TEXTS: [(&str, &str, &str); 56] = [
     ),
     (
         "TooMany",
-        "The segment has 256 recorders that are not joined, and no more at once. Of a spec: a linear one has more than 1,000 buckets or more than MAX - MIN + 2, or a custom one more than 999 values, or a scale more than 999 values or 8 bits.",
+        "The segment has 256 recorders that are not joined, and no more at once. Of a sum: with an input that is named, or less OLD, a total would not fit. Of a spec: a linear one has more than 1,000 buckets or more than MAX - MIN + 2, or a custom one more than 999 values, or a scale more than 999 values or 8 bits.",
         "Join a recorder before you ask for the next one. Of a spec: use fewer buckets, values or bits.",
     ),
     (
@@ -286,7 +301,7 @@ pub const TEXTS: [(&str, &str, &str); 56] = [
     ),
     (
         "OtherSpec",
-        "One name has two specs.",
+        "One name has two specs. With --minus: OLD has the histogram that is named, and no input has it with that spec.",
         "Give both the same spec, or one of them another name.",
     ),
     (

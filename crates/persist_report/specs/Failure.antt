@@ -5,9 +5,11 @@ use Rattle.clap.specs.declared.error.Error.{Error}
 use Rattle.clap.specs.declared.error.kind.ErrorKind.{ErrorKind}
 use Rattle.clap.specs.declared.error.kind.ErrorKind.TheVariants.{DisplayHelp, DisplayVersion, OutOfMemory}
 use Rattle.persist_report_core.specs.declared.fault.CliFault.{CliFault}
+use Rattle.sum_commands.specs.declared.fault.InputFault.{InputFault}
+use Rattle.sum_commands.specs.declared.fault.InputFault.TheVariants as of_input
 use Rattle.persist_report_core.specs.declared.fault.CliFault.TheVariants.{Read, Write, TooLong, NotWords, Image, BadLine, Refused, Gate, Merge, NoThread, NoMemory, Adopt, NoSegment, NoHistogram, Bad, Stopped, Changed}
 use Rattle.persist_report.specs.declared.failure.Failure.{Failure}
-use Rattle.persist_report.specs.declared.failure.Failure.TheVariants.{Usage, Fault, Explained, Busy, Scale, Clash}
+use Rattle.persist_report.specs.declared.failure.Failure.TheVariants.{Usage, Fault, Explained, Busy, Scale, Clash, Input, Since, NotWhole, Left}
 use Rattle.persist_report.specs.declared.lock.Unopened.{Unopened}
 use Rattle.persist_report.specs.declared.lock.Unopened.TheVariants as unopened
 
@@ -32,8 +34,15 @@ fault_status (Bad reference fault) = 3
 fault_status (Stopped fault) = 3
 fault_status Changed = 3
 
+-- that of a fault of an input: of one that is no totals, and of one with which a total would not fit, it is 3
+abbrev pub input_status : InputFault → ℕ
+input_status (of_input.Image fault) = fault_status fault
+input_status (of_input.BadTotals line) = 3
+input_status of_input.TooMany = 3
+
 -- the status of a failure: 2 for a command line that the program does not support, 4 for a file that another process has
--- locked, and 3 for a scale that has a fault and for families that clash
+-- locked, and 3 for a scale that has a fault, for families that clash, for a sum that is not after another, for an image that is
+-- not whole, and for inputs that were left out
 abbrev pub failure_status : Failure → ℕ
 failure_status (Usage error) = 2
 failure_status (Fault fault) = fault_status fault
@@ -41,6 +50,10 @@ failure_status (Explained fault lines) = fault_status fault
 failure_status (Busy lines) = 4
 failure_status (Scale fault lines) = 3
 failure_status (Clash first second lines) = 3
+failure_status (Input fault name lines) = input_status fault
+failure_status (Since fault name lines) = 3
+failure_status (NotWhole lines) = 3
+failure_status Left = 3
 
 -- what the failure is if the command line is not parsed: out of memory is no mistake in the words
 abbrev pub IsFailureOf : Error → Failure → Type 0
@@ -62,6 +75,10 @@ UsageIsMistake (Explained fault lines) = ⊤
 UsageIsMistake (Busy lines) = ⊤
 UsageIsMistake (Scale fault lines) = ⊤
 UsageIsMistake (Clash first second lines) = ⊤
+UsageIsMistake (Input fault name lines) = ⊤
+UsageIsMistake (Since fault name lines) = ⊤
+UsageIsMistake (NotWhole lines) = ⊤
+UsageIsMistake Left = ⊤
 
 -- why a file is not locked: another process has its lock, or the system cannot lock it
 abbrev pub IsBusyOrWrite : Unopened → Type 0

@@ -13,8 +13,8 @@ use std::alloc::{AllocError, Global};
 /// What stands for standard input, and as OUT for standard output.
 pub const DASH: &str = "-";
 
-// What is wrong with a command line that names standard input twice. The one error is that memory runs out.
-fn two_inputs(alloc: Global) -> Result<Error, AllocError>
+/// Returns what is wrong with a command line that names standard input twice. The one error is that memory runs out.
+pub fn two_inputs(alloc: Global) -> Result<Error, AllocError>
     ensures { IfOk result (λ error. kind_of error ≡ ErrorKind.ArgumentConflict) }
 {
     command(alloc)?.error(

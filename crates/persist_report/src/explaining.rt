@@ -118,6 +118,17 @@ pub fn failure_of<R: AllocGlobal>(
     }
 }
 
+/// Returns the lines of what a fault means whose line is this, if the command explains its faults; none if memory runs out.
+pub fn remedies_of<R: AllocGlobal>(context: &Context<'_, R>, line: &str) -> String {
+    if !context.explains {
+        return String::new(context.alloc());
+    }
+    match remedy_lines_of(context.alloc(), line) {
+        Ok(lines) => lines,
+        Err(_) => String::new(context.alloc()),
+    }
+}
+
 /// Returns the failure of a file that could not be opened; `Usage` comes only for a mistake on the command line.
 pub fn unopened<R: AllocGlobal>(context: &Context<'_, R>, cause: Cause, path: &str) -> Failure
     ensures { UsageIsMistake result }

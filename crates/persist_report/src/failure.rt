@@ -1,7 +1,7 @@
 //! Why the program did not do what it was asked to, and its exit status then.
 
 ghost use Rattle.std.specs.Prelude.{◌≡◌};
-ghost use Rattle.persist_report.specs.Failure.{IsFailureOf, failure_status, fault_status};
+ghost use Rattle.persist_report.specs.Failure.{IsFailureOf, failure_status, fault_status, input_status};
 ghost use Rattle.persist_report.specs.declared.failure.Failure.TheVariants.{Fault};
 ghost use Rattle.persist_report_core.specs.declared.fault.CliFault.TheVariants.{NoMemory};
 
@@ -11,6 +11,7 @@ use fault_texts::Shown;
 use persist_report_core::CliFault;
 use std::alloc::AllocError;
 use std::fmt;
+use sum_commands::InputFault;
 
 /// Why the program did not do what it was asked to. Its text is whole lines for the error stream.
 #[derive(Drop)]
@@ -31,10 +32,27 @@ pub enum Failure {
         second: Vec<u8>,
         lines: String,
     },
+    /// An input of several has this fault. These lines follow, if there are any.
+    Input {
+        fault: InputFault,
+        name: String,
+        lines: String,
+    },
+    /// The sum that is to be taken off has more of a name, or another spec of it. These lines follow, if there are any.
+    Since {
+        fault: &'static str,
+        name: Vec<u8>,
+        lines: String,
+    },
+    /// One of several images is not whole, and has to be. These lines follow, if there are any.
+    NotWhole(String),
+    /// Some inputs were left out, which was told.
+    Left,
 }
 
 impl Failure {
-    /// Returns the exit status: 2 for `Usage`, 4 for `Busy`, 3 for `Scale` and `Clash`, else that of the fault.
+    /// Returns the exit status: 2 for `Usage`, 4 for `Busy`, 3 for `Scale`, `Clash`, `Since`, `NotWhole` and `Left`, else that
+    /// of the fault.
     pub fn status(&self) -> u8
         ensures { result ≡ failure_status self.now }
     {
@@ -44,7 +62,19 @@ impl Failure {
             Failure::Busy(_) => 4,
             Failure::Scale(_, _) => 3,
             Failure::Clash { .. } => 3,
+            Failure::Input { fault, .. } => input_status(fault),
+            Failure::Since { .. } | Failure::NotWhole(_) | Failure::Left => 3,
         }
+    }
+}
+
+// The exit status of a fault of an input: that of its image, or 3.
+fn input_status(fault: &InputFault) -> u8
+    ensures { result ≡ input_status fault.now }
+{
+    match fault {
+        InputFault::Image(fault) => fault_status(fault),
+        InputFault::BadTotals(_) | InputFault::TooMany => 3,
     }
 }
 
@@ -119,6 +149,19 @@ impl fmt::Display for Failure {
                 )?;
                 f.write_str(lines.as_str())
             }
+            Failure::Input { fault, name, lines } => {
+                writeln!(f, "persist_report: {fault}: {name}")?;
+                f.write_str(lines.as_str())
+            }
+            Failure::Since { fault, name, lines } => {
+                writeln!(f, "persist_report: {fault} {}", Shown(name))?;
+                f.write_str(lines.as_str())
+            }
+            Failure::NotWhole(lines) => {
+                f.write_str("persist_report: NotWhole\n")?;
+                f.write_str(lines.as_str())
+            }
+            Failure::Left => Ok(()),
             Failure::Busy(lines) => {
                 f.write_str("persist_report: Busy\n")?;
                 f.write_str(lines.as_str())

@@ -7,7 +7,8 @@ ghost use Rattle.segment_image.specs.Watched.{has_failed};
 use crate::context::Context;
 use crate::dashes::DASH;
 use crate::failure::Failure;
-use crate::files::{open_image, open_out};
+use crate::files::open_out;
+use crate::noted::Stream;
 use crate::texts::end_text;
 use fault_texts::remedy_lines_of;
 use image_reader::{Reading, read};
@@ -69,8 +70,9 @@ fn read_families<R: Read>(
     }
 }
 
-// The failure of two names that clash. If memory runs out for the lines that explain it, there are none.
-fn clash_failure<R: AllocGlobal>(
+/// Returns the failure of two names that clash. If memory runs out for the lines that explain it, there are none; `Usage` comes
+/// only for a mistake on the command line.
+pub fn clash_failure<R: AllocGlobal>(
     context: &Context<'_, R>,
     first: Vec<u8>,
     second: Vec<u8>,
@@ -101,22 +103,23 @@ fn damage<R>(context: &Context<'_, R>, reading: &Reading) -> Result<(), CliFault
     }
 }
 
-/// Writes the metrics of an image, a family for each histogram: to the file `to`, or to standard output if there is none. If two
+/// Writes the metrics of the image in what a reader has left, a family for each histogram: to the file `to`, or to standard output if there is none. If two
 /// histograms are no families side by side, nothing is written. If what was read is not whole and has to be, that is a fault,
 /// which comes after the text. `Usage` comes only for a mistake on the command line.
 pub fn write_families<
     'a,
-    R: Files<File = File> + Clock + Input + Print + Eprint + RandomSource + AllocGlobal,
+    R: Files<File = File> + Clock + Print + RandomSource + AllocGlobal,
+    I: Read + Drop,
 >(
     context: &Context<'_, R>,
-    file: Option<&'a str>,
+    mut reader: Stream<'a, I>,
     prefix: &str,
     labels: &[Label<'_>],
     to: Option<&'a str>,
 ) -> Result<(), Failure>
+    requires { has_failed reader ≡ false }
     ensures { IfErr result UsageIsMistake }
 {
-    let mut reader = open_image(context, file)?;
     let mut writer = open_out(context, to.unwrap_or(DASH))?;
     match read_families(context.alloc(), &mut reader, prefix, labels) {
         Ok(families) => {

@@ -139,8 +139,9 @@ pub fn check(
     }
 }
 
-// Writes a form of what a reader has left to standard output, and then sees what is wrong with what was read.
-fn write_from<R: Print + AllocGlobal, I: Read + Drop>(
+/// Writes a form of what a reader has left to standard output, and then sees what is wrong with what was read. `Usage` comes only
+/// for a mistake on the command line.
+pub fn write_from<R: Print + AllocGlobal, I: Read + Drop>(
     context: &Context<'_, R>,
     form: Form<'_>,
     mut reader: Stream<'_, I>,

@@ -15,8 +15,8 @@ pub const PREFIX: &str = ".persist_report-";
 
 const DIGITS: usize = 16;
 
-// Whether a new file may have this name.
-fn is_new_name(name: &str) -> bool {
+/// Whether a new file of a running command may have this name.
+pub fn is_new_name(name: &str) -> bool {
     match name.strip_prefix(PREFIX) {
         Some(number) => {
             let mut digits = number.bytes();

@@ -88,8 +88,9 @@ pub fn look_into<'a, R: Files<File = File> + Clock + Input + Print + RandomSourc
     end(context, outcome, None, last, image.into_inner(), None)
 }
 
-// The bytes of the image of a look at the segment in a file, which is read three times.
-fn look_at<R: Files<File = File> + Input + AllocGlobal>(
+/// Returns the bytes of the image of a look at the segment in a file, which is read three times. `Usage` comes only for a mistake
+/// on the command line.
+pub fn look_at<R: Files<File = File> + Input + AllocGlobal>(
     context: &Context<'_, R>,
     file: &str,
 ) -> Result<VecDeque<u8>, Failure>

@@ -5,13 +5,16 @@ mod info;
 mod mistakes;
 mod reading;
 mod scale;
+mod sums;
 mod texts;
 mod writing;
 
+use crate::inputs::Inputs;
 use crate::nth::Nth;
 use crate::repeating::Repeat;
 use crate::request::info::{info_command, info_task};
 use crate::request::scale::{scale_command, scale_task};
+use crate::request::sums::inputs_found;
 use crate::scales::Scale;
 use crate::sizing_request::{SizeTask, size_command, size_task};
 use crate::text_options::{repeat_found, to_found};
@@ -20,7 +23,7 @@ use arguments::explain_flag;
 use clap::error::ErrorKind;
 use clap::{ArgMatches, Command, Error};
 use fault_texts::VARIABLE_HELP;
-pub use mistakes::{no_fault, no_labels, no_prefix, not_text};
+pub use mistakes::{no_fault, no_labels, no_page, no_prefix, not_text};
 use reading::{
     explain_command, export_command, export_task, report_command, show_command, show_task,
 };
@@ -36,6 +39,8 @@ use writing::{
 #[derive(Drop)]
 pub struct Request<'a> {
     pub task: Task<'a>,
+    /// What a command that writes a text reads.
+    pub inputs: Inputs<'a>,
     /// Whether faults are to be explained.
     pub explains: bool,
     /// Whether an image that is not whole is a fault.
@@ -53,14 +58,12 @@ pub struct Request<'a> {
 pub enum Task<'a> {
     /// Write the report of an image, or the rows of that alone.
     Report {
-        file: Option<&'a str>,
         has_rows_alone: bool,
         to: Option<&'a str>,
     },
     /// Write the metrics of an image, whose names begin with the prefix, with these labels on all lines, each as KEY=VALUE; with
     /// a family for each histogram where that is asked for.
     Export {
-        file: Option<&'a str>,
         prefix: &'a str,
         labels: Vec<&'a str>,
         has_families: bool,
@@ -171,7 +174,6 @@ fn task_of<'a>(
 fn plain_task<'a>(name: &str, found: &ArgMatches<'a>) -> Option<Task<'a>> {
     match name {
         "report" => Some(Task::Report {
-            file: found.get_str("FILE"),
             has_rows_alone: found.get_flag("rows"),
             to: to_found(found),
         }),
@@ -202,6 +204,7 @@ impl<'a> Request<'a> {
             if let Some(task) = task_of(alloc, name, found, columns, explains)? {
                 return Ok(Request {
                     task,
+                    inputs: inputs_found(alloc, found)?,
                     explains,
                     wants_whole: found.get_flag("whole"),
                     is_live: found.get_flag("live"),

@@ -8,13 +8,15 @@ use crate::dashes::{DASH, check_dashes};
 use crate::extracting::extract_file;
 use crate::failure::Failure;
 use crate::files::{merge_files_into, resume_file, run_file, write_file};
+use crate::inputs::Inputs;
 use crate::looking::look_into;
 use crate::repeating::{Division, Repeat, begin};
 use crate::request::{Request, Task, no_fault, not_text};
 use crate::scales::print_scale;
 use crate::sizing::size_of_task;
+use crate::sum_writing::Text;
 use crate::terminal::columns;
-use crate::texts::{write_export, write_form};
+use crate::texts::{write_export, write_inputs};
 use fault_texts::{AllTexts, is_asked, nearest_name, texts_for};
 use persist_report_core::CliFault;
 use reading_shows::{Choice, Form, ListStyle, Source, Style};
@@ -41,7 +43,8 @@ pub fn run<
         + RandomSource
         + AllocGlobal
         + Threads
-        + Wait,
+        + Wait
+        + Sync,
 >(rt: &R) -> Result<(), Failure>
     ensures { IfErr result UsageIsMistake }
 {
@@ -50,6 +53,7 @@ pub fn run<
         Ok(request) => {
             let Request {
                 task,
+                inputs,
                 explains,
                 wants_whole,
                 is_live,
@@ -64,8 +68,8 @@ pub fn run<
                 at,
             };
             match repeat {
-                None => meet(&context, &task)?,
-                Some(repeat) => meet_again(&context, &task, repeat)?,
+                None => meet(&context, &task, &inputs)?,
+                Some(repeat) => meet_again(&context, &task, &inputs, repeat)?,
             }
         }
         Err(error) if error.use_stderr() => return Err(Failure::from(error)),
@@ -159,25 +163,23 @@ fn meet<
         + RandomSource
         + AllocGlobal
         + Threads
-        + Wait,
->(context: &Context<'_, R>, task: &Task<'_>) -> Result<(), Failure>
+        + Wait
+        + Sync,
+>(context: &Context<'_, R>, task: &Task<'_>, inputs: &Inputs<'_>) -> Result<(), Failure>
     ensures { IfErr result UsageIsMistake }
 {
     check_dashes(context.alloc(), task)?;
     match *task {
-        Task::Report {
-            file,
-            has_rows_alone,
-            to,
-        } => write_form(context, report_form(has_rows_alone), file, to),
+        Task::Report { has_rows_alone, to } => {
+            write_inputs(context, inputs, Text::Form(report_form(has_rows_alone)), to)
+        }
         Task::Info { file, is_human } => write_file(context, Form::Info { is_human }, file),
         Task::Export {
-            file,
             prefix,
             ref labels,
             has_families,
             to,
-        } => write_export(context, file, prefix, labels, has_families, to),
+        } => write_export(context, inputs, prefix, labels, has_families, to),
         Task::Show {
             file,
             ref names,
@@ -189,7 +191,8 @@ fn meet<
         } => {
             let choice = choice_of(names.as_slice(), part);
             let page = if is_page { Some(source_of(file)) } else { None };
-            write_form(context, form_of(style, page, list, choice), file, to)
+            let form = form_of(style, page, list, choice);
+            write_inputs(context, inputs, Text::Form(form), to)
         }
         Task::Run {
             script,
@@ -230,8 +233,14 @@ fn meet_again<
         + RandomSource
         + AllocGlobal
         + Threads
-        + Wait,
->(context: &Context<'_, R>, task: &Task<'_>, repeat: Repeat) -> Result<(), Failure>
+        + Wait
+        + Sync,
+>(
+    context: &Context<'_, R>,
+    task: &Task<'_>,
+    inputs: &Inputs<'_>,
+    repeat: Repeat,
+) -> Result<(), Failure>
     ensures { IfErr result UsageIsMistake }
 {
     for number in 0..repeat.times() {
@@ -239,7 +248,7 @@ fn meet_again<
             repeat.wait(context.rt);
         }
         begin(context, division_of(task), number == 0)?;
-        meet(context, task)?;
+        meet(context, task, inputs)?;
     }
     Ok(())
 }

@@ -6,13 +6,17 @@ ghost use Rattle.segment_image.specs.Watched.{has_failed};
 
 use crate::cause::Cause;
 use crate::context::Context;
+use crate::dashes::DASH;
 use crate::explaining::{FaultContext, failure_of};
 use crate::failure::Failure;
 use crate::families::write_families;
-use crate::files::{check, open_image, open_out, write_file};
-use crate::noted::Stream;
+use crate::files::{check, open_image, open_out, write_from};
+use crate::inputs::{Inputs, is_folder};
+use crate::noted::{Noted, Stream};
 use crate::output::Output;
+use crate::peeked::Peeked;
 use crate::request::{no_labels, no_prefix};
+use crate::sum_writing::{Text, write_sum, write_totals};
 use persist_report_core::CliFault;
 use reading_shows::{Form, write_text};
 use reading_texts::{Label, are_line_labels, is_prefix};
@@ -21,7 +25,9 @@ use std::fs::File;
 use std::io::Read;
 use std::random::RandomSource;
 use std::rt::Files;
+use std::thread::Threads;
 use std::time::Clock;
+use sum_commands::InputKind;
 
 /// Ends the output of a text with how its writing ended, and what is wrong with what was read: a file is replaced if the text is
 /// complete. `Usage` comes only for a mistake on the command line.
@@ -76,26 +82,46 @@ fn write_to<'a, R: Files<File = File> + Clock + Print + RandomSource + AllocGlob
     end_text(context, reader, writer, written, found)
 }
 
-/// Writes a form of the image in a file, or of that on standard input if no file is named, or `-`: to the file `to`, or to
-/// standard output if there is none. If no file is named and standard input is a terminal, this is said. If what was read is not
-/// whole and has to be, or lacks a histogram of a name, that is a fault, which comes after the text. `Usage` comes only for a
-/// mistake on the command line.
-pub fn write_form<
+/// Writes a text of the one image that is named, or of that on standard input if no file is named, or `-`, or of the sum of all
+/// inputs: to the file `to`, or to standard output if there is none. If no file is named and standard input is a terminal, this is
+/// said. What is wrong with what was read comes after the text. `Usage` comes only for a mistake on the command line.
+pub fn write_inputs<
     'a,
-    R: Files<File = File> + Clock + Input + Print + Eprint + RandomSource + AllocGlobal,
+    R: Files<File = File>
+        + Clock
+        + Input
+        + Print
+        + Eprint
+        + RandomSource
+        + AllocGlobal
+        + Threads
+        + Sync,
 >(
     context: &Context<'_, R>,
-    form: Form<'_>,
-    file: Option<&'a str>,
+    inputs: &Inputs<'a>,
+    text: Text<'_>,
     to: Option<&'a str>,
 ) -> Result<(), Failure>
     ensures { IfErr result UsageIsMistake }
 {
-    let Some(to) = to else {
-        return write_file(context, form, file);
-    };
-    let reader = open_image(context, file)?;
-    write_to(context, form, reader, to)
+    let file = inputs.first();
+    if inputs.is_sum() || is_folder(context.rt, file.unwrap_or(DASH)) {
+        return write_sum(context, inputs, text, to);
+    }
+    let opened = open_image(context, file)?.into_inner();
+    let origin = opened.origin();
+    let (kind, peeked) = Peeked::of(context.alloc(), opened.into_inner())?;
+    let reader = Noted::stream(peeked, origin, context.copy());
+    match (kind, text) {
+        (InputKind::Totals, _) => write_totals(context, text, reader, to),
+        (_, Text::Form(form)) => match to {
+            Some(to) => write_to(context, form, reader, to),
+            None => write_from(context, form, reader),
+        },
+        (_, Text::Families { prefix, labels }) => {
+            write_families(context, reader, prefix, labels, to)
+        }
+    }
 }
 
 // The labels that these words name, each as KEY=VALUE; none if one has no equals sign.
@@ -117,10 +143,18 @@ fn labels_of<'a>(alloc: Global, words: &[&'a str]) -> Result<Option<Vec<Label<'a
 /// KEY=VALUE; with a family for each histogram where that is asked for. `Usage` comes only for a mistake on the command line.
 pub fn write_export<
     'a,
-    R: Files<File = File> + Clock + Input + Print + Eprint + RandomSource + AllocGlobal,
+    R: Files<File = File>
+        + Clock
+        + Input
+        + Print
+        + Eprint
+        + RandomSource
+        + AllocGlobal
+        + Threads
+        + Sync,
 >(
     context: &Context<'_, R>,
-    file: Option<&'a str>,
+    inputs: &Inputs<'a>,
     prefix: &str,
     words: &[&str],
     has_families: bool,
@@ -132,15 +166,14 @@ pub fn write_export<
         return Err(Failure::Usage(no_prefix(context.alloc())?));
     }
     match labels_of(context.alloc(), words)? {
-        Some(labels) if are_line_labels(&labels) && has_families => {
-            write_families(context, file, prefix, &labels, to)
-        }
         Some(labels) if are_line_labels(&labels) => {
-            let form = Form::Export {
-                prefix,
-                labels: &labels,
+            let labels = labels.as_slice();
+            let text = if has_families {
+                Text::Families { prefix, labels }
+            } else {
+                Text::Form(Form::Export { prefix, labels })
             };
-            write_form(context, form, file, to)
+            write_inputs(context, inputs, text, to)
         }
         _ => Err(Failure::Usage(no_labels(context.alloc())?)),
     }

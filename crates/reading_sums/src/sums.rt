@@ -1,6 +1,6 @@
 //! The sum of any number of images.
 
-ghost use Rattle.std.specs.Prelude.{◌≡◌, ◌↔◌, ◌∷◌, ◌++◌, ℕ, List, [], None, nat_lt, true, is_some, map, IfOk, IfSome, OnOk, OnErr};
+ghost use Rattle.std.specs.Prelude.{◌≡◌, ◌↔◌, ◌∷◌, ◌++◌, ℕ, List, [], None, nat_lt, true, is_some, map, IfOk, IfErr, IfSome, OnOk, OnErr, ⊤};
 ghost use Rattle.std.specs.List.{All};
 ghost use Rattle.std.specs.List.Sorted.{IsPermutation, IsSortedByKey};
 ghost use Rattle.std.specs.Ordering.{nat_cmp};
@@ -9,15 +9,18 @@ ghost use Rattle.bucket_ranges.specs.Reading as definition;
 ghost use Rattle.image_reader.specs.Views.{histogram_view, reading_view};
 ghost use Rattle.image_reader.specs.Readable.{IsReadable};
 ghost use Rattle.reading_sums.specs.Totals.{part_from, SameTotals};
-ghost use Rattle.reading_sums.specs.Views.{part_of};
-ghost use Rattle.reading_sums.specs.Sums.{IsSumOver};
+ghost use Rattle.reading_sums.specs.Views.{part_of, parts_of};
+ghost use Rattle.reading_sums.specs.Since.{AreSince, HasFallen, HasOtherSpec, HasTooMany, IsGrown, MatchFault};
+ghost use Rattle.reading_sums.specs.Sums.{IsSumOver, raised};
 ghost use Rattle.reading_sums.specs.Whole.{AreWhole, HasNamesOnce, IsWellFormed, IsWholeHistogram, IsWholeReading};
 
 use crate::check::are_whole;
-use crate::fault::SumsFault;
+use crate::fault::{MinusFault, SumsFault};
 use crate::hist::{HistSum, sum_of, sums_of_both};
 use crate::notes::{Notes, notes_of, notes_of_both};
+use crate::raised::raised_hists;
 use crate::shown::{OtherSpec, others_of, readings_of};
+use crate::since::hists_since;
 use image_reader::{HistReading, Reading};
 use std::alloc::{AllocError, Global};
 
@@ -110,6 +113,60 @@ impl Sums {
         self.notes = notes;
         self.hists = hists;
         Ok(())
+    }
+
+    /// Returns the sum of the same readings, where the number of each is so much greater [raised]. So the sum of what comes
+    /// behind others can be added to theirs.
+    ///
+    /// It is refused if a number would not fit 64 bits, `TooMany`, or if there is no memory, `NoMemory`.
+    pub fn raised(&self, by: u64) -> Result<Sums, SumsFault>
+        ensures raised { IfOk result (λ sums. (readings : List (ℕ × definition.Reading)) → IsSumOver readings self.now → IsSumOver (map (raised by) readings) sums) }
+    {
+        Ok(Sums {
+            alloc: self.alloc,
+            notes: self.notes,
+            hists: raised_hists(self.alloc, &self.hists, by)?,
+        })
+    }
+
+    /// Returns whether the sum is well formed [is].
+    pub fn is_well_formed(&self) -> Result<bool, AllocError>
+        ensures is { IfOk result (λ is. (is ≡ true) ↔ IsWellFormed self.now) }
+    {
+        are_whole(self.alloc, &self.hists)
+    }
+
+    /// Returns what came since an earlier sum of the same segment, or of the same folder. Of each name and spec the earlier
+    /// sum and the result have together what this sum has: the units and the marks of each key, the amounts and those that
+    /// deltas have taken, and the redundant counts. All else is as in this sum: the names and specs, the keys, how many
+    /// images have a histogram and the least number of one [since], and the notes [notes]. It is well formed if this sum
+    /// is [well_formed].
+    ///
+    /// Where both sums are well formed it is refused for these reasons, never without one, and with one never given
+    /// [only]; or for want of memory, `NoMemory`:
+    ///
+    /// - `Fell` with a name: of one spec this sum has fewer units or marks of some key than the earlier one, or a smaller
+    ///   redundant count; or it has nothing of the name, and the earlier one has a unit, a mark, an amount or a redundant
+    ///   count [fell].
+    /// - `OtherSpec` with a name: the earlier sum has it under a spec that this one does not have it with, but another
+    ///   [other_spec].
+    /// - `TooMany`: an amount less the earlier one does not fit 128 bits [too_many]. An amount that is less than the
+    ///   earlier one is no reason, since samples may be negative.
+    pub fn minus(&self, earlier: &Sums) -> Result<Sums, MinusFault>
+        ensures since { IfOk result (λ since. AreSince (parts_of self.now) (parts_of earlier.now) (parts_of since)) }
+        ensures notes { IfOk result (λ since. since.notes ≡ self.now.notes) }
+        ensures well_formed { IfOk result (λ since. IsWellFormed self.now → IsWellFormed since) }
+        ensures fell { IfErr result (λ fault. IsWellFormed self.now → IsWellFormed earlier.now → MatchFault fault ⊤ (HasFallen self.now.hists.items earlier.now.hists.items) (λ name. ⊤)) }
+        ensures other_spec { IfErr result (λ fault. IsWellFormed self.now → IsWellFormed earlier.now → MatchFault fault ⊤ (λ name. ⊤) (HasOtherSpec self.now.hists.items earlier.now.hists.items)) }
+        ensures too_many { IfErr result (λ fault. IsWellFormed self.now → IsWellFormed earlier.now → MatchFault fault (HasTooMany self.now.hists.items earlier.now.hists.items) (λ name. ⊤) (λ name. ⊤)) }
+        ensures only { IfOk result (λ since. IsWellFormed self.now → IsWellFormed earlier.now → IsGrown self.now.hists.items earlier.now.hists.items) }
+    {
+        let hists = hists_since(self.alloc, &self.hists, &earlier.hists)?;
+        Ok(Sums {
+            alloc: self.alloc,
+            notes: self.notes,
+            hists,
+        })
     }
 
     /// Returns what the images say beside their histograms.

@@ -44,6 +44,17 @@ pub fn no_prefix(alloc: Global) -> Result<Error, AllocError>
     )
 }
 
+/// Returns what is wrong with a command line that asks for the page of a sum: a mistake in what goes together. The one error is
+/// that memory runs out.
+pub fn no_page(alloc: Global) -> Result<Error, AllocError>
+    ensures { IfOk result (λ error. kind_of error ≡ ErrorKind.ArgumentConflict) }
+{
+    command(alloc)?.error(
+        ErrorKind::ArgumentConflict,
+        "a page is of one image, and not of a sum",
+    )
+}
+
 /// Returns what is wrong with a command line whose labels no line may have: a mistake in a value. The one error is that
 /// memory runs out.
 pub fn no_labels(alloc: Global) -> Result<Error, AllocError>

@@ -2,6 +2,7 @@
 
 use crate::request::arguments::{explain_flag, image, live_options};
 use crate::request::info::{list_options, list_style};
+use crate::request::sums::{also_option, images, sum_options, totals_flag};
 use crate::request::{Task, texts};
 use crate::text_options::{
     families_flag, label_option, labels_found, repeat_options, to_found, to_option,
@@ -33,10 +34,11 @@ pub fn report_command<'a>(alloc: Global) -> Result<Command<'a>, AllocError> {
         .about("Print the histograms of an image as CSV")
         .long_about(texts::REPORT)
         .after_help("Example:\n  persist_report report my.img")
-        .arg(image(alloc))?
+        .arg(images(alloc))?
         .arg(rows)?
+        .arg(totals_flag(alloc)?)?
         .arg(to_option(alloc))?;
-    live_options(alloc, command)?
+    sum_options(alloc, live_options(alloc, command)?)?
         .arg(whole_flag(alloc))?
         .arg(explain_flag(alloc))
 }
@@ -52,12 +54,12 @@ pub fn export_command<'a>(alloc: Global) -> Result<Command<'a>, AllocError> {
         .about("Print the histograms of an image in the Prometheus text format")
         .long_about(texts::EXPORT)
         .after_help("Example:\n  persist_report export my.img --prefix my")
-        .arg(image(alloc))?
+        .arg(images(alloc))?
         .arg(prefix)?
         .arg(label_option(alloc))?
         .arg(families_flag(alloc))?
         .arg(to_option(alloc))?;
-    let command = live_options(alloc, command)?;
+    let command = sum_options(alloc, live_options(alloc, command)?)?;
     repeat_options(alloc, command)?
         .arg(whole_flag(alloc))?
         .arg(explain_flag(alloc))
@@ -119,11 +121,12 @@ pub fn show_command<'a>(alloc: Global) -> Result<Command<'a>, AllocError> {
         .after_long_help("Example:\n  persist_report show my.img A --width 60")
         .arg(image(alloc))?
         .arg(names)?
+        .arg(also_option(alloc))?
         .arg(part)?
         .arg(html)?;
     let command = list_options(alloc, command)?;
     let command = style_options(alloc, command)?.arg(to_option(alloc))?;
-    let command = live_options(alloc, command)?;
+    let command = sum_options(alloc, live_options(alloc, command)?)?;
     repeat_options(alloc, command)?
         .arg(whole_flag(alloc))?
         .arg(explain_counts_flag(alloc))
@@ -145,7 +148,6 @@ pub fn export_task<'a>(
     let labels = labels_found(alloc, export)?;
     Ok(
         export.get_str("prefix").map(|prefix| Task::Export {
-            file: export.get_str("FILE"),
             prefix,
             labels,
             has_families: export.get_flag("families"),

@@ -22,22 +22,26 @@ With PERSIST_REPORT_EXPLAIN=1 in the environment every error is explained, as by
 
 /// What `report` does.
 pub const REPORT: &str =
-    "Print the histograms of an image as CSV: for each bucket that has units a line
-NAME,KIND,LOW,HIGH,COUNT for the values from LOW to below HIGH, and after the
-buckets of a histogram a line NAME,total,UNITS,SUM. Lines that begin with an
-exclamation mark say what is wrong with the image.";
+    "Print the histograms of an image, or of the sum of several, as CSV: for each
+bucket that has units a line NAME,KIND,LOW,HIGH,COUNT for the values from LOW to
+below HIGH, and after the buckets of a histogram a line NAME,total,UNITS,SUM.
+Lines that begin with an exclamation mark say what is wrong with the image, and
+of how many images a sum is.
+
+A sum has all that its images count, and any number of them; to make one image
+of two, use `merge`. A file that cannot be read is told and left out.";
 
 /// What `export` does.
 pub const EXPORT: &str =
-    "Print the histograms of an image in the Prometheus text format: each bucket with
-the units up to it, the sum and the count, the values of sparse histograms, and
-how many records are bad.";
+    "Print the histograms of an image, or of the sum of several, in the Prometheus
+text format: each bucket with the units up to it, the sum and the count, the
+values of sparse histograms, and how many records are bad.";
 
 /// What `show` does.
 pub const SHOW: &str =
-    "Show the histograms of an image: numbers, quantiles and bars. A line is a bucket
-with its values, a bar, its units, their percent of all, and the percent of
-those up to it.";
+    "Show the histograms of an image, or of the sum of several: numbers, quantiles
+and bars. A line is a bucket with its values, a bar, its units, their percent of
+all, and the percent of those up to it.";
 
 /// What `run` does.
 pub const RUN: &str =
@@ -64,7 +68,7 @@ report to standard output. OUT may be BASE.";
 /// What `merge` does.
 pub const MERGE: &str =
     "Add two images into a new one; counts that a delta has already taken are left
-out.";
+out. To see what images have together, use `report` or `show` of all of them.";
 
 /// What `look` does.
 pub const LOOK: &str =

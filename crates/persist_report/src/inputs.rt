@@ -1,0 +1,240 @@
+//! The inputs of a command that writes a text: files, lists of files and folders.
+
+ghost use Rattle.std.specs.Prelude.{IfErr};
+ghost use Rattle.persist_report.specs.Failure.{UsageIsMistake};
+
+use crate::cause::Cause;
+use crate::context::Context;
+use crate::dashes::{DASH, two_inputs};
+use crate::explaining::unopened;
+use crate::failure::Failure;
+use crate::leftover::is_new_name;
+use crate::workers::Workers;
+use persist_report_core::CliFault;
+use std::alloc::{AllocError, Global};
+use std::fs::File;
+use std::io::{BufRead, BufReader};
+use std::rt::Files;
+use std::{fs, io};
+
+/// What a command that writes a text reads.
+#[derive(Drop)]
+pub struct Inputs<'a> {
+    /// The files and folders that are named.
+    pub files: Vec<&'a str>,
+    /// The file that has more of them, a line each.
+    pub list: Option<&'a str>,
+    /// What is taken off the sum.
+    pub earlier: Option<&'a str>,
+    /// How many workers add up, where that is said.
+    pub workers: Option<Workers>,
+    /// Whether an input that cannot be read ends the command.
+    pub is_strict: bool,
+    /// Whether the sum is written whole.
+    pub has_totals: bool,
+}
+
+// Whether a file is named, and is standard input.
+fn is_dash(path: Option<&str>) -> bool {
+    match path {
+        Some(path) => path == DASH,
+        None => false,
+    }
+}
+
+impl<'a> Inputs<'a> {
+    /// Returns the first file that is named.
+    pub fn first(&self) -> Option<&'a str> {
+        self.files.first().copied()
+    }
+
+    // How many of the other files that are named are standard input.
+    fn other_dashes(&self) -> usize {
+        match (is_dash(self.list), is_dash(self.earlier)) {
+            (true, true) => 2,
+            (false, false) => 0,
+            _ => 1,
+        }
+    }
+
+    /// Returns whether a sum is asked for, whatever the first file is.
+    pub fn is_sum(&self) -> bool {
+        self.files.len() > 1
+            || self.list.is_some()
+            || self.earlier.is_some()
+            || self.workers.is_some()
+            || self.is_strict
+            || self.has_totals
+    }
+}
+
+/// An input by its name.
+#[derive(Drop)]
+pub struct Named {
+    /// Its path, or `-`.
+    pub path: String,
+    /// Whether it was found in a folder, where files that are neither images nor totals are passed over.
+    pub is_found: bool,
+}
+
+/// Whether a folder is at a path.
+pub fn is_folder<R: Files>(rt: &R, path: &str) -> bool {
+    match fs::metadata(rt, path) {
+        Ok(found) => path != DASH && found.is_dir(),
+        Err(_) => false,
+    }
+}
+
+// Puts an input behind others.
+fn put_named(names: &mut Vec<Named>, path: String, is_found: bool) -> Result<(), AllocError> {
+    names.push(Named { path, is_found })?;
+    Ok(())
+}
+
+// The path of a name in a folder.
+fn path_in(alloc: Global, folder: &str, name: &str) -> Result<String, AllocError> {
+    let mut path = String::from_str(alloc, folder)?;
+    if !folder.ends_with('/') {
+        path.push('/')?;
+    }
+    path.push_str(name)?;
+    Ok(path)
+}
+
+// Puts the path of a name in a folder behind others, if it is a regular file that no running command is writing.
+fn put_found<R: Files + AllocGlobal>(
+    rt: &R,
+    names: &mut Vec<Named>,
+    folder: &str,
+    name: &[u8],
+) -> io::Result<()> {
+    let Ok(name) = str::from_utf8(name) else {
+        return Err(io::Error::from(io::ErrorKind::InvalidFilename));
+    };
+    let path = path_in(rt.alloc(), folder, name)?;
+    let is_file = match fs::symlink_metadata(rt, path.as_str()) {
+        Ok(found) => found.is_file(),
+        Err(_) => false,
+    };
+    if is_file && !is_new_name(name) {
+        put_named(names, path, true)?;
+    }
+    Ok(())
+}
+
+// Puts the regular files in a folder behind others, by their names.
+fn put_folder<R: Files + AllocGlobal>(
+    rt: &R,
+    names: &mut Vec<Named>,
+    folder: &str,
+) -> io::Result<()> {
+    let alloc = rt.alloc();
+    let mut found: Vec<Vec<u8>> = Vec::new(alloc);
+    for name in BufReader::new(alloc, rt.open_dir(folder)?)?.split(alloc, 0) {
+        found.push(name?)?;
+    }
+    found.sort_by(|a, b| a.as_slice().cmp(b.as_slice()))?;
+    for name in &found {
+        put_found(rt, names, folder, name)?;
+    }
+    Ok(())
+}
+
+/// Puts a file behind others, or the regular files in a folder by their names.
+pub fn put_input<R: Files<File = File> + AllocGlobal>(
+    context: &Context<'_, R>,
+    names: &mut Vec<Named>,
+    path: &str,
+) -> Result<(), Failure>
+    ensures { IfErr result UsageIsMistake }
+{
+    if is_folder(context.rt, path) {
+        return match put_folder(context.rt, names, path) {
+            Ok(()) => Ok(()),
+            Err(error) => Err(unopened(context, Cause::of(CliFault::Read, error), path)),
+        };
+    }
+    put_named(names, String::from_str(context.alloc(), path)?, false)?;
+    Ok(())
+}
+
+// The bytes of a list of files.
+fn list_bytes<R: Files<File = File> + Input + AllocGlobal>(
+    rt: &R,
+    list: &str,
+) -> io::Result<String> {
+    if list == DASH {
+        return io::read_to_string(rt.alloc(), rt.reader());
+    }
+    fs::read_to_string(rt, list)
+}
+
+// Puts what the lines of a list name behind others.
+fn put_list<R: Files<File = File> + Input + AllocGlobal>(
+    context: &Context<'_, R>,
+    names: &mut Vec<Named>,
+    list: &str,
+) -> Result<(), Failure>
+    ensures { IfErr result UsageIsMistake }
+{
+    let lines = match list_bytes(context.rt, list) {
+        Ok(lines) => lines,
+        Err(error) => return Err(unopened(context, Cause::of(CliFault::Read, error), list)),
+    };
+    for line in lines.as_str().lines() {
+        if !line.is_empty() {
+            put_input(context, names, line)?;
+        }
+    }
+    Ok(())
+}
+
+/// Whether one of some names is standard input.
+pub fn has_dash(names: &[Named]) -> bool {
+    names.iter().any(|name| name.path.as_str() == DASH)
+}
+
+// How many of some names are standard input, counted on from a number.
+fn dashes_among(names: &[Named], others: usize) -> usize {
+    let mut count = others;
+    for name in names {
+        if name.path.as_str() == DASH {
+            count = count.saturating_add(1);
+        }
+    }
+    count
+}
+
+// Refuses standard input as two of some names, or as one of them beside so many others.
+fn check_dashes_among(alloc: Global, names: &[Named], others: usize) -> Result<(), Failure>
+    ensures { IfErr result UsageIsMistake }
+{
+    if dashes_among(names, others) > 1 {
+        return Err(Failure::Usage(two_inputs(alloc)?));
+    }
+    Ok(())
+}
+
+/// Returns the names of all inputs, in their order. `Usage` comes only for a mistake on the command line, as where standard
+/// input is named twice.
+pub fn names_of<R: Files<File = File> + Input + AllocGlobal>(
+    context: &Context<'_, R>,
+    inputs: &Inputs<'_>,
+) -> Result<Vec<Named>, Failure>
+    ensures { IfErr result UsageIsMistake }
+{
+    let mut names = Vec::new(context.alloc());
+    for file in &inputs.files {
+        put_input(context, &mut names, file)?;
+    }
+    if inputs.files.is_empty() && inputs.list.is_none() {
+        put_input(context, &mut names, DASH)?;
+    }
+    let others = inputs.other_dashes();
+    check_dashes_among(context.alloc(), &names, others)?;
+    if let Some(list) = inputs.list {
+        put_list(context, &mut names, list)?;
+        check_dashes_among(context.alloc(), &names, others)?;
+    }
+    Ok(names)
+}

@@ -1,0 +1,342 @@
+//! The texts of sums of inputs.
+
+ghost use Rattle.std.specs.Prelude.{◌≡◌, false, map, All, IfErr};
+ghost use Rattle.image_reader.specs.Readable.{IsReadable};
+ghost use Rattle.image_reader.specs.Views.{histogram_view};
+ghost use Rattle.persist_report.specs.Failure.{UsageIsMistake};
+ghost use Rattle.segment_image.specs.Watched.{has_failed};
+ghost use Rattle.reading_sums.specs.Whole.{IsWellFormed};
+
+use crate::context::Context;
+use crate::dashes::DASH;
+use crate::explaining::{FaultContext, failure_of, remedies_of};
+use crate::failure::Failure;
+use crate::families::clash_failure;
+use crate::files::open_out;
+use crate::inputs::{Inputs, Named, names_of, put_input};
+use crate::noted::Stream;
+use crate::request::no_page;
+use crate::summing::{
+    Left, Reading, Summed, add_from, origin_of, path_of, sum_of_names, tell_left,
+};
+use fault_texts::{Origin, Source};
+use image_reader::Reading as ImageReading;
+use persist_report_core::{CliFault, write_and_flush};
+use reading_shows::{Form, first_missing, list_text, show_text};
+use reading_sums::{MinusFault, Sums};
+use reading_texts::{FamilyFault, Label, export_text, families_text, table_text};
+use std::alloc::Global;
+use std::fs::File;
+use std::io::Read;
+use std::random::RandomSource;
+use std::rt::Files;
+use std::thread::Threads;
+use std::time::Clock;
+use sum_commands::{InputFault, InputKind};
+use sum_texts::{Totals, report_of, totals_text};
+
+/// The text that is written: in a form, or with a family for each histogram.
+#[derive(Clone, Copy)]
+pub enum Text<'a> {
+    Form(Form<'a>),
+    Families {
+        prefix: &'a str,
+        labels: &'a [Label<'a>],
+    },
+}
+
+// A text of a sum, and what is wrong with what was read.
+#[derive(Drop)]
+struct Composed {
+    text: Vec<u8>,
+    wrong: Result<(), Failure>,
+}
+
+// The failure of an input.
+fn input_failure<R: AllocGlobal>(context: &Context<'_, R>, fault: InputFault, path: &str) -> Failure
+    ensures { UsageIsMistake result }
+{
+    if fault.is_no_memory() {
+        return Failure::Fault(CliFault::NoMemory);
+    }
+    let line: String = match format!(in context.alloc(); "{fault}") {
+        Ok(line) => line,
+        Err(_) => String::new(context.alloc()),
+    };
+    let lines = remedies_of(context, line.as_str());
+    match format!(in context.alloc(); "{}", origin_of(path)) {
+        Ok(name) => Failure::Input { fault, name, lines },
+        Err(_) => Failure::Fault(CliFault::NoMemory),
+    }
+}
+
+// The failure of the first input that is left out, if one is.
+fn first_failure<R: AllocGlobal>(
+    context: &Context<'_, R>,
+    names: &[Named],
+    left: Vec<Left>,
+) -> Result<(), Failure>
+    ensures { IfErr result UsageIsMistake }
+{
+    for one in left {
+        if let Some(name) = names.get(one.place) {
+            return Err(input_failure(context, one.fault, name.path.as_str()));
+        }
+    }
+    Ok(())
+}
+
+// The failure of a sum of which another is no earlier one.
+fn minus_failure<R: AllocGlobal>(context: &Context<'_, R>, fault: MinusFault) -> Failure
+    ensures { UsageIsMistake result }
+{
+    match fault {
+        MinusFault::NoMemory => Failure::Fault(CliFault::NoMemory),
+        MinusFault::TooMany => Failure::Since {
+            fault: "TooMany",
+            name: Vec::new(context.alloc()),
+            lines: remedies_of(context, "TooMany"),
+        },
+        MinusFault::Fell(name) => Failure::Since {
+            fault: "Fell",
+            name,
+            lines: remedies_of(context, "Fell"),
+        },
+        MinusFault::OtherSpec(name) => Failure::Since {
+            fault: "OtherSpec",
+            name,
+            lines: remedies_of(context, "OtherSpec"),
+        },
+    }
+}
+
+// The sum less that of an earlier file or folder, each of whose inputs has to be read.
+fn less_earlier<R: Files<File = File> + Input + AllocGlobal + Threads + Sync>(
+    context: &Context<'_, R>,
+    sums: Sums,
+    earlier: &str,
+) -> Result<Sums, Failure>
+    ensures { IfErr result UsageIsMistake }
+{
+    let mut names = Vec::new(context.alloc());
+    put_input(context, &mut names, earlier)?;
+    let before = sum_of_names(
+        context,
+        &names,
+        1,
+        Reading {
+            is_live: false,
+            is_strict: true,
+        },
+    )?;
+    first_failure(context, &names, before.left)?;
+    match sums.minus(&before.sums) {
+        Ok(since) => Ok(since),
+        Err(fault) => Err(minus_failure(context, fault)),
+    }
+}
+
+// The text of a reading with a family for each histogram.
+fn families_of<R: AllocGlobal>(
+    context: &Context<'_, R>,
+    reading: &ImageReading,
+    prefix: &str,
+    labels: &[Label<'_>],
+) -> Result<Vec<u8>, Failure>
+    requires { All IsReadable (map histogram_view reading.now.hists.items) }
+    ensures { IfErr result UsageIsMistake }
+{
+    match families_text(context.alloc(), reading, prefix.as_bytes(), labels) {
+        Ok(text) => Ok(text),
+        Err(FamilyFault::NoMemory) => Err(Failure::Fault(CliFault::NoMemory)),
+        Err(FamilyFault::Clash { first, second }) => Err(clash_failure(context, first, second)),
+    }
+}
+
+// The text of a sum in a form, of which so many inputs are left out. A page and an overview are of one image alone.
+fn form_text<R: AllocGlobal>(
+    context: &Context<'_, R>,
+    form: Form<'_>,
+    sums: &Sums,
+    reading: &ImageReading,
+    left: u64,
+) -> Result<Vec<u8>, Failure>
+    requires formed { IsWellFormed sums.now }
+    requires readable { All IsReadable (map histogram_view reading.now.hists.items) }
+    ensures { IfErr result UsageIsMistake }
+{
+    let alloc = context.alloc();
+    let text = match form {
+        Form::Report => report_of(alloc, sums, left),
+        Form::Rows => table_text(alloc, reading),
+        Form::Export { prefix, labels } => export_text(alloc, reading, prefix.as_bytes(), labels),
+        Form::Show { style, choice } => show_text(alloc, reading, style, choice),
+        Form::List { style, choice } => list_text(alloc, reading, style, choice),
+        Form::Page { .. } | Form::Info { .. } => return Err(Failure::Usage(no_page(alloc)?)),
+    };
+    Ok(text?)
+}
+
+// What is wrong with what was read, which comes after the text.
+fn wrong_with<R: AllocGlobal>(
+    context: &Context<'_, R>,
+    text: Text<'_>,
+    reading: &ImageReading,
+    is_damaged: bool,
+    left: u64,
+) -> Result<(), Failure>
+    ensures { IfErr result UsageIsMistake }
+{
+    if context.wants_whole && is_damaged {
+        return Err(Failure::NotWhole(remedies_of(context, "NotWhole")));
+    }
+    if let Text::Form(form) = text
+        && let Some(name) = first_missing(form.choice(), reading)
+    {
+        let name = Vec::from_slice(context.alloc(), name.as_bytes())?;
+        let lines = remedies_of(context, "NoHistogram");
+        return Err(Failure::Explained(CliFault::NoHistogram(name), lines));
+    }
+    if left > 0 {
+        return Err(Failure::Left);
+    }
+    Ok(())
+}
+
+// The text of a sum, and what is wrong with what was read.
+fn make_composed<R: AllocGlobal>(
+    context: &Context<'_, R>,
+    text: Text<'_>,
+    has_totals: bool,
+    sums: Sums,
+    is_damaged: bool,
+    left: u64,
+) -> Result<Composed, Failure>
+    ensures { IfErr result UsageIsMistake }
+{
+    let alloc = context.alloc();
+    if !sums.is_well_formed()? {
+        return Err(Failure::NotWhole(remedies_of(context, "NotWhole")));
+    }
+    let reading = sums.reading(alloc)?;
+    let wrong = wrong_with(context, text, &reading, is_damaged, left);
+    let text = match text {
+        Text::Form(_) if has_totals => totals_text(
+            alloc,
+            &Totals {
+                sums,
+                of: Vec::new(alloc),
+                fold: None,
+            },
+        )?,
+        Text::Form(form) => form_text(context, form, &sums, &reading, left)?,
+        Text::Families { prefix, labels } => families_of(context, &reading, prefix, labels)?,
+    };
+    Ok(Composed { text, wrong })
+}
+
+// The text of the sum of inputs by their names.
+fn compose<R: Files<File = File> + Input + Eprint + AllocGlobal + Threads + Sync>(
+    context: &Context<'_, R>,
+    inputs: &Inputs<'_>,
+    names: &[Named],
+    text: Text<'_>,
+) -> Result<Composed, Failure>
+    ensures { IfErr result UsageIsMistake }
+{
+    let workers = inputs.workers.map_or(1, |workers| workers.count() as usize);
+    let how = Reading {
+        is_live: context.is_live,
+        is_strict: inputs.is_strict,
+    };
+    let Summed {
+        sums,
+        left,
+        is_damaged,
+    } = sum_of_names(context, names, workers, how)?;
+    let count = left.len() as u64;
+    if inputs.is_strict {
+        first_failure(context, names, left)?;
+    } else {
+        tell_left(context.rt, names, &left);
+    }
+    let sums = match inputs.earlier {
+        Some(earlier) => less_earlier(context, sums, earlier)?,
+        None => sums,
+    };
+    make_composed(context, text, inputs.has_totals, sums, is_damaged, count)
+}
+
+// Writes a text to a file, or to standard output if there is none, and then tells what is wrong with what was read.
+fn write_composed<R: Files<File = File> + Clock + Print + RandomSource + AllocGlobal>(
+    context: &Context<'_, R>,
+    composed: Composed,
+    to: Option<&str>,
+) -> Result<(), Failure>
+    ensures { IfErr result UsageIsMistake }
+{
+    let mut writer = open_out(context, to.unwrap_or(DASH))?;
+    let written = write_and_flush(&mut writer, &composed.text);
+    let output = writer.into_inner();
+    let (place, reason) = (output.origin(), output.reason());
+    let Err(cause) = output.into_inner().end(context.rt, written) else {
+        return composed.wrong;
+    };
+    let known = FaultContext {
+        input: Source {
+            origin: Origin::Input,
+            bytes: &[],
+        },
+        base: None,
+        device: place,
+        reason: cause.reason.or(reason),
+    };
+    Err(failure_of(context, cause.fault, known))
+}
+
+/// Writes a text of the sum of inputs: to the file `to`, or to standard output if there is none. Inputs that cannot be read are
+/// told and left out, or the first ends it. `Usage` comes only for a mistake on the command line.
+pub fn write_sum<
+    R: Files<File = File>
+        + Clock
+        + Input
+        + Print
+        + Eprint
+        + RandomSource
+        + AllocGlobal
+        + Threads
+        + Sync,
+>(
+    context: &Context<'_, R>,
+    inputs: &Inputs<'_>,
+    text: Text<'_>,
+    to: Option<&str>,
+) -> Result<(), Failure>
+    ensures { IfErr result UsageIsMistake }
+{
+    let names = names_of(context, inputs)?;
+    let composed = compose(context, inputs, &names, text)?;
+    write_composed(context, composed, to)
+}
+
+/// Writes a text of the totals that a reader has left, as that of a sum. `Usage` comes only for a mistake on the command line.
+pub fn write_totals<
+    R: Files<File = File> + Clock + Print + RandomSource + AllocGlobal,
+    I: Read + Drop,
+>(
+    context: &Context<'_, R>,
+    text: Text<'_>,
+    mut reader: Stream<'_, I>,
+    to: Option<&str>,
+) -> Result<(), Failure>
+    requires { has_failed reader ≡ false }
+    ensures { IfErr result UsageIsMistake }
+{
+    let mut sums = Sums::new(context.alloc());
+    let added = add_from(context.alloc(), &mut sums, InputKind::Totals, &mut reader);
+    if let Err(fault) = added {
+        return Err(input_failure(context, fault, path_of(reader.into_inner().origin())));
+    }
+    let composed = make_composed(context, text, false, sums, false, 0)?;
+    write_composed(context, composed, to)
+}

@@ -1,0 +1,271 @@
+//! The sum of many inputs, which workers read and add up.
+
+ghost use Rattle.std.specs.Prelude.{◌≡◌, false};
+ghost use Rattle.segment_image.specs.Watched.{has_failed};
+
+use crate::context::Context;
+use crate::dashes::DASH;
+use crate::failure::Failure;
+use crate::incoming::Incoming;
+use crate::inputs::{Named, has_dash};
+use crate::looking::look_at;
+use crate::peeked::Peeked;
+use fault_texts::Origin;
+use persist_report_core::{CliFault, read_input};
+use reading_sums::Sums;
+use segment_image::{Watched, read_bytes};
+use std::alloc::{AllocError, Global};
+use std::fs::File;
+use std::io::Read;
+use std::rt::Files;
+use std::thread::Threads;
+use std::{fmt, fs, thread};
+use sum_commands::{InputFault, InputKind, add_image, add_totals, append_next, part_of_inputs};
+
+// A totals has at most so many bytes.
+const MAX_TOTALS: usize = 1 << 40;
+
+/// An input that is left out of a sum: its place among the names, and why.
+#[derive(Drop)]
+pub struct Left {
+    pub place: usize,
+    pub fault: InputFault,
+}
+
+/// The sum of inputs.
+#[derive(Drop)]
+pub struct Summed {
+    pub sums: Sums,
+    /// Which inputs are left out.
+    pub left: Vec<Left>,
+    /// Whether an image that was read is damaged.
+    pub is_damaged: bool,
+}
+
+// The line of an input that is left out.
+#[derive(Drop)]
+struct LeftLine<'a, 'b> {
+    fault: &'b InputFault,
+    origin: Origin<'a>,
+}
+
+impl fmt::Display for LeftLine<'_, '_> {
+    fn fmt<W: fmt::Write>(&self, f: &mut fmt::Formatter<W>) -> fmt::Result {
+        writeln!(f, "persist_report: {}: {}", self.fault, self.origin)
+    }
+}
+
+/// Where an input comes from.
+pub fn origin_of(path: &str) -> Origin<'_> {
+    if path == DASH {
+        Origin::Input
+    } else {
+        Origin::File(path)
+    }
+}
+
+/// The path that leads there.
+pub fn path_of<'a>(origin: Origin<'a>) -> &'a str {
+    match origin {
+        Origin::File(path) => path,
+        Origin::Input | Origin::Output => DASH,
+    }
+}
+
+/// Adds what a reader has left to a sum, which is an image or a totals. Returns whether it is damaged.
+pub fn add_from<R: Read>(
+    alloc: Global,
+    sums: &mut Sums,
+    kind: InputKind,
+    reader: &mut Watched<R>,
+) -> Result<bool, InputFault>
+    requires { has_failed reader.old ≡ false }
+{
+    if kind == InputKind::Totals {
+        let text = read_bytes(alloc, reader, MAX_TOTALS).map_err(CliFault::from)?;
+        add_totals(alloc, sums, &text)?;
+        return Ok(false);
+    }
+    let words = read_input(alloc, reader)?;
+    let damage = add_image(alloc, sums, &words)?;
+    Ok(damage.is_some())
+}
+
+// Adds the look at a file to a sum. Returns whether it is damaged.
+fn add_look<R: Files<File = File> + Input + AllocGlobal>(
+    context: &Context<'_, R>,
+    sums: &mut Sums,
+    path: &str,
+) -> Result<bool, InputFault> {
+    match look_at(context, path) {
+        Ok(bytes) => add_from(
+            context.alloc(),
+            sums,
+            InputKind::Image,
+            &mut Watched::new(bytes),
+        ),
+        Err(Failure::Fault(fault)) | Err(Failure::Explained(fault, _)) => {
+            Err(InputFault::Image(fault))
+        }
+        Err(_) => Err(InputFault::Image(CliFault::Read)),
+    }
+}
+
+// Adds an input to a sum. Returns whether it is damaged.
+fn add_named<R: Files<File = File> + Input + AllocGlobal>(
+    context: &Context<'_, R>,
+    sums: &mut Sums,
+    name: &Named,
+    is_live: bool,
+) -> Result<bool, InputFault> {
+    let path = name.path.as_str();
+    let incoming = if path == DASH {
+        Incoming::Standard(context.rt.reader())
+    } else {
+        match fs::open(context.rt, path) {
+            Ok(file) => Incoming::File(file),
+            Err(_) => return Err(InputFault::Image(CliFault::Read)),
+        }
+    };
+    let (kind, peeked) = Peeked::of(context.alloc(), incoming)?;
+    match kind {
+        InputKind::Other if name.is_found => Ok(false),
+        InputKind::Image if is_live && path != DASH => add_look(context, sums, path),
+        _ => add_from(context.alloc(), sums, kind, &mut Watched::new(peeked)),
+    }
+}
+
+// Puts an input that is left out behind others.
+fn put_left(all: &mut Vec<Left>, left: Left) -> Result<(), AllocError> {
+    all.push(left)?;
+    Ok(())
+}
+
+// How inputs are read.
+#[derive(Clone, Copy)]
+pub struct Reading {
+    /// Whether images are looked at.
+    pub is_live: bool,
+    /// Whether the first that cannot be read ends it.
+    pub is_strict: bool,
+}
+
+impl Summed {
+    // The sum of no inputs.
+    fn none(alloc: Global) -> Summed {
+        Summed {
+            sums: Sums::new(alloc),
+            left: Vec::new(alloc),
+            is_damaged: false,
+        }
+    }
+
+    // Whether one was left out with which a total would not fit.
+    fn has_too_many(&self) -> bool {
+        self.left
+            .iter()
+            .any(|left| matches!(left.fault, InputFault::TooMany))
+    }
+
+    // Whether nothing more is to be read.
+    fn is_ended(&self, how: Reading) -> bool {
+        how.is_strict && !self.left.is_empty()
+    }
+}
+
+// Adds the inputs from one place to another; up to the first that cannot be read, if that is to end it.
+fn add_part<R: Files<File = File> + Input + AllocGlobal>(
+    context: &Context<'_, R>,
+    summed: &mut Summed,
+    names: &[Named],
+    part: (usize, usize),
+    how: Reading,
+) -> Result<(), CliFault> {
+    for place in part.0..part.1 {
+        let Some(name) = names.get(place) else { break };
+        if summed.is_ended(how) {
+            break;
+        }
+        match add_named(context, &mut summed.sums, name, how.is_live) {
+            Ok(is_damaged) => summed.is_damaged = summed.is_damaged || is_damaged,
+            Err(fault) if fault.is_no_memory() => return Err(CliFault::NoMemory),
+            Err(fault) => put_left(&mut summed.left, Left { place, fault })?,
+        }
+    }
+    Ok(())
+}
+
+// The sum of the inputs from one place to another.
+fn sum_part<R: Files<File = File> + Input + AllocGlobal>(
+    context: &Context<'_, R>,
+    names: &[Named],
+    part: (usize, usize),
+    how: Reading,
+) -> Result<Summed, CliFault> {
+    let mut summed = Summed::none(context.alloc());
+    add_part(context, &mut summed, names, part, how)?;
+    Ok(summed)
+}
+
+// Adds the sum of the inputs from one place to another behind those of others. Where a total would not fit, which of them are left
+// out is seen when they are added one by one.
+fn append_part<R: Files<File = File> + Input + AllocGlobal>(
+    context: &Context<'_, R>,
+    all: &mut Summed,
+    names: &[Named],
+    part: (usize, usize),
+    how: Reading,
+    summed: Summed,
+) -> Result<(), CliFault> {
+    if all.is_ended(how) {
+        return Ok(());
+    }
+    if summed.has_too_many() || append_next(&mut all.sums, &summed.sums).is_err() {
+        return add_part(context, all, names, part, how);
+    }
+    all.is_damaged = all.is_damaged || summed.is_damaged;
+    for left in summed.left {
+        put_left(&mut all.left, left)?;
+    }
+    Ok(())
+}
+
+/// Returns the sum of inputs, which so many workers read and add up: the same for any number of them.
+pub fn sum_of_names<R: Files<File = File> + Input + AllocGlobal + Threads + Sync>(
+    context: &Context<'_, R>,
+    names: &[Named],
+    workers: usize,
+    how: Reading,
+) -> Result<Summed, CliFault> {
+    if workers <= 1 || has_dash(names) {
+        return sum_part(context, names, (0, names.len()), how);
+    }
+    let parts = thread::map_indices(
+        context.rt,
+        context.alloc(),
+        workers,
+        &|worker: usize| {
+            let part = part_of_inputs(names.len(), workers, worker);
+            sum_part(context, names, part, how)
+        },
+    )?;
+    let mut all = Summed::none(context.alloc());
+    for (worker, summed) in parts.into_iter().enumerate() {
+        let part = part_of_inputs(names.len(), workers, worker);
+        append_part(context, &mut all, names, part, how, summed?)?;
+    }
+    Ok(all)
+}
+
+/// Tells which inputs are left out, a line each, on the error stream. If that cannot be written, nothing is said.
+pub fn tell_left<R: Eprint>(rt: &R, names: &[Named], left: &[Left]) {
+    for one in left {
+        if let Some(name) = names.get(one.place) {
+            let line = LeftLine {
+                fault: &one.fault,
+                origin: origin_of(name.path.as_str()),
+            };
+            let _ = rt.eprint(line);
+        }
+    }
+}

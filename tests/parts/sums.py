@@ -1,0 +1,368 @@
+"""Sums of many inputs, beside a plain sum (plain_sums.py): folders of forged images, lists of files, totals that are
+read again, and what came since an earlier sum; each text, for any number of workers."""
+
+from __future__ import annotations
+
+import argparse
+import os
+import pathlib
+import random
+import tempfile
+from collections.abc import Iterator, Sequence
+
+from support import forge, layout, plain_damage, plain_export, plain_reader, plain_show, plain_sums
+from support.program import EXAMPLE, ROOT, Answer, Case, Word, answer, content, difference, explained, fault
+
+PROGRAM = "persist_report"
+FOLDERS = 100
+MOST_IMAGES = 12
+WORKERS = (1, 2, 4, 16)
+CRASH = ROOT / "examples" / "crash.img"
+STOOD = b"what stood there before"
+MAPPED = 0.1
+# Why what nobody may read is told as.
+UNREAD = "Read"
+
+
+def text_of(data: bytes, **options: object) -> bytes:
+    """The export of an image, or of the sum that the plain reader reads."""
+    return plain_export.text_of(plain_export.families_of(data))
+
+
+# Each text of a sum: the words that ask for it, and what it is, where so many inputs were left out.
+def texts_of(whole: plain_sums.Sum, left: int) -> list[tuple[list[str], bytes]]:
+    return [
+        (["report"], plain_sums.report_of(whole, left)),
+        (["report", "--rows"], plain_sums.text_by(whole, plain_damage.rows_of)),
+        (["report", "--totals"], plain_sums.totals_text(whole)),
+        (["show"], plain_sums.text_by(whole, plain_show.text_of)),
+        (["show", "--all", "--width", "60"], plain_sums.text_by(whole, plain_show.text_of, shows_all=True, width=60)),
+        (["export"], plain_sums.text_by(whole, text_of)),
+    ]
+
+
+def told(left: Sequence[tuple[object, str]]) -> bytes:
+    """The lines of inputs that are left out."""
+    return "".join(f'persist_report: {why}: "{name}"\n' for name, why in left).encode()
+
+
+def wanted_of(output: bytes, left: Sequence[tuple[object, str]]) -> Answer:
+    return Answer(output, told(left), 3 if left else 0)
+
+
+def image_of(chance: random.Random) -> bytes:
+    """A forged image, or a mapped file of one."""
+    data = forge.image_of(chance)
+    return bytes(8) + data if chance.random() < MAPPED and data[:8] == plain_sums.COOKIE else data
+
+
+def filled(folder: pathlib.Path, chance: random.Random) -> list[tuple[pathlib.Path, bytes]]:
+    """Files in a folder that is made, in the order of their names: images, totals of some, and others."""
+    folder.mkdir()
+    files = []
+    for number in sorted(chance.sample(range(1000), chance.randint(0, MOST_IMAGES))):
+        data = image_of(chance)
+        if chance.random() < 0.2:
+            images = [(None, image_of(chance)) for _ in range(chance.randint(0, 4))]
+            data = plain_sums.totals_text(plain_sums.sum_of(images)[0])
+        if chance.random() < 0.1:
+            data = chance.choice([b"", b"totals,1", b"no image at all\n", data[:-1], data[: len(data) // 2]])
+        files.append((folder / f"{number:03}.{chance.choice(['img', 'seg', 'tot'])}", data))
+        files[-1][0].write_bytes(data)
+    (folder / "in it").mkdir()
+    (folder / "in it" / "more.img").write_bytes(CRASH.read_bytes())
+    (folder / "link.img").symlink_to(CRASH)
+    (folder / ".persist_report-0123456789abcdef").write_bytes(CRASH.read_bytes())
+    return files
+
+
+def folders(program: pathlib.Path, top: pathlib.Path, seed: int | str) -> Iterator[Case]:
+    """Folders of forged images and totals: each text, for any number of workers."""
+    for number in range(FOLDERS):
+        chance = random.Random(f"sums {seed} {number}")
+        folder = top / f"folder {number}"
+        files = filled(folder, chance)
+        whole, left = plain_sums.sum_of((path, data) for path, data in files if plain_sums.is_taken(data))
+        for words, text in texts_of(whole, len(left)):
+            title = f"folder {number} of seed {seed}, {' '.join(words)}"
+            wanted = wanted_of(text, left)
+            yield title, difference(wanted, answer(program, [words[0], folder, *words[1:]]))
+            workers = str(chance.choice(WORKERS))
+            came = answer(program, [words[0], folder, *words[1:], "--workers", workers])
+            yield f"{title}, {workers} workers", difference(wanted, came)
+        yield from listed(program, folder, files, f"folder {number} of seed {seed}")
+
+
+def listed(
+    program: pathlib.Path, folder: pathlib.Path, files: Sequence[tuple[pathlib.Path, bytes]], title: str
+) -> Iterator[Case]:
+    """The same files by their names: as arguments, as a list and as a list on standard input. None is passed over."""
+    if len(files) < 2:
+        return
+    whole, left = plain_sums.sum_of(files)
+    wanted = wanted_of(plain_sums.report_of(whole, len(left)), left)
+    paths = [path for path, _ in files]
+    lines = "".join(f"{path}\n" for path in paths).encode()
+    names = folder / "in it" / "names"
+    names.write_bytes(lines)
+    for workers in WORKERS:
+        came = answer(program, ["report", *paths, "--workers", str(workers)])
+        yield f"{title}, files, {workers} workers", difference(wanted, came)
+    yield f"{title}, files", difference(wanted, answer(program, ["report", *paths]))
+    yield f"{title}, a list", difference(wanted, answer(program, ["report", "--files-from", names]))
+    came = answer(program, ["report", "--files-from", "-"], lines)
+    yield f"{title}, a list of standard input", difference(wanted, came)
+    came = answer(program, ["report", paths[0], "--files-from", "-"], lines.split(b"\n", 1)[1])
+    yield f"{title}, a file and a list", difference(wanted, came)
+    text = plain_sums.text_by(whole, plain_show.text_of)
+    shown: list[Word] = ["show", paths[0]]
+    for path in paths[1:]:
+        shown += ["--also", path]
+    yield f"{title}, show --also", difference(wanted_of(text, left), answer(program, shown))
+    if left:
+        refused = fault(f'{left[0][1]}: "{left[0][0]}"', 3)
+        for workers in (1, 4):
+            came = answer(program, ["report", *paths, "--strict", "--workers", str(workers)])
+            yield f"{title}, --strict, {workers} workers", difference(refused, came)
+    else:
+        yield f"{title}, --strict", difference(wanted, answer(program, ["report", *paths, "--strict"]))
+
+
+def trees(program: pathlib.Path, top: pathlib.Path, seed: int | str) -> Iterator[Case]:
+    """Totals of totals are those of all images at once, in any grouping; and they are read back."""
+    for number in range(FOLDERS // 4):
+        chance = random.Random(f"trees {seed} {number}")
+        images = [lawful_of(chance) for _ in range(chance.randint(2, 9))]
+        flat, left = plain_sums.sum_of(enumerate(images))
+        assert not left
+        level = []
+        for place, data in enumerate(images):
+            path = top / f"{number}-{place}"
+            path.write_bytes(data)
+            level.append(path)
+        while len(level) > 1:
+            size = chance.randint(2, 4)
+            groups = [level[at : at + size] for at in range(0, len(level), size)]
+            level = []
+            for place, group in enumerate(groups):
+                path = top / f"{number}-{chance.random()}-{place}"
+                came = answer(program, ["report", "--totals", "--to", path, *group])
+                assert (came.error, came.status) == (b"", 0), f"{came}"
+                level.append(path)
+        title = f"tree {number} of seed {seed}"
+        yield title, None if content(level[0]) == plain_sums.totals_text(flat) else "its root is not the flat sum"
+        for words, text in texts_of(flat, 0):
+            yield f"{title}, {' '.join(words)}", difference(Answer(text), answer(program, [*words, level[0]]))
+        came = answer(program, ["report"], plain_sums.totals_text(flat))
+        yield f"{title}, standard input", difference(Answer(plain_sums.report_of(flat, 0)), came)
+
+
+def lawful_of(chance: random.Random) -> bytes:
+    """A forged image that can be read, and of which no total comes near its limit."""
+    while True:
+        data = forge.image_of(chance)
+        try:
+            read = plain_sums.of_image(data)
+        except plain_reader.ImageFault:
+            continue
+        if all(part.redundant < 2**60 for part in read.parts.values()):
+            return data
+
+
+def grown(data: bytes, chance: random.Random) -> bytes:
+    """An image some of whose words are others: mostly it has more."""
+    words = list(layout.words_of(data))
+    for _ in range(chance.choice([0, 1, 3])):
+        words[chance.randrange(layout.FIRST, len(words))] += chance.choice([1, 1, 5])
+    return layout.data_of([word % layout.WORD for word in words])
+
+
+def earlier(program: pathlib.Path, top: pathlib.Path, seed: int | str) -> Iterator[Case]:
+    """`--minus`: what came since an earlier image or folder, or what fell."""
+    tried = set()
+    for number in range(FOLDERS):
+        chance = random.Random(f"earlier {seed} {number}")
+        old = [lawful_of(chance) for _ in range(chance.randint(1, 3))]
+        new = [grown(data, chance) if chance.random() < 0.8 else lawful_of(chance) for data in old]
+        folder, before = top / f"new {number}", top / f"old {number}"
+        for place, images in ((folder, new), (before, old)):
+            place.mkdir()
+            for at, data in enumerate(images):
+                (place / f"{at}.img").write_bytes(data)
+        now, left = plain_sums.sum_of((folder / f"{at}.img", data) for at, data in enumerate(new))
+        then, _ = plain_sums.sum_of(enumerate(old))
+        totals = top / f"old totals {number}"
+        totals.write_bytes(plain_sums.totals_text(then))
+        try:
+            since = plain_sums.since(now, then)
+        except plain_sums.Less as less:
+            tried.add(str(less).split()[0])
+            refused = Answer(b"", told(left) + fault(str(less), 3).error, 3)
+            for other in (before, totals):
+                came = answer(program, ["report", folder, "--minus", other])
+                yield f"{number} of seed {seed}, {less}", difference(refused, came)
+            continue
+        tried.add("since")
+        for words, text in texts_of(since, len(left)):
+            for other in (before, totals):
+                came = answer(program, [words[0], folder, *words[1:], "--minus", other])
+                yield f"{number} of seed {seed}, {' '.join(words)} --minus", difference(wanted_of(text, left), came)
+    yield "each answer of --minus", None if tried >= {"since", "Fell", "OtherSpec"} else f"tried were {tried}"
+    gone = top / "gone"
+    came = answer(program, ["report", CRASH, "--minus", gone])
+    yield "--minus of no file", difference(fault(f'Read: "{gone}"', 4), came)
+
+
+def files(program: pathlib.Path, top: pathlib.Path) -> Iterator[Case]:
+    """Files that are named twice, that are missing, on standard input; an empty folder; one image as ever."""
+    crash, example = CRASH.read_bytes(), EXAMPLE.read_bytes()
+    twice, _ = plain_sums.sum_of([(CRASH, crash), (CRASH, crash)])
+    yield "a file twice", difference(Answer(plain_sums.report_of(twice, 0)), answer(program, ["report", CRASH, CRASH]))
+    two, _ = plain_sums.sum_of([(CRASH, crash), (EXAMPLE, example)])
+    wanted = Answer(plain_sums.report_of(two, 0))
+    yield "standard input behind a file", difference(wanted, answer(program, ["report", CRASH, "-"], example))
+    yield "standard input first", difference(wanted, answer(program, ["report", "-", EXAMPLE, "--workers", "4"], crash))
+    empty = top / "empty"
+    empty.mkdir()
+    none = plain_sums.Sum()
+    for words, text in texts_of(none, 0):
+        yield f"an empty folder, {words}", difference(Answer(text), answer(program, [words[0], empty, *words[1:]]))
+    gone = top / "none"
+    one, _ = plain_sums.sum_of([(CRASH, crash)])
+    wanted = Answer(plain_sums.report_of(one, 1), told([(gone, UNREAD)]), 3)
+    yield "a missing file", difference(wanted, answer(program, ["report", CRASH, gone]))
+    yield "a missing file, --strict", difference(
+        fault(f'{UNREAD}: "{gone}"', 4), answer(program, ["report", CRASH, gone, "--strict"])
+    )
+    yield "a missing file alone", difference(fault("Read", 4), answer(program, ["report", gone]))
+    yield "a missing list", difference(fault("Read", 4), answer(program, ["report", "--files-from", gone]))
+    wanted = Answer(plain_sums.report_of(none, 1), told([(gone, UNREAD)]), 3)
+    yield "a missing file alone, of a sum", difference(wanted, answer(program, ["report", gone, "--workers", "2"]))
+    for words in (["report"], ["show"], ["export"], ["report", "--rows"]):
+        alone = answer(program, [*words, CRASH])
+        folder = top / "one"
+        folder.mkdir(exist_ok=True)
+        (folder / "crash.img").write_bytes(crash)
+        yield f"a folder of one image, {words}", difference(alone, answer(program, [words[0], folder, *words[1:]]))
+    out = top / "out"
+    out.write_bytes(STOOD)
+    came = answer(program, ["report", CRASH, gone, "--strict", "--to", out])
+    yield "OUT of --strict", difference(fault(f'{UNREAD}: "{gone}"', 4), came) or (
+        None if content(out) == STOOD else "OUT is another"
+    )
+    came = answer(program, ["report", CRASH, EXAMPLE, "--to", out])
+    yield "OUT", difference(Answer(), came) or (
+        None if content(out) == plain_sums.report_of(two, 0) else "OUT has another text"
+    )
+    yield from looked(program, top, crash)
+    yield from damaged(program, top)
+    yield from totals(program, top, crash)
+
+
+def looked(program: pathlib.Path, top: pathlib.Path, crash: bytes) -> Iterator[Case]:
+    """With `--live` each image is looked at, and totals are read as ever."""
+    two, _ = plain_sums.sum_of([(1, crash), (2, crash)])
+    written = top / "crash.tot"
+    written.write_bytes(plain_sums.totals_text(plain_sums.sum_of([(1, crash)])[0]))
+    came = answer(program, ["report", CRASH, written, "--live"])
+    yield "an image and totals, --live", difference(Answer(plain_sums.report_of(two, 0)), came)
+    old = answer(program, ["report", CRASH, EXAMPLE, "--live"])
+    one, _ = plain_sums.sum_of([(1, crash)])
+    wanted = Answer(plain_sums.report_of(one, 1), told([(EXAMPLE, "Adopt OldVersion")]), 3)
+    yield "an image of version 1, --live", difference(wanted, old)
+
+
+def damaged(program: pathlib.Path, top: pathlib.Path) -> Iterator[Case]:
+    """`--whole` comes after the text, and so does a name that is missing."""
+    words = list(layout.words_of(EXAMPLE.read_bytes()))
+    words[20] = 5
+    bad = top / "bad.img"
+    bad.write_bytes(layout.data_of(words))
+    two, _ = plain_sums.sum_of([(1, EXAMPLE.read_bytes()), (2, bad.read_bytes())])
+    text = plain_sums.report_of(two, 0)
+    yield "a damaged image", difference(Answer(text), answer(program, ["report", EXAMPLE, bad]))
+    came = answer(program, ["report", EXAMPLE, bad, "--whole"])
+    yield "--whole", difference(Answer(text, fault("NotWhole", 3).error, 3), came)
+    came = answer(program, ["report", EXAMPLE, EXAMPLE, "--whole"])
+    yield "--whole of whole ones", None if came.status == 0 else str(came)
+    came = answer(program, ["report", EXAMPLE, bad, "--whole", "--explain"])
+    yield "--whole, explained", difference(Answer(text, explained("NotWhole", 3, []).error, 3), came)
+    shown = plain_sums.text_by(two, plain_show.text_of, names=("A", "B"))
+    came = answer(program, ["show", EXAMPLE, "A", "B", "--also", bad])
+    yield "a name that is missing", difference(Answer(shown, fault("NoHistogram B", 3).error, 3), came)
+
+
+def totals(program: pathlib.Path, top: pathlib.Path, crash: bytes) -> Iterator[Case]:
+    """Totals that are none: each fault with its line."""
+    lines = plain_sums.totals_text(plain_sums.sum_of([(1, crash)])[0]).splitlines(True)
+    wrong = top / "wrong.tot"
+    for number in range(1, len(lines) + 1):
+        for changed in (lines[:number], [*lines[: number - 1], b"hist\n", *lines[number:]], [*lines[:number], b"\n"]):
+            data = b"".join(changed)
+            try:
+                plain_sums.of_input(data)
+            except plain_sums.Wrong as why:
+                if not data.startswith(plain_sums.TOTALS):
+                    continue
+                wrong.write_bytes(data)
+                came = answer(program, ["report", wrong])
+                yield f"totals with line {number} changed", difference(fault(f'{why}: "{wrong}"', 3), came)
+    several = b"".join(lines).replace(b"linear,1,1000,10", b"linear,1,1000,11")
+    wrong.write_bytes(several)
+    came = answer(program, ["report", CRASH, wrong])
+    one, _ = plain_sums.sum_of([(1, crash)])
+    line = next(number for number, text in enumerate(lines, 1) if b"linear,1,1000,10" in text)
+    wanted = Answer(plain_sums.report_of(one, 1), told([(wrong, f"BadTotals {line}")]), 3)
+    yield "totals that are no sum", difference(wanted, came)
+
+
+def unreadable(program: pathlib.Path, top: pathlib.Path) -> Iterator[Case]:
+    """What may not be read; a folder in a list; names with bytes that are no text."""
+    crash = CRASH.read_bytes()
+    one, _ = plain_sums.sum_of([(1, crash)])
+    folder = top / "with unreadable"
+    folder.mkdir()
+    (folder / "a.img").write_bytes(crash)
+    closed = folder / "b.img"
+    closed.write_bytes(crash)
+    closed.chmod(0)
+    if os.geteuid() != 0:
+        wanted = Answer(plain_sums.report_of(one, 1), told([(closed, UNREAD)]), 3)
+        yield "a file that may not be read", difference(wanted, answer(program, ["report", folder]))
+    closed.unlink()
+    came = answer(program, ["report", "--files-from", "-"], f"{folder}\n\n{folder}\n".encode())
+    two, _ = plain_sums.sum_of([(1, crash), (2, crash)])
+    yield "folders in a list", difference(Answer(plain_sums.report_of(two, 0)), came)
+
+
+def usage(program: pathlib.Path, top: pathlib.Path) -> Iterator[Case]:
+    """What cannot go together is a usage fault, and nothing is written."""
+    commands: list[list[Word]] = [
+        ["report", "-", "-"],
+        ["report", "-", "--files-from", "-"],
+        ["report", CRASH, "--files-from", "-", "--minus", "-"],
+        ["report", "-", "--minus", "-"],
+        ["report", "--totals", "--rows", CRASH],
+        ["report", "--workers", "0", CRASH],
+        ["report", "--workers", "17", CRASH],
+        ["report", "--workers", "x", CRASH],
+        ["export", "--totals", CRASH],
+        ["show", "--totals", CRASH],
+        ["show", CRASH, "--also", EXAMPLE, "--html"],
+        ["info", CRASH, EXAMPLE],
+        ["report", CRASH, "--strict", "--strict"],
+        ["report", CRASH, "--files-from", "a", "--files-from", "b"],
+    ]
+    for words in commands:
+        came = answer(program, words, CRASH.read_bytes())
+        is_right = (came.output, came.status) == (b"", 2) and came.error.startswith(b"error: ")
+        yield f"{words}", None if is_right else f"wanted a usage fault, came {came}"
+
+
+def cases(program: pathlib.Path, options: argparse.Namespace) -> Iterator[Case]:
+    for part in (folders, trees, earlier):
+        with tempfile.TemporaryDirectory() as name:
+            yield from part(program, pathlib.Path(name).resolve(), options.seed)
+    for more in (files, unreadable, usage):
+        with tempfile.TemporaryDirectory() as name:
+            yield from more(program, pathlib.Path(name).resolve())

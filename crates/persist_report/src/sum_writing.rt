@@ -22,7 +22,7 @@ use crate::summing::{
 use fault_texts::{Origin, Source};
 use image_reader::Reading as ImageReading;
 use persist_report_core::{CliFault, write_and_flush};
-use reading_shows::{Form, first_missing, list_text, show_text};
+use reading_shows::{Form, first_missing, list_text, show_since_text, show_text};
 use reading_sums::{MinusFault, Sums};
 use reading_texts::{FamilyFault, Label, export_text, families_text, table_text};
 use std::alloc::Global;
@@ -171,6 +171,11 @@ fn form_text<R: AllocGlobal>(
         Form::Rows => table_text(alloc, reading),
         Form::Export { prefix, labels } => export_text(alloc, reading, prefix.as_bytes(), labels),
         Form::Show { style, choice } => show_text(alloc, reading, style, choice),
+        Form::ShowSince {
+            style,
+            choice,
+            earlier,
+        } => show_since_text(alloc, reading, earlier, style, choice),
         Form::List { style, choice } => list_text(alloc, reading, style, choice),
         Form::Page { .. } | Form::Info { .. } => return Err(Failure::Usage(no_page(alloc)?)),
     };

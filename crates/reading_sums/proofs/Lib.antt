@@ -19,3 +19,5 @@ pub mod HistsSince
 pub mod Between
 pub mod HistsWalk
 pub mod HistsGrown
+pub mod Groups
+pub mod GroupNames

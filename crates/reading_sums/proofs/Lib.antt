@@ -21,3 +21,5 @@ pub mod HistsSince
 pub mod Between
 pub mod HistsWalk
 pub mod HistsGrown
+pub mod Groups
+pub mod GroupNames

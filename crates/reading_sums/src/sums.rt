@@ -1,8 +1,8 @@
 //! The sum of any number of images.
 
 ghost use Rattle.std.specs.Prelude.{◌≡◌, ◌↔◌, ◌∷◌, ◌++◌, ℕ, List, [], None, nat_lt, true, is_some, map, IfOk, IfErr, IfSome, OnOk, OnErr, ⊤};
-ghost use Rattle.std.specs.List.{All};
-ghost use Rattle.std.specs.List.Sorted.{IsPermutation, IsSortedByKey};
+ghost use Rattle.std.specs.List.{All, AllZip};
+ghost use Rattle.std.specs.List.Sorted.{IsPermutation, IsSortedByKey, IsStrictlySortedBy};
 ghost use Rattle.std.specs.Ordering.{nat_cmp};
 ghost use Rattle.std.specs.Cmp.Lexicographic.{slice_cmp};
 ghost use Rattle.bucket_ranges.specs.Reading as definition;
@@ -10,6 +10,7 @@ ghost use Rattle.image_reader.specs.Views.{histogram_view, reading_view};
 ghost use Rattle.image_reader.specs.Readable.{IsReadable};
 ghost use Rattle.reading_sums.specs.Totals.{part_from, SameTotals};
 ghost use Rattle.reading_sums.specs.Views.{part_of, parts_of};
+ghost use Rattle.reading_sums.specs.Shown.{shown_parts, other_parts, IsOtherOf};
 ghost use Rattle.reading_sums.specs.Since.{AreSince, HasFallen, HasOtherSpec, HasTooMany, IsGrown, MatchFault};
 ghost use Rattle.reading_sums.specs.Sums.{IsSumOver, raised};
 ghost use Rattle.reading_sums.specs.Whole.{AreWhole, HasNamesOnce, IsWellFormed, IsWholeHistogram, IsWholeReading};
@@ -138,20 +139,20 @@ impl Sums {
 
     /// Returns what came since an earlier sum of the same segment, or of the same folder. Of each name and spec the earlier
     /// sum and the result have together what this sum has: the units and the marks of each key, the amounts and those that
-    /// deltas have taken, and the redundant counts. All else is as in this sum: the names and specs, the keys, how many
-    /// images have a histogram and the least number of one [since], and the notes [notes]. It is well formed if this sum
+    /// deltas have taken, and the redundant counts. The names, the specs, the keys, how many images have a histogram and
+    /// the least number of one are those of this sum [since], and so are the notes [notes]. It is well formed if this sum
     /// is [well_formed].
     ///
-    /// Where both sums are well formed it is refused for these reasons, never without one, and with one never given
-    /// [only]; or for want of memory, `NoMemory`:
+    /// Of two well-formed sums it is given only where there is none of these reasons [only], and refused only for one that
+    /// there is, or with `NoMemory` where there is no memory:
     ///
     /// - `Fell` with a name: of one spec this sum has fewer units or marks of some key than the earlier one, or a smaller
-    ///   redundant count; or it has nothing of the name, and the earlier one has a unit, a mark, an amount or a redundant
-    ///   count [fell].
+    ///   redundant count; or it has nothing of the name, and the earlier one has a unit, a mark, a redundant count or an
+    ///   amount that is not 0 [fell].
     /// - `OtherSpec` with a name: the earlier sum has it under a spec that this one does not have it with, but another
     ///   [other_spec].
-    /// - `TooMany`: an amount less the earlier one does not fit 128 bits [too_many]. An amount that is less than the
-    ///   earlier one is no reason, since samples may be negative.
+    /// - `TooMany`: an amount of this sum less that of the earlier one does not fit 128 bits [too_many]. That an amount
+    ///   fell is no reason, since samples may be negative.
     pub fn minus(&self, earlier: &Sums) -> Result<Sums, MinusFault>
         ensures since { IfOk result (λ since. AreSince (parts_of self.now) (parts_of earlier.now) (parts_of since)) }
         ensures notes { IfOk result (λ since. since.notes ≡ self.now.notes) }
@@ -206,11 +207,14 @@ impl Sums {
         }
     }
 
-    /// Returns the sum as a reading: of each name the histogram of which an image has the least number, by their names,
-    /// each with its index as reference. Of a well-formed sum they are readable [readable]. It is full or corrupt if some
-    /// image is [full] [corrupt], and has no id, no bad records and no stop [rest].
+    /// Returns the sum as a reading: of each name the histogram of which an image has the least number, of equal ones the
+    /// first, by their names, each with its index as reference [shown]. Of a well-formed sum the names ascend, so each is
+    /// there once [names], and the histograms are readable [readable]. It is full or corrupt if some image is [full]
+    /// [corrupt], and has no id, no bad records and no stop [rest].
     pub fn reading(&self, alloc: Global) -> Result<Reading, AllocError>
         ensures readable { IfOk result (λ reading. IsWellFormed self.now → All IsReadable (map histogram_view reading.hists.items)) }
+        ensures shown { IfOk result (λ reading. map histogram_view reading.hists.items ≡ shown_parts (parts_of self.now)) }
+        ensures names { IfOk result (λ reading. IsWellFormed self.now → IsStrictlySortedBy (slice_cmp nat_cmp) (map (λ (hist : definition.Histogram). hist.name) (map histogram_view reading.hists.items))) }
         ensures full { IfOk result (λ reading. reading.full ≡ nat_lt 0 self.now.notes.full) }
         ensures corrupt { IfOk result (λ reading. reading.corrupt ≡ nat_lt 0 self.now.notes.corrupt) }
         ensures rest { IfOk result (λ reading. (reading.id ≡ 0) × (reading.bad.items ≡ []) × (reading.stopped ≡ None)) }
@@ -225,8 +229,11 @@ impl Sums {
         })
     }
 
-    /// Returns what the sum has of its names under the specs that a reading of it leaves out, by their names.
-    pub fn others(&self, alloc: Global) -> Result<Vec<OtherSpec>, AllocError> {
+    /// Returns what the sum has of its names under the specs that a reading of it leaves out, by their names: exactly
+    /// these, in the order of the sum, each with its images and its units [left_out].
+    pub fn others(&self, alloc: Global) -> Result<Vec<OtherSpec>, AllocError>
+        ensures left_out { IfOk result (λ others. AllZip IsOtherOf (other_parts (parts_of self.now)) others.items) }
+    {
         others_of(alloc, &self.hists)
     }
 }

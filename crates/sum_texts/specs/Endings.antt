@@ -10,12 +10,12 @@ use Rattle.reading_sums.specs.declared.sums.Sums.{Sums}
 -- ---- the lines behind a report
 
 -- the line of what a sum has of a name under a spec that its reading leaves out: how many images have it, and its units
-abbrev pub other_text : OtherSpec → List ℕ
-other_text other = line (codes "!other" ∷ other.name.items ∷ decimal other.images ∷ decimal other.units ∷ [])
+abbrev pub other_line : OtherSpec → List ℕ
+other_line other = line (codes "!other" ∷ other.name.items ∷ decimal other.images ∷ decimal other.units ∷ [])
 
 -- the line of how many inputs were left out, where some were
-abbrev pub left_text : ℕ → List ℕ
-left_text left = if left == 0 then [] else line (codes "!left" ∷ decimal left ∷ [])
+abbrev pub inputs_line : ℕ → List ℕ
+inputs_line left = if left == 0 then [] else line (codes "!left" ∷ decimal left ∷ [])
 
 -- a report tells all: of one image, of which no histogram is left out, and no other input was
 abbrev pub is_all : ℕ → List OtherSpec → ℕ → Bool
@@ -25,7 +25,7 @@ is_all images others left = nat_le images 1 && (length others == 0 && left == 0)
 abbrev pub ending_text : ℕ → List OtherSpec → ℕ → List ℕ
 ending_text images others left =
     if is_all images others left then []
-    else line (codes "!images" ∷ decimal images ∷ []) ++ flat_map other_text others ++ left_text left
+    else line (codes "!images" ∷ decimal images ∷ []) ++ flat_map other_line others ++ inputs_line left
 
 -- ---- the report of a sum
 
@@ -37,7 +37,7 @@ pub record IsOfSum (sums : Sums) (reading : Reading) : Type 0 where
   pub stopped : reading.stopped ≡ None
 
 -- the text is the report of a reading of the sum, and behind it the lines of what that leaves out
-pub record IsReportOf (sums : Sums) (left : ℕ) (text : List ℕ) : Type 0 where
+pub record IsSumReport (sums : Sums) (left : ℕ) (text : List ℕ) : Type 0 where
   pub reading : Reading
   pub others : List OtherSpec
   pub report : List ℕ

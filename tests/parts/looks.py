@@ -1,7 +1,9 @@
 """Looks at a file that changes between the reads of `look`, beside a plain composition, plain_look.py.
 
 Each look gets three copies, forged ones of both versions and of any length, and mapped files too. For this the program
-is traced: before it reads an open file for the first time, the next copy is put into it.
+is traced: before it reads an open file for the first time, the next copy is put into it. So are the looks of `show
+--live --every`, of which each text but the first says what came since the look before, beside a plain renderer,
+plain_show.py.
 """
 
 from __future__ import annotations
@@ -18,7 +20,9 @@ import re
 import subprocess
 import tempfile
 from collections.abc import Iterator, Sequence
+from typing import Any
 
+from parts import known
 from support import forge, layout, plain_look, plain_reader, plain_show, tracer
 from support.program import EXAMPLE, ROOT, Answer, Case, Word, answer, content, difference, fault, untried
 
@@ -32,6 +36,67 @@ HISTOGRAM_TAG, HISTOGRAM_REDUNDANT = 1, 13
 ID = 4
 # A word of a header that no running program changes is damaged in so many of the copies.
 DAMAGED = 0.1
+# How often a file is shown again and again while it changes, and how many looks there are at it then.
+CHAINS, LOOKS_OF_CHAIN = 60, 4
+SLEEPS = (35, 230)
+TIME = rb"\d{4}-\d\d-\d\dT\d\d:\d\d:\d\dZ\n"
+# What a file has at first, and then: a histogram is new, and one has another spec.
+BEFORE_SCRIPT = b"""\
+segment,1024,64,7
+hist,load,custom,10,1000
+hist,many,sparse
+hist,moved,boolean
+add,load,5,1
+add,load,5000,90
+add,many,3,2
+add,moved,1,3
+"""
+AFTER_SCRIPT = b"""\
+segment,1024,64,7
+hist,load,custom,10,1000
+hist,many,sparse
+hist,moved,sparse
+hist,fresh,boolean
+add,load,5,1
+add,load,5000,1290
+add,many,3,2
+add,many,4,7
+add,moved,1,4
+add,fresh,1,3
+"""
+# The second text, by hand: with `--ascii --width 50` the bars of `load` have 12 cells, and the others 15.
+SINCE_TEXT = b"""\
+fresh
+  boolean, units 3 +3, sum 3, mean 1.00
+  values                 units new percent   up to
+   false                     0        0.0%    0.0%
+    true ###############     3  +3  100.0%  100.0%
+
+load
+  custom, units 1291 +1200, sum 6450005, mean 4996
+  50%: >= 1000, 90%: >= 1000, 99%: >= 1000, 99.9%: >= 1000
+  least: [0, 10), greatest: >= 1000
+   values              units   new percent   up to
+  [0, 10) #                1          0.1%    0.1%
+      ...
+  >= 1000 ############  1290 +1200   99.9%  100.0%
+
+many
+  sparse, units 9 +7, sum 34, mean 3.77
+  50%: 4, 90%: 4, 99%: 4, 99.9%: 4
+  least: 3, greatest: 4
+  values                 units new percent   up to
+       3 #####               2       22.2%   22.2%
+       4 ###############     7  +7   77.8%  100.0%
+
+moved
+  sparse, units 4 +4, sum 4, mean 1.00
+  50%: 1, 90%: 1, 99%: 1, 99.9%: 1
+  least: 1, greatest: 1
+  values                 units new percent   up to
+       1 ###############     4  +4  100.0%  100.0%
+
+"""
 
 
 @dataclasses.dataclass
@@ -48,6 +113,26 @@ class Changing(tracer.Fault):
             self.path.write_bytes(self.copies[len(self.seen)])
             self.seen.append(read)
         return False
+
+
+@dataclasses.dataclass
+class Following(tracer.Fault):
+    """The same for looks that follow one another, at each of which the file is opened anew; and no wait takes time."""
+
+    path: pathlib.Path = pathlib.Path()
+    copies: Sequence[bytes] = ()
+    given: int = 0
+    read: set[int] = dataclasses.field(default_factory=set)
+
+    def is_meant(self, thread: int, call: tracer.Call) -> bool:
+        file = call.arguments[0]
+        if call.number == tracer.CLOSE:
+            self.read.discard(file)
+        if call.number == tracer.READ and file not in self.read and tracer.file_of(thread, file) == str(self.path):
+            self.path.write_bytes(self.copies[self.given])
+            self.given += 1
+            self.read.add(file)
+        return call.number in SLEEPS
 
 
 def changed(words: Sequence[int], chance: random.Random) -> list[int]:
@@ -145,11 +230,11 @@ def on_screen(words: Sequence[Word]) -> bytes:
 def repeated(program: pathlib.Path, closed: pathlib.Path, look: bytes, folder: pathlib.Path) -> Iterator[Case]:
     """With `--every` a text comes again: below a line of the time, or in the file, which has the last."""
     again = ["--live", "--every", "1", "--count", "2"]
+    second = plain_show.text_of(look, since=look)
     for words, mark in ((["show"], b""), (["show", "--list"], b""), (["export"], b"# ")):
         text = answer(program, words, look).output
-        time = rb"%s\d{4}-\d\d-\d\dT\d\d:\d\d:\d\dZ\n" % re.escape(mark)
         came = answer(program, [*words, str(closed), *again])
-        form = re.escape(text) + time + re.escape(text)
+        form = re.escape(text) + mark + TIME + re.escape(second if words == ["show"] else text)
         right = (came.error, came.status) == (b"", 0) and re.fullmatch(form, came.output)
         yield f"{' '.join(words)} --every", None if right else str(came)
     out = folder / "metrics"
@@ -163,7 +248,112 @@ def repeated(program: pathlib.Path, closed: pathlib.Path, look: bytes, folder: p
     yield "no file, --every", difference(fault("Read", 4), gone)
     clear, screen = b"\x1b[H\x1b[2J", on_screen([program, "show", closed, *again])
     text = answer(program, ["show"], look).output
-    yield "show --every on a terminal", None if screen == 2 * (clear + text) else f"it came {screen!r}"
+    yield "show --every on a terminal", None if screen == clear + text + clear + second else f"it came {screen!r}"
+    came = answer(program, ["show", str(closed), *again, "--to", str(out)])
+    yield "show --every --to", difference(Answer(), came) or difference(Answer(second), Answer(content(out) or b""))
+
+
+def shown_again(
+    program: pathlib.Path, folder: pathlib.Path, copies: Sequence[bytes], words: Sequence[Word]
+) -> tuple[list[bytes], Answer]:
+    """The texts of looks at a file that has one copy after the other, without the lines of the time, and the answer."""
+    file = folder / "changing"
+    file.write_bytes(b"")
+    change = Following(
+        SLEEPS, at=0, lasting=True, error=0, path=file, copies=[copy for copy in copies for _ in range(3)]
+    )
+    again = ["--live", "--every", "60", "--count", str(len(copies))]
+    came = tracer.answer(program, ["show", file, *again, *words], change)
+    return re.split(TIME, came.output), came
+
+
+def look_at(copy: bytes) -> bytes | None:
+    """The look at a file that has this copy all the time; None if there is none, or it is no image."""
+    image = looked([copy] * 3)[1]
+    try:
+        if image is not None:
+            plain_reader.reading_of(image, collections.Counter())
+    except plain_reader.ImageFault:
+        return None
+    return image
+
+
+def related(data: bytes, chance: random.Random) -> bytes:
+    """An image with other words than an image, many of which are counts."""
+    words = list(layout.words_of(data))
+    places = [place for place in range(layout.QUEUE + layout.NEXT, len(words)) if 0 < words[place] < 1000]
+    for place in chance.sample(places, min(len(places), chance.choice([1, 5, 50]))):
+        words[place] += chance.choice([-1, 1, 1, 2, 9, 1000])
+    return layout.data_of(words)
+
+
+def scripted(program: pathlib.Path, folder: pathlib.Path, chance: random.Random) -> list[bytes]:
+    """Images of a script that goes on, in which a sparse histogram has many values."""
+    script, image, copies = folder / "script", folder / "image", []
+    lines = ["segment,4096,64,7", "hist,many,sparse", "hist,load,linear,1,1000,20", "hist,yes,boolean"]
+    for _ in range(LOOKS_OF_CHAIN):
+        for _ in range(chance.choice([0, 3, 30])):
+            name, value = chance.choice(["many", "many", "load", "yes"]), chance.randint(-40, 60)
+            lines.append(f"add,{name},{value},{chance.choice([1, 2, 3, 70_000])}")
+        script.write_text("".join(f"{line}\n" for line in lines))
+        ran = answer(program, ["run", script, image])
+        assert ran.status == 0, str(ran)
+        copies.append(image.read_bytes())
+    return copies
+
+
+def copies_of_chain(
+    program: pathlib.Path, folder: pathlib.Path, number: int, images: Sequence[bytes], chance: random.Random
+) -> list[bytes]:
+    """What a file has at looks that follow one another: images of a script that goes on, known images in any order, or
+    a forged one that changes."""
+    if number % 3 == 0:
+        return scripted(program, folder, chance)
+    if number % 3 == 1:
+        return [chance.choice(images) for _ in range(LOOKS_OF_CHAIN)]
+    copies: list[bytes] = []
+    while len(copies) < LOOKS_OF_CHAIN:
+        data = related(copies[-1], chance) if copies else forge.image_of(chance)
+        if not copies and len(data) % 8 == 0 and len(data) > 16:
+            data = data[:8] + (2).to_bytes(8, "little") + data[16:]
+        if look_at(data) is not None:
+            copies.append(data)
+    return copies
+
+
+def chains(program: pathlib.Path, folder: pathlib.Path, seed: int | str) -> Iterator[Case]:
+    """What came since the look before: the worked example, and chains of looks, drawn in one way or the other."""
+    script, image = folder / "script", folder / "image"
+    copies = []
+    for text in (BEFORE_SCRIPT, AFTER_SCRIPT):
+        script.write_bytes(text)
+        answer(program, ["run", script, image])
+        copies.append(image.read_bytes())
+    texts, came = shown_again(program, folder, copies, ["--ascii", "--width", "50"])
+    wrong = difference(Answer(b"", b"", 0), dataclasses.replace(came, output=b""))
+    yield "what came since", wrong or difference(Answer(SINCE_TEXT), Answer(texts[-1]))
+    images = [data for data in (path.read_bytes() for path in sorted(known.FOLDER.glob("*.img"))) if look_at(data)]
+    for number in range(CHAINS):
+        chance = random.Random(f"chain {seed} {number}")
+        copies = copies_of_chain(program, folder, number, images, chance)
+        settings: dict[str, Any] = {
+            "width": chance.randint(40, 200), "is_ascii": chance.random() < 0.5, "is_log": chance.random() < 0.5,
+            "is_human": chance.random() < 0.5, "shows_all": chance.random() < 0.5,
+            "part": chance.choice([None, None, "a", "A"]),
+        }
+        flags = {"is_ascii": "--ascii", "is_log": "--log", "is_human": "--human", "shows_all": "--all"}
+        words: list[Word] = ["--width", str(settings["width"]), *(flags[name] for name in flags if settings[name])]
+        words += ["--match", settings["part"]] if settings["part"] else []
+        texts, came = shown_again(program, folder, copies, words)
+        wrong = difference(Answer(), dataclasses.replace(came, output=b""))
+        before = None
+        for place, copy in enumerate(copies):
+            look = look_at(copy)
+            assert look is not None
+            wanted = Answer(plain_show.text_of(look, since=before, is_live=True, **settings))
+            wrong = wrong or difference(wanted, Answer(texts[place] if place < len(texts) else b""))
+            before = look
+        yield f"chain {number} of seed {seed}, {words}", wrong
 
 
 def meanwhile(program: pathlib.Path, folder: pathlib.Path, closed: pathlib.Path) -> Iterator[Case]:
@@ -203,3 +393,4 @@ def cases(program: pathlib.Path, options: argparse.Namespace) -> Iterator[Case]:
             yield untried(tracer.NOT_ALLOWED, options)
             return
         yield from forged(program, folder.resolve(), options.seed)
+        yield from chains(program, folder.resolve(), options.seed)

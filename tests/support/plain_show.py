@@ -6,7 +6,7 @@ import collections
 import fractions
 import math
 from collections.abc import Collection, Iterable, Iterator, Sequence
-from typing import Any
+from typing import Any, Optional
 
 from support import plain_reader
 
@@ -112,17 +112,35 @@ def has_line(kind: str, row: Row) -> bool:
     return row[2] > 0 or (kind == "boolean" and row[0] < 2)
 
 
+# What each row has more than before, by its least value; None where this is not told.
+Came = Optional[dict[int, int]]
+
+
+def came_of(histogram: plain_reader.ReadHistogram, before: plain_reader.ReadHistogram | None) -> dict[int, int]:
+    """What came to each row since an earlier histogram, by its least value: all of it, if that has another spec or
+    there is none."""
+    had = before["buckets"] if before is not None and before["spec"] == histogram["spec"] else {}
+    return {low: max(0, units - had.get(low, (0, 0))[1]) for low, (_, units) in histogram["buckets"].items()}
+
+
+def sign_of(came: int, is_human: bool) -> str:
+    return f"+{number(came, is_human)}" if came else ""
+
+
 def rows_text(
     rows: Collection[Row], left_out: set[int], total: int, kind: str, width: int, is_ascii: bool, is_log: bool,
-    is_human: bool,
+    is_human: bool, came: Came,
 ) -> Iterator[str]:
     """The heads and a line for each row that has one; the others are gaps, of which a boolean histogram has none."""
     most, up_to, was_empty = max((units for _, _, units in rows), default=0), 0, False
     names = [values_of(kind, row[0], row[1]) for row in rows if row[0] not in left_out and has_line(kind, row)]
     wide, digits = max(map(len, ["values", *names])), max(len("units"), len(number(most, is_human)))
-    cells = max(0, width - len(f"  {'':{wide}}  {'':{digits}}  100.0%  100.0%"))
+    signs = {low: sign_of(one, is_human) for low, one in (came or {}).items() if low not in left_out}
+    told = 0 if came is None else 1 + max(map(len, ["new", *signs.values()]))
+    cells = max(0, width - told - len(f"  {'':{wide}}  {'':{digits}}  100.0%  100.0%"))
     if rows:
-        yield f"  {'values'.rjust(wide)} {' ' * cells} {'units'.rjust(digits)} percent   up to"
+        head = "new".rjust(told) if told else ""
+        yield f"  {'values'.rjust(wide)} {' ' * cells} {'units'.rjust(digits)}{head} percent   up to"
     for low, high, units in rows:
         up_to += units
         if low in left_out:
@@ -130,7 +148,8 @@ def rows_text(
         if has_line(kind, (low, high, units)):
             bar = bar_of(height_of(units, is_log), height_of(most, is_log), cells, is_ascii)
             line = f"  {values_of(kind, low, high).rjust(wide)} {bar}"
-            yield f"{line} {number(units, is_human):>{digits}}{percent(units, total):>8}{percent(up_to, total):>8}"
+            line += f" {number(units, is_human):>{digits}}{signs.get(low, '').rjust(told)}"
+            yield f"{line}{percent(units, total):>8}{percent(up_to, total):>8}"
         elif not was_empty and kind != "boolean":
             yield "  " + "...".rjust(wide)
         was_empty = units == 0
@@ -142,13 +161,17 @@ def counted(count: int, word: str, is_human: bool) -> str:
 
 def histogram_text(
     name: str, histogram: plain_reader.ReadHistogram, width: int, is_ascii: bool, shows_all: bool, is_log: bool,
-    is_human: bool, explains: bool,
+    is_human: bool, explains: bool, is_live: bool, came: Came,
 ) -> Iterator[str]:
     kind = plain_reader.KINDS[histogram["kind"]]
     rows: list[Row] = [(low, high, units) for low, (high, units) in sorted(histogram["buckets"].items())]
     total = sum(units for _, _, units in rows)
     yield name
-    numbers = f"units {number(total, is_human)}, sum {number(histogram['sum'], is_human)}"
+    if is_live and histogram["redundant"] != total:
+        yield "  counted meanwhile"
+    in_all = sign_of(sum(came.values()), is_human) if came is not None else ""
+    units = number(total, is_human) + (f" {in_all}" if in_all else "")
+    numbers = f"units {units}, sum {number(histogram['sum'], is_human)}"
     yield f"  {kind}, {numbers}, mean {mean_of(histogram['sum'], total, is_human)}"
     yield from ranks_of(rows, total, kind)
     if any(histogram["marks"].values()) or histogram["sum mark"]:
@@ -156,11 +179,11 @@ def histogram_text(
         rest = histogram["sum"] - histogram["sum mark"]
         yield f"  not yet taken by deltas: units {number(left, is_human)}, sum {number(rest, is_human)}"
     left_out = left_out_of(rows, kind, shows_all)
-    yield from rows_text(rows, left_out, total, kind, width, is_ascii, is_log, is_human)
+    yield from rows_text(rows, left_out, total, kind, width, is_ascii, is_log, is_human, came)
     if left_out:
         together = sum(units for low, _, units in rows if low in left_out)
-        values, units = counted(len(left_out), "more value", is_human), counted(together, "unit", is_human)
-        yield f"  {values}, with {units} in all (--all shows them)"
+        values, others = counted(len(left_out), "more value", is_human), counted(together, "unit", is_human)
+        yield f"  {values}, with {others} in all (--all shows them)"
     if explains and histogram["redundant"] != total:
         yield f"  counted once more: {number(histogram['redundant'], is_human)}"
     yield ""
@@ -199,13 +222,19 @@ def text_of(
     is_log: bool = False,
     is_human: bool = False,
     explains: bool = False,
+    is_live: bool = False,
+    since: bytes | None = None,
 ) -> bytes:
-    """The whole text; raises the image's fault."""
+    """The whole text, with what came since an earlier image if there is one; raises the image's fault."""
     by_name, bad_records, stopped, flags = plain_reader.reading_of(data, collections.Counter())
+    earlier = None if since is None else plain_reader.reading_of(since, collections.Counter())[0]
     lines: list[str] = []
     shown = shown_of(by_name, names, part)
     for name in shown:
-        lines += histogram_text(name.decode(), by_name[name], width, is_ascii, shows_all, is_log, is_human, explains)
+        came = None if earlier is None else came_of(by_name[name], earlier.get(name))
+        lines += histogram_text(
+            name.decode(), by_name[name], width, is_ascii, shows_all, is_log, is_human, explains, is_live, came
+        )
     lines += ending_of(shown, bad_records, stopped, flags)
     return "".join(f"{line}\n" for line in lines).encode()
 

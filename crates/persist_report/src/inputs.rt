@@ -68,6 +68,11 @@ impl<'a> Inputs<'a> {
     }
 }
 
+/// Returns whether a sum is asked for, or the one input is a folder.
+pub fn is_of_many<R: Files>(rt: &R, inputs: &Inputs<'_>) -> bool {
+    inputs.is_sum() || is_folder(rt, inputs.first().unwrap_or(DASH))
+}
+
 /// An input by its name.
 #[derive(Drop)]
 pub struct Named {

@@ -1,9 +1,20 @@
 //! Texts of looks that are written again and again.
 
+ghost use Rattle.std.specs.Prelude.{IfErr};
+ghost use Rattle.persist_report.specs.Failure.{UsageIsMistake};
+
 use crate::context::Context;
+use crate::dashes::DASH;
+use crate::failure::Failure;
+use crate::files::{check, open_image, open_out};
+use crate::texts::end_text;
 use fault_texts::is_terminal_at;
+use image_reader::Reading;
 use jiff::Timestamp;
 use persist_report_core::CliFault;
+use reading_shows::{Choice, Form, Style, write_text};
+use std::fs::File;
+use std::random::RandomSource;
 use std::rt::Files;
 use std::time::{Clock, Duration};
 use std::{fmt, thread};
@@ -82,4 +93,80 @@ pub fn begin<R: Clock + Files + Print>(
         }
         _ => Ok(()),
     }
+}
+
+/// What is shown again and again: which histograms of the segment in which file, how, and where to.
+#[derive(Clone, Copy)]
+pub struct Shown<'a> {
+    pub file: Option<&'a str>,
+    pub style: Style,
+    pub choice: Choice<'a>,
+    pub to: Option<&'a str>,
+}
+
+// The form of a text: with what came since an earlier reading, if there is one.
+fn form_since<'a>(shown: Shown<'a>, earlier: Option<&'a Reading>) -> Form<'a> {
+    let Shown { style, choice, .. } = shown;
+    match earlier {
+        Some(earlier) => Form::ShowSince {
+            style,
+            choice,
+            earlier,
+        },
+        None => Form::Show { style, choice },
+    }
+}
+
+// Writes the text of a look, and returns what was read; none where it failed, which is then the fault.
+fn show_look<
+    'a,
+    R: Files<File = File> + Clock + Input + Print + Eprint + RandomSource + AllocGlobal,
+>(
+    context: &Context<'_, R>,
+    shown: Shown<'a>,
+    earlier: Option<&Reading>,
+) -> Result<Option<Reading>, Failure>
+    ensures { IfErr result UsageIsMistake }
+{
+    let form = form_since(shown, earlier);
+    let mut reader = open_image(context, shown.file)?;
+    let mut writer = open_out(context, shown.to.unwrap_or(DASH))?;
+    let (written, found, reading) = match write_text(
+        context.alloc(),
+        form,
+        &mut reader,
+        &mut writer,
+    ) {
+        Ok(reading) => (
+            Ok(()),
+            check(context.alloc(), form, context.wants_whole, &reading),
+            Some(reading),
+        ),
+        Err(fault) => (Err(fault), Ok(()), None),
+    };
+    end_text(context, reader, writer, written, found)?;
+    Ok(reading)
+}
+
+/// Writes texts of looks, one after the other, each but the first with what came since the one before. The first fault ends it.
+/// `Usage` comes only for a mistake on the command line.
+pub fn show_again<
+    R: Files<File = File> + Clock + Input + Print + Eprint + RandomSource + AllocGlobal,
+>(
+    context: &Context<'_, R>,
+    shown: Shown<'_>,
+    division: Division,
+    repeat: Repeat,
+) -> Result<(), Failure>
+    ensures { IfErr result UsageIsMistake }
+{
+    let mut earlier = None;
+    for number in 0..repeat.times() {
+        if number > 0 {
+            repeat.wait(context.rt);
+        }
+        begin(context, division, number == 0)?;
+        earlier = show_look(context, shown, earlier.as_ref())?;
+    }
+    Ok(())
 }

@@ -8,9 +8,9 @@ use crate::dashes::{DASH, check_dashes};
 use crate::extracting::extract_file;
 use crate::failure::Failure;
 use crate::files::{merge_files_into, resume_file, run_file, write_file};
-use crate::inputs::Inputs;
+use crate::inputs::{Inputs, is_of_many};
 use crate::looking::look_into;
-use crate::repeating::{Division, Repeat, begin};
+use crate::repeating::{Division, Repeat, Shown, begin, show_again};
 use crate::request::{Request, Task, no_fault, not_text};
 use crate::scales::print_scale;
 use crate::sizing::size_of_task;
@@ -223,6 +223,27 @@ fn division_of(task: &Task<'_>) -> Division {
     }
 }
 
+// What a task shows as a text with bars; none if it asks for something else.
+fn shown_by<'a>(task: &'a Task<'_>) -> Option<Shown<'a>> {
+    match *task {
+        Task::Show {
+            file,
+            ref names,
+            part,
+            style,
+            list: None,
+            is_page: false,
+            to,
+        } => Some(Shown {
+            file,
+            style,
+            choice: choice_of(names.as_slice(), part),
+            to,
+        }),
+        _ => None,
+    }
+}
+
 // Does what a task says, again and again.
 fn meet_again<
     R: Files<File = File>
@@ -243,6 +264,12 @@ fn meet_again<
 ) -> Result<(), Failure>
     ensures { IfErr result UsageIsMistake }
 {
+    if let Some(shown) = shown_by(task)
+        && !is_of_many(context.rt, inputs)
+    {
+        check_dashes(context.alloc(), task)?;
+        return show_again(context, shown, division_of(task), repeat);
+    }
     for number in 0..repeat.times() {
         if number > 0 {
             repeat.wait(context.rt);

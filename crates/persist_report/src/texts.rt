@@ -6,12 +6,11 @@ ghost use Rattle.segment_image.specs.Watched.{has_failed};
 
 use crate::cause::Cause;
 use crate::context::Context;
-use crate::dashes::DASH;
 use crate::explaining::{FaultContext, failure_of};
 use crate::failure::Failure;
 use crate::families::write_families;
 use crate::files::{check, open_image, open_out, write_from};
-use crate::inputs::{Inputs, is_folder};
+use crate::inputs::{Inputs, is_of_many};
 use crate::noted::{Noted, Stream};
 use crate::output::Output;
 use crate::peeked::Peeked;
@@ -104,11 +103,10 @@ pub fn write_inputs<
 ) -> Result<(), Failure>
     ensures { IfErr result UsageIsMistake }
 {
-    let file = inputs.first();
-    if inputs.is_sum() || is_folder(context.rt, file.unwrap_or(DASH)) {
+    if is_of_many(context.rt, inputs) {
         return write_sum(context, inputs, text, to);
     }
-    let opened = open_image(context, file)?.into_inner();
+    let opened = open_image(context, inputs.first())?.into_inner();
     let origin = opened.origin();
     let (kind, peeked) = Peeked::of(context.alloc(), opened.into_inner())?;
     let reader = Noted::stream(peeked, origin, context.copy());

@@ -41,7 +41,8 @@ values of sparse histograms, and how many records are bad.";
 pub const SHOW: &str =
     "Show the histograms of an image, or of the sum of several: numbers, quantiles
 and bars. A line is a bucket with its values, a bar, its units, their percent of
-all, and the percent of those up to it.";
+all, and the percent of those up to it. With --live --every each text but the
+first has a column 'new': what came since the look before, as +N.";
 
 /// What `run` does.
 pub const RUN: &str =

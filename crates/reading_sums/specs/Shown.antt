@@ -83,6 +83,6 @@ shown_from index parts = map (λ (one : ℕ × Part). shown_at one.0 one.1) (enu
 abbrev pub shown_parts : List Part → List Histogram
 shown_parts parts = shown_from 0 (map shown_of (groups_of parts))
 
--- and what is not shown
+-- what a list of parts leaves out when it is read: of each group all but what is shown of it
 abbrev pub other_parts : List Part → List Part
 other_parts parts = flat_map left_out_of (groups_of parts)

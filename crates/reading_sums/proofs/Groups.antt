@@ -12,7 +12,7 @@ use Rattle.image_reader.specs.Views.{histogram_view}
 use Rattle.image_reader.specs.declared.reading.HistReading.{HistReading}
 use Rattle.reading_sums.specs.declared.hist.HistSum.{HistSum}
 use Rattle.reading_sums.specs.declared.shown.OtherSpec.{OtherSpec}
-use Rattle.reading_sums.specs.Shown.{Group, members_of, before_groups, groups_of, least_part, others_than_least, shown_of, left_out_of, shown_at, shown_from, shown_parts, other_parts, IsOtherOf}
+use Rattle.reading_sums.specs.Shown.{Group, members_of, before_groups, groups_of, least_part, others_than_least, shown_of, left_out_of, shown_at, shown_from, other_parts, IsOtherOf}
 use Rattle.reading_sums.specs.Totals.{Part}
 use Rattle.reading_sums.specs.Views.{part_of}
 

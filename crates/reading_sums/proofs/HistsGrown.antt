@@ -1,5 +1,5 @@
 -- The walk along the histograms of two sums, from its start to its end.
-use Rattle.std.proofs.Common.{◌≡◌, ◌<◌, ◌≤◌, ◌+◌, ⊎_elim, inl, inr, ℕ, ◌+ℤ◌, ℤ, List, [], ◌∷◌, ◌++◌, map, length, take, drop, get_or, refl, ap, sym, subst, ◌∙◌, arith, nat_cmp}
+use Rattle.std.proofs.Common.{◌≡◌, ◌<◌, ◌+◌, ⊎_elim, inl, inr, ℕ, ◌+ℤ◌, ℤ, List, ◌++◌, map, take, drop, get_or, ap, sym, subst, ◌∙◌, arith, nat_cmp}
 use Rattle.std.specs.Ordering.{ordering_then}
 use Rattle.std.specs.Cmp.Lexicographic.{slice_cmp}
 use Rattle.std.specs.List.{All, Contains}
@@ -13,12 +13,11 @@ use Rattle.std.proofs.lemmas.Simd.{map-map}
 use Rattle.std.proofs.lemmas.List.{map-append, take-append-drop, get_or_default}
 use Rattle.std.proofs.lemmas.List.Elements.{All-append, All-drop, All-take, All-contains, Contains-append_right}
 use Rattle.std.proofs.lemmas.Map.Keys.{Less-from_sorted}
-use Rattle.bucket_ranges.specs.declared.spec.Spec.{Spec}
 use Rattle.reading_sums.specs.declared.fault.MinusFault.{MinusFault}
 use Rattle.reading_sums.specs.declared.hist.HistSum.{HistSum}
 use Rattle.reading_sums.specs.Orders.{hist_cmp, spec_cmp}
 use Rattle.reading_sums.specs.Since.{Frame, frame_of, AreSince, HasLess, HasSomething, HasLongAmount, HasName, HasFallen, HasOtherSpec, HasTooMany, ArePair, IsAlone, IsGrown, IsReason, IsSettled}
-use Rattle.reading_sums.specs.Totals.{Part, Quantity, total}
+use Rattle.reading_sums.specs.Totals.{Part, total}
 use Rattle.reading_sums.specs.Views.{part_of}
 use Rattle.reading_sums.specs.Whole.{AreWhole, IsWholeHist}
 use Rattle.reading_sums.proofs.HistOrder.{alike}

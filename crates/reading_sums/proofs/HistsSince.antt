@@ -1,5 +1,5 @@
 -- What histograms have more than earlier ones.
-use Rattle.std.proofs.Common.{◌≡◌, ◌≢◌, ◌<◌, ◌^◌, Bool, true, false, ℕ, ◌+◌, ℤ, pos, ◌+ℤ◌, ◌⊎◌, inl, inr, List, refl, ap, sym, subst, ◌∙◌, arith}
+use Rattle.std.proofs.Common.{◌≡◌, ◌≢◌, ◌<◌, Bool, true, false, ℕ, ◌+◌, ℤ, pos, ◌+ℤ◌, ◌⊎◌, inl, inr, List, refl, ap, sym, subst, ◌∙◌, arith}
 use Rattle.std.specs.Bool.{MatchBool}
 use Rattle.std.specs.Ordering.{int_cmp}
 use Rattle.std.specs.List.Sorted.{IsStrictlySortedBy}

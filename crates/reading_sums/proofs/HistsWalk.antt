@@ -1,15 +1,14 @@
 -- A step of the walk along the histograms of two sums.
-use Rattle.std.proofs.Common.{◌≡◌, ◌≢◌, ◌<◌, Bool, true, false, ◌⊎◌, inl, inr, if◌then◌else◌, ℕ, ◌+◌, ℤ, pos, ◌+ℤ◌, ◌<ℤ◌, List, [], ◌∷◌, ◌++◌, map, length, take, drop, get_or, refl, ap, sym, subst, ◌∙◌, arith}
+use Rattle.std.proofs.Common.{◌≡◌, ◌≢◌, ◌<◌, Bool, true, false, inl, inr, if◌then◌else◌, ℕ, ℤ, pos, ◌+ℤ◌, ◌<ℤ◌, List, [], ◌∷◌, ◌++◌, map, length, take, get_or, refl, ap, sym, subst, ◌∙◌, arith}
 use Rattle.std.specs.Ordering.{int_eq}
-use Rattle.std.specs.declared.cmp.Ordering.TheVariants.{Less, Equal}
+use Rattle.std.specs.declared.cmp.Ordering.TheVariants.{Less}
 use Rattle.std.specs.List.{All, Contains}
 use Rattle.std.specs.List.Sorted.{IsStrictlySortedBy}
 use Rattle.std.proofs.Math.IntN.{+ℤ_idl}
 use Rattle.std.proofs.lemmas.Bool.Decides.{Decides-int_eq}
 use Rattle.std.proofs.lemmas.Cmp.{tied_itself}
 use Rattle.std.proofs.lemmas.Int.{ints}
-use Rattle.std.proofs.lemmas.List.Elements.{All-nil, All-cons, All-contains, Contains-append_right}
-use Rattle.bucket_ranges.specs.declared.spec.Spec.{Spec}
+use Rattle.std.proofs.lemmas.List.Elements.{All-nil, All-cons, Contains-append_right}
 use Rattle.reading_sums.specs.declared.fault.MinusFault.{MinusFault}
 use Rattle.reading_sums.specs.declared.fault.MinusFault.TheVariants.{NoMemory, TooMany, Fell, OtherSpec}
 use Rattle.reading_sums.specs.declared.hist.HistSum.{HistSum}
@@ -18,7 +17,6 @@ use Rattle.reading_sums.specs.Since.{Frame, frame_of, IsSince, AreSince, IsCount
 use Rattle.reading_sums.specs.Totals.Quantity.{Units, Marks, Amounts, AmountMarks, Redundant, Images}
 use Rattle.reading_sums.specs.Totals.{Part, Quantity, quantity_of, share_of, total, is_of}
 use Rattle.reading_sums.specs.Views.{part_of}
-use Rattle.reading_sums.specs.Whole.{AreWhole, IsWholeHist}
 use Rattle.reading_sums.proofs.Ascending.{below-put}
 use Rattle.reading_sums.proofs.Between.{none-alike}
 use Rattle.reading_sums.proofs.HistOrder.{hist-total, alike}

@@ -1,7 +1,7 @@
 -- What keys have more than earlier ones.
-use Rattle.std.proofs.Common.{◌≡◌, ◌≢◌, ◌<◌, ◌≤◌, Bool, ℕ, ◌+◌, ℤ, ◌<ℤ◌, true, false, if◌then◌else◌, List, [], ◌∷◌, ◌++◌, ◌⊎◌, ⊎_elim, inl, inr, map, length, take, drop, get_or, sum_by, subst, refl, ap, sym, ◌∙◌, arith}
+use Rattle.std.proofs.Common.{◌≡◌, ◌≢◌, ◌<◌, ◌≤◌, Bool, ℕ, ◌+◌, ℤ, ◌<ℤ◌, true, false, if◌then◌else◌, List, [], ◌∷◌, ◌++◌, ⊎_elim, inl, inr, length, take, drop, get_or, sum_by, subst, refl, ap, sym, ◌∙◌, arith}
 use Rattle.std.specs.Ordering.{int_eq, int_cmp, is_eq}
-use Rattle.std.specs.declared.cmp.Ordering.TheVariants.{Less, Equal}
+use Rattle.std.specs.declared.cmp.Ordering.TheVariants.{Less}
 use Rattle.std.specs.List.{AllByRecursion}
 use Rattle.std.specs.List.Sorted.{IsStrictlySortedBy}
 use Rattle.std.proofs.lemmas.Cmp.{int_cmp_total, int_eq_equiv, tied_itself}
@@ -11,7 +11,6 @@ use Rattle.std.proofs.Math.Seq.{take-add}
 use Rattle.reading_sums.specs.declared.key.KeySum.{KeySum}
 use Rattle.reading_sums.specs.Orders.{key_cmp}
 use Rattle.reading_sums.specs.Keys.{units_at, marks_at}
-use Rattle.reading_sums.specs.Whole.{values_of, units_of}
 use Rattle.reading_sums.specs.Since.{AreKeysSince, HasKeyFallen, GoesOnAscending}
 use Rattle.reading_sums.proofs.Ascending.{all-above}
 use Rattle.reading_sums.proofs.KeyOrder.{key-total, int-less}

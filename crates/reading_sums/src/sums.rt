@@ -117,20 +117,20 @@ impl Sums {
 
     /// Returns what came since an earlier sum of the same segment, or of the same folder. Of each name and spec the earlier
     /// sum and the result have together what this sum has: the units and the marks of each key, the amounts and those that
-    /// deltas have taken, and the redundant counts. All else is as in this sum: the names and specs, the keys, how many
-    /// images have a histogram and the least number of one [since], and the notes [notes]. It is well formed if this sum
+    /// deltas have taken, and the redundant counts. The names, the specs, the keys, how many images have a histogram and
+    /// the least number of one are those of this sum [since], and so are the notes [notes]. It is well formed if this sum
     /// is [well_formed].
     ///
-    /// Where both sums are well formed it is refused for these reasons, never without one, and with one never given
-    /// [only]; or for want of memory, `NoMemory`:
+    /// Of two well-formed sums it is given only where there is none of these reasons [only], and refused only for one that
+    /// there is, or with `NoMemory` where there is no memory:
     ///
     /// - `Fell` with a name: of one spec this sum has fewer units or marks of some key than the earlier one, or a smaller
-    ///   redundant count; or it has nothing of the name, and the earlier one has a unit, a mark, an amount or a redundant
-    ///   count [fell].
+    ///   redundant count; or it has nothing of the name, and the earlier one has a unit, a mark, a redundant count or an
+    ///   amount that is not 0 [fell].
     /// - `OtherSpec` with a name: the earlier sum has it under a spec that this one does not have it with, but another
     ///   [other_spec].
-    /// - `TooMany`: an amount less the earlier one does not fit 128 bits [too_many]. An amount that is less than the
-    ///   earlier one is no reason, since samples may be negative.
+    /// - `TooMany`: an amount of this sum less that of the earlier one does not fit 128 bits [too_many]. That an amount
+    ///   fell is no reason, since samples may be negative.
     pub fn minus(&self, earlier: &Sums) -> Result<Sums, MinusFault>
         ensures since { IfOk result (λ since. AreSince (parts_of self.now) (parts_of earlier.now) (parts_of since)) }
         ensures notes { IfOk result (λ since. since.notes ≡ self.now.notes) }

@@ -1,5 +1,5 @@
 -- Those in front of the one that is shown, and those behind it.
-use Rattle.std.proofs.Common.{◌≡◌, ◌++◌, List, map, take, drop, append_assoc, ap, sym, subst, ◌∙◌}
+use Rattle.std.proofs.Common.{◌≡◌, ◌++◌, List, map, take, drop, append_assoc, ap, subst, ◌∙◌}
 use Rattle.std.specs.List.{AllZip}
 use Rattle.std.proofs.lemmas.Result.{on_ok_weaker}
 use Rattle.reading_sums.specs.Shown.{left_out_of, IsOtherOf}

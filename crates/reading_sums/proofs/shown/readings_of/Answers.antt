@@ -1,9 +1,8 @@
 -- One more that is shown.
-use Rattle.std.proofs.Common.{◌≡◌, ◌++◌, ◌∷◌, [], List, map, ap, sym, subst, ◌∙◌}
+use Rattle.std.proofs.Common.{◌∷◌, [], map, ap, sym, subst, ◌∙◌}
 use Rattle.std.specs.List.{All}
 use Rattle.std.proofs.lemmas.List.{map-append}
 use Rattle.std.proofs.lemmas.List.Elements.{All-push, All-drop, All-take}
-use Rattle.bucket_ranges.specs.Reading.{Histogram}
 use Rattle.image_reader.specs.Readable.{IsReadable}
 use Rattle.image_reader.specs.Views.{histogram_view}
 use Rattle.reading_sums.specs.Views.{part_of}

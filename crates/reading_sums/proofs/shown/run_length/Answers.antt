@@ -1,5 +1,5 @@
 -- Those that have the name of the first, up to one that has another, are the first group.
-use Rattle.std.proofs.Common.{◌<◌, length, get_or, arith}
+use Rattle.std.proofs.Common.{length, arith}
 use Rattle.reading_sums.proofs.Groups.{run-group, other-name}
 use Rattle.reading_sums.proofs.shown.run_length.Goals as goal
 

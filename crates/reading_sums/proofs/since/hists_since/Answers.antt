@@ -1,5 +1,5 @@
 -- What is taken in a step goes behind what was taken before.
-use Rattle.std.proofs.Common.{◌≤◌, map, length, take, ap, subst, ◌∙◌, arith}
+use Rattle.std.proofs.Common.{◌≤◌, map, length, ap, subst, ◌∙◌, arith}
 use Rattle.std.specs.List.{All}
 use Rattle.std.proofs.lemmas.List.{take_all}
 use Rattle.std.proofs.lemmas.Result.{err_from_is_err_and}

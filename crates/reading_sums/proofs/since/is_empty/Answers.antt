@@ -1,4 +1,4 @@
-use Rattle.std.proofs.Common.{◌≡◌, pos, rules, arith}
+use Rattle.std.proofs.Common.{rules, arith}
 use Rattle.reading_sums.specs.Views.{part_of}
 use Rattle.reading_sums.proofs.HistsSince.{empty-part}
 use Rattle.reading_sums.proofs.since.is_empty.Goals as goal

@@ -1,5 +1,4 @@
 -- What is taken of the later list is what it has more than the earlier one; and what is refused has its reason.
-use Rattle.std.proofs.Common.{◌≡◌}
 use Rattle.std.proofs.lemmas.List.Elements.{All-contains}
 use Rattle.std.proofs.lemmas.Result.{err_from_is_err_and}
 use Rattle.reading_sums.specs.declared.hist.HistSum.{HistSum}

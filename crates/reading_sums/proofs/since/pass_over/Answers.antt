@@ -1,5 +1,5 @@
 -- An earlier histogram between later ones has another name and spec than these, and another name if its neighbours have.
-use Rattle.std.proofs.Common.{◌≡◌, ◌++◌, List, ℕ, ap, sym, ◌∙◌, subst}
+use Rattle.std.proofs.Common.{◌≡◌, ◌++◌}
 use Rattle.reading_sums.specs.Since.{HasName, HasSomething}
 use Rattle.reading_sums.specs.Views.{part_of}
 use Rattle.reading_sums.proofs.Between.{unnamed, named-front, named-behind}

@@ -1,11 +1,13 @@
 -- The report of a sum: that of its reading, and lines behind it of what that leaves out.
 use Rattle.std.specs.Prelude.{◌≡◌, Bool, ◌==◌, ◌&&◌, nat_le, nat_lt, if◌then◌else◌, ℕ, List, [], ◌∷◌, ◌++◌, length, None, codes}
 use Rattle.std.specs.Fmt.{decimal}
-use Rattle.std.specs.List.{flat_map}
+use Rattle.std.specs.List.{flat_map, AllZip}
 use Rattle.bucket_ranges.specs.Reading.{Reading}
 use Rattle.reading_texts.specs.Text.{line, IsTextOf}
 use Rattle.reading_sums.specs.declared.shown.OtherSpec.{OtherSpec}
 use Rattle.reading_sums.specs.declared.sums.Sums.{Sums}
+use Rattle.reading_sums.specs.Shown.{shown_parts, other_parts, IsOtherOf}
+use Rattle.reading_sums.specs.Views.{parts_of}
 
 -- ---- the lines behind a report
 
@@ -29,18 +31,20 @@ ending_text images others left =
 
 -- ---- the report of a sum
 
--- a reading says what a sum does beside its histograms
+-- a reading is that of a sum: it has the histograms that the sum shows, and says what it does beside them
 pub record IsOfSum (sums : Sums) (reading : Reading) : Type 0 where
+  pub hists : reading.hists ≡ shown_parts (parts_of sums)
   pub full : reading.full ≡ nat_lt 0 sums.notes.full
   pub corrupt : reading.corrupt ≡ nat_lt 0 sums.notes.corrupt
   pub bad : reading.bad ≡ []
   pub stopped : reading.stopped ≡ None
 
--- the text is the report of a reading of the sum, and behind it the lines of what that leaves out
+-- the text is the report of the reading of the sum, and behind it the lines of what that leaves out
 pub record IsSumReport (sums : Sums) (left : ℕ) (text : List ℕ) : Type 0 where
   pub reading : Reading
   pub others : List OtherSpec
   pub report : List ℕ
   pub of_sum : IsOfSum sums reading
+  pub told : AllZip IsOtherOf (other_parts (parts_of sums)) others
   pub written : IsTextOf reading report
   pub behind : text ≡ report ++ ending_text sums.notes.images others left

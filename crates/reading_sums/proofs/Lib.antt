@@ -13,3 +13,11 @@ pub mod OneReading
 pub mod Readable
 pub mod Neighbours
 pub mod Buckets
+pub mod Walk
+pub mod KeysSince
+pub mod HistsSince
+pub mod Between
+pub mod HistsWalk
+pub mod HistsGrown
+pub mod Groups
+pub mod GroupNames

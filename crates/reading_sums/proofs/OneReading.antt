@@ -1,5 +1,5 @@
 -- The histograms of one reading by their names.
-use Rattle.std.proofs.Common.{◌≡◌, ◌<◌, ◌≤◌, ◌+◌, Bool, true, false, ℕ, suc, List, [], ◌∷◌, length, get_or, map, refl, ap, sym, subst, ◌∙◌, arith, nat_cmp, IsPermutation}
+use Rattle.std.proofs.Common.{◌≡◌, ◌+◌, true, false, ℕ, suc, List, [], ◌∷◌, get_or, map, refl, ap, sym, subst, ◌∙◌, arith, nat_cmp, IsPermutation}
 use Rattle.std.specs.Ordering.{is_lt, is_eq, ordering_reverse, ordering_then}
 use Rattle.std.specs.Cmp.Lexicographic.{slice_cmp}
 use Rattle.std.specs.Str.{bytes_eq}

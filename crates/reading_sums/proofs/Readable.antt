@@ -1,5 +1,5 @@
 -- Whole histograms are readable.
-use Rattle.std.proofs.Common.{◌≡◌, ◌≢◌, ◌<◌, ◌≤◌, ◌+◌, ◌^◌, ℕ, ℤ, pos, List, [], ◌∷◌, length, map, take, sum_by, None, refl, ap, sym, subst, ◌∙◌, arith}
+use Rattle.std.proofs.Common.{◌≡◌, ◌≢◌, ◌<◌, ◌+◌, ◌^◌, ℕ, ℤ, pos, List, [], ◌∷◌, length, take, sum_by, None, refl, ap, sym, subst, ◌∙◌, arith}
 use Rattle.std.proofs.lemmas.List.{length-map, length-take-le}
 use Rattle.std.proofs.lemmas.List.Sums.{sum_by-cons}
 use Rattle.bucket_ranges.specs.declared.spec.Spec.{Spec}
@@ -7,7 +7,6 @@ use Rattle.bucket_ranges.specs.declared.spec.Spec.TheVariants.{Linear, Boolean, 
 use Rattle.bucket_ranges.specs.Spec.{spec_fault, buckets_of}
 use Rattle.bucket_ranges.specs.Ranges.{boundaries_of}
 use Rattle.bucket_ranges.proofs.Ascent.{boundaries_of-split}
-use Rattle.bucket_ranges.specs.Reading.{Histogram}
 use Rattle.image_reader.specs.Readable.{IsReadable, IsOnePerBucket}
 use Rattle.reading_sums.specs.declared.key.KeySum.{KeySum}
 use Rattle.reading_sums.specs.Shown.{counts_of, shown_at}

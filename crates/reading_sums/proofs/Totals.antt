@@ -86,7 +86,7 @@ second-first part first rest = record {
 pub same-equal : (a b : List Part) → a ≡ b → SameTotals a b
 same-equal a b e = let P : List Part → Type 0 = λ z. SameTotals a z in subst P e (same-refl a)
 
-chosen-sum : (t : Bool) (x y z : ℤ) → z ≡ x +ℤ y → (if t then z else pos 0) ≡ (if t then x else pos 0) +ℤ (if t then y else pos 0)
+pub chosen-sum : (t : Bool) (x y z : ℤ) → z ≡ x +ℤ y → (if t then z else pos 0) ≡ (if t then x else pos 0) +ℤ (if t then y else pos 0)
 chosen-sum true x y z e = e
 chosen-sum false x y z e = refl
 
@@ -101,7 +101,7 @@ or-assoc : (a b c d : Bool) → d ≡ (a || b) → (d || c) ≡ (a || (b || c))
 or-assoc true b c d e = ap (λ x. x || c) e
 or-assoc false b c d e = ap (λ x. x || c) e
 
-is_of-both : (name : List ℕ) (spec : Spec) (a b : Part) → a.name ≡ b.name → a.spec ≡ b.spec → is_of name spec a ≡ is_of name spec b
+pub is_of-both : (name : List ℕ) (spec : Spec) (a b : Part) → a.name ≡ b.name → a.spec ≡ b.spec → is_of name spec a ≡ is_of name spec b
 is_of-both name spec a b names specs = λ i. bytes_eq (names i) name && same_spec (specs i) spec
 
 -- one part in the place of two

@@ -6,3 +6,4 @@ pub mod Whole
 pub mod Notes
 pub mod Sums
 pub mod Shown
+pub mod Since

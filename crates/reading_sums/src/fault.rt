@@ -36,3 +36,43 @@ impl<T: Drop> From<AllocFailed<T>> for SumsFault {
         SumsFault::NoMemory
     }
 }
+
+/// Why there is nothing that came since an earlier sum.
+#[derive(Debug, PartialEq, Eq, Drop, Error)]
+pub enum MinusFault {
+    /// There was no memory.
+    #[error("NoMemory")]
+    NoMemory,
+    /// An amount less the earlier one would not fit 128 bits.
+    #[error("TooMany")]
+    TooMany,
+    /// The later sum has less of this name than the earlier one: fewer units or marks of a key, a smaller redundant count,
+    /// or nothing at all where the earlier one has something.
+    #[error("Fell")]
+    Fell(Vec<u8>),
+    /// The earlier sum has this name under a spec that the later one does not have it with, but another.
+    #[error("OtherSpec")]
+    OtherSpec(Vec<u8>),
+}
+
+impl From<AllocError> for MinusFault {
+    ghost use Rattle.std.specs.Prelude.{◌≡◌};
+    ghost use Rattle.reading_sums.specs.declared.fault.MinusFault.TheVariants.{NoMemory};
+
+    ghost from_gives = { λ _ fault. fault ≡ NoMemory };
+
+    fn from(_: AllocError) -> MinusFault {
+        MinusFault::NoMemory
+    }
+}
+
+impl<T: Drop> From<AllocFailed<T>> for MinusFault {
+    ghost use Rattle.std.specs.Prelude.{◌≡◌};
+    ghost use Rattle.reading_sums.specs.declared.fault.MinusFault.TheVariants.{NoMemory};
+
+    ghost from_gives = { λ _ fault. fault ≡ NoMemory };
+
+    fn from(_: AllocFailed<T>) -> MinusFault {
+        MinusFault::NoMemory
+    }
+}

@@ -75,8 +75,8 @@ pub(crate) fn sum_of(alloc: Global, number: u64, hist: &HistReading) -> Result<H
     })
 }
 
-// A copy of it.
-fn copy_of(alloc: Global, hist: &HistSum) -> Result<HistSum, AllocError>
+/// A copy of it.
+pub(crate) fn copy_of(alloc: Global, hist: &HistSum) -> Result<HistSum, AllocError>
     ensures { IfOk result (λ copy. part_of copy ≡ part_of hist.now) }
 {
     Ok(HistSum {
@@ -129,8 +129,8 @@ pub(crate) fn by_name_and_spec(left: &HistSum, right: &HistSum) -> Ordering
     }
 }
 
-// Where the least of two lists stands, each of which ascends.
-fn side_of(left: &[HistSum], right: &[HistSum]) -> Side
+/// Where the least of two lists stands, each of which ascends.
+pub(crate) fn side_of(left: &[HistSum], right: &[HistSum]) -> Side
     requires { 0 < length left.now + length right.now }
     ensures { IsSideOf left.now right.now result }
 {

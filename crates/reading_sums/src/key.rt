@@ -67,8 +67,8 @@ fn key_of_both(left: &KeySum, right: &KeySum) -> Result<KeySum, SumsFault>
     }
 }
 
-// Where the least key of two lists stands, each of which ascends.
-fn side_of(left: &[KeySum], right: &[KeySum]) -> Side
+/// Where the least key of two lists stands, each of which ascends.
+pub(crate) fn side_of(left: &[KeySum], right: &[KeySum]) -> Side
     requires { 0 < length left.now + length right.now }
     ensures { IsSide left.now right.now result }
 {

@@ -14,9 +14,10 @@ mod laws;
 mod notes;
 mod order;
 mod shown;
+mod since;
 mod sums;
 
-pub use fault::SumsFault;
+pub use fault::{MinusFault, SumsFault};
 pub use hist::HistSum;
 pub use key::KeySum;
 pub use laws::{order_is_nothing, parts_append};

@@ -1,10 +1,10 @@
 //! Which histograms of a sum are shown: of each name the one of the least number.
 
-ghost use Rattle.std.specs.Prelude.{◌≡◌, ◌<◌, ◌≤◌, length, map, min, IfOk};
-ghost use Rattle.std.specs.List.{All};
+ghost use Rattle.std.specs.Prelude.{◌≡◌, ◌<◌, ◌≤◌, ◌∷◌, ◌++◌, List, nat_lt, length, map, min, take, drop, IfOk, OnOk};
+ghost use Rattle.std.specs.List.{All, AllZip, IsFirstBest};
 ghost use Rattle.image_reader.specs.Readable.{IsReadable};
 ghost use Rattle.image_reader.specs.Views.{histogram_view};
-ghost use Rattle.reading_sums.specs.Shown.{shown_at, IsOtherOf};
+ghost use Rattle.reading_sums.specs.Shown.{shown_at, shown_parts, other_parts, groups_of, members_of, left_out_of, Group, IsOtherOf};
 ghost use Rattle.reading_sums.specs.Views.{part_of};
 ghost use Rattle.reading_sums.specs.Whole.{IsWholeHist};
 
@@ -29,6 +29,7 @@ fn run_length(hists: &[HistSum]) -> usize
     requires { 0 < length hists.now }
     ensures some { 0 < result }
     ensures within { result ≤ length hists.now }
+    ensures group { (group : Group) × (members_of group ≡ map part_of (take result hists.now)) × (groups_of (map part_of hists.now) ≡ group ∷ groups_of (map part_of (drop result hists.now))) }
 {
     for i in 1..hists.len() {
         if hists[i].name != hists[0].name {
@@ -41,7 +42,7 @@ fn run_length(hists: &[HistSum]) -> usize
 // Where the least number stands first.
 fn least_of(hists: &[HistSum]) -> usize
     requires { 0 < length hists.now }
-    ensures { result < length hists.now }
+    ensures { IsFirstBest (λ hist best. nat_lt hist.least best.least) hists.now (length hists.now) result }
 {
     let mut least = 0;
     for i in 1..hists.len() {
@@ -71,7 +72,8 @@ fn reading_of(alloc: Global, index: usize, hist: &HistSum) -> Result<HistReading
 /// What the histograms of a sum read as: of each name the first that has the least number. They are readable if those
 /// of the sum are whole.
 pub(crate) fn readings_of(alloc: Global, hists: &[HistSum]) -> Result<Vec<HistReading>, AllocError>
-    ensures { IfOk result (λ readings. All IsWholeHist hists.now → All IsReadable (map histogram_view readings.items)) }
+    ensures readable { IfOk result (λ readings. All IsWholeHist hists.now → All IsReadable (map histogram_view readings.items)) }
+    ensures shown { IfOk result (λ readings. map histogram_view readings.items ≡ shown_parts (map part_of hists.now)) }
 {
     let mut readings = Vec::new(alloc);
     let mut rest = hists;
@@ -95,21 +97,30 @@ fn other_of(alloc: Global, hist: &HistSum) -> Result<OtherSpec, AllocError>
     })
 }
 
-// Puts what is told of the histograms of one name behind others, but for the one that is shown.
-fn put_others(alloc: Global, others: &mut Vec<OtherSpec>, run: &[HistSum]) -> Result<(), AllocError>
-    requires { 0 < length run.now }
+// Puts what is told of histograms behind others.
+fn put_all(alloc: Global, others: &mut Vec<OtherSpec>, hists: &[HistSum]) -> Result<(), AllocError>
+    ensures { OnOk result ((parts : List _) → AllZip IsOtherOf parts others.old.items → AllZip IsOtherOf (parts ++ map part_of hists.now) others.new.items) }
 {
-    let shown = least_of(run);
-    for i in 0..run.len() {
-        if i != shown {
-            others.push(other_of(alloc, &run[i])?)?;
-        }
+    for hist in hists {
+        others.push(other_of(alloc, hist)?)?;
     }
     Ok(())
 }
 
+// Puts what is told of the histograms of one name behind others, but for the one that is shown.
+fn put_others(alloc: Global, others: &mut Vec<OtherSpec>, run: &[HistSum]) -> Result<(), AllocError>
+    requires { 0 < length run.now }
+    ensures { OnOk result ((group : Group) → members_of group ≡ map part_of run.now → (parts : List _) → AllZip IsOtherOf parts others.old.items → AllZip IsOtherOf (parts ++ left_out_of group) others.new.items) }
+{
+    let (front, behind) = run.split_at(least_of(run));
+    put_all(alloc, others, front)?;
+    put_all(alloc, others, behind.split_at(1).1)
+}
+
 /// What is told of the histograms of a sum that are not shown, by their names.
-pub(crate) fn others_of(alloc: Global, hists: &[HistSum]) -> Result<Vec<OtherSpec>, AllocError> {
+pub(crate) fn others_of(alloc: Global, hists: &[HistSum]) -> Result<Vec<OtherSpec>, AllocError>
+    ensures { IfOk result (λ others. AllZip IsOtherOf (other_parts (map part_of hists.now)) others.items) }
+{
     let mut others = Vec::new(alloc);
     let mut rest = hists;
     while !rest.is_empty() {

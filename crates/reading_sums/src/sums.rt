@@ -1,23 +1,26 @@
 //! The sum of any number of images.
 
-ghost use Rattle.std.specs.Prelude.{◌≡◌, ◌↔◌, ◌∷◌, ◌++◌, ℕ, List, [], None, nat_lt, true, is_some, map, IfOk, IfSome, OnOk, OnErr};
-ghost use Rattle.std.specs.List.{All};
-ghost use Rattle.std.specs.List.Sorted.{IsPermutation, IsSortedByKey};
+ghost use Rattle.std.specs.Prelude.{◌≡◌, ◌↔◌, ◌∷◌, ◌++◌, ℕ, List, [], None, nat_lt, true, is_some, map, IfOk, IfErr, IfSome, OnOk, OnErr, ⊤};
+ghost use Rattle.std.specs.List.{All, AllZip};
+ghost use Rattle.std.specs.List.Sorted.{IsPermutation, IsSortedByKey, IsStrictlySortedBy};
 ghost use Rattle.std.specs.Ordering.{nat_cmp};
 ghost use Rattle.std.specs.Cmp.Lexicographic.{slice_cmp};
 ghost use Rattle.bucket_ranges.specs.Reading as definition;
 ghost use Rattle.image_reader.specs.Views.{histogram_view, reading_view};
 ghost use Rattle.image_reader.specs.Readable.{IsReadable};
 ghost use Rattle.reading_sums.specs.Totals.{part_from, SameTotals};
-ghost use Rattle.reading_sums.specs.Views.{part_of};
+ghost use Rattle.reading_sums.specs.Views.{part_of, parts_of};
+ghost use Rattle.reading_sums.specs.Shown.{shown_parts, other_parts, IsOtherOf};
+ghost use Rattle.reading_sums.specs.Since.{AreSince, HasFallen, HasOtherSpec, HasTooMany, IsGrown, MatchFault};
 ghost use Rattle.reading_sums.specs.Sums.{IsSumOver};
 ghost use Rattle.reading_sums.specs.Whole.{AreWhole, HasNamesOnce, IsWellFormed, IsWholeHistogram, IsWholeReading};
 
 use crate::check::are_whole;
-use crate::fault::SumsFault;
+use crate::fault::{MinusFault, SumsFault};
 use crate::hist::{HistSum, sum_of, sums_of_both};
 use crate::notes::{Notes, notes_of, notes_of_both};
 use crate::shown::{OtherSpec, others_of, readings_of};
+use crate::since::hists_since;
 use image_reader::{HistReading, Reading};
 use std::alloc::{AllocError, Global};
 
@@ -112,6 +115,39 @@ impl Sums {
         Ok(())
     }
 
+    /// Returns what came since an earlier sum of the same segment, or of the same folder. Of each name and spec the earlier
+    /// sum and the result have together what this sum has: the units and the marks of each key, the amounts and those that
+    /// deltas have taken, and the redundant counts. The names, the specs, the keys, how many images have a histogram and
+    /// the least number of one are those of this sum [since], and so are the notes [notes]. It is well formed if this sum
+    /// is [well_formed].
+    ///
+    /// Of two well-formed sums it is given only where there is none of these reasons [only], and refused only for one that
+    /// there is, or with `NoMemory` where there is no memory:
+    ///
+    /// - `Fell` with a name: of one spec this sum has fewer units or marks of some key than the earlier one, or a smaller
+    ///   redundant count; or it has nothing of the name, and the earlier one has a unit, a mark, a redundant count or an
+    ///   amount that is not 0 [fell].
+    /// - `OtherSpec` with a name: the earlier sum has it under a spec that this one does not have it with, but another
+    ///   [other_spec].
+    /// - `TooMany`: an amount of this sum less that of the earlier one does not fit 128 bits [too_many]. That an amount
+    ///   fell is no reason, since samples may be negative.
+    pub fn minus(&self, earlier: &Sums) -> Result<Sums, MinusFault>
+        ensures since { IfOk result (λ since. AreSince (parts_of self.now) (parts_of earlier.now) (parts_of since)) }
+        ensures notes { IfOk result (λ since. since.notes ≡ self.now.notes) }
+        ensures well_formed { IfOk result (λ since. IsWellFormed self.now → IsWellFormed since) }
+        ensures fell { IfErr result (λ fault. IsWellFormed self.now → IsWellFormed earlier.now → MatchFault fault ⊤ (HasFallen self.now.hists.items earlier.now.hists.items) (λ name. ⊤)) }
+        ensures other_spec { IfErr result (λ fault. IsWellFormed self.now → IsWellFormed earlier.now → MatchFault fault ⊤ (λ name. ⊤) (HasOtherSpec self.now.hists.items earlier.now.hists.items)) }
+        ensures too_many { IfErr result (λ fault. IsWellFormed self.now → IsWellFormed earlier.now → MatchFault fault (HasTooMany self.now.hists.items earlier.now.hists.items) (λ name. ⊤) (λ name. ⊤)) }
+        ensures only { IfOk result (λ since. IsWellFormed self.now → IsWellFormed earlier.now → IsGrown self.now.hists.items earlier.now.hists.items) }
+    {
+        let hists = hists_since(self.alloc, &self.hists, &earlier.hists)?;
+        Ok(Sums {
+            alloc: self.alloc,
+            notes: self.notes,
+            hists,
+        })
+    }
+
     /// Returns what the images say beside their histograms.
     pub fn notes(&self) -> Notes
         ensures { result ≡ self.now.notes }
@@ -149,11 +185,14 @@ impl Sums {
         }
     }
 
-    /// Returns the sum as a reading: of each name the histogram of which an image has the least number, by their names,
-    /// each with its index as reference. Of a well-formed sum they are readable [readable]. It is full or corrupt if some
-    /// image is [full] [corrupt], and has no id, no bad records and no stop [rest].
+    /// Returns the sum as a reading: of each name the histogram of which an image has the least number, of equal ones the
+    /// first, by their names, each with its index as reference [shown]. Of a well-formed sum the names ascend, so each is
+    /// there once [names], and the histograms are readable [readable]. It is full or corrupt if some image is [full]
+    /// [corrupt], and has no id, no bad records and no stop [rest].
     pub fn reading(&self, alloc: Global) -> Result<Reading, AllocError>
         ensures readable { IfOk result (λ reading. IsWellFormed self.now → All IsReadable (map histogram_view reading.hists.items)) }
+        ensures shown { IfOk result (λ reading. map histogram_view reading.hists.items ≡ shown_parts (parts_of self.now)) }
+        ensures names { IfOk result (λ reading. IsWellFormed self.now → IsStrictlySortedBy (slice_cmp nat_cmp) (map (λ (hist : definition.Histogram). hist.name) (map histogram_view reading.hists.items))) }
         ensures full { IfOk result (λ reading. reading.full ≡ nat_lt 0 self.now.notes.full) }
         ensures corrupt { IfOk result (λ reading. reading.corrupt ≡ nat_lt 0 self.now.notes.corrupt) }
         ensures rest { IfOk result (λ reading. (reading.id ≡ 0) × (reading.bad.items ≡ []) × (reading.stopped ≡ None)) }
@@ -168,8 +207,11 @@ impl Sums {
         })
     }
 
-    /// Returns what the sum has of its names under the specs that a reading of it leaves out, by their names.
-    pub fn others(&self, alloc: Global) -> Result<Vec<OtherSpec>, AllocError> {
+    /// Returns what the sum has of its names under the specs that a reading of it leaves out, by their names: exactly
+    /// these, in the order of the sum, each with its images and its units [left_out].
+    pub fn others(&self, alloc: Global) -> Result<Vec<OtherSpec>, AllocError>
+        ensures left_out { IfOk result (λ others. AllZip IsOtherOf (other_parts (parts_of self.now)) others.items) }
+    {
         others_of(alloc, &self.hists)
     }
 }

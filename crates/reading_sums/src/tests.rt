@@ -1,6 +1,6 @@
 //! Sums of readings that are written by hand, and their totals, which are worked out by hand.
 
-use crate::{HistSum, KeySum, Sums, SumsFault};
+use crate::{HistSum, KeySum, MinusFault, Sums, SumsFault};
 use bucket_ranges::{CustomValues, Spec};
 use image_reader::{HistReading, Reading};
 use std::alloc::{AllocError, Global};
@@ -299,5 +299,51 @@ fn histograms_of_a_sum(rt: HostRuntime) -> Result<(), Fail> {
     let boolean = hist_sum(alloc, b"a", Spec::Boolean, &values)?;
     let sparse = hist_sum(alloc, b"a", Spec::Sparse, &values)?;
     assert_eq!(rt; are_taken(alloc, boolean, sparse)?, false);
+    Ok(())
+}
+
+// A sum of one histogram.
+fn sum_of_one(alloc: Global, hist: HistSum) -> Result<Sums, Fail> {
+    let mut hists = Vec::with_capacity(alloc, 1)?;
+    hists.push(hist)?;
+    let notes = Sums::new(alloc).notes();
+    Ok(Sums::from_hists(alloc, hists, notes)?.unwrap_or(Sums::new(alloc)))
+}
+
+// The fault with the name of one byte, by its first letter and that byte.
+fn letters_of(refused: Result<Sums, MinusFault>) -> (u8, u8) {
+    match refused {
+        Ok(_) => (b'-', b'-'),
+        Err(MinusFault::NoMemory) => (b'N', b'-'),
+        Err(MinusFault::TooMany) => (b'T', b'-'),
+        Err(MinusFault::Fell(name)) => (b'F', name.get(0).copied().unwrap_or(b'-')),
+        Err(MinusFault::OtherSpec(name)) => (b'O', name.get(0).copied().unwrap_or(b'-')),
+    }
+}
+
+#[test]
+fn what_came_since(rt: HostRuntime) -> Result<(), Fail> {
+    let alloc = rt.alloc();
+    let values = [key(-7, 8, 1), key(3, 16, 1)];
+    let more = [key(-7, 9, 1), key(0, 4, 3), key(3, 16, 2)];
+    let earlier = sum_of_one(alloc, hist_sum(alloc, b"s", Spec::Sparse, &values)?)?;
+    let later = sum_of_one(alloc, hist_sum(alloc, b"s", Spec::Sparse, &more)?)?;
+    let since = later.minus(&earlier)?;
+    assert_eq!(rt; since.hists().len(), 1);
+    let one = &since.hists()[0];
+    let keys = [key(-7, 1, 0), key(0, 4, 3), key(3, 0, 1)];
+    assert_eq!(rt; one.keys.as_slice(), keys.as_slice());
+    assert_eq!(rt; one.sum, 0);
+    assert_eq!(rt; one.images, 1);
+    assert_eq!(rt; one.least, 5);
+    assert_eq!(rt; letters_of(earlier.minus(&later)), (b'F', b's'));
+    assert_eq!(rt; letters_of(Sums::new(alloc).minus(&later)), (b'F', b's'));
+    let buckets = [key(0, 4, 0), key(1, 5, 0), key(2, 6, 0)];
+    let boolean = sum_of_one(alloc, hist_sum(alloc, b"s", Spec::Boolean, &buckets)?)?;
+    assert_eq!(rt; letters_of(boolean.minus(&later)), (b'O', b's'));
+    let mut most = hist_sum(alloc, b"s", Spec::Sparse, &more)?;
+    most.sum = i128::MIN;
+    let most = sum_of_one(alloc, most)?;
+    assert_eq!(rt; letters_of(most.minus(&earlier)), (b'T', b'-'));
     Ok(())
 }

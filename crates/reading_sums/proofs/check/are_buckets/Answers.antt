@@ -1,4 +1,4 @@
-use Rattle.std.proofs.Common.{◌≡◌, ◌<◌, ◌-◌, pos, length, get_or, arith}
+use Rattle.std.proofs.Common.{◌<◌, ◌-◌, pos, length, arith}
 use Rattle.std.proofs.lemmas.Int.{ints}
 use Rattle.reading_sums.specs.declared.key.KeySum.{KeySum}
 use Rattle.reading_sums.proofs.Buckets.{bucket-here}

@@ -1,4 +1,4 @@
-use Rattle.std.proofs.Common.{◌≡◌, ◌<◌, refl, arith}
+use Rattle.std.proofs.Common.{refl, arith}
 use Rattle.reading_sums.proofs.Neighbours.{above-step, above-all, above-here}
 use Rattle.reading_sums.proofs.check.ascend_above_zero.Goals as goal
 

@@ -1,5 +1,4 @@
-use Rattle.std.proofs.Common.{◌≡◌, ◌-◌, ◌<◌, refl, arith}
-use Rattle.std.specs.Ordering.{is_lt}
+use Rattle.std.proofs.Common.{◌-◌, refl, arith}
 use Rattle.std.proofs.lemmas.Map.Keys.{Less-from_sorted}
 use Rattle.reading_sums.specs.Orders.{key_cmp}
 use Rattle.reading_sums.proofs.KeyOrder.{key-total}

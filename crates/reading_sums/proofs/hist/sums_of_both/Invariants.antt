@@ -4,7 +4,7 @@ use Rattle.std.specs.List.Sorted.{IsStrictlySortedBy}
 use Rattle.reading_sums.specs.Orders.{hist_cmp}
 use Rattle.reading_sums.specs.Totals.{SameTotals}
 use Rattle.reading_sums.specs.Views.{part_of}
-use Rattle.reading_sums.specs.Whole.{AreWhole, IsWholeHist}
+use Rattle.reading_sums.specs.Whole.{IsWholeHist}
 use Rattle.reading_sums.proofs.hist.sums_of_both.Given as goal
 
 -- the histograms so far, with what is left of both lists, have the totals of both; where both lists are whole they ascend

@@ -1,0 +1,27 @@
+-- What a histogram has more than an earlier one, and why it has not.
+use Rattle.std.proofs.Common.{◌<◌, arith}
+use Rattle.reading_sums.specs.Since.{HasKeyFallen, HasLess, HasLongAmount}
+use Rattle.reading_sums.specs.Views.{part_of}
+use Rattle.reading_sums.proofs.HistsSince.{fallen-same, less-key, less-redundant, told-fell, whole-since}
+use Rattle.reading_sums.proofs.since.hist_since.Goals as goal
+
+pub returns-in_default-clause-refused : goal.returns-in_default-clause-refused
+returns-in_default-clause-refused c = λ later earlier.
+    let fallen : HasKeyFallen c.args.later.now.keys.items c.args.earlier.now.keys.items =
+    fallen-same _ _ _ _ c.deref.ensures.value c.deref-2.ensures.value (rw c.in_default.is at c.in_ok-keys.ensures.fell) later.ascending earlier.ascending in
+    told-fell c.fell.result c.deref-in_default.result.now c.args.later.now.name.items (HasLongAmount (part_of c.args.later.now) (part_of c.args.earlier.now))
+    (λ told. HasLess (part_of c.args.later.now) (part_of c.args.earlier.now)) (λ told. ⊥)
+    c.deref-in_default.ensures.value (less-key (part_of c.args.later.now) (part_of c.args.earlier.now) fallen) c.fell.ensures
+
+pub returns-in_default-checked_sub-clause-refused : goal.returns-in_default-checked_sub-clause-refused
+returns-in_default-checked_sub-clause-refused c = λ later earlier.
+    let less : c.args.later.now.redundant < c.args.earlier.now.redundant = omega (arith, c.in_default-checked_sub.ensures) in
+    told-fell c.fell-in_default-checked_sub.result c.deref-in_default-checked_sub.result.now c.args.later.now.name.items
+    (HasLongAmount (part_of c.args.later.now) (part_of c.args.earlier.now))
+    (λ told. HasLess (part_of c.args.later.now) (part_of c.args.earlier.now)) (λ told. ⊥)
+    c.deref-in_default-checked_sub.ensures.value (less-redundant (part_of c.args.later.now) (part_of c.args.earlier.now) less)
+    c.fell-in_default-checked_sub.ensures
+
+pub returns-clause-whole : goal.returns-clause-whole
+returns-clause-whole c = λ later.
+    whole-since _ _ _ _ _ _ c.in_ok-copy_of_spec.ensures c.deref.ensures.value (rw c.in-Some.is at c.in_ok-keys.ensures.since) later

@@ -3,7 +3,7 @@
 ghost use Rattle.std.specs.Prelude.{◌≡◌, ◌++◌, IfOk, OnOk};
 ghost use Rattle.std.specs.List.{flat_map};
 ghost use Rattle.reading_sums.specs.Whole.{IsWellFormed};
-ghost use Rattle.sum_texts.specs.Endings.{other_text, left_text, ending_text, IsReportOf};
+ghost use Rattle.sum_texts.specs.Endings.{other_line, inputs_line, ending_text, IsSumReport};
 
 use crate::writing::{put_line, put_number_line};
 use itoa::Buffer;
@@ -13,7 +13,7 @@ use std::alloc::{AllocError, Global};
 
 // Puts the lines of what a reading leaves out.
 fn put_others(text: &mut Vec<u8>, others: &[OtherSpec]) -> Result<(), AllocError>
-    ensures { OnOk result (text.new.items ≡ text.old.items ++ flat_map other_text others.now) }
+    ensures { OnOk result (text.new.items ≡ text.old.items ++ flat_map other_line others.now) }
 {
     for other in others {
         let mut images = Buffer::new();
@@ -33,7 +33,7 @@ fn put_others(text: &mut Vec<u8>, others: &[OtherSpec]) -> Result<(), AllocError
 
 // Puts the line of how many inputs were left out, where some were.
 fn put_left(text: &mut Vec<u8>, left: u64) -> Result<(), AllocError>
-    ensures { OnOk result (text.new.items ≡ text.old.items ++ left_text left) }
+    ensures { OnOk result (text.new.items ≡ text.old.items ++ inputs_line left) }
 {
     if left == 0 {
         return Ok(());
@@ -64,7 +64,7 @@ fn put_ending(
 /// alone.
 pub fn report_of(alloc: Global, sums: &Sums, left: u64) -> Result<Vec<u8>, AllocError>
     requires { IsWellFormed sums.now }
-    ensures text { IfOk result (λ text. IsReportOf sums.now left text.items) }
+    ensures text { IfOk result (λ text. IsSumReport sums.now left text.items) }
 {
     let reading = sums.reading(alloc)?;
     let others = sums.others(alloc)?;

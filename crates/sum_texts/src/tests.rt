@@ -4,7 +4,6 @@ use crate::{Totals, TotalsFault, report_of, totals_of, totals_text};
 use bucket_ranges::{CustomValues, Spec};
 use image_reader::{HistReading, Reading};
 use reading_sums::Sums;
-use reading_texts::report_text;
 use std::alloc::{AllocError, Global};
 use std::test::Fail;
 
@@ -174,15 +173,28 @@ fn example(alloc: Global) -> Result<(Reading, Reading), AllocError> {
     Ok((image(alloc, one), image(alloc, two)))
 }
 
+// The text of the totals of a sum that no fold made.
+fn spelled(alloc: Global, sums: Sums) -> Result<Vec<u8>, AllocError> {
+    let totals = Totals {
+        sums,
+        of: Vec::new(alloc),
+        fold: None,
+    };
+    totals_text(alloc, &totals)
+}
+
 #[test]
 fn one_image_reports_the_same(rt: HostRuntime) -> Result<(), Fail> {
     let alloc = rt.alloc();
     let (_, second) = example(alloc)?;
     let mut sums = Sums::new(alloc);
     sums.add(2, &second)?;
-    let report = report_of(alloc, &sums, 0)?;
-    let same = report_text(alloc, &second)?;
-    assert_eq!(rt; report.as_slice(), same.as_slice());
+    let text = spelled(alloc, sums)?;
+    let totals = totals_of(alloc, &text)?;
+    let report = report_of(alloc, &totals.sums, 0)?;
+    let lines =
+        b"Code,sparse,7,8,1\nCode,total,1,7\nLoad,linear,0,1,1\nLoad,linear,1,10,2\nLoad,total,3,5\n";
+    assert_eq!(rt; report.as_slice(), lines.as_slice());
     Ok(())
 }
 
@@ -193,18 +205,14 @@ fn two_images_report_how_many(rt: HostRuntime) -> Result<(), Fail> {
     let mut sums = Sums::new(alloc);
     sums.add(1, &first)?;
     sums.add(2, &second)?;
-    let report = report_of(alloc, &sums, 0)?;
+    let text = spelled(alloc, sums)?;
     let lines =
-        b"Code,sparse,7,8,1\nCode,total,1,7\nLoad,linear,0,1,5\nLoad,linear,1,10,2\nLoad,linear,10,2147483647,1\nLoad,total,8,25\n!images,2\n";
-    assert_eq!(rt; report.as_slice(), lines.as_slice());
-    let totals = Totals {
-        sums,
-        of: Vec::new(alloc),
-        fold: None,
-    };
-    let text = totals_text(alloc, &totals)?;
-    let spelled =
         b"totals,1\nimages,2,0,0,0,0\nhist,Code,1,2,7,0,1,sparse\nkey,7,1,0\nhist,Load,2,1,25,0,8,linear,1,10,3\nkey,0,5,0\nkey,1,2,0\nkey,10,1,0\nend,2\n";
-    assert_eq!(rt; text.as_slice(), spelled.as_slice());
+    assert_eq!(rt; text.as_slice(), lines.as_slice());
+    let totals = totals_of(alloc, &text)?;
+    let report = report_of(alloc, &totals.sums, 0)?;
+    let reported =
+        b"Code,sparse,7,8,1\nCode,total,1,7\nLoad,linear,0,1,5\nLoad,linear,1,10,2\nLoad,linear,10,2147483647,1\nLoad,total,8,25\n!images,2\n";
+    assert_eq!(rt; report.as_slice(), reported.as_slice());
     Ok(())
 }

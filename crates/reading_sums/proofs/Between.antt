@@ -16,7 +16,7 @@ use Rattle.std.proofs.lemmas.List.Elements.{All-from_recursion, All-contains, Co
 use Rattle.std.proofs.lemmas.Map.Keys.{Less-from_sorted}
 use Rattle.reading_sums.specs.declared.hist.HistSum.{HistSum}
 use Rattle.reading_sums.specs.Orders.{hist_cmp, spec_cmp}
-use Rattle.reading_sums.specs.Since.{HasName, HasAlike, IsBetween}
+use Rattle.reading_sums.specs.Since.{HasHistNamed, HasAlike, StandsBetween}
 use Rattle.reading_sums.proofs.Ascending.{order-front}
 use Rattle.reading_sums.proofs.HistOrder.{alike}
 use Rattle.reading_sums.proofs.Orders.{lists-equal}
@@ -43,23 +43,23 @@ below-unlike x e below names specs = let wrong : Equal ≡ Less = sym (alike x e
 
 -- ---- in its place
 
-befores : (before : List HistSum) (e : HistSum) (behind : List HistSum) → IsBetween before e behind → All (λ z. hist_cmp z e ≡ Less) before
+befores : (before : List HistSum) (e : HistSum) (behind : List HistSum) → StandsBetween before e behind → All (λ z. hist_cmp z e ≡ Less) before
 befores before e behind between =
     All-from_recursion (λ z. hist_cmp z e ≡ Less) before (before-below hist_cmp before e behind between)
 
-behinds : (before : List HistSum) (e : HistSum) (behind : List HistSum) → IsBetween before e behind → All (λ z. hist_cmp e z ≡ Less) behind
+behinds : (before : List HistSum) (e : HistSum) (behind : List HistSum) → StandsBetween before e behind → All (λ z. hist_cmp e z ≡ Less) behind
 behinds before e behind between =
     All-from_recursion (λ z. hist_cmp e z ≡ Less) behind (behind-above hist_cmp before e behind between)
 
 -- none of the others has its name and its spec
-pub none-alike : (before : List HistSum) (e : HistSum) (behind : List HistSum) → IsBetween before e behind → ¬ HasAlike (before ++ behind) e
+pub none-alike : (before : List HistSum) (e : HistSum) (behind : List HistSum) → StandsBetween before e behind → ¬ HasAlike (before ++ behind) e
 none-alike before e behind between = λ has.
     ⊎_elim
     (λ there. below-unlike has.0 e (All-contains (λ z. hist_cmp z e ≡ Less) before has.0 (befores before e behind between) there) has.2 has.3)
     (λ there. below-unlike e has.0 (All-contains (λ z. hist_cmp e z ≡ Less) behind has.0 (behinds before e behind between) there) (sym has.2) (sym has.3))
     (Contains-append_cases before behind has.0 has.1)
 
-name-before : (before : List HistSum) (e : HistSum) (behind : List HistSum) → IsBetween before e behind
+name-before : (before : List HistSum) (e : HistSum) (behind : List HistSum) → StandsBetween before e behind
     → ((d : HistSum) → 0 < length before → (get_or before (length before - 1) d).name.items ≢ e.name.items)
     → (x : HistSum) → Contains before x → x.name.items ≡ e.name.items → ⊥
 name-before before e behind between unlike x has same =
@@ -74,7 +74,7 @@ name-before before e behind between unlike x has same =
     unlike x some (name-between x last e below (befores before e behind between (length before - 1) x (omega (arith, some))) same))
     (cases_eq has.0 (length before - 1))
 
-name-behind : (before : List HistSum) (e : HistSum) (behind : List HistSum) → IsBetween before e behind
+name-behind : (before : List HistSum) (e : HistSum) (behind : List HistSum) → StandsBetween before e behind
     → ((d : HistSum) → 0 < length behind → (get_or behind 0 d).name.items ≢ e.name.items)
     → (x : HistSum) → Contains behind x → x.name.items ≡ e.name.items → ⊥
 name-behind before e behind between unlike x has same =
@@ -93,24 +93,24 @@ name-behind before e behind between unlike x has same =
 pub unnamed : (before behind : List HistSum) (e : HistSum) (one other : List ℕ) → one ≡ e.name.items → other ≡ e.name.items
     → ((d : HistSum) → 0 < length before → (get_or before (length before - 1) d).name.items ≢ one)
     → ((d : HistSum) → 0 < length behind → (get_or behind 0 d).name.items ≢ other)
-    → IsBetween before e behind → ¬ HasName (before ++ behind) e.name.items
+    → StandsBetween before e behind → ¬ HasHistNamed (before ++ behind) e.name.items
 unnamed before behind e one other is there last first between = λ has.
     ⊎_elim
     (λ found. name-before before e behind between (λ d some same. last d some (same ∙ sym is)) has.0 found has.2)
     (λ found. name-behind before e behind between (λ d some same. first d some (same ∙ sym there)) has.0 found has.2)
     (Contains-append_cases before behind has.0 has.1)
 
-pub named-front : (before behind : List HistSum) (name here : List ℕ) → name ≡ here → HasName before name → HasName (before ++ behind) here
+pub named-front : (before behind : List HistSum) (name here : List ℕ) → name ≡ here → HasHistNamed before name → HasHistNamed (before ++ behind) here
 named-front before behind name here is has = (has.0, Contains-append_left before behind has.0 has.1, has.2 ∙ is)
 
-pub named-behind : (before behind : List HistSum) (name here : List ℕ) → name ≡ here → HasName behind name → HasName (before ++ behind) here
+pub named-behind : (before behind : List HistSum) (name here : List ℕ) → name ≡ here → HasHistNamed behind name → HasHistNamed (before ++ behind) here
 named-behind before behind name here is has = (has.0, Contains-append_right before behind has.0 has.1, has.2 ∙ is)
 
 pub some-there : (n : ℕ) → false ≡ (n == 0) → 0 < n
 some-there n e = grind (arith, nat_tests)
 
 named-so : (hists : List HistSum) (i : ℕ) (x : HistSum) (name : List ℕ) (t : Bool) → i < length hists → x ≡ get_or hists i x → Decides t (x.name.items ≡ name)
-    → MatchBool t (HasName hists name) ((d : HistSum) → 0 < length hists → (get_or hists i d).name.items ≢ name)
+    → MatchBool t (HasHistNamed hists name) ((d : HistSum) → 0 < length hists → (get_or hists i d).name.items ≢ name)
 named-so hists i x name true within is decides = (x, (i, within, sym is), decides.0 refl)
 named-so hists i x name false within is decides = λ d some same.
     let here : x ≡ get_or hists i d = get_or_read hists i x within is d in
@@ -119,7 +119,7 @@ named-so hists i x name false within is decides = λ d some same.
 -- whether the histogram at a place has a name
 pub named-at : (hists : List HistSum) (i : ℕ) (x : HistSum) (shown name : List ℕ) (t : Bool) → i < length hists → x ≡ get_or hists i x
     → shown ≡ (get_or hists i x).name.items → t ≡ pointwise nat_eq shown name
-    → MatchBool t (HasName hists name) ((d : HistSum) → 0 < length hists → (get_or hists i d).name.items ≢ name)
+    → MatchBool t (HasHistNamed hists name) ((d : HistSum) → 0 < length hists → (get_or hists i d).name.items ≢ name)
 named-at hists i x shown name t within is value test =
     let P : List ℕ → Type 0 = λ z. Decides t (z ≡ name) in
     named-so hists i x name t within is

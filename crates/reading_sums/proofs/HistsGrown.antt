@@ -16,7 +16,7 @@ use Rattle.std.proofs.lemmas.Map.Keys.{Less-from_sorted}
 use Rattle.reading_sums.specs.declared.fault.MinusFault.{MinusFault}
 use Rattle.reading_sums.specs.declared.hist.HistSum.{HistSum}
 use Rattle.reading_sums.specs.Orders.{hist_cmp, spec_cmp}
-use Rattle.reading_sums.specs.Since.{Frame, frame_of, AreSince, HasLess, HasSomething, HasLongAmount, HasName, HasFallen, HasOtherSpec, HasTooMany, ArePair, IsAlone, IsGrown, IsReason, IsSettled}
+use Rattle.reading_sums.specs.Since.{Frame, frame_of, AreSince, HasLess, HasSomething, HasLongAmount, HasHistNamed, HasFallen, HasChangedSpec, HasTooMany, ArePair, IsWithoutLater, IsGrown, IsReason, IsNoReason}
 use Rattle.reading_sums.specs.Totals.{Part, total}
 use Rattle.reading_sums.specs.Views.{part_of}
 use Rattle.reading_sums.specs.Whole.{AreWhole, IsWholeHist}
@@ -74,17 +74,17 @@ front-rest : (laters earliers front rest : List HistSum) (i j : ℕ) → front �
 front-rest laters earliers front rest i j begins cut = λ k. begins k ++ cut k
 
 pub settled-walk : (laters earliers front left rest : List HistSum) (i j n : ℕ) → front ≡ take i laters → left ≡ drop i laters → rest ≡ drop j earliers
-    → (IsStrictlySortedBy hist_cmp (front ++ left) → IsStrictlySortedBy hist_cmp (front ++ rest) → All (IsSettled (front ++ left)) (take n rest))
+    → (IsStrictlySortedBy hist_cmp (front ++ left) → IsStrictlySortedBy hist_cmp (front ++ rest) → All (IsNoReason (front ++ left)) (take n rest))
     → (IsStrictlySortedBy hist_cmp laters → IsStrictlySortedBy hist_cmp earliers → IsStrictlySortedBy hist_cmp (take i laters ++ drop j earliers))
-    → (IsStrictlySortedBy hist_cmp laters → IsStrictlySortedBy hist_cmp earliers → All (IsSettled laters) (take j earliers))
-    → IsStrictlySortedBy hist_cmp laters → IsStrictlySortedBy hist_cmp earliers → All (IsSettled laters) (take (j + n) earliers)
+    → (IsStrictlySortedBy hist_cmp laters → IsStrictlySortedBy hist_cmp earliers → All (IsNoReason laters) (take j earliers))
+    → IsStrictlySortedBy hist_cmp laters → IsStrictlySortedBy hist_cmp earliers → All (IsNoReason laters) (take (j + n) earliers)
 settled-walk laters earliers front left rest i j n begins cut_left cut_rest step ordered before one other =
     let whole = front-whole laters front left i begins cut_left in
     let here = subst (IsStrictlySortedBy hist_cmp) (sym (front-rest laters earliers front rest i j begins cut_rest)) (ordered one other) in
-    let now : All (IsSettled laters) (take n rest) =
-    subst (λ z. All (IsSettled z) (take n rest)) whole (step (subst (IsStrictlySortedBy hist_cmp) (sym whole) one) here) in
+    let now : All (IsNoReason laters) (take n rest) =
+    subst (λ z. All (IsNoReason z) (take n rest)) whole (step (subst (IsStrictlySortedBy hist_cmp) (sym whole) one) here) in
     let all : take j earliers ++ take n rest ≡ take (j + n) earliers = ap (λ z. take j earliers ++ take n z) cut_rest ∙ sym (take-add j n earliers) in
-    subst (All (IsSettled laters)) all (All-append (IsSettled laters) (take j earliers) (take n rest) (before one other) now)
+    subst (All (IsNoReason laters)) all (All-append (IsNoReason laters) (take j earliers) (take n rest) (before one other) now)
 
 -- ---- a reason that the rest of the earlier list gives is one that the whole gives
 
@@ -97,9 +97,9 @@ more-reason : (laters earliers rest : List HistSum) (j : ℕ) (fault : MinusFaul
 more-reason laters earliers rest j fault cut is =
     let pair = λ (l : HistSum) (e : HistSum) (p : ArePair laters rest l e).
     let it : ArePair laters earliers l e = record { is_later = p.is_later; is_earlier = of-rest earliers rest j e cut p.is_earlier; name = p.name; spec = p.spec } in it in
-    let lone = λ (e : HistSum) (name : List ℕ) (a : IsAlone laters rest e name).
-    let it : IsAlone laters earliers e name = record { is_earlier = of-rest earliers rest j e cut a.is_earlier; has_name = a.has_name; alone = a.alone } in it in
-    reasons fault (HasTooMany laters rest) (HasTooMany laters earliers) (HasFallen laters rest) (HasFallen laters earliers) (HasOtherSpec laters rest) (HasOtherSpec laters earliers)
+    let lone = λ (e : HistSum) (name : List ℕ) (a : IsWithoutLater laters rest e name).
+    let it : IsWithoutLater laters earliers e name = record { is_earlier = of-rest earliers rest j e cut a.is_earlier; has_name = a.has_name; alone = a.alone } in it in
+    reasons fault (HasTooMany laters rest) (HasTooMany laters earliers) (HasFallen laters rest) (HasFallen laters earliers) (HasChangedSpec laters rest) (HasChangedSpec laters earliers)
     (λ many. (many.0, many.1, pair many.0 many.1 many.2, many.3))
     (λ name fell. ⊎_elim (λ f. inl (f.0, f.1, pair f.0 f.1 f.2, f.3, f.4)) (λ f. inr (f.0, lone f.0 name f.1, f.2, f.3)) fell)
     (λ name other. (other.0, lone other.0 name other.1, other.2)) is
@@ -138,7 +138,7 @@ one-alike hists a b up has_a has_b names specs =
     (λ above. apart-below hists b a up has_b has_a (sym names) (sym specs) (omega (arith, apart, above))) (cases_lt has_a.0 has_b.0)))
     (cases_eq has_a.0 has_b.0)
 
-pair-settled : (laters earliers : List HistSum) (l e : HistSum) → IsStrictlySortedBy hist_cmp laters → All (IsSettled laters) earliers → ArePair laters earliers l e
+pair-settled : (laters earliers : List HistSum) (l e : HistSum) → IsStrictlySortedBy hist_cmp laters → All (IsNoReason laters) earliers → ArePair laters earliers l e
     → (¬ HasLess (part_of l) (part_of e)) × (¬ HasLongAmount (part_of l) (part_of e))
 pair-settled laters earliers l e up settled pair =
     ⊎_elim
@@ -146,18 +146,18 @@ pair-settled laters earliers l e up settled pair =
     let same : found.0 ≡ l = one-alike laters found.0 l up found.1 pair.is_later (found.2 ∙ sym pair.name) (found.3 ∙ sym pair.spec) in
     subst (λ z. (¬ HasLess (part_of z) (part_of e)) × (¬ HasLongAmount (part_of z) (part_of e))) same (found.4, found.5))
     (λ lone. absurd (lone.0 (l, pair.is_later, pair.name)))
-    (All-contains (IsSettled laters) earliers e settled pair.is_earlier)
+    (All-contains (IsNoReason laters) earliers e settled pair.is_earlier)
 
-lone-settled : (laters earliers : List HistSum) (e : HistSum) (name : List ℕ) → All (IsSettled laters) earliers → IsAlone laters earliers e name
-    → (¬ HasName laters e.name.items) × (¬ HasSomething (part_of e))
+lone-settled : (laters earliers : List HistSum) (e : HistSum) (name : List ℕ) → All (IsNoReason laters) earliers → IsWithoutLater laters earliers e name
+    → (¬ HasHistNamed laters e.name.items) × (¬ HasSomething (part_of e))
 lone-settled laters earliers e name settled alone =
     ⊎_elim
     (λ found. absurd (alone.alone (found.0, found.1, found.2, found.3)))
     (λ lone. lone)
-    (All-contains (IsSettled laters) earliers e settled alone.is_earlier)
+    (All-contains (IsNoReason laters) earliers e settled alone.is_earlier)
 
 -- where all are settled there is no reason
-pub grown : (laters earliers : List HistSum) → IsStrictlySortedBy hist_cmp laters → All (IsSettled laters) earliers → IsGrown laters earliers
+pub grown : (laters earliers : List HistSum) → IsStrictlySortedBy hist_cmp laters → All (IsNoReason laters) earliers → IsGrown laters earliers
 grown laters earliers up settled = record {
   fell = λ name fallen.
       ⊎_elim

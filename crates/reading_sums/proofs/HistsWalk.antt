@@ -13,7 +13,7 @@ use Rattle.reading_sums.specs.declared.fault.MinusFault.{MinusFault}
 use Rattle.reading_sums.specs.declared.fault.MinusFault.TheVariants.{NoMemory, TooMany, Fell, OtherSpec}
 use Rattle.reading_sums.specs.declared.hist.HistSum.{HistSum}
 use Rattle.reading_sums.specs.Orders.{hist_cmp}
-use Rattle.reading_sums.specs.Since.{Frame, frame_of, IsSince, AreSince, IsCounted, HasLess, HasSomething, HasLongAmount, HasName, HasFallen, HasOtherSpec, HasTooMany, ArePair, IsAlone, MatchFault, IsReason, IsSettled, IsBetween, GoesOnAscending}
+use Rattle.reading_sums.specs.Since.{Frame, frame_of, IsSince, AreSince, IsCountedUp, HasLess, HasSomething, HasLongAmount, HasHistNamed, HasFallen, HasChangedSpec, HasTooMany, ArePair, IsWithoutLater, MatchFault, IsReason, IsNoReason, StandsBetween, GoesOnAscending}
 use Rattle.reading_sums.specs.Totals.Quantity.{Units, Marks, Amounts, AmountMarks, Redundant, Images}
 use Rattle.reading_sums.specs.Totals.{Part, Quantity, quantity_of, share_of, total, is_of}
 use Rattle.reading_sums.specs.Views.{part_of}
@@ -97,10 +97,10 @@ both-ordered a b some more names specs = taken-both hist-total a b some more (λ
 
 pub stands-between : (before later earlier : List HistSum) (e : HistSum) → 0 < length earlier → e ≡ get_or earlier 0 e
     → ((d : HistSum) → 0 < length later → hist_cmp (get_or earlier 0 d) (get_or later 0 d) ≡ Less)
-    → IsStrictlySortedBy hist_cmp (before ++ later) → IsStrictlySortedBy hist_cmp (before ++ earlier) → IsBetween before e later
+    → IsStrictlySortedBy hist_cmp (before ++ later) → IsStrictlySortedBy hist_cmp (before ++ earlier) → StandsBetween before e later
 stands-between before later [] e some is below first second = absurd (omega arith)
 stands-between before later (y ∷ ys) e some is below first second =
-    subst (λ h. IsBetween before h later) (sym is) (below-put hist-total before y y ys later (tied_itself hist-total y) second first below)
+    subst (λ h. StandsBetween before h later) (sym is) (below-put hist-total before y y ys later (tied_itself hist-total y) second first below)
 
 -- ---- what is settled
 
@@ -112,13 +112,13 @@ only-one P [] e some is holds = absurd (omega arith)
 only-one P (y ∷ ys) e some is holds = All-cons P y [] (subst P is holds) (All-nil P)
 
 pub alone-settled : (laters earlier : List HistSum) (e : HistSum) → 0 < length earlier → e ≡ get_or earlier 0 e
-    → ¬ HasName laters e.name.items → ¬ HasSomething (part_of e) → All (IsSettled laters) (take 1 earlier)
-alone-settled laters earlier e some is unnamed nothing = only-one (IsSettled laters) earlier e some is (inr (unnamed, nothing))
+    → ¬ HasHistNamed laters e.name.items → ¬ HasSomething (part_of e) → All (IsNoReason laters) (take 1 earlier)
+alone-settled laters earlier e some is unnamed nothing = only-one (IsNoReason laters) earlier e some is (inr (unnamed, nothing))
 
 never-less : (later earlier since : Part) → IsSince later earlier since → ¬ HasLess later earlier
 never-less later earlier since is = λ less. go less.0 less.1 less.2
   where
-    go : (quantity : Quantity) → IsCounted quantity → quantity_of quantity later <ℤ quantity_of quantity earlier → ⊥
+    go : (quantity : Quantity) → IsCountedUp quantity → quantity_of quantity later <ℤ quantity_of quantity earlier → ⊥
     go (Units key) counted less = absurd (omega (arith, ints, less, is.quantities (Units key) (λ e. absurd (cc))))
     go (Marks key) counted less = absurd (omega (arith, ints, less, is.quantities (Marks key) (λ e. absurd (cc))))
     go Amounts counted less = counted
@@ -128,9 +128,9 @@ never-less later earlier since is = λ less. go less.0 less.1 less.2
 
 pub both-settled : (before later earlier : List HistSum) (x e since : HistSum) → 0 < length later → 0 < length earlier → x ≡ get_or later 0 x → e ≡ get_or earlier 0 e
     → x.name.items ≡ e.name.items → x.spec ≡ e.spec → IsSince (part_of x) (part_of e) (part_of since) → ¬ HasLongAmount (part_of x) (part_of e)
-    → All (IsSettled (before ++ later)) (take 1 earlier)
+    → All (IsNoReason (before ++ later)) (take 1 earlier)
 both-settled before later earlier x e since some more first second names specs is short =
-    only-one (IsSettled (before ++ later)) earlier e more second
+    only-one (IsNoReason (before ++ later)) earlier e more second
     (inl (x, first-of before later x some first, names, specs, never-less (part_of x) (part_of e) (part_of since) is, short))
 
 -- ---- why there is nothing
@@ -143,16 +143,16 @@ reasons TooMany many many_here fell fell_here other other_here first second thir
 reasons (Fell name) many many_here fell fell_here other other_here first second third is = second name.items is
 reasons (OtherSpec name) many many_here fell fell_here other other_here first second third is = third name.items is
 
-pub alone-reason : (before later earlier : List HistSum) (e : HistSum) (fault : MinusFault) → 0 < length earlier → e ≡ get_or earlier 0 e → IsBetween before e later
-    → MatchFault fault ⊥ (λ told. (told ≡ e.name.items) × ((¬ HasName (before ++ later) told) × HasSomething (part_of e)))
-    (λ told. (told ≡ e.name.items) × HasName (before ++ later) told)
+pub alone-reason : (before later earlier : List HistSum) (e : HistSum) (fault : MinusFault) → 0 < length earlier → e ≡ get_or earlier 0 e → StandsBetween before e later
+    → MatchFault fault ⊥ (λ told. (told ≡ e.name.items) × ((¬ HasHistNamed (before ++ later) told) × HasSomething (part_of e)))
+    (λ told. (told ≡ e.name.items) × HasHistNamed (before ++ later) told)
     → IsReason (before ++ later) earlier fault
 alone-reason before later earlier e fault some is between told =
     let alone = λ (name : List ℕ) (same : name ≡ e.name.items).
-    let it : IsAlone (before ++ later) earlier e name = record { is_earlier = (0, some, sym is); has_name = sym same; alone = none-alike before e later between } in it in
+    let it : IsWithoutLater (before ++ later) earlier e name = record { is_earlier = (0, some, sym is); has_name = sym same; alone = none-alike before e later between } in it in
     reasons fault ⊥ (HasTooMany (before ++ later) earlier)
-    (λ name. (name ≡ e.name.items) × ((¬ HasName (before ++ later) name) × HasSomething (part_of e))) (HasFallen (before ++ later) earlier)
-    (λ name. (name ≡ e.name.items) × HasName (before ++ later) name) (HasOtherSpec (before ++ later) earlier)
+    (λ name. (name ≡ e.name.items) × ((¬ HasHistNamed (before ++ later) name) × HasSomething (part_of e))) (HasFallen (before ++ later) earlier)
+    (λ name. (name ≡ e.name.items) × HasHistNamed (before ++ later) name) (HasChangedSpec (before ++ later) earlier)
     (λ never. absurd never) (λ name why. inr (e, alone name why.0, why.1.0, why.1.1)) (λ name why. (e, alone name why.0, why.1)) told
 
 pub both-reason : (before later earlier : List HistSum) (x e : HistSum) (fault : MinusFault) → 0 < length later → 0 < length earlier → x ≡ get_or later 0 x → e ≡ get_or earlier 0 e
@@ -163,5 +163,5 @@ both-reason before later earlier x e fault some more first second names specs to
     let pair : ArePair (before ++ later) earlier x e = record { is_later = first-of before later x some first; is_earlier = (0, more, sym second); name = names; spec = specs } in
     reasons fault (HasLongAmount (part_of x) (part_of e)) (HasTooMany (before ++ later) earlier)
     (λ name. (name ≡ x.name.items) × HasLess (part_of x) (part_of e)) (HasFallen (before ++ later) earlier)
-    (λ name. ⊥) (HasOtherSpec (before ++ later) earlier)
+    (λ name. ⊥) (HasChangedSpec (before ++ later) earlier)
     (λ long. (x, e, pair, long)) (λ name why. inl (x, e, pair, sym names ∙ sym why.0, why.1)) (λ name never. absurd never) told

@@ -67,18 +67,18 @@ pub record AreSince (later earlier since : List Part) : Type 0 where
 -- ---- why there is nothing
 
 -- what is counted and so can only grow: units, marks and redundant counts
-abbrev pub IsCounted : Quantity → Type 0
-IsCounted (Units key) = ⊤
-IsCounted (Marks key) = ⊤
-IsCounted Amounts = ⊥
-IsCounted AmountMarks = ⊥
-IsCounted Redundant = ⊤
-IsCounted Images = ⊥
+abbrev pub IsCountedUp : Quantity → Type 0
+IsCountedUp (Units key) = ⊤
+IsCountedUp (Marks key) = ⊤
+IsCountedUp Amounts = ⊥
+IsCountedUp AmountMarks = ⊥
+IsCountedUp Redundant = ⊤
+IsCountedUp Images = ⊥
 
 -- something that is counted is less in a later part than in an earlier one
 abbrev pub HasLess : Part → Part → Type 0
 HasLess later earlier =
-    (quantity : Quantity) × IsCounted quantity × (quantity_of quantity later <ℤ quantity_of quantity earlier)
+    (quantity : Quantity) × IsCountedUp quantity × (quantity_of quantity later <ℤ quantity_of quantity earlier)
 
 -- a part has something: it is counted, or an amount
 abbrev pub HasSomething : Part → Type 0
@@ -90,8 +90,8 @@ HasLongAmount later earlier =
     ¬ FitsSigned w128 (later.sum -ℤ earlier.sum) ⊎ ¬ FitsSigned w128 (later.sum_mark -ℤ earlier.sum_mark)
 
 -- some histogram of a list has a name
-abbrev pub HasName : List HistSum → List ℕ → Type 0
-HasName hists name = (hist : HistSum) × Contains hists hist × (hist.name.items ≡ name)
+abbrev pub HasHistNamed : List HistSum → List ℕ → Type 0
+HasHistNamed hists name = (hist : HistSum) × Contains hists hist × (hist.name.items ≡ name)
 
 -- some histogram of a list has the name and the spec of another
 abbrev pub HasAlike : List HistSum → HistSum → Type 0
@@ -105,7 +105,7 @@ pub record ArePair (laters earliers : List HistSum) (later earlier : HistSum) : 
   pub spec : later.spec ≡ earlier.spec
 
 -- an earlier histogram has a name, and there is no later one of its name and its spec
-pub record IsAlone (laters earliers : List HistSum) (earlier : HistSum) (name : List ℕ) : Type 0 where
+pub record IsWithoutLater (laters earliers : List HistSum) (earlier : HistSum) (name : List ℕ) : Type 0 where
   pub is_earlier : Contains earliers earlier
   pub has_name : earlier.name.items ≡ name
   pub alone : ¬ HasAlike laters earlier
@@ -115,11 +115,11 @@ pub record IsAlone (laters earliers : List HistSum) (earlier : HistSum) (name : 
 abbrev pub HasFallen : List HistSum → List HistSum → List ℕ → Type 0
 HasFallen laters earliers name =
     ((later : HistSum) × (earlier : HistSum) × ArePair laters earliers later earlier × (earlier.name.items ≡ name) × HasLess (part_of later) (part_of earlier))
-    ⊎ ((earlier : HistSum) × IsAlone laters earliers earlier name × (¬ HasName laters name) × HasSomething (part_of earlier))
+    ⊎ ((earlier : HistSum) × IsWithoutLater laters earliers earlier name × (¬ HasHistNamed laters name) × HasSomething (part_of earlier))
 
 -- a name has another spec: an earlier histogram of it has no later one of its spec, but there is one of the name
-abbrev pub HasOtherSpec : List HistSum → List HistSum → List ℕ → Type 0
-HasOtherSpec laters earliers name = (earlier : HistSum) × IsAlone laters earliers earlier name × HasName laters name
+abbrev pub HasChangedSpec : List HistSum → List HistSum → List ℕ → Type 0
+HasChangedSpec laters earliers name = (earlier : HistSum) × IsWithoutLater laters earliers earlier name × HasHistNamed laters name
 
 -- some later amount less the earlier one of the name and the spec does not fit 128 bits
 abbrev pub HasTooMany : List HistSum → List HistSum → Type 0
@@ -129,7 +129,7 @@ HasTooMany laters earliers =
 -- there is no reason for a refusal
 pub record IsGrown (laters earliers : List HistSum) : Type 0 where
   pub fell : (name : List ℕ) → ¬ HasFallen laters earliers name
-  pub other_spec : (name : List ℕ) → ¬ HasOtherSpec laters earliers name
+  pub other_spec : (name : List ℕ) → ¬ HasChangedSpec laters earliers name
   pub too_many : ¬ HasTooMany laters earliers
 
 -- what is so for each fault; where there was no memory, nothing
@@ -142,21 +142,21 @@ MatchFault (OtherSpec name) many fell other = other name.items
 -- a fault tells what is so
 abbrev pub IsReason : List HistSum → List HistSum → MinusFault → Type 0
 IsReason laters earliers fault =
-    MatchFault fault (HasTooMany laters earliers) (HasFallen laters earliers) (HasOtherSpec laters earliers)
+    MatchFault fault (HasTooMany laters earliers) (HasFallen laters earliers) (HasChangedSpec laters earliers)
 
 -- ---- the walk
 
 -- an earlier histogram is no reason for a refusal: there is a later one of its name and its spec, which has not less and no
 -- long amount; or there is none of its name, and it has nothing
-abbrev pub IsSettled : List HistSum → HistSum → Type 0
-IsSettled laters earlier =
+abbrev pub IsNoReason : List HistSum → HistSum → Type 0
+IsNoReason laters earlier =
     ((later : HistSum) × Contains laters later × (later.name.items ≡ earlier.name.items) × (later.spec ≡ earlier.spec)
     × (¬ HasLess (part_of later) (part_of earlier)) × (¬ HasLongAmount (part_of later) (part_of earlier)))
-    ⊎ ((¬ HasName laters earlier.name.items) × (¬ HasSomething (part_of earlier)))
+    ⊎ ((¬ HasHistNamed laters earlier.name.items) × (¬ HasSomething (part_of earlier)))
 
 -- a histogram stands in its place between others
-abbrev pub IsBetween : List HistSum → HistSum → List HistSum → Type 0
-IsBetween before hist behind = IsStrictlySortedBy hist_cmp (before ++ hist ∷ behind)
+abbrev pub StandsBetween : List HistSum → HistSum → List HistSum → Type 0
+StandsBetween before hist behind = IsStrictlySortedBy hist_cmp (before ++ hist ∷ behind)
 
 -- behind whatever ascends with each of two lists, what is taken of the later list ascends with the rest of the earlier one
 abbrev pub GoesOnAscending : {K : Type 0} → (K → K → Ordering) → ℕ → ℕ → List K → List K → Type 0

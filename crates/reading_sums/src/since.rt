@@ -8,7 +8,7 @@ ghost use Rattle.std.specs.Bool.{MatchBool};
 ghost use Rattle.std.specs.Int.{w128};
 ghost use Rattle.reading_sums.specs.Keys.{units_at, marks_at, IsKeyOfBoth};
 ghost use Rattle.reading_sums.specs.Orders.{key_cmp, hist_cmp};
-ghost use Rattle.reading_sums.specs.Since.{AreKeysSince, HasKeyFallen, IsSince, AreSince, HasLess, HasSomething, HasLongAmount, HasName, IsGrown, MatchFault, IsReason, IsSettled, IsBetween, GoesOnAscending};
+ghost use Rattle.reading_sums.specs.Since.{AreKeysSince, HasKeyFallen, IsSince, AreSince, HasLess, HasSomething, HasLongAmount, HasHistNamed, IsGrown, MatchFault, IsReason, IsNoReason, StandsBetween, GoesOnAscending};
 ghost use Rattle.reading_sums.specs.Views.{part_of};
 ghost use Rattle.reading_sums.specs.Whole.{AreWhole, IsWholeHist};
 
@@ -186,14 +186,14 @@ fn is_empty(hist: &HistSum) -> bool
 
 // Whether the first histogram of a list has a name.
 fn begins_with(hists: &[HistSum], name: &[u8]) -> bool
-    ensures { MatchBool result (HasName hists.now name.now) ((d : _) → 0 < length hists.now → (slice_index_or hists.now 0 d).name.items ≢ name.now) }
+    ensures { MatchBool result (HasHistNamed hists.now name.now) ((d : _) → 0 < length hists.now → (slice_index_or hists.now 0 d).name.items ≢ name.now) }
 {
     !hists.is_empty() && hists[0].name.as_slice() == name
 }
 
 // Whether the last histogram of a list has a name.
 fn ends_with(hists: &[HistSum], name: &[u8]) -> bool
-    ensures { MatchBool result (HasName hists.now name.now) ((d : _) → 0 < length hists.now → (slice_index_or hists.now (length hists.now - 1) d).name.items ≢ name.now) }
+    ensures { MatchBool result (HasHistNamed hists.now name.now) ((d : _) → 0 < length hists.now → (slice_index_or hists.now (length hists.now - 1) d).name.items ≢ name.now) }
 {
     !hists.is_empty() && hists[hists.len() - 1].name.as_slice() == name
 }
@@ -207,8 +207,8 @@ fn pass_over(
     earlier: &HistSum,
 ) -> Result<(), MinusFault>
     ensures nothing { OnOk result (¬ HasSomething (part_of earlier.now)) }
-    ensures unnamed { OnOk result (IsBetween before.now earlier.now later.now → ¬ HasName (before.now ++ later.now) earlier.now.name.items) }
-    ensures refused { IfErr result (λ fault. IsBetween before.now earlier.now later.now → MatchFault fault ⊥ (λ told. (told ≡ earlier.now.name.items) × ((¬ HasName (before.now ++ later.now) told) × HasSomething (part_of earlier.now))) (λ told. (told ≡ earlier.now.name.items) × HasName (before.now ++ later.now) told)) }
+    ensures unnamed { OnOk result (StandsBetween before.now earlier.now later.now → ¬ HasHistNamed (before.now ++ later.now) earlier.now.name.items) }
+    ensures refused { IfErr result (λ fault. StandsBetween before.now earlier.now later.now → MatchFault fault ⊥ (λ told. (told ≡ earlier.now.name.items) × ((¬ HasHistNamed (before.now ++ later.now) told) × HasSomething (part_of earlier.now))) (λ told. (told ≡ earlier.now.name.items) × HasHistNamed (before.now ++ later.now) told)) }
 {
     if ends_with(before, &earlier.name) {
         return Err(other_spec(alloc, &earlier.name));
@@ -238,7 +238,7 @@ fn next_hist_since(
     ensures since { IfOk result (λ next. AreSince (map part_of (take next.1 later.now)) (map part_of (take next.2 earlier.now)) (map part_of (option_to_list next.0))) }
     ensures ordered { IfOk result (λ next. GoesOnAscending hist_cmp next.1 next.2 later.now earlier.now) }
     ensures whole { IfOk result (λ next. All IsWholeHist later.now → All IsWholeHist (option_to_list next.0)) }
-    ensures settled { IfOk result (λ next. IsStrictlySortedBy hist_cmp (before.now ++ later.now) → IsStrictlySortedBy hist_cmp (before.now ++ earlier.now) → All (IsSettled (before.now ++ later.now)) (take next.2 earlier.now)) }
+    ensures settled { IfOk result (λ next. IsStrictlySortedBy hist_cmp (before.now ++ later.now) → IsStrictlySortedBy hist_cmp (before.now ++ earlier.now) → All (IsNoReason (before.now ++ later.now)) (take next.2 earlier.now)) }
     ensures refused { IfErr result (λ fault. AreWhole (before.now ++ later.now) → AreWhole (before.now ++ earlier.now) → IsReason (before.now ++ later.now) earlier.now fault) }
 {
     match hist::side_of(later, earlier) {

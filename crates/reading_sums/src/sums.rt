@@ -11,7 +11,7 @@ ghost use Rattle.image_reader.specs.Readable.{IsReadable};
 ghost use Rattle.reading_sums.specs.Totals.{part_from, SameTotals};
 ghost use Rattle.reading_sums.specs.Views.{part_of, parts_of};
 ghost use Rattle.reading_sums.specs.Shown.{shown_parts, other_parts, IsOtherOf};
-ghost use Rattle.reading_sums.specs.Since.{AreSince, HasFallen, HasOtherSpec, HasTooMany, IsGrown, MatchFault};
+ghost use Rattle.reading_sums.specs.Since.{AreSince, HasFallen, HasChangedSpec, HasTooMany, IsGrown, MatchFault};
 ghost use Rattle.reading_sums.specs.Sums.{IsSumOver, raised};
 ghost use Rattle.reading_sums.specs.Whole.{AreWhole, HasNamesOnce, IsWellFormed, IsWholeHistogram, IsWholeReading};
 
@@ -158,7 +158,7 @@ impl Sums {
         ensures notes { IfOk result (λ since. since.notes ≡ self.now.notes) }
         ensures well_formed { IfOk result (λ since. IsWellFormed self.now → IsWellFormed since) }
         ensures fell { IfErr result (λ fault. IsWellFormed self.now → IsWellFormed earlier.now → MatchFault fault ⊤ (HasFallen self.now.hists.items earlier.now.hists.items) (λ name. ⊤)) }
-        ensures other_spec { IfErr result (λ fault. IsWellFormed self.now → IsWellFormed earlier.now → MatchFault fault ⊤ (λ name. ⊤) (HasOtherSpec self.now.hists.items earlier.now.hists.items)) }
+        ensures other_spec { IfErr result (λ fault. IsWellFormed self.now → IsWellFormed earlier.now → MatchFault fault ⊤ (λ name. ⊤) (HasChangedSpec self.now.hists.items earlier.now.hists.items)) }
         ensures too_many { IfErr result (λ fault. IsWellFormed self.now → IsWellFormed earlier.now → MatchFault fault (HasTooMany self.now.hists.items earlier.now.hists.items) (λ name. ⊤) (λ name. ⊤)) }
         ensures only { IfOk result (λ since. IsWellFormed self.now → IsWellFormed earlier.now → IsGrown self.now.hists.items earlier.now.hists.items) }
     {

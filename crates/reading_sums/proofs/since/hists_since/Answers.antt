@@ -4,7 +4,7 @@ use Rattle.std.specs.List.{All}
 use Rattle.std.proofs.lemmas.List.{take_all}
 use Rattle.std.proofs.lemmas.Result.{err_from_is_err_and}
 use Rattle.reading_sums.specs.Orders.{hist_cmp}
-use Rattle.reading_sums.specs.Since.{frame_of, IsSettled}
+use Rattle.reading_sums.specs.Since.{frame_of, IsNoReason}
 use Rattle.reading_sums.specs.Views.{part_of}
 use Rattle.reading_sums.proofs.HistsGrown.{hists-walk, whole-walk, settled-walk, refused-walk, grown, whole-kept}
 use Rattle.reading_sums.proofs.Walk.{walk-on}
@@ -37,4 +37,4 @@ pub returns-clause-grown : goal.returns-clause-grown
 returns-clause-grown c = λ one other.
     let all : length c.args.earlier.now ≤ c.loop-i.j = omega (arith, c.if-j-earlier.false) in
     grown c.args.later.now c.args.earlier.now one.ascending
-    (subst (All (IsSettled c.args.later.now)) (take_all c.loop-i.j c.args.earlier.now all) (c.loop-i.invariant.settled one.ascending other.ascending))
+    (subst (All (IsNoReason c.args.later.now)) (take_all c.loop-i.j c.args.earlier.now all) (c.loop-i.invariant.settled one.ascending other.ascending))

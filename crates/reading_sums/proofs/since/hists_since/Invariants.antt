@@ -2,7 +2,7 @@ use Rattle.std.proofs.Common.{◌+◌, ◌-◌, ◌≤◌, ◌++◌, map, length
 use Rattle.std.specs.List.{All}
 use Rattle.std.specs.List.Sorted.{IsStrictlySortedBy}
 use Rattle.reading_sums.specs.Orders.{hist_cmp}
-use Rattle.reading_sums.specs.Since.{AreSince, IsSettled}
+use Rattle.reading_sums.specs.Since.{AreSince, IsNoReason}
 use Rattle.reading_sums.specs.Views.{part_of}
 use Rattle.reading_sums.specs.Whole.{IsWholeHist}
 use Rattle.reading_sums.proofs.since.hists_since.Given as goal
@@ -17,7 +17,7 @@ invariant-loop-i l = record {
   ordered : IsStrictlySortedBy hist_cmp l.later → IsStrictlySortedBy hist_cmp l.earlier
       → IsStrictlySortedBy hist_cmp (take l.i l.later ++ drop l.j l.earlier);
   whole : All IsWholeHist l.later → All IsWholeHist l.hists.items;
-  settled : IsStrictlySortedBy hist_cmp l.later → IsStrictlySortedBy hist_cmp l.earlier → All (IsSettled l.later) (take l.j l.earlier);
+  settled : IsStrictlySortedBy hist_cmp l.later → IsStrictlySortedBy hist_cmp l.earlier → All (IsNoReason l.later) (take l.j l.earlier);
 }
 
 abbrev pub decreases-loop-i : goal.decreases-loop-i

@@ -2,7 +2,7 @@
 use Rattle.std.proofs.Common.{List, map, ℕ}
 use Rattle.std.specs.Bool.{⊤}
 use Rattle.std.proofs.lemmas.Result.{err_from_is_err_and}
-use Rattle.reading_sums.specs.Since.{AreSince, HasFallen, HasOtherSpec, HasTooMany, IsGrown, IsReason}
+use Rattle.reading_sums.specs.Since.{AreSince, HasFallen, HasChangedSpec, HasTooMany, IsGrown, IsReason}
 use Rattle.reading_sums.specs.Views.{part_of}
 use Rattle.reading_sums.specs.Whole.{AreWhole}
 use Rattle.reading_sums.proofs.HistsGrown.{same-lists}
@@ -29,7 +29,7 @@ returns-in_err-hists-clause-fell c =
     let earliers = c.args.earlier.now.hists.items in
     let fault = c.in_err-hists.field-0.0 in
     rw (p.1, p.2) (λ one other.
-    reasons fault (HasTooMany laters earliers) ⊤ (HasFallen laters earliers) (HasFallen laters earliers) (HasOtherSpec laters earliers) (λ (name : List ℕ). ⊤) (λ is. tt) (λ name is. is) (λ name is. tt)
+    reasons fault (HasTooMany laters earliers) ⊤ (HasFallen laters earliers) (HasFallen laters earliers) (HasChangedSpec laters earliers) (λ (name : List ℕ). ⊤) (λ is. tt) (λ name is. is) (λ name is. tt)
     (same-lists (λ a b. AreWhole a → AreWhole b → IsReason a b fault) _ _ _ _ c.deref.ensures.value c.deref-2.ensures.value c.in_err-hists.ensures.refused one other))
 
 pub returns-in_err-hists-clause-other_spec : goal.returns-in_err-hists-clause-other_spec
@@ -39,7 +39,7 @@ returns-in_err-hists-clause-other_spec c =
     let earliers = c.args.earlier.now.hists.items in
     let fault = c.in_err-hists.field-0.0 in
     rw (p.1, p.2) (λ one other.
-    reasons fault (HasTooMany laters earliers) ⊤ (HasFallen laters earliers) (λ (name : List ℕ). ⊤) (HasOtherSpec laters earliers) (HasOtherSpec laters earliers) (λ is. tt) (λ name is. tt) (λ name is. is)
+    reasons fault (HasTooMany laters earliers) ⊤ (HasFallen laters earliers) (λ (name : List ℕ). ⊤) (HasChangedSpec laters earliers) (HasChangedSpec laters earliers) (λ is. tt) (λ name is. tt) (λ name is. is)
     (same-lists (λ a b. AreWhole a → AreWhole b → IsReason a b fault) _ _ _ _ c.deref.ensures.value c.deref-2.ensures.value c.in_err-hists.ensures.refused one other))
 
 pub returns-in_err-hists-clause-too_many : goal.returns-in_err-hists-clause-too_many
@@ -49,5 +49,5 @@ returns-in_err-hists-clause-too_many c =
     let earliers = c.args.earlier.now.hists.items in
     let fault = c.in_err-hists.field-0.0 in
     rw (p.1, p.2) (λ one other.
-    reasons fault (HasTooMany laters earliers) (HasTooMany laters earliers) (HasFallen laters earliers) (λ (name : List ℕ). ⊤) (HasOtherSpec laters earliers) (λ (name : List ℕ). ⊤) (λ is. is) (λ name is. tt) (λ name is. tt)
+    reasons fault (HasTooMany laters earliers) (HasTooMany laters earliers) (HasFallen laters earliers) (λ (name : List ℕ). ⊤) (HasChangedSpec laters earliers) (λ (name : List ℕ). ⊤) (λ is. is) (λ name is. tt) (λ name is. tt)
     (same-lists (λ a b. AreWhole a → AreWhole b → IsReason a b fault) _ _ _ _ c.deref.ensures.value c.deref-2.ensures.value c.in_err-hists.ensures.refused one other))

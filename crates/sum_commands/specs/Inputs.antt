@@ -1,12 +1,11 @@
 -- Of which readings a sum of inputs is, and why an input is left out.
-use Rattle.std.specs.Prelude.{◌≡◌, ℕ, ◌<◌, ◌^◌, List, [], ◌∷◌, ◌++◌, ⊤}
+use Rattle.std.specs.Prelude.{◌≡◌, ℕ, List, [], ◌∷◌, ◌++◌, ⊤}
 use Rattle.bucket_ranges.specs.Reading.{Reading}
 use Rattle.persist_report_core.specs.declared.fault.CliFault.TheVariants.{NoMemory}
 use Rattle.reading_sums.specs.declared.fault.SumsFault.{SumsFault}
 use Rattle.reading_sums.specs.declared.fault.SumsFault.TheVariants as sums
 use Rattle.reading_sums.specs.declared.sums.Sums.{Sums}
 use Rattle.reading_sums.specs.Sums.{IsSumInOrder}
-use Rattle.segment_image.specs.Words.{bytes_of_words}
 use Rattle.persist_report_core.specs.Report.{IsReadingOf, IsCausedByImage}
 use Rattle.sum_texts.specs.declared.fault.TotalsFault.{TotalsFault}
 use Rattle.sum_texts.specs.declared.fault.TotalsFault.TheVariants as totals

@@ -20,8 +20,8 @@ pub enum InputKind {
 // The cookie of a segment, as an image begins with it.
 const COOKIE: [u8; 8] = [0xdc, 0x05, 0x83, 0x40, 0, 0, 0, 0];
 
-// The word before the cookie in a mapped file.
-const ZEROS: [u8; 8] = [0, 0, 0, 0, 0, 0, 0, 0];
+// A word of zeros and the cookie, as a mapped file begins with them.
+const MAPPED: [u8; 16] = [0, 0, 0, 0, 0, 0, 0, 0, 0xdc, 0x05, 0x83, 0x40, 0, 0, 0, 0];
 
 // The first line of a totals.
 const TOTALS: [u8; 9] = *b"totals,1\n";
@@ -34,13 +34,11 @@ pub fn kind_of(front: &[u8]) -> InputKind
     if front.starts_with(&TOTALS) {
         return InputKind::Totals;
     }
-    let segment = match front.strip_prefix(&ZEROS) {
-        Some(rest) => rest,
-        None => front,
-    };
-    if segment.starts_with(&COOKIE) {
-        InputKind::Image
-    } else {
-        InputKind::Other
+    if front.starts_with(&COOKIE) {
+        return InputKind::Image;
     }
+    if front.starts_with(&MAPPED) {
+        return InputKind::Image;
+    }
+    InputKind::Other
 }

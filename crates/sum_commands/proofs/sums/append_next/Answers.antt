@@ -1,5 +1,5 @@
 -- The others are raised by how many there were, and then stand behind them.
-use Rattle.std.proofs.Common.{◌≡◌, List, ℕ, ◌++◌, length, map, ap, subst, ◌∙◌}
+use Rattle.std.proofs.Common.{◌≡◌, List, ℕ, length, map, ap, subst, ◌∙◌}
 use Rattle.bucket_ranges.specs.Reading.{Reading}
 use Rattle.reading_sums.specs.declared.notes.Notes.{Notes}
 use Rattle.reading_sums.specs.Sums.{IsSumOver, numbered_from, raised}

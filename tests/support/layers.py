@@ -20,7 +20,7 @@ LIST = ROOT / "crates.txt"
 # What a change of the machine must not prove again: nothing of it says what actors do.
 READING = [
     "image_reader", "reading_texts", "reading_sums", "sum_texts", "reading_overviews", "reading_shows",
-    "persist_report_core", "segment_search", "segment_looks", "fault_texts", "schedule",
+    "sum_commands", "persist_report_core", "segment_search", "segment_looks", "fault_texts", "schedule",
 ]
 MACHINE = ["segment_machine", "segment_invariant", "segment_promises"]
 

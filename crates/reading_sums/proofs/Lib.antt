@@ -13,6 +13,8 @@ pub mod OneReading
 pub mod Readable
 pub mod Neighbours
 pub mod Buckets
+pub mod RaisedSums
+pub mod Numbered
 pub mod Walk
 pub mod KeysSince
 pub mod HistsSince

@@ -1,5 +1,5 @@
 -- The sum of a list of readings, each with a number.
-use Rattle.std.specs.Prelude.{◌≡◌, ℕ, List, ◌++◌, length, map, is_some, sum_by}
+use Rattle.std.specs.Prelude.{◌≡◌, ℕ, ◌+◌, List, [], ◌∷◌, ◌++◌, length, map, is_some, sum_by}
 use Rattle.std.specs.List.{flat_map}
 use Rattle.bucket_ranges.specs.Reading.{Reading}
 use Rattle.reading_sums.specs.declared.sums.Sums.{Sums}
@@ -39,3 +39,16 @@ pub record HaveSameSum (a b : Sums) : Type 0 where
 pub record IsSumOfBoth (a b both : Sums) : Type 0 where
   pub hists : SameTotals (parts_of both) (parts_of a ++ parts_of b)
   pub notes : AreNotesOfBoth a.notes b.notes both.notes
+
+-- a reading whose number is so much greater
+abbrev pub raised : ℕ → ℕ × Reading → ℕ × Reading
+raised by numbered = (numbered.0 + by, numbered.1)
+
+-- readings in their order, each with the number of those before it and a first number
+abbrev pub numbered_from : ℕ → List Reading → List (ℕ × Reading)
+numbered_from first [] = []
+numbered_from first (reading ∷ rest) = (first, reading) ∷ numbered_from (first + 1) rest
+
+-- a sum is that of readings in their order, which have the numbers from 0 on
+abbrev pub IsSumInOrder : List Reading → Sums → Type 0
+IsSumInOrder readings sums = IsSumOver (numbered_from 0 readings) sums

@@ -1,5 +1,5 @@
 -- What histograms have together. A part is what some histograms of one name and one spec have, such as one histogram.
-use Rattle.std.specs.Prelude.{◌≡◌, Bool, ◌&&◌, ◌||◌, nat_le, if◌then◌else◌, ℕ, ℤ, pos, ◌+ℤ◌, List, [], ◌∷◌}
+use Rattle.std.specs.Prelude.{◌≡◌, Bool, ◌&&◌, ◌||◌, nat_le, if◌then◌else◌, ℕ, ◌+◌, ℤ, pos, ◌+ℤ◌, List, [], ◌∷◌}
 use Rattle.std.specs.List.{list_any}
 use Rattle.std.specs.Str.{bytes_eq}
 use Rattle.bucket_ranges.specs.declared.spec.Spec.{Spec}
@@ -32,6 +32,10 @@ part_from number hist = record {
   images = 1;
   least = number;
 }
+
+-- a part of images whose numbers are so much greater
+abbrev pub raised_part : ℕ → Part → Part
+raised_part by part = record part { least = part.least + by }
 
 -- ---- name and spec
 

@@ -13,6 +13,7 @@ mod key;
 mod laws;
 mod notes;
 mod order;
+mod raised;
 mod shown;
 mod since;
 mod sums;

@@ -12,13 +12,14 @@ ghost use Rattle.reading_sums.specs.Totals.{part_from, SameTotals};
 ghost use Rattle.reading_sums.specs.Views.{part_of, parts_of};
 ghost use Rattle.reading_sums.specs.Shown.{shown_parts, other_parts, IsOtherOf};
 ghost use Rattle.reading_sums.specs.Since.{AreSince, HasFallen, HasOtherSpec, HasTooMany, IsGrown, MatchFault};
-ghost use Rattle.reading_sums.specs.Sums.{IsSumOver};
+ghost use Rattle.reading_sums.specs.Sums.{IsSumOver, raised};
 ghost use Rattle.reading_sums.specs.Whole.{AreWhole, HasNamesOnce, IsWellFormed, IsWholeHistogram, IsWholeReading};
 
 use crate::check::are_whole;
 use crate::fault::{MinusFault, SumsFault};
 use crate::hist::{HistSum, sum_of, sums_of_both};
 use crate::notes::{Notes, notes_of, notes_of_both};
+use crate::raised::raised_hists;
 use crate::shown::{OtherSpec, others_of, readings_of};
 use crate::since::hists_since;
 use image_reader::{HistReading, Reading};
@@ -113,6 +114,27 @@ impl Sums {
         self.notes = notes;
         self.hists = hists;
         Ok(())
+    }
+
+    /// Returns the sum of the same readings, where the number of each is so much greater [raised]. So the sum of what comes
+    /// behind others can be added to theirs.
+    ///
+    /// It is refused if a number would not fit 64 bits, `TooMany`, or if there is no memory, `NoMemory`.
+    pub fn raised(&self, by: u64) -> Result<Sums, SumsFault>
+        ensures raised { IfOk result (λ sums. (readings : List (ℕ × definition.Reading)) → IsSumOver readings self.now → IsSumOver (map (raised by) readings) sums) }
+    {
+        Ok(Sums {
+            alloc: self.alloc,
+            notes: self.notes,
+            hists: raised_hists(self.alloc, &self.hists, by)?,
+        })
+    }
+
+    /// Returns whether the sum is well formed [is].
+    pub fn is_well_formed(&self) -> Result<bool, AllocError>
+        ensures is { IfOk result (λ is. (is ≡ true) ↔ IsWellFormed self.now) }
+    {
+        are_whole(self.alloc, &self.hists)
     }
 
     /// Returns what came since an earlier sum of the same segment, or of the same folder. Of each name and spec the earlier

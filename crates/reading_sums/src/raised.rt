@@ -1,0 +1,41 @@
+//! Sums of images that come behind others.
+
+ghost use Rattle.std.specs.Prelude.{◌≡◌, ◌+◌, map, IfOk};
+ghost use Rattle.reading_sums.specs.Totals.{raised_part};
+ghost use Rattle.reading_sums.specs.Views.{part_of};
+
+use crate::fault::SumsFault;
+use crate::hist::{HistSum, copy_of_spec};
+use crate::notes::number_of_both;
+use std::alloc::Global;
+
+// What a histogram of a sum is where the numbers of its images are so much greater, if they fit 64 bits.
+fn raised_hist(alloc: Global, hist: &HistSum, by: u64) -> Result<HistSum, SumsFault>
+    ensures { IfOk result (λ raised. part_of raised ≡ raised_part by (part_of hist.now)) }
+{
+    Ok(HistSum {
+        name: Vec::from_slice(alloc, &hist.name)?,
+        spec: copy_of_spec(alloc, &hist.spec)?,
+        keys: Vec::from_slice(alloc, &hist.keys)?,
+        sum: hist.sum,
+        sum_mark: hist.sum_mark,
+        redundant: hist.redundant,
+        images: hist.images,
+        least: number_of_both(hist.least, by)?,
+    })
+}
+
+/// What the histograms of a sum are where the numbers of its images are so much greater, if they fit 64 bits.
+pub(crate) fn raised_hists(
+    alloc: Global,
+    hists: &[HistSum],
+    by: u64,
+) -> Result<Vec<HistSum>, SumsFault>
+    ensures { IfOk result (λ raised. map part_of raised.items ≡ map (raised_part by) (map part_of hists.now)) }
+{
+    let mut raised = Vec::with_capacity(alloc, hists.len())?;
+    for hist in hists {
+        raised.push(raised_hist(alloc, hist, by)?)?;
+    }
+    Ok(raised)
+}

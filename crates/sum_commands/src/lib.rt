@@ -1,0 +1,20 @@
+//! Sums of the inputs of a command: images and totals, one after the other.
+//!
+//! [`kind_of`] tells what an input begins as. [`add_image`] and [`add_totals`] add up one input after the other, in their order: the images
+//! that were read have the numbers from 0 on, those of a totals too. Sums of parts of a list become that of the whole
+//! list, so any number of workers gives one sum: `specs/Inputs.antt` says of which readings a sum is. An input that
+//! cannot be read leaves the sum as it was.
+#![tactic(auto)]
+
+mod dividing;
+mod fault;
+mod kind;
+mod sums;
+
+pub use dividing::part_of_inputs;
+pub use fault::InputFault;
+pub use kind::{FRONT, InputKind, kind_of};
+pub use sums::{add_image, add_totals, append_next};
+
+#[cfg(test)]
+mod tests;

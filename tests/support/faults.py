@@ -20,7 +20,9 @@ from support.made import ROOT
 
 DOCUMENT = ROOT / "docs" / "FAULTS.md"
 TABLES = ROOT / "crates" / "fault_texts" / "src"
-TABLE, WORLD_TABLE, C_TABLE = (TABLES / name for name in ("table.rt", "world_table.rt", "c_table.rt"))
+TABLE, TEXT_TABLE, WORLD_TABLE, C_TABLE = (
+    TABLES / name for name in ("table.rt", "text_table.rt", "world_table.rt", "c_table.rt")
+)
 STATUSES = ROOT / "crates" / "persist_report" / "src" / "failure.rt"
 HEADER, NAMES, CLASSES = (ROOT / "c" / name for name in ("povundiri.h", "povundiri.c", "povundiri_status.hpp"))
 SOURCES = f"the tables of fault_texts, {STATUSES.name} and {NAMES.name}"
@@ -76,13 +78,13 @@ def texts_of(table: pathlib.Path) -> list[tuple[str, str, str]]:
 
 
 def texts() -> list[tuple[str, str, str]]:
-    """Those of `persist_report`'s table."""
-    return texts_of(TABLE)
+    """Those of `persist_report`'s tables."""
+    return [*texts_of(TABLE), *texts_of(TEXT_TABLE)]
 
 
 def all_texts() -> list[tuple[str, str, str]]:
     """Those of all tables, as `persist_report explain` prints them."""
-    return [text for table in (TABLE, WORLD_TABLE, C_TABLE) for text in texts_of(table)]
+    return [text for table in (TABLE, TEXT_TABLE, WORLD_TABLE, C_TABLE) for text in texts_of(table)]
 
 
 def statuses() -> dict[str, str]:
@@ -115,16 +117,22 @@ def rows_of(table: pathlib.Path, left_out: Collection[str]) -> Iterator[str]:
     """The lines of a table; the statuses of C of these names are in another one."""
     for name, meaning, remedy in texts_of(table):
         named = [] if name in left_out else [f"`{other}`" for other, own in fault_names().items() if own == name]
-        status = status_of(name, meaning) if table == TABLE else "" if table == C_TABLE else str(REFUSED)
+        is_plain = table in (TABLE, TEXT_TABLE)
+        status = status_of(name, meaning) if is_plain else "" if table == C_TABLE else str(REFUSED)
         yield f"| `{name}` | {status} | {', '.join(named)} | {meaning} | {remedy} |\n"
 
 
 def document() -> str:
     of_c = {name for name, _, _ in texts_of(C_TABLE)}
     none: set[str] = set()
-    parts = (HEAD, "Fault", TABLE, of_c), (WORLD_HEAD, "Fault", WORLD_TABLE, of_c), (C_HEAD, "Name", C_TABLE, none)
+    parts = (
+        (HEAD, "Fault", [TABLE, TEXT_TABLE], of_c),
+        (WORLD_HEAD, "Fault", [WORLD_TABLE], of_c),
+        (C_HEAD, "Name", [C_TABLE], none),
+    )
     return "".join(
-        f"{head}\n{COLUMNS.format(title)}{''.join(rows_of(table, left_out))}" for head, title, table, left_out in parts
+        f"{head}\n{COLUMNS.format(title)}{''.join(row for table in tables for row in rows_of(table, left_out))}"
+        for head, title, tables, left_out in parts
     )
 
 

@@ -2,6 +2,7 @@
 
 use crate::c_table::C_TEXTS;
 use crate::table::{FaultText, TEXTS};
+use crate::text_table::TEXT_FAULTS;
 use crate::world_table::WORLD_TEXTS;
 use std::alloc::{AllocError, Global};
 use strsim::levenshtein;
@@ -71,6 +72,7 @@ pub fn texts_for(alloc: Global, asked: &str) -> Result<Option<String>, AllocErro
     let name = plain_name(alloc, asked)?;
     let mut texts = String::new(alloc);
     push_texts(alloc, &mut texts, &TEXTS, name.as_str())?;
+    push_texts(alloc, &mut texts, &TEXT_FAULTS, name.as_str())?;
     push_texts(alloc, &mut texts, &WORLD_TEXTS, name.as_str())?;
     push_texts(alloc, &mut texts, &C_TEXTS, name.as_str())?;
     Ok(if texts.is_empty() { None } else { Some(texts) })
@@ -112,6 +114,7 @@ pub fn nearest_name(alloc: Global, asked: &str) -> Result<Option<&'static str>, 
         edits: (lower.as_str().chars().count() / 3).saturating_add(1),
     };
     let near = nearer(alloc, &TEXTS, lower.as_str(), none)?;
+    let near = nearer(alloc, &TEXT_FAULTS, lower.as_str(), near)?;
     let near = nearer(alloc, &WORLD_TEXTS, lower.as_str(), near)?;
     let near = nearer(alloc, &C_TEXTS, lower.as_str(), near)?;
     Ok(near.name)

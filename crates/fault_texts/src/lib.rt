@@ -1,7 +1,9 @@
 //! What faults mean, and what a fault of a script or of an image is about: its line and field, its word, its two specs.
 //!
-//! The texts are three tables: `TEXTS`, `WORLD_TEXTS` of `stepped`, and `C_TEXTS` of statuses that only programs in C see. What a complaint about a record says of its fields is so (`specs/Complaint.antt`), and a
-//! line of a file is one more than the line feeds before it. The lines themselves are only tested.
+//! The texts are four tables: `TEXTS`, `TEXT_FAULTS` of texts that have families or several inputs, `WORLD_TEXTS` of
+//! `stepped`, and `C_TEXTS` of statuses that only programs in C see. What a complaint about a record says of its fields is
+//! so (`specs/Complaint.antt`), and a line of a file is one more than the line feeds before it. The lines themselves are
+//! only tested.
 #![tactic(auto)]
 
 mod adopting;
@@ -19,6 +21,7 @@ mod script;
 mod shown;
 mod specs_of;
 mod table;
+mod text_table;
 mod too_large;
 mod world_table;
 
@@ -40,5 +43,6 @@ pub use script::{Finding, finding_of};
 pub use shown::{Shown, ShownSpec};
 pub use specs_of::merge_lines;
 pub use table::{AllTexts, FaultText, TEXTS, fault_text, world_text};
+pub use text_table::TEXT_FAULTS;
 pub use too_large::merge_size_lines;
 pub use world_table::WORLD_TEXTS;

@@ -3,6 +3,7 @@
 ghost use Rattle.std.specs.Prelude.{◌≡◌, IfSome};
 
 use crate::c_table::C_TEXTS;
+use crate::text_table::TEXT_FAULTS;
 use crate::world_table::WORLD_TEXTS;
 use std::fmt;
 
@@ -34,13 +35,14 @@ fn write_table<W: fmt::Write>(
     Ok(())
 }
 
-/// The texts of all faults, one after the other: those of `TEXTS`, of `stepped`, and of C.
+/// The texts of all faults, one after the other: those of `TEXTS`, of texts of several inputs, of `stepped`, and of C.
 #[derive(Clone, Copy, Debug)]
 pub struct AllTexts;
 
 impl fmt::Display for AllTexts {
     fn fmt<W: fmt::Write>(&self, f: &mut fmt::Formatter<W>) -> fmt::Result {
         write_table(f, &TEXTS)?;
+        write_table(f, &TEXT_FAULTS)?;
         write_table(f, &WORLD_TEXTS)?;
         write_table(f, &C_TEXTS)
     }
@@ -69,16 +71,19 @@ pub fn world_text(name: &str) -> Option<FaultText<'static>>
     find_text(&WORLD_TEXTS, name)
 }
 
-/// Returns the text of a fault by its name, where there is one in `TEXTS`; it has that name.
+/// Returns the text of a fault by its name, where there is one in `TEXTS` or `TEXT_FAULTS`; it has that name.
 pub fn fault_text(name: &str) -> Option<FaultText<'static>>
     ensures { IfSome result (λ text. text.name.now ≡ name.now) }
 {
-    find_text(&TEXTS, name)
+    match find_text(&TEXTS, name) {
+        Some(text) => Some(text),
+        None => find_text(&TEXT_FAULTS, name),
+    }
 }
 
 /// Each fault by its name, with what it means and what to do: those of the program, of the header of an image, of what is
 /// refused, of specs, and of the lines of a report that begin with `!`.
-pub const TEXTS: [(&str, &str, &str); 59] = [
+pub const TEXTS: [(&str, &str, &str); 55] = [
     (
         "Read",
         "An input cannot be opened, or a read of it failed.",
@@ -158,26 +163,6 @@ pub const TEXTS: [(&str, &str, &str); 59] = [
         "NoHistogram",
         "No histogram of the image has the name that follows. Those of the other names are shown.",
         "Look at the name. `--match PART` shows the histograms whose name contains PART.",
-    ),
-    (
-        "Clash",
-        "With --families: the two that are named would have metrics of one name. Two histograms are of one family, and of two kinds or with the same labels; or the family of one is that of the other with _bucket, _sum or _count; or it is bad_records or segment_flag, which every export has.",
-        "Give one of them another name, or export without --families.",
-    ),
-    (
-        "BadTotals",
-        "An input begins as totals, and is none: the line with this number, from 1, does not go on from those before it; or it is that of the first name, and the names do not ascend or their keys are not those of their specs.",
-        "Write the totals again by `report --totals`. A file that was cut off lacks its last line.",
-    ),
-    (
-        "Fell",
-        "With --minus: the histogram that is named has less than in OLD, or is not there, and counts only grow.",
-        "Let OLD be an earlier image, look or totals of the same segment or folder. A segment that began anew has nothing of the one before: show it whole.",
-    ),
-    (
-        "NotWhole",
-        "With --whole, of several inputs: a record of an image is bad, or its list of records stops early. The text has all that is valid.",
-        "Look for it by `report --whole` of each image alone.",
     ),
     (
         "Bad",

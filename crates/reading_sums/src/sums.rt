@@ -112,6 +112,13 @@ impl Sums {
         Ok(())
     }
 
+    /// Returns whether the sum is well formed [is].
+    pub fn is_well_formed(&self) -> Result<bool, AllocError>
+        ensures is { IfOk result (λ is. (is ≡ true) ↔ IsWellFormed self.now) }
+    {
+        are_whole(self.alloc, &self.hists)
+    }
+
     /// Returns what the images say beside their histograms.
     pub fn notes(&self) -> Notes
         ensures { result ≡ self.now.notes }

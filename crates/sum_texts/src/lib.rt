@@ -1,15 +1,21 @@
 //! The texts of sums of images, and sums as texts.
 #![tactic(auto)]
 
+mod ending;
+mod fault;
 mod fields;
 mod lines;
 mod number;
 mod reading;
+mod reading_back;
 mod runs;
 mod totals;
 mod writing;
 mod wrong;
 
+pub use ending::report_of;
+pub use fault::TotalsFault;
+pub use reading_back::totals_of;
 pub use totals::Totals;
 pub use writing::totals_text;
 

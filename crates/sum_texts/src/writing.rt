@@ -26,8 +26,8 @@ fn put_fields(text: &mut Vec<u8>, fields: &[&[u8]]) -> Result<(), AllocError>
     Ok(())
 }
 
-// Puts the line of a word and other fields.
-fn put_line(text: &mut Vec<u8>, word: &[u8], others: &[&[u8]]) -> Result<(), AllocError>
+/// Puts the line of a word and other fields.
+pub(crate) fn put_line(text: &mut Vec<u8>, word: &[u8], others: &[&[u8]]) -> Result<(), AllocError>
     ensures { OnOk result (text.new.items ≡ text.old.items ++ line_text (word.now ∷ map (λ field. field.now) others.now)) }
 {
     text.extend_from_slice(word)?;
@@ -181,8 +181,12 @@ fn put_segments(text: &mut Vec<u8>, segments: &[(u64, u64)]) -> Result<(), Alloc
     Ok(())
 }
 
-// Puts the line of a word and a number.
-fn put_number_line(text: &mut Vec<u8>, word: &[u8], number: u64) -> Result<(), AllocError>
+/// Puts the line of a word and a number.
+pub(crate) fn put_number_line(
+    text: &mut Vec<u8>,
+    word: &[u8],
+    number: u64,
+) -> Result<(), AllocError>
     ensures { OnOk result (text.new.items ≡ text.old.items ++ line_text (word.now ∷ decimal number ∷ [])) }
 {
     let mut digits = Buffer::new();

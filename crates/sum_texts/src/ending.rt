@@ -1,0 +1,61 @@
+//! The report of a sum: that of its reading, and lines behind it of what that leaves out.
+
+ghost use Rattle.reading_sums.specs.Whole.{IsWellFormed};
+
+use crate::writing::{put_line, put_number_line};
+use itoa::Buffer;
+use reading_sums::{OtherSpec, Sums};
+use reading_texts::report_text;
+use std::alloc::{AllocError, Global};
+
+// Puts the lines of what a reading leaves out.
+fn put_others(text: &mut Vec<u8>, others: &[OtherSpec]) -> Result<(), AllocError> {
+    for other in others {
+        let mut images = Buffer::new();
+        let mut units = Buffer::new();
+        put_line(
+            text,
+            b"!other",
+            &[
+                other.name.as_slice(),
+                images.format(other.images).as_bytes(),
+                units.format(other.units).as_bytes(),
+            ],
+        )?;
+    }
+    Ok(())
+}
+
+// Puts the line of how many inputs were left out, where some were.
+fn put_left(text: &mut Vec<u8>, left: u64) -> Result<(), AllocError> {
+    if left == 0 {
+        return Ok(());
+    }
+    put_number_line(text, b"!left", left)
+}
+
+// Puts the lines behind the report of a sum of so many images.
+fn put_ending(
+    text: &mut Vec<u8>,
+    images: u64,
+    others: &[OtherSpec],
+    left: u64,
+) -> Result<(), AllocError> {
+    if images <= 1 && left == 0 && others.is_empty() {
+        return Ok(());
+    }
+    put_number_line(text, b"!images", images)?;
+    put_others(text, others)?;
+    put_left(text, left)
+}
+
+/// Returns the report of a sum.
+pub fn report_of(alloc: Global, sums: &Sums, left: u64) -> Result<Vec<u8>, AllocError>
+    requires { IsWellFormed sums.now }
+{
+    let reading = sums.reading(alloc)?;
+    let others = sums.others(alloc)?;
+    let mut text = report_text(alloc, &reading)?;
+    put_ending(&mut text, sums.notes().images, &others, left)?;
+    Ok(text)
+}

@@ -12,8 +12,10 @@ use Rattle.reading_sums.specs.Sums.{IsSumOver}
 use Rattle.reading_sums.specs.Views.{parts_of}
 use Rattle.reading_sums.specs.Whole.{IsWellFormed, IsWholeReading}
 use Rattle.sum_texts.specs.declared.totals.Totals.{Totals}
+use Rattle.sum_texts.specs.Endings.{IsReportOf}
 use Rattle.sum_texts.specs.Lines.{Whole, totals_text}
 use Rattle.sum_texts.specs.Views.{whole_of}
+use Rattle.sum_texts.specs.Writable.{IsWritable}
 use Rattle.povundiri_c.specs.declared.contents.Contents.{Contents}
 use Rattle.povundiri_c.specs.declared.contents.Contents.TheVariants as contents
 use Rattle.povundiri_c.specs.declared.status.Refused.{Refused}
@@ -99,14 +101,18 @@ pub record IsTotalsText (text : List ℕ) (totals : Totals) : Type 0 where
   pub text_is : text ≡ totals_text (whole_of totals)
   pub well_formed : IsWellFormed totals.sums
 
+-- a text is that of no totals which can be written
+abbrev pub IsNoTotalsText : List ℕ → Type 0
+IsNoTotalsText text = (totals : Totals) → IsWritable totals → text ≡ totals_text (whole_of totals) → ⊥
+
 -- why totals were not added: memory ran out, a total would not fit, or the text is that of no totals, which comes with the number of a line
-abbrev pub IsNotAdded : Refused → Type 0
-IsNotAdded why = (why ≡ refused_with 13) ⊎ (why ≡ refused_with 19) ⊎ (why.status ≡ 20)
+abbrev pub IsNotAdded : List ℕ → Refused → Type 0
+IsNotAdded text why = (why ≡ refused_with 13) ⊎ (why ≡ refused_with 19) ⊎ ((why.status ≡ 20) × IsNoTotalsText text)
 
 -- The sum that a text of totals says is added; or the status says why not, and the sum is unchanged.
 abbrev pub AddsTotals : List ℕ → Sums → Result (Unit {0}) Refused → Sums → Type 0
 AddsTotals text old (Ok _) new = (totals : Totals) × IsTotalsText text totals × Appends totals.sums old new
-AddsTotals text old (Err why) new = IsNotAdded why × (new ≡ old)
+AddsTotals text old (Err why) new = IsNotAdded text why × (new ≡ old)
 
 -- it is returned with the number of a line, 0 where the text says a totals
 abbrev pub IsSaidWithLine : Result (Unit {0}) Refused → ℕ → ℕ → Type 0

@@ -4,7 +4,7 @@ ghost use Rattle.std.specs.Prelude.{◌≡◌, ◌≢◌, Some, IfErr, IfOk};
 ghost use Rattle.segment_image.specs.Head.{header_of};
 ghost use Rattle.reading_sums.specs.Whole.{IsWellFormed};
 ghost use Rattle.povundiri_c.specs.Status.{status_of_image_fault, status_of_sums_fault};
-ghost use Rattle.povundiri_c.specs.Sums.{AddsOther, AddsTotals, AppendsOrRefuses, IsImageAdded, IsSaidOfAdding, IsSumText, IsTextOrStatus, IsTotalsOrStatus};
+ghost use Rattle.povundiri_c.specs.Sums.{AddsOther, AddsTotalsText, AppendsOrRefuses, IsImageAdded, IsSaidOfAdding, IsSumText, IsTextOrStatus, IsTotalsOrStatus};
 
 use crate::status::{BAD_TOTALS, DONE, NO_MEMORY, Refused, of_image_fault, of_sums_fault};
 use crate::texts::{TextAsked, style_of};
@@ -55,7 +55,7 @@ fn add_read(sums: &mut Sums, totals: &Totals) -> Result<(), Refused>
 /// Adds what a text of totals says. Or the status says why not, with the number of a line where the text is none, and the
 /// sum is unchanged.
 pub(crate) fn add_totals(alloc: Global, sums: &mut Sums, text: &[u8]) -> Result<(), Refused>
-    ensures { AddsTotals text.now sums.old result sums.new }
+    ensures { AddsTotalsText text.now sums.old result sums.new }
 {
     match totals_of(alloc, text) {
         Ok(totals) => add_read(sums, &totals),

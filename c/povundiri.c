@@ -45,6 +45,16 @@ extern inline uint32_t povundiri_report_bounded(const uint64_t *words, size_t le
 extern inline uint32_t povundiri_export(const uint64_t *words, size_t length, const char *prefix, char *text, size_t text_length,
                                         size_t *needed);
 extern inline uint32_t povundiri_show(const uint64_t *words, size_t length, uint16_t width, char *text, size_t text_length, size_t *needed);
+extern inline uint32_t povundiri_sums_new(struct povundiri_handle *out);
+extern inline uint32_t povundiri_sums_add(struct povundiri_handle *sums, uint64_t number, const uint64_t *words, size_t length);
+extern inline uint32_t povundiri_sums_add_totals(struct povundiri_handle *sums, const char *text, size_t length, size_t *line);
+extern inline uint32_t povundiri_sums_drop(struct povundiri_handle *sums);
+extern inline uint32_t povundiri_sums_append(struct povundiri_handle *sums, struct povundiri_handle *other);
+extern inline uint32_t povundiri_sums_report(struct povundiri_handle *sums, char *text, size_t text_length, size_t *needed);
+extern inline uint32_t povundiri_sums_totals(struct povundiri_handle *sums, char *text, size_t text_length, size_t *needed);
+extern inline uint32_t povundiri_sums_export(struct povundiri_handle *sums, const char *prefix, char *text, size_t text_length,
+                                             size_t *needed);
+extern inline uint32_t povundiri_sums_show(struct povundiri_handle *sums, uint16_t width, char *text, size_t text_length, size_t *needed);
 
 struct named {
     uint32_t status;
@@ -73,6 +83,8 @@ static const struct named NAMES[] = {
     {POVUNDIRI_SYSTEM, "System"},
     {POVUNDIRI_TOO_MANY_KEYS, "TooManyKeys"},
     {POVUNDIRI_BAD_PREFIX, "BadPrefix"},
+    {POVUNDIRI_TOO_MANY, "Sums TooMany"},
+    {POVUNDIRI_BAD_TOTALS, "BadTotals"},
     {POVUNDIRI_REFUSED_BAD_NAME, "BadName"},
     {POVUNDIRI_REFUSED_BAD_SPEC, "BadSpec"},
     {POVUNDIRI_REFUSED_ZERO_COUNT, "ZeroCount"},

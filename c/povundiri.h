@@ -57,7 +57,7 @@
 extern "C" {
 #endif
 
-/* A segment, a recorder, or nothing. It begins as zeros, and is so again when it is closed, joined or dropped. */
+/* A segment, a recorder, a sum, or nothing. It begins as zeros, and is so again when it is closed, joined or dropped. */
 struct povundiri_handle {
     bool full;
     void *at;
@@ -128,7 +128,7 @@ enum povundiri_status {
     POVUNDIRI_BAD_ROOM = 2,      /* the room is not aligned to 16, or no multiple of 16 bytes, or has none */
     POVUNDIRI_EMPTY = 3,         /* the handle holds nothing: it was never filled, or is closed, joined or dropped */
     POVUNDIRI_NOT_EMPTY = 4,     /* the handle that is to be filled holds something */
-    POVUNDIRI_OTHER_KIND = 5,    /* the handle is a recorder's where a segment's is needed, or the other way round */
+    POVUNDIRI_OTHER_KIND = 5,    /* the handle is of another kind than is needed: a recorder's where a segment's is, and so on */
     POVUNDIRI_OTHER_SEGMENT = 6, /* the recorder is of another segment */
     POVUNDIRI_SHORT = 7,         /* the array is too short: the length that it needs is returned, and nothing was taken */
     POVUNDIRI_UNKNOWN = 8,       /* no call returned such a histogram to this recorder */
@@ -142,6 +142,8 @@ enum povundiri_status {
     POVUNDIRI_SYSTEM = 16,       /* of povundiri_file.h: the system's fault, whose number (errno.h) is returned beside it */
     POVUNDIRI_TOO_MANY_KEYS = 17, /* the image has more keys than the caller allows, and is not reported */
     POVUNDIRI_BAD_PREFIX = 18,    /* no name of a metric may begin with the prefix */
+    POVUNDIRI_TOO_MANY = 19,      /* a total of the sum would not fit: units, marks, redundant counts or images 64 bits, amounts 128 */
+    POVUNDIRI_BAD_TOTALS = 20,    /* the text is that of no totals; of a text of a sum: it is not well formed, as no call makes it */
 
     /* Why a call is refused. */
     POVUNDIRI_REFUSED_BAD_NAME = 101,
@@ -231,6 +233,16 @@ uint32_t povundiri_proved_compose(const uint64_t *one, size_t one_length, const 
                                   size_t three_length, uint64_t *image, size_t image_length);
 uint32_t povundiri_proved_segment_look(struct povundiri_handle *segment, uint64_t *image, size_t image_length, size_t *needed);
 
+uint32_t povundiri_proved_sums_new(struct povundiri_handle *out);
+uint32_t povundiri_proved_sums_add(struct povundiri_handle *sums, uint64_t number, const uint64_t *words, size_t words_length);
+uint32_t povundiri_proved_sums_add_totals(struct povundiri_handle *sums, const uint8_t *text, size_t text_length, size_t *line);
+uint32_t povundiri_proved_sums_append(struct povundiri_handle *sums, struct povundiri_handle *other);
+uint32_t povundiri_proved_sums_report(struct povundiri_handle *sums, uint8_t *text, size_t text_length, size_t *needed);
+uint32_t povundiri_proved_sums_totals(struct povundiri_handle *sums, uint8_t *text, size_t text_length, size_t *needed);
+uint32_t povundiri_proved_sums_export(struct povundiri_handle *sums, const uint8_t *prefix, size_t prefix_length, uint8_t *text,
+                                      size_t text_length, size_t *needed);
+uint32_t povundiri_proved_sums_show(struct povundiri_handle *sums, uint16_t width, uint8_t *text, size_t text_length, size_t *needed);
+
 /* Whether an array is valid: only an empty one may be null. */
 inline bool povundiri_is_array(const void *at, size_t length) {
     return at != NULL || length == 0;
@@ -300,7 +312,7 @@ inline uint32_t povundiri_close(struct povundiri_handle *segment, uint64_t *word
     return povundiri_proved_close(segment, none, (uint64_t *)povundiri_address(words), length, needed != NULL ? needed : &own);
 }
 
-/* Gives up a segment or a recorder; then its handle is empty. What a recorder counted stays in the segment, which does not get its
+/* Gives up a segment, a recorder or a sum; then its handle is empty. What a recorder counted stays in the segment, which does not get its
  * other units back. A segment ends, without an image, when it and all its recorders are gone; then a room is the caller's again.
  * Statuses: NULL, EMPTY.
  * Keep: pointers; handles; turns; process. */
@@ -588,6 +600,115 @@ inline uint32_t povundiri_show(const uint64_t *words, size_t length, uint16_t wi
     if (!povundiri_is_array(words, length) || !povundiri_is_array(text, text_length)) return POVUNDIRI_NULL;
     return povundiri_proved_show((const uint64_t *)povundiri_address(words), length, width, (uint8_t *)povundiri_address(text),
                                  text_length, needed != NULL ? needed : &own);
+}
+
+/* ---- Sums ---- */
+
+/* The sum of no images, to which images are added, any number and of any size. For each name and spec it has the units of each key, the
+ * marks, the sums of the samples, the redundant counts, and how many images had it.
+ *
+ *     struct povundiri_handle sums = {0};
+ *     povundiri_sums_new(&sums);
+ *     povundiri_sums_add(&sums, 0, words, length);        each image under a number
+ *     povundiri_sums_add(&sums, 1, others, others_length);
+ *     povundiri_sums_report(&sums, text, text_length, &needed);
+ *     povundiri_sums_drop(&sums);
+ *
+ * Statuses: NULL, NOT_EMPTY, NO_MEMORY.
+ * Keep: pointers; handles: `out` begins as zeros; process. */
+POVUNDIRI_CHECKED
+inline uint32_t povundiri_sums_new(struct povundiri_handle *out) {
+    return out == NULL ? (uint32_t)POVUNDIRI_NULL : povundiri_proved_sums_new(out);
+}
+
+/* Reads an image and adds it, under a number, which may be any. A text shows of each name the histograms of one spec: that which the image
+ * with the least number has. Any words may be passed; of words that you do not trust, ask povundiri_report_bounded first, since a reading
+ * takes at least 24 bytes for each key. On any status but DONE the sum is as it was.
+ * Statuses: NULL, EMPTY, OTHER_KIND; IMAGE_..: the header has this fault; IMAGE_NO_MEMORY, NO_MEMORY; TOO_MANY.
+ * Keep: pointers; handles; turns; process. */
+POVUNDIRI_CHECKED
+inline uint32_t povundiri_sums_add(struct povundiri_handle *sums, uint64_t number, const uint64_t *words, size_t length) {
+    if (sums == NULL || !povundiri_is_array(words, length)) return POVUNDIRI_NULL;
+    return povundiri_proved_sums_add(sums, number, (const uint64_t *)povundiri_address(words), length);
+}
+
+/* Adds the sum that a text says which povundiri_sums_totals or `persist_report report --totals` wrote. Any bytes may be passed. `line`,
+ * which may be null, is the number of a line that is wrong, from 1, on BAD_TOTALS, and else 0. On any status but DONE the sum is as it was.
+ * Which segments and which fold the text names, if any, is not kept.
+ * Statuses: NULL, EMPTY, OTHER_KIND; BAD_TOTALS: these are no totals; NO_MEMORY; TOO_MANY.
+ * Keep: pointers; handles; turns; process. */
+POVUNDIRI_CHECKED
+inline uint32_t povundiri_sums_add_totals(struct povundiri_handle *sums, const char *text, size_t length, size_t *line) {
+    size_t own = 0;
+    if (sums == NULL || !povundiri_is_array(text, length)) return POVUNDIRI_NULL;
+    return povundiri_proved_sums_add_totals(sums, (const uint8_t *)povundiri_address(text), length, line != NULL ? line : &own);
+}
+
+/* Gives up a sum; then its handle is empty. It is povundiri_drop.
+ * Statuses: NULL, EMPTY.
+ * Keep: pointers; handles; turns; process. */
+inline uint32_t povundiri_sums_drop(struct povundiri_handle *sums) {
+    return povundiri_drop(sums);
+}
+
+/* Adds another sum, which stays as it is; its images come behind. A sum may be added to itself. On any status but DONE both are as they were.
+ * Statuses: NULL, EMPTY, OTHER_KIND, NO_MEMORY, TOO_MANY.
+ * Keep: pointers, but that both may be one handle; handles; turns: those of both; process. */
+POVUNDIRI_CHECKED
+inline uint32_t povundiri_sums_append(struct povundiri_handle *sums, struct povundiri_handle *other) {
+    struct povundiri_handle copy = {false, NULL};
+    uint32_t status;
+    if (sums == NULL || other == NULL) return POVUNDIRI_NULL;
+    if (sums != other) return povundiri_proved_sums_append(sums, other);
+    status = povundiri_proved_sums_new(&copy);
+    if (status == POVUNDIRI_DONE) status = povundiri_proved_sums_append(&copy, other);
+    if (status == POVUNDIRI_DONE) status = povundiri_proved_sums_append(sums, &copy);
+    povundiri_drop(&copy);
+    return status;
+}
+
+/* The report of a sum, as povundiri_report writes that of an image. Where it is of several images, lines follow that begin with '!images',
+ * '!other' and a name that also has histograms of another spec, and '!left'. `needed`, which may be null, is how many bytes it has, also on
+ * SHORT.
+ * Statuses: NULL, EMPTY, OTHER_KIND, NO_MEMORY, SHORT, BAD_TOTALS.
+ * Keep: pointers; handles; turns; process. */
+POVUNDIRI_CHECKED
+inline uint32_t povundiri_sums_report(struct povundiri_handle *sums, char *text, size_t text_length, size_t *needed) {
+    size_t own = 0;
+    if (sums == NULL || !povundiri_is_array(text, text_length)) return POVUNDIRI_NULL;
+    return povundiri_proved_sums_report(sums, (uint8_t *)povundiri_address(text), text_length, needed != NULL ? needed : &own);
+}
+
+/* The whole sum as text, from which povundiri_sums_add_totals makes the same sum again (docs/FORMAT.md).
+ * Statuses: as for povundiri_sums_report, but no BAD_TOTALS.
+ * Keep: pointers; handles; turns; process. */
+POVUNDIRI_CHECKED
+inline uint32_t povundiri_sums_totals(struct povundiri_handle *sums, char *text, size_t text_length, size_t *needed) {
+    size_t own = 0;
+    if (sums == NULL || !povundiri_is_array(text, text_length)) return POVUNDIRI_NULL;
+    return povundiri_proved_sums_totals(sums, (uint8_t *)povundiri_address(text), text_length, needed != NULL ? needed : &own);
+}
+
+/* The metrics of a sum in the Prometheus text format, with names that begin with `prefix`, as povundiri_export writes those of an image.
+ * Statuses: those of povundiri_sums_report, and BAD_PREFIX.
+ * Keep: pointers; handles; turns; process. */
+POVUNDIRI_CHECKED
+inline uint32_t povundiri_sums_export(struct povundiri_handle *sums, const char *prefix, char *text, size_t text_length, size_t *needed) {
+    size_t own = 0;
+    const char *const begun = prefix != NULL ? prefix : "povundiri";
+    if (sums == NULL || !povundiri_is_array(text, text_length)) return POVUNDIRI_NULL;
+    return povundiri_proved_sums_export(sums, (const uint8_t *)begun, strlen(begun), (uint8_t *)povundiri_address(text), text_length,
+                                        needed != NULL ? needed : &own);
+}
+
+/* The text of a sum for people, with `width` cells in a line, 80 where it is 0, as povundiri_show writes that of an image.
+ * Statuses: those of povundiri_sums_report.
+ * Keep: pointers; handles; turns; process. */
+POVUNDIRI_CHECKED
+inline uint32_t povundiri_sums_show(struct povundiri_handle *sums, uint16_t width, char *text, size_t text_length, size_t *needed) {
+    size_t own = 0;
+    if (sums == NULL || !povundiri_is_array(text, text_length)) return POVUNDIRI_NULL;
+    return povundiri_proved_sums_show(sums, width, (uint8_t *)povundiri_address(text), text_length, needed != NULL ? needed : &own);
 }
 
 /* The name of a status; any number may be passed. `persist_report explain NAME` says what each name means. */

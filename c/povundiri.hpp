@@ -1,4 +1,4 @@
-// Povundiri for C++17 and later: segments and recorders that end by themselves, over povundiri.h and povundiri_file.h.
+// Povundiri for C++17 and later: segments, recorders and sums that end by themselves, over povundiri.h and povundiri_file.h.
 //
 //     using namespace povundiri;
 //     Opened opened = Segment::open("latency.seg", shape(65'536, 4096), Policy::AdoptOrSetAside);
@@ -880,6 +880,109 @@ inline std::string show_text(Span<const std::uint64_t> words, std::uint16_t widt
     detail::need(try_show_text(words, text, width), "show_text, words", words.size());
     return text;
 }
+
+// ---- Sums ----
+
+// The sum of any number of images, each added under a number (povundiri_sums_new). It begins as the sum of no images, and one that was moved
+// from is that again. It is used by one thread at a time. A call that is not done leaves the sum as it was.
+class Sums {
+public:
+    Sums() noexcept = default;
+    Sums(Sums&& other) noexcept : handle_(std::exchange(other.handle_, povundiri_handle{})) {}
+    Sums& operator=(Sums&& other) noexcept {
+        if (this != &other) {
+            reset();
+            handle_ = std::exchange(other.handle_, povundiri_handle{});
+        }
+        return *this;
+    }
+    ~Sums() { reset(); }
+
+    // Begins anew, with no images.
+    void reset() noexcept { povundiri_sums_drop(&handle_); }
+
+    // Adds an image (povundiri_sums_add): the words of one, or of a look.
+    void add(std::uint64_t number, Span<const std::uint64_t> words) { detail::need(try_add(number, words), "add, image", number); }
+    [[nodiscard]] Status try_add(std::uint64_t number, Span<const std::uint64_t> words) noexcept {
+        return with([&] { return povundiri_sums_add(&handle_, number, words.data(), words.size()); });
+    }
+
+    // Adds what 'totals' or 'persist_report report --totals' wrote (povundiri_sums_add_totals). 'line', if there is one, is the number of a
+    // line that is wrong, or 0.
+    void add_totals(std::string_view text) {
+        std::size_t line = 0;
+        const Status status = try_add_totals(text, &line);
+        detail::need(status, "add_totals, line", line);
+    }
+    [[nodiscard]] Status try_add_totals(std::string_view text, std::size_t* line = nullptr) noexcept {
+        return with([&] { return povundiri_sums_add_totals(&handle_, text.data(), text.size(), line); });
+    }
+
+    // Adds another sum, which stays as it is, and may be the same.
+    void append(Sums& other) { detail::need(try_append(other), "append"); }
+    [[nodiscard]] Status try_append(Sums& other) noexcept {
+        return with([&] { return other.with([&] { return povundiri_sums_append(&handle_, &other.handle_); }); });
+    }
+
+    // Its report as CSV (povundiri_sums_report), the whole of it as a text to add again (povundiri_sums_totals), its metrics in the
+    // Prometheus text format (povundiri_sums_export), and its text for people (povundiri_sums_show).
+    std::string report() {
+        std::string text;
+        detail::need(try_report(text), "report");
+        return text;
+    }
+    std::string totals() {
+        std::string text;
+        detail::need(try_totals(text), "totals");
+        return text;
+    }
+    std::string export_text(const char* prefix = nullptr) {
+        std::string text;
+        detail::need(try_export_text(text, prefix), "export_text");
+        return text;
+    }
+    std::string show_text(std::uint16_t width = 0) {
+        std::string text;
+        detail::need(try_show_text(text, width), "show_text, width", width);
+        return text;
+    }
+    [[nodiscard]] Status try_report(std::string& text) {
+        return filled(text, [&](char* data, std::size_t size, std::size_t* needed) { return povundiri_sums_report(&handle_, data, size, needed); });
+    }
+    [[nodiscard]] Status try_totals(std::string& text) {
+        return filled(text, [&](char* data, std::size_t size, std::size_t* needed) { return povundiri_sums_totals(&handle_, data, size, needed); });
+    }
+    [[nodiscard]] Status try_export_text(std::string& text, const char* prefix = nullptr) {
+        return filled(text, [&](char* data, std::size_t size, std::size_t* needed) {
+            return povundiri_sums_export(&handle_, prefix, data, size, needed);
+        });
+    }
+    [[nodiscard]] Status try_show_text(std::string& text, std::uint16_t width = 0) {
+        return filled(text, [&](char* data, std::size_t size, std::size_t* needed) {
+            return povundiri_sums_show(&handle_, width, data, size, needed);
+        });
+    }
+
+private:
+    // The sum of no images is made at the first call that needs it.
+    template <typename Call>
+    Status with(const Call& call) noexcept {
+        if (!handle_.full) {
+            const auto status = static_cast<Status>(povundiri_sums_new(&handle_));
+            if (status != Status::Done) return status;
+        }
+        return static_cast<Status>(call());
+    }
+
+    template <typename Call>
+    Status filled(std::string& text, const Call& call) {
+        text.resize(kUsualReport);
+        const Status made = with([] { return POVUNDIRI_DONE; });
+        return made != Status::Done ? made : detail::filled(text, call);
+    }
+
+    povundiri_handle handle_{};
+};
 
 }  // namespace povundiri
 

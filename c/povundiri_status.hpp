@@ -33,6 +33,8 @@ enum class Status : std::uint32_t {
     System = POVUNDIRI_SYSTEM,  // no call of these classes returns it: 'open' returns the system's fault itself
     TooManyKeys = POVUNDIRI_TOO_MANY_KEYS,
     BadPrefix = POVUNDIRI_BAD_PREFIX,
+    TooMany = POVUNDIRI_TOO_MANY,
+    BadTotals = POVUNDIRI_BAD_TOTALS,
     Forked = 99,                // of these classes alone: the segment or recorder is of a process from which this one was forked
 
     RefusedBadName = POVUNDIRI_REFUSED_BAD_NAME,

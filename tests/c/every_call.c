@@ -83,6 +83,32 @@ static void nulls_of_segments(void) {
     let_go(&segment, &recorder);
 }
 
+static void nulls_of_sums(void) {
+    struct povundiri_handle sums = {0};
+    uint64_t words[16] = {0};
+    char text[16];
+    ANSWERS(NULL, povundiri_sums_new(NULL));
+    DONE(povundiri_sums_new(&sums));
+    ANSWERS(NULL, povundiri_sums_add(NULL, 0, words, 16));
+    ANSWERS(NULL, povundiri_sums_add(&sums, 0, NULL, 1));
+    ANSWERS(IMAGE_TOO_SHORT, povundiri_sums_add(&sums, 0, NULL, 0));
+    ANSWERS(NULL, povundiri_sums_add_totals(NULL, text, 0, NULL));
+    ANSWERS(NULL, povundiri_sums_add_totals(&sums, NULL, 1, NULL));
+    ANSWERS(BAD_TOTALS, povundiri_sums_add_totals(&sums, NULL, 0, NULL));
+    ANSWERS(NULL, povundiri_sums_append(NULL, &sums));
+    ANSWERS(NULL, povundiri_sums_append(&sums, NULL));
+    ANSWERS(NULL, povundiri_sums_report(NULL, text, 16, NULL));
+    ANSWERS(NULL, povundiri_sums_report(&sums, NULL, 1, NULL));
+    ANSWERS(NULL, povundiri_sums_totals(NULL, text, 16, NULL));
+    ANSWERS(NULL, povundiri_sums_totals(&sums, NULL, 1, NULL));
+    ANSWERS(NULL, povundiri_sums_export(NULL, NULL, text, 16, NULL));
+    ANSWERS(NULL, povundiri_sums_export(&sums, NULL, NULL, 1, NULL));
+    ANSWERS(NULL, povundiri_sums_show(NULL, 0, text, 16, NULL));
+    ANSWERS(NULL, povundiri_sums_show(&sums, 0, NULL, 1, NULL));
+    ANSWERS(NULL, povundiri_sums_drop(NULL));
+    DONE(povundiri_sums_drop(&sums));
+}
+
 static void nulls_of_histograms(void) {
     const struct povundiri_spec sparse = {POVUNDIRI_SPARSE, 0, 0, 0};
     struct povundiri_handle segment, recorder;
@@ -161,6 +187,48 @@ static void asks_for_a_segment(struct povundiri_handle *it, struct povundiri_han
     HOLDS(povundiri_lend(it, recorder, 1) == status);
     HOLDS(povundiri_join(it, recorder) == status);
     HOLDS(povundiri_outstanding(it, &number) == status);
+}
+
+/* Every call of a sum is made with this handle, and answers this status. */
+static void asks_for_a_sum(struct povundiri_handle *it, struct povundiri_handle *sums, uint32_t status) {
+    uint64_t words[16] = {0};
+    char text[16];
+    size_t needed = 9, line = 9;
+    HOLDS(povundiri_sums_add(it, 0, words, 16) == status);
+    HOLDS(povundiri_sums_add_totals(it, text, 0, &line) == status && line == 0);
+    HOLDS(povundiri_sums_append(it, sums) == status);
+    HOLDS(povundiri_sums_append(sums, it) == status);
+    HOLDS(povundiri_sums_append(it, it) == status);
+    HOLDS(povundiri_sums_report(it, text, 16, &needed) == status);
+    HOLDS(povundiri_sums_totals(it, text, 16, &needed) == status);
+    HOLDS(povundiri_sums_export(it, NULL, text, 16, &needed) == status);
+    HOLDS(povundiri_sums_show(it, 0, text, 16, &needed) == status);
+    HOLDS(needed == 9);
+}
+
+static void handles_of_sums(void) {
+    struct povundiri_handle segment, recorder, none = {0}, sums = {0};
+    uint32_t number;
+    made(&segment, &recorder);
+    DONE(povundiri_sums_new(&sums));
+    ANSWERS(NOT_EMPTY, povundiri_sums_new(&sums));
+    ANSWERS(NOT_EMPTY, povundiri_sums_new(&segment));
+    ANSWERS(NOT_EMPTY, povundiri_create(shape_of(WORDS, PAGE), &sums));
+    asks_for_a_sum(&none, &sums, POVUNDIRI_EMPTY);
+    asks_for_a_sum(&segment, &sums, POVUNDIRI_OTHER_KIND);
+    asks_for_a_sum(&recorder, &sums, POVUNDIRI_OTHER_KIND);
+    asks_for_a_recorder(&sums, POVUNDIRI_OTHER_KIND);
+    asks_for_a_segment(&sums, &recorder, POVUNDIRI_OTHER_KIND);
+    ANSWERS(OTHER_KIND, povundiri_join(&segment, &sums));
+    ANSWERS(OTHER_KIND, povundiri_lend(&segment, &sums, 1));
+    ANSWERS(OTHER_KIND, povundiri_units(&sums, &number));
+    HOLDS(sums.full);
+    DONE(povundiri_sums_drop(&sums));
+    HOLDS(!sums.full);
+    ANSWERS(EMPTY, povundiri_sums_drop(&sums));
+    DONE(povundiri_sums_new(&sums));
+    DONE(povundiri_drop(&sums));
+    let_go(&segment, &recorder);
 }
 
 static void other_handles(void) {
@@ -759,6 +827,164 @@ static void shows(void) {
     ANSWERS(IMAGE_TOO_SHORT, povundiri_show(words, 15, 0, text, REPORT, &needed));
 }
 
+/* The totals of the same image under the number 4, of itself twice, and its report then, by hand. */
+static const char TOTALS[] =
+    "totals,1\nimages,1,0,0,0,0\nhist,b,1,4,5,0,5,boolean\nkey,0,0,0\nkey,1,5,0\nkey,2,0,0\nhist,s,1,4,-6,0,2,sparse\nkey,-3,2,0\nend,2\n";
+static const char TWICE[] =
+    "totals,1\nimages,2,0,0,0,0\nhist,b,2,4,10,0,10,boolean\nkey,0,0,0\nkey,1,10,0\nkey,2,0,0\nhist,s,2,4,-12,0,4,sparse\nkey,-3,4,0\n"
+    "end,2\n";
+static const char REPORTED_TWICE[] = "b,boolean,1,2,10\nb,total,10,10\ns,sparse,-3,-2,4\ns,total,4,-12\n!images,2\n";
+static const char NO_IMAGES[] = "totals,1\nimages,0,0,0,0,0\nend,0\n";
+
+/* Each call of a text. */
+typedef uint32_t text_call(struct povundiri_handle *sums, char *text, size_t room, size_t *needed);
+
+static uint32_t usual_export(struct povundiri_handle *sums, char *text, size_t room, size_t *needed) {
+    return povundiri_sums_export(sums, NULL, text, room, needed);
+}
+
+static uint32_t usual_show(struct povundiri_handle *sums, char *text, size_t room, size_t *needed) {
+    return povundiri_sums_show(sums, 0, text, room, needed);
+}
+
+/* A sum has this text; an array that is a byte too short for it stays as it was. */
+static void says(int line, struct povundiri_handle *sums, text_call *call, const char *wanted) {
+    const size_t length = strlen(wanted);
+    char text[REPORT];
+    size_t needed = 9;
+    memset(text, '?', sizeof text);
+    if (length > 0) {
+        check_status(line, "too short", POVUNDIRI_SHORT, call(sums, text, length - 1, &needed));
+        check(line, "too short", needed == length && text[0] == '?');
+    }
+    check_status(line, "a text", POVUNDIRI_DONE, call(sums, text, length, &needed));
+    check(line, "a text", needed == length && memcmp(text, wanted, length) == 0 && text[length] == '?');
+    check_status(line, "a text", POVUNDIRI_DONE, call(sums, text, REPORT, NULL));
+}
+
+#define SAYS(sums, call, wanted) says(__LINE__, sums, call, wanted)
+
+/* The sum of an image has the texts of the image; of the image twice it has twice as much, whether it was added twice, or appended. */
+static void sums_of_images(void) {
+    struct povundiri_handle sums = {0}, other = {0};
+    uint64_t words[WORDS];
+    image_of(words, 2);
+    DONE(povundiri_sums_new(&sums));
+    SAYS(&sums, povundiri_sums_report, "");
+    SAYS(&sums, povundiri_sums_totals, NO_IMAGES);
+    DONE(povundiri_sums_add(&sums, 4, words, WORDS));
+    SAYS(&sums, povundiri_sums_report, EXPECTED);
+    SAYS(&sums, povundiri_sums_totals, TOTALS);
+    SAYS(&sums, usual_export, METRICS("povundiri"));
+    SAYS(&sums, usual_show, SHOWN(BLANKS_49, BLOCKS_49));
+    DONE(povundiri_sums_new(&other));
+    DONE(povundiri_sums_append(&other, &sums));
+    DONE(povundiri_sums_append(&other, &other));
+    SAYS(&sums, povundiri_sums_totals, TOTALS);
+    SAYS(&other, povundiri_sums_totals, TWICE);
+    DONE(povundiri_sums_add(&sums, 9, words, WORDS));
+    SAYS(&sums, povundiri_sums_totals, TWICE);
+    SAYS(&sums, povundiri_sums_report, REPORTED_TWICE);
+    DONE(povundiri_sums_drop(&other));
+    SAYS(&sums, povundiri_sums_totals, TWICE);
+    DONE(povundiri_sums_drop(&sums));
+}
+
+static void texts_of_sums(void) {
+    static const char *const BAD[] = {"", "9a", "a-b", "a b", "a:b", "\303\244", "a\n"};
+    struct povundiri_handle sums = {0};
+    uint64_t words[WORDS];
+    char text[REPORT];
+    size_t needed = 9, i;
+    image_of(words, 2);
+    DONE(povundiri_sums_new(&sums));
+    DONE(povundiri_sums_add(&sums, 0, words, WORDS));
+    memset(text, '?', sizeof text);
+    for (i = 0; i < sizeof BAD / sizeof BAD[0]; i += 1) ANSWERS(BAD_PREFIX, povundiri_sums_export(&sums, BAD[i], text, REPORT, &needed));
+    HOLDS(needed == 9 && text[0] == '?');
+    DONE(povundiri_sums_export(&sums, "_my9", text, REPORT, &needed));
+    HOLDS(needed == sizeof METRICS("_my9") - 1 && memcmp(text, METRICS("_my9"), needed) == 0);
+    DONE(povundiri_sums_show(&sums, 40, text, REPORT, &needed));
+    HOLDS(needed == sizeof SHOWN(BLANKS_9, BLOCKS_9) - 1 && memcmp(text, SHOWN(BLANKS_9, BLOCKS_9), needed) == 0);
+    DONE(povundiri_sums_drop(&sums));
+}
+
+/* What is refused leaves the sum as it was. */
+static void refused_images(void) {
+    static const uint32_t AT[] = {0, 1, 3, 2, 5, 5, 7, 13}, WORD[] = {1, 3, 65, 2048, 0, 2, 15, 0};
+    static const uint32_t FAULT[] = {POVUNDIRI_IMAGE_BAD_COOKIE, POVUNDIRI_IMAGE_BAD_VERSION, POVUNDIRI_IMAGE_BAD_PAGE,
+                                     POVUNDIRI_IMAGE_BAD_SIZE,   POVUNDIRI_IMAGE_NOT_READY,   POVUNDIRI_IMAGE_DELETED,
+                                     POVUNDIRI_IMAGE_BAD_FREE,   POVUNDIRI_IMAGE_BAD_QUEUE};
+    struct povundiri_handle sums = {0};
+    uint64_t words[WORDS], changed[WORDS];
+    size_t i;
+    image_of(words, 1);
+    DONE(povundiri_sums_new(&sums));
+    DONE(povundiri_sums_add(&sums, 4, words, WORDS));
+    for (i = 0; i < sizeof AT / sizeof AT[0]; i += 1) {
+        memcpy(changed, words, sizeof words);
+        changed[AT[i]] = WORD[i];
+        check_status((int)AT[i], "povundiri_sums_add", FAULT[i], povundiri_sums_add(&sums, 5, changed, WORDS));
+    }
+    ANSWERS(IMAGE_TOO_SHORT, povundiri_sums_add(&sums, 5, words, 15));
+    SAYS(&sums, povundiri_sums_totals, TOTALS);
+    DONE(povundiri_sums_drop(&sums));
+}
+
+/* What a sum writes is read back as the same, and what is no totals is refused, with the number of a line. */
+static void totals_again(void) {
+    static const char *const BAD[] = {"", "totals,2\n", "totals,1\n", "totals,1\nimages,1,0,0,0,0\nend,1\n",
+                                      "totals,1\nimages,01,0,0,0,0\nend,0\n", "totals,1\nimages,1,0,0,0,0\nend,0"};
+    static const char OUT_OF_ORDER[] =
+        "totals,1\nimages,1,0,0,0,0\nhist,s,1,4,-6,0,2,sparse\nkey,-3,2,0\nhist,b,1,4,5,0,5,boolean\nkey,0,0,0\nkey,1,5,0\nkey,2,0,0\n"
+        "end,2\n";
+    static const char FOLDED[] = "totals,1\nimages,0,0,0,0,0\nof,3,77\nof,4,18446744073709551615\nfold,4\nend,0\n";
+    struct povundiri_handle sums = {0};
+    size_t line = 9, i;
+    DONE(povundiri_sums_new(&sums));
+    DONE(povundiri_sums_add_totals(&sums, TOTALS, sizeof TOTALS - 1, &line));
+    HOLDS(line == 0);
+    SAYS(&sums, povundiri_sums_totals, TOTALS);
+    for (i = 0; i < sizeof BAD / sizeof BAD[0]; i += 1) {
+        line = 0;
+        ANSWERS(BAD_TOTALS, povundiri_sums_add_totals(&sums, BAD[i], strlen(BAD[i]), &line));
+        HOLDS(line > 0 && line < 5);
+    }
+    ANSWERS(BAD_TOTALS, povundiri_sums_add_totals(&sums, OUT_OF_ORDER, sizeof OUT_OF_ORDER - 1, NULL));
+    SAYS(&sums, povundiri_sums_totals, TOTALS);
+    DONE(povundiri_sums_add_totals(&sums, FOLDED, sizeof FOLDED - 1, &line));
+    SAYS(&sums, povundiri_sums_totals, TOTALS);
+    DONE(povundiri_sums_add_totals(&sums, TOTALS, sizeof TOTALS - 1, &line));
+    SAYS(&sums, povundiri_sums_totals, TWICE);
+    DONE(povundiri_sums_drop(&sums));
+}
+
+/* Totals that would not fit are refused, and the sum is as it was: the units of a histogram together, and how many images there are. */
+static void too_many(void) {
+    static const char UNITS[] =
+        "totals,1\nimages,1,0,0,0,0\nhist,n,1,0,0,0,0,boolean\nkey,0,18446744073709551614,0\nkey,1,1,0\nkey,2,0,0\nend,1\n";
+    static const char ONE[] = "totals,1\nimages,1,0,0,0,0\nhist,n,1,0,0,0,0,boolean\nkey,0,0,0\nkey,1,0,0\nkey,2,1,0\nend,1\n";
+    static const char IMAGES[] = "totals,1\nimages,18446744073709551615,0,0,0,0\nend,0\n";
+    struct povundiri_handle sums = {0}, other = {0};
+    uint64_t words[WORDS];
+    size_t line = 9;
+    image_of(words, 2);
+    DONE(povundiri_sums_new(&sums));
+    DONE(povundiri_sums_new(&other));
+    DONE(povundiri_sums_add_totals(&sums, UNITS, sizeof UNITS - 1, NULL));
+    ANSWERS(TOO_MANY, povundiri_sums_add_totals(&sums, ONE, sizeof ONE - 1, &line));
+    HOLDS(line == 0);
+    ANSWERS(TOO_MANY, povundiri_sums_append(&sums, &sums));
+    SAYS(&sums, povundiri_sums_totals, UNITS);
+    DONE(povundiri_sums_add_totals(&other, IMAGES, sizeof IMAGES - 1, NULL));
+    ANSWERS(TOO_MANY, povundiri_sums_append(&sums, &other));
+    ANSWERS(TOO_MANY, povundiri_sums_add(&other, 0, words, WORDS));
+    SAYS(&sums, povundiri_sums_totals, UNITS);
+    SAYS(&other, povundiri_sums_totals, IMAGES);
+    DONE(povundiri_sums_drop(&sums));
+    DONE(povundiri_sums_drop(&other));
+}
+
 /* A look at a segment that nobody changes is its image. */
 static void looks(void) {
     struct povundiri_shape moving = {WORDS, PAGE, 7, 0, 1};
@@ -876,6 +1102,8 @@ static const struct test TESTS[] = {
     {"nulls_of_segments", nulls_of_segments},
     {"nulls_of_histograms", nulls_of_histograms},
     {"nulls_of_recorders", nulls_of_recorders},
+    {"nulls_of_sums", nulls_of_sums},
+    {"handles_of_sums", handles_of_sums},
     {"other_handles", other_handles},
     {"ended", ended},
     {"shapes", shapes},
@@ -901,6 +1129,11 @@ static const struct test TESTS[] = {
     {"bounded_reports", bounded_reports},
     {"exports", exports},
     {"shows", shows},
+    {"sums_of_images", sums_of_images},
+    {"texts_of_sums", texts_of_sums},
+    {"refused_images", refused_images},
+    {"totals_again", totals_again},
+    {"too_many", too_many},
     {"looks", looks},
     {"adopted", adopted},
     {"threads", threads},

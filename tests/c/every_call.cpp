@@ -109,6 +109,61 @@ void statuses() {
     RETURNS(Empty, segment.try_close(image));
 }
 
+// The sum of an image has its report; one that was moved from, or never used, is that of no images.
+void sums() {
+    Segment segment;
+    Recorder recorder;
+    Hist boolean, sparse;
+    std::vector<std::uint64_t> image;
+    DONE(Segment::try_create(kShape, segment));
+    DONE(segment.try_recorder(recorder));
+    DONE(recorder.try_boolean("b", boolean));
+    DONE(recorder.try_sparse("s", sparse));
+    DONE(recorder.try_add(boolean, true, 5));
+    DONE(recorder.try_add(sparse, -3, 2));
+    DONE(segment.try_join(recorder));
+    DONE(segment.try_close(image));
+    povundiri::Sums sums, other;
+    std::string text, totals, own;
+    std::size_t line = 9;
+    DONE(povundiri::try_report(image, own));
+    DONE(sums.try_add(4, image));
+    RETURNS(ImageTooShort, sums.try_add(5, {image.data(), 15}));
+    DONE(sums.try_report(text));
+    HOLDS(text == own);
+    DONE(sums.try_totals(totals));
+    HOLDS(totals.find("totals,1\nimages,1,0,0,0,0\nhist,b,1,4,5,0,5,boolean\n") == 0);
+    DONE(povundiri::try_export_text(image, own, "my"));
+    DONE(sums.try_export_text(text, "my"));
+    HOLDS(text == own);
+    RETURNS(BadPrefix, sums.try_export_text(text, "a:b"));
+    DONE(povundiri::try_show_text(image, own, 40));
+    DONE(sums.try_show_text(text, 40));
+    HOLDS(text == own);
+    RETURNS(BadTotals, other.try_add_totals("totals,2\n", &line));
+    HOLDS(line == 1);
+    DONE(other.try_add_totals(totals, &line));
+    HOLDS(line == 0);
+    DONE(other.try_append(sums));
+    DONE(other.try_append(other));
+    DONE(other.try_report(text));
+    HOLDS(text == "b,boolean,1,2,20\nb,total,20,20\ns,sparse,-3,-2,8\ns,total,8,-24\n!images,4\n");
+    povundiri::Sums moved(std::move(sums));
+    DONE(moved.try_totals(text));
+    HOLDS(text == totals);
+    DONE(sums.try_report(text));
+    HOLDS(text.empty());
+    sums = std::move(moved);
+    DONE(sums.try_totals(text));
+    HOLDS(text == totals);
+    DONE(moved.try_append(sums));
+    moved.reset();
+    DONE(moved.try_totals(text));
+    HOLDS(text == "totals,1\nimages,0,0,0,0,0\nend,0\n");
+    DONE(moved.try_add_totals("totals,1\nimages,18446744073709551615,0,0,0,0\nend,0\n"));
+    RETURNS(TooMany, moved.try_add(0, image));
+}
+
 void corrupt() {
     Segment segment;
     Recorder recorder;
@@ -247,6 +302,20 @@ std::string thrown(const Call& call, Status wanted) {
 
 #define THROWS(status, what, call) HOLDS(thrown([&] { call; }, Status::status) == (what))
 
+void exceptions_of_sums(const std::vector<std::uint64_t>& image) {
+    povundiri::Sums sums, other;
+    sums.add(0, image);
+    HOLDS(sums.report() == kReport && sums.export_text() == povundiri::export_text(image) && sums.show_text() == povundiri::show_text(image));
+    other.add_totals(sums.totals());
+    other.append(sums);
+    HOLDS(other.totals().find("\nimages,2,0,0,0,0\n") != std::string::npos);
+    THROWS(ImageTooShort, "add, image 7: TooShort", sums.add(7, {}));
+    THROWS(BadTotals, "add_totals, line 1: BadTotals", sums.add_totals("total"));
+    THROWS(BadPrefix, "export_text: BadPrefix", sums.export_text(""));
+    other.add_totals("totals,1\nimages,18446744073709551613,0,0,0,0\nend,0\n");
+    THROWS(TooMany, "append: Sums TooMany", other.append(sums));
+}
+
 void exceptions() {
     Memory memory(kBytes);
     Segment segment(kShape, memory.room());
@@ -295,6 +364,7 @@ void exceptions() {
     heap.join(one);
     THROWS(Empty, "limit_indexes, entries 1: EmptyHandle", one.limit_indexes(1));
     HOLDS(povundiri::report(heap.close()) == std::string(kReport) + "!flag,corrupt\n");
+    exceptions_of_sums(image);
     // The system's faults are its own.
     try {
         const povundiri::Opened opened = Segment::open("/nowhere/file", kShape, povundiri::Policy::AdoptOrFail);
@@ -330,6 +400,7 @@ void threads() {
 
 int main() {
     int failed = group("statuses", statuses);
+    failed += group("sums", sums);
     failed += group("corrupt", corrupt);
     failed += group("moves", moves);
     failed += group("names", names);

@@ -116,6 +116,39 @@ static void each_allocation(void) {
     free(memory);
 }
 
+/* The sum of an image, of itself twice, and of what it wrote, each with every allocation refused: what is added is added once. */
+static void each_of_sums(void) {
+    static const char expected[] = "b,boolean,1,2,12\nb,total,12,12\ns,sparse,-3,-2,8\ns,total,8,-24\n!images,4\n";
+    const struct povundiri_shape shape = {WORDS, PAGE, 7, 0, 2};
+    struct povundiri_handle segment = {0}, recorder = {0}, sums = {0}, other = {0};
+    uint64_t words[WORDS];
+    size_t hist = 0, needed = 0, length = 0;
+    char text[4096], totals[4096];
+    DONE(povundiri_create(shape, &segment));
+    DONE(povundiri_recorder(&segment, 100, &recorder));
+    DONE(povundiri_hist_boolean(&recorder, "b", &hist));
+    DONE(povundiri_add(&recorder, hist, 1, 3));
+    DONE(povundiri_hist_sparse(&recorder, "s", &hist));
+    DONE(povundiri_add(&recorder, hist, -3, 2));
+    DONE(povundiri_join(&segment, &recorder));
+    DONE(povundiri_close(&segment, words, WORDS, NULL));
+    REFUSE_EACH(povundiri_sums_new(&sums));
+    REFUSE_EACH(povundiri_sums_add(&sums, 0, words, WORDS));
+    REFUSE_EACH(povundiri_sums_new(&other));
+    REFUSE_EACH(povundiri_sums_append(&other, &sums));
+    REFUSE_EACH(povundiri_sums_append(&other, &other));
+    REFUSE_EACH(povundiri_sums_totals(&sums, totals, sizeof totals, &length));
+    REFUSE_EACH(povundiri_sums_add_totals(&other, totals, length, NULL));
+    REFUSE_EACH(povundiri_sums_append(&other, &sums));
+    REFUSE_EACH(povundiri_sums_export(&other, NULL, text, sizeof text, &needed));
+    REFUSE_EACH(povundiri_sums_show(&other, 0, text, sizeof text, &needed));
+    REFUSE_EACH(povundiri_sums_report(&other, text, sizeof text, &needed));
+    HOLDS(needed == sizeof expected - 1 && memcmp(text, expected, needed) == 0);
+    ASKS_FOR_NONE(povundiri_sums_drop(&sums));
+    ASKS_FOR_NONE(povundiri_sums_drop(&other));
+    HOLDS(blocks == 0);
+}
+
 /* A segment in the heap, and a recorder with a sparse histogram in it. */
 struct sparse {
     struct povundiri_handle segment, recorder;
@@ -348,7 +381,7 @@ static void limits_change(void) {
 }
 
 int main(void) {
-    return group("each allocation", each_allocation) + group("a second value of a sparse histogram", second_value) +
+    return group("each allocation", each_allocation) + group("each allocation of sums", each_of_sums) + group("a second value of a sparse histogram", second_value) +
            group("a batch of values of a sparse histogram", batch_of_values) +
            group("a second recorder of a sparse histogram", second_recorder) +
            group("a limit of the entries of samples", limited_values) +

@@ -8,16 +8,17 @@ The programs are in `tests/c`. Each prints a line for each group of its checks.
 from __future__ import annotations
 
 import argparse
+import collections
 import functools
 import os
 import pathlib
 import re
 import tempfile
 from collections.abc import Callable, Iterator, Sequence
-from typing import Optional
+from typing import Any, Optional
 
 from parts import known
-from support import compiling, native, plain_export, plain_show, services
+from support import compiling, native, plain_export, plain_reader, plain_show, services
 from support.program import ROOT, Answer, Case, Path, answer, difference
 
 PROGRAM = "persist_report"
@@ -124,6 +125,58 @@ def texts(installed: native.Installed) -> Iterator[Case]:
             yield f"{image.name}, its {what}", difference(Answer(*wanted), answer(program, words))
 
 
+def is_summed(data: bytes) -> bool:
+    """Whether an image has a report without a fault, a flag or a redundant count of its own: that of its sum is the
+    same then."""
+    output, error, _ = plain_reader.answer(data)
+    return not error and b"\n!" not in b"\n" + output
+
+
+def plain_sum(images: Sequence[bytes]) -> bytes:
+    """The report of the sum of such images, in their order, by a plain reader: a histogram of each name has all units
+    of its name and spec, and is that of the first image that has the name."""
+    sums: dict[bytes, dict[tuple[int, ...], list[Any]]] = {}
+    for data in images:
+        for name, histogram in plain_reader.reading_of(data, collections.Counter())[0].items():
+            specs = sums.setdefault(name, {})
+            kind, buckets, total, count = specs.setdefault(tuple(histogram["spec"]), [histogram["kind"], {}, 0, 0])
+            for low, (high, units) in histogram["buckets"].items():
+                buckets[low] = (high, buckets.get(low, (high, 0))[1] + units)
+            specs[tuple(histogram["spec"])] = [kind, buckets, total + histogram["sum"], count + 1]
+    lines, others = [], []
+    for name in sorted(sums):
+        first = next(iter(sums[name]))
+        kind, buckets, total, _ = sums[name].pop(first)
+        units = {low: (high, count) for low, (high, count) in sorted(buckets.items()) if count}
+        shown = name.decode()
+        lines += [f"{shown},{plain_reader.KINDS[kind]},{low},{high},{count}" for low, (high, count) in units.items()]
+        lines.append(f"{shown},total,{sum(count for _, count in units.values())},{total}")
+        others += [
+            f"!other,{shown},{images_of},{sum(count for _, count in buckets.values())}"
+            for _, (_, buckets, _, images_of) in sorted(sums[name].items())
+        ]
+    ending = [f"!images,{len(images)}"] if len(images) > 1 else []
+    return "".join(f"{line}\n" for line in [*lines, *ending, *others]).encode()
+
+
+def sums(installed: native.Installed) -> Iterator[Case]:
+    """Sums of known images: of one its report, of several the plain sum."""
+    try:
+        program = installed.program(native.PROGRAMS / "texts.c", *native.SANITIZED)
+    except native.Failed as why:
+        yield "texts.c", str(why)
+        return
+    lawful = [path for path in sorted(known.FOLDER.glob("*.img")) if is_summed(path.read_bytes())]
+    for image in lawful:
+        yield f"{image.name}, its sum", difference(known.wanted_of(image), answer(program, ["sum", image]))
+    for first in range(0, len(lawful) - 3, 3):
+        files = [lawful[first], *lawful[first + 1 : first + 3], lawful[first]]
+        wanted = plain_sum([path.read_bytes() for path in files])
+        yield f"{files[0].name} and others, their sum", difference(Answer(wanted), answer(program, ["sum", *files]))
+    faulty = next(path for path in sorted(known.FOLDER.glob("*.img")) if plain_reader.answer(path.read_bytes())[1])
+    yield "a sum with a fault", difference(known.wanted_of(faulty), answer(program, ["sum", lawful[0], faulty]))
+
+
 def report_in(program: Path, file: pathlib.Path) -> Answer:
     """The report of the segment that stands at byte 8 of a file, or what was said in its place."""
     image = file.with_suffix(".img")
@@ -213,6 +266,7 @@ def cases(program: pathlib.Path, options: argparse.Namespace) -> Iterator[Case]:
             own.mkdir()
             yield from checked(installed, name, flags, own if works else None)
         yield from texts(installed)
+        yield from sums(installed)
         for name, test in examples(installed, program, folder):
             yield name, wrong_of(test)
         yield from services.cases(installed, program, folder, report_in)

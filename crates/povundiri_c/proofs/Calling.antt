@@ -38,6 +38,7 @@ of_recorder empty other g f Calls each (Some (contents.Recorder joinable)) new a
     (subst (λ (one : JoinableRecorder). (does.left.now.mailbox ≡ one.mailbox) × Calls one.owned answer does.left.now.owned) does.shows (each does.shown does.left answer does.met)) in
     (after, same, (mine, is, made.0, made.1))
 of_recorder empty other g f Calls each (Some (contents.Segment owned)) new answer is = is
+of_recorder empty other g f Calls each (Some (contents.Sums sums)) new answer is = is
 of_recorder empty other g f Calls each (Some contents.Nothing) new answer is = is
 
 -- the same, where a status has a length beside it

@@ -27,6 +27,7 @@ use Rattle.povundiri_c.specs.Mailbox.{BelongsTo, HasMetRecorder}
 abbrev pub BySegment : {A : Type 0} → A → (OwnedSegment → A → OwnedSegment → Type 0) → Contents → A → Contents → Type 0
 BySegment other Calls (contents.Segment owned) answer new = (after : OwnedSegment) × (new ≡ contents.Segment after) × Calls owned answer after
 BySegment other Calls (contents.Recorder joinable) answer new = (answer ≡ other) × (new ≡ contents.Recorder joinable)
+BySegment other Calls (contents.Sums sums) answer new = (answer ≡ other) × (new ≡ contents.Sums sums)
 BySegment other Calls contents.Nothing answer new = (answer ≡ other) × (new ≡ contents.Nothing)
 
 -- one that returns a value or a status
@@ -190,6 +191,7 @@ JoinsOrLends (Lend units) = Lends units
 abbrev pub recorder_in : Contents → Option JoinableRecorder
 recorder_in (contents.Recorder joinable) = Some joinable
 recorder_in (contents.Segment owned) = None
+recorder_in (contents.Sums sums) = None
 recorder_in contents.Nothing = None
 
 -- What is passed and is no recorder comes back for that, and the segment is unchanged; else the recorder is served, and may come back. What

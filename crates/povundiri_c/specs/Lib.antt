@@ -10,3 +10,4 @@ pub mod Segments
 pub mod Status
 pub mod Mailbox
 pub mod Looks
+pub mod Sums

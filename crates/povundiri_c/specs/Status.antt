@@ -11,6 +11,8 @@ use Rattle.segment_calls.specs.declared.adopt_fault.AdoptFault.TheVariants.{Imag
 use Rattle.segment_calls.specs.Faults.{adopt_fault_number}
 use Rattle.segment_calls.specs.declared.open_fault.OpenFault.{OpenFault}
 use Rattle.segment_calls.specs.Faults.{open_fault_number}
+use Rattle.reading_sums.specs.declared.fault.SumsFault.{SumsFault}
+use Rattle.reading_sums.specs.declared.fault.SumsFault.TheVariants.{NoMemory, TooMany}
 
 -- of a call that is refused; for a spec with a fault, that fault's own
 abbrev pub status_of_refusal : Refusal → ℕ
@@ -29,3 +31,8 @@ status_of_image_fault fault = 500 + image_fault_number fault
 abbrev pub status_of_adopt_fault : AdoptFault → ℕ
 status_of_adopt_fault (Image fault) = status_of_image_fault fault
 status_of_adopt_fault fault = 300 + adopt_fault_number fault
+
+-- of a sum that was not added to
+abbrev pub status_of_sums_fault : SumsFault → ℕ
+status_of_sums_fault NoMemory = 13
+status_of_sums_fault TooMany = 19

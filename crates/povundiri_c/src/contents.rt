@@ -5,21 +5,26 @@ ghost use Rattle.std.specs.Fn.{FnOnceReturnsAtMut};
 ghost use Rattle.povundiri_c.specs.Calls.{ByRecorder, OnRecorder, outstanding_in, units_of};
 ghost use Rattle.povundiri_c.specs.Joins.{BySegment, GivesRecorder, ServesContents, recorder_in};
 ghost use Rattle.povundiri_c.specs.Looks.{IsLookIn};
-ghost use Rattle.povundiri_c.specs.Recorders.{Adds, AtPlace};
+ghost use Rattle.povundiri_c.specs.Recorders.{Adds, AtPlace, refused_with};
 ghost use Rattle.povundiri_c.specs.Segments.{AnswersClose};
+ghost use Rattle.povundiri_c.specs.Sums.{AddsImage, AddsOther, AddsTotalsText, AskedOfSums, BySums, IsSumExport, IsReportAsked, IsSumShow, IsTextOrStatus, IsTotalsOrStatus, sums_in};
 
 use crate::joinable_recorder::JoinableRecorder;
 use crate::owned_segment::{JoinOrLend, OwnedSegment};
 use crate::status::{IN_USE, OTHER_KIND, Refused, SHORT};
+use crate::sums::{add_image, add_other, add_totals, text_of_sums, totals_of_sums};
+use crate::texts::TextAsked;
 use core::mem::replace_with;
 use live_segment::Image;
+use reading_sums::Sums;
 use std::alloc::Global;
 
-/// A segment, or a recorder; or nothing, while a call takes it out.
+/// A segment, a recorder, or a sum; or nothing, while a call takes it out.
 #[derive(Drop)]
 pub enum Contents {
     Segment(OwnedSegment),
     Recorder(JoinableRecorder),
+    Sums(Sums),
     Nothing,
 }
 
@@ -129,7 +134,7 @@ impl Contents {
         match self {
             Contents::Segment(owned) => Ok(owned.units()),
             Contents::Recorder(joinable) => Ok(joinable.owned.units()),
-            Contents::Nothing => Err(OTHER_KIND),
+            _ => Err(OTHER_KIND),
         }
     }
 
@@ -159,5 +164,89 @@ impl Contents {
             Contents::Recorder(joinable) => joinable.add(place, value, count),
             _ => OTHER_KIND,
         }
+    }
+
+    /// Adds an image to the sum, under a number.
+    pub(crate) fn add_image(&mut self, alloc: Global, number: u64, words: &[u64]) -> u32
+        ensures { BySums 5 (AddsImage number words.now) self.old result self.new }
+    {
+        match self {
+            Contents::Sums(sums) => add_image(alloc, sums, number, words),
+            _ => OTHER_KIND,
+        }
+    }
+
+    /// Adds what a text of totals says to the sum.
+    pub(crate) fn add_totals(&mut self, alloc: Global, text: &[u8]) -> Result<(), Refused>
+        ensures { BySums (Err (refused_with 5)) (AddsTotalsText text.now) self.old result self.new }
+    {
+        match self {
+            Contents::Sums(sums) => add_totals(alloc, sums, text),
+            _ => Err(Refused::of(OTHER_KIND)),
+        }
+    }
+
+    /// Adds another sum to the sum.
+    pub(crate) fn add_other(&mut self, other: &Contents) -> u32
+        ensures { BySums 5 (AddsOther (sums_in other.now)) self.old result self.new }
+    {
+        match self {
+            Contents::Sums(sums) => match other {
+                Contents::Sums(more) => add_other(sums, more),
+                _ => OTHER_KIND,
+            },
+            _ => OTHER_KIND,
+        }
+    }
+
+    /// The report of the sum.
+    pub(crate) fn sum_report(&mut self, alloc: Global) -> Result<Vec<u8>, u32>
+        ensures { AskedOfSums (IsTextOrStatus IsReportAsked) self.old result × (self.new ≡ self.old) }
+    {
+        match self {
+            Contents::Sums(sums) => text_of_sums(alloc, sums, TextAsked::Report),
+            _ => Err(OTHER_KIND),
+        }
+    }
+
+    /// The metrics of the sum, whose names begin with this prefix.
+    pub(crate) fn sum_metrics(&mut self, alloc: Global, prefix: &[u8]) -> Result<Vec<u8>, u32>
+        ensures { AskedOfSums (IsTextOrStatus (IsSumExport prefix.now)) self.old result × (self.new ≡ self.old) }
+    {
+        match self {
+            Contents::Sums(sums) => text_of_sums(alloc, sums, TextAsked::Export { prefix }),
+            _ => Err(OTHER_KIND),
+        }
+    }
+
+    /// The text of the sum for people, with so many cells in a line.
+    pub(crate) fn sum_shown(&mut self, alloc: Global, width: u16) -> Result<Vec<u8>, u32>
+        ensures { AskedOfSums (IsTextOrStatus (IsSumShow width)) self.old result × (self.new ≡ self.old) }
+    {
+        match self {
+            Contents::Sums(sums) => text_of_sums(alloc, sums, TextAsked::Show { width }),
+            _ => Err(OTHER_KIND),
+        }
+    }
+
+    // It, and the text of its totals, if it is a sum.
+    fn with_totals(self, alloc: Global) -> (Contents, Result<Vec<u8>, u32>)
+        ensures answer { AskedOfSums IsTotalsOrStatus self result.1 }
+        ensures same { result.0 ≡ self }
+    {
+        match self {
+            Contents::Sums(sums) => {
+                let (sums, text) = totals_of_sums(alloc, sums);
+                (Contents::Sums(sums), text)
+            }
+            other => (other, Err(OTHER_KIND)),
+        }
+    }
+
+    /// The text of the totals of the sum.
+    pub(crate) fn totals_of_sums(&mut self, alloc: Global) -> Result<Vec<u8>, u32>
+        ensures { AskedOfSums IsTotalsOrStatus self.old result × (self.new ≡ self.old) }
+    {
+        replace_with(self, alloc, Contents::with_totals)
     }
 }

@@ -5,3 +5,4 @@ mod reading;
 mod recording;
 mod reporting;
 mod segments;
+mod summing;

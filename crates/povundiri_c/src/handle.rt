@@ -5,6 +5,7 @@ ghost use Rattle.std.specs.Fn.{FnOnceReturnsAtMut};
 ghost use Rattle.povundiri_c.specs.Calls.{ByHandle, OnRecorder};
 ghost use Rattle.povundiri_c.specs.Joins.{AnswersPassed};
 ghost use Rattle.povundiri_c.specs.OpaqueBoxes.{is_some};
+ghost use Rattle.povundiri_c.specs.Sums.{AnswersAppend};
 
 use crate::contents::Contents;
 use crate::joinable_recorder::JoinableRecorder;
@@ -13,7 +14,7 @@ use crate::owned_segment::JoinOrLend;
 use crate::status::{EMPTY, NOT_EMPTY};
 use core::mem::replace;
 
-/// A segment, a recorder, or nothing. C begins with zeros.
+/// A segment, a recorder, a sum, or nothing. C begins with zeros.
 #[repr(C)]
 #[derive(Drop)]
 pub struct Handle {
@@ -74,6 +75,17 @@ impl Handle {
             return (EMPTY, Some(passed));
         }
         self.boxed.get_mut().serve(passed, request)
+    }
+
+    /// Adds the sum that another handle holds to its own. Either that holds nothing says so.
+    pub(crate) fn add_other(&mut self, other: &mut Handle) -> u32
+        ensures answer { AnswersAppend other.old.boxed.held self.old.boxed.held result self.new.boxed.held }
+        ensures same { other.new.boxed.held ≡ other.old.boxed.held }
+    {
+        if !self.full || !other.full {
+            return EMPTY;
+        }
+        self.boxed.get_mut().add_other(other.boxed.get_mut())
     }
 
     /// Calls what it holds, which stays where it is. A handle that holds nothing returns `empty`, and stays so.

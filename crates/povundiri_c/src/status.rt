@@ -3,9 +3,10 @@
 ghost use Rattle.std.specs.Prelude.{◌≡◌};
 ghost use Rattle.povundiri_c.specs.Looks.{status_of_look_fault};
 ghost use Rattle.povundiri_c.specs.Recorders.{refused_with};
-ghost use Rattle.povundiri_c.specs.Status.{status_of_refusal, status_of_open_fault, status_of_adopt_fault, status_of_image_fault};
+ghost use Rattle.povundiri_c.specs.Status.{status_of_refusal, status_of_open_fault, status_of_adopt_fault, status_of_image_fault, status_of_sums_fault};
 
 use live_segment::{AdoptFault, OpenFault, Refusal};
+use reading_sums::SumsFault;
 use segment_image::ImageFault;
 use segment_looks::LookFault;
 
@@ -57,11 +58,17 @@ pub(crate) const TOO_MANY_KEYS: u32 = 17;
 /// No name of a metric may begin with the prefix.
 pub(crate) const BAD_PREFIX: u32 = 18;
 
+/// A total of the sum would not fit.
+pub(crate) const TOO_MANY: u32 = 19;
+
+/// The totals are those of no well-formed sum.
+pub(crate) const BAD_TOTALS: u32 = 20;
+
 /// A segment of version 1, which cannot be looked at: the number is that of an image which is not adopted for that.
 const OLD_VERSION: u32 = 302;
 
 /// Why a call is refused: its status, and a length: how much room is needed where the status is `SHORT`; of a batch, how many items were
-/// counted; else 0.
+/// counted; where the status is `BAD_TOTALS`, the number of a line; else 0.
 #[derive(Clone, Copy)]
 pub(crate) struct Refused {
     pub(crate) status: u32,
@@ -118,5 +125,15 @@ pub(crate) fn of_look_fault(fault: LookFault) -> u32
         LookFault::Image(fault) => of_image_fault(fault),
         LookFault::OldVersion => OLD_VERSION,
         LookFault::NoMemory => NO_MEMORY,
+    }
+}
+
+/// That of a sum that was not added to.
+pub(crate) fn of_sums_fault(fault: SumsFault) -> u32
+    ensures { result ≡ status_of_sums_fault fault }
+{
+    match fault {
+        SumsFault::NoMemory => NO_MEMORY,
+        SumsFault::TooMany => TOO_MANY,
     }
 }

@@ -24,8 +24,8 @@ pub(crate) enum TextAsked<'a> {
     Show { width: u16 },
 }
 
-// How histograms are drawn in lines of so many cells, 80 where 0 are asked for.
-fn style_of(width: u16) -> Style
+/// How histograms are drawn in lines of so many cells, 80 where 0 are asked for.
+pub(crate) fn style_of(width: u16) -> Style
     ensures { result ≡ style_asked width }
 {
     Style {

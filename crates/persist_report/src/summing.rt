@@ -91,24 +91,27 @@ pub fn add_from<R: Read>(
     Ok(damage.is_some())
 }
 
+// The fault of a look that failed.
+fn fault_of_look(failure: Failure) -> CliFault {
+    match failure {
+        Failure::Fault(fault) => fault,
+        Failure::Explained(fault, _lines) => fault,
+        _other => CliFault::Read,
+    }
+}
+
 // Adds the look at a file to a sum. Returns whether it is damaged.
 fn add_look<R: Files<File = File> + Input + AllocGlobal>(
     context: &Context<'_, R>,
     sums: &mut Sums,
     path: &str,
 ) -> Result<bool, InputFault> {
-    match look_at(context, path) {
-        Ok(bytes) => add_from(
-            context.alloc(),
-            sums,
-            InputKind::Image,
-            &mut Watched::new(bytes),
-        ),
-        Err(Failure::Fault(fault)) | Err(Failure::Explained(fault, _)) => {
-            Err(InputFault::Image(fault))
-        }
-        Err(_) => Err(InputFault::Image(CliFault::Read)),
-    }
+    let bytes = match look_at(context, path) {
+        Ok(bytes) => bytes,
+        Err(failure) => return Err(InputFault::Image(fault_of_look(failure))),
+    };
+    let mut reader = Watched::new(bytes);
+    add_from(context.alloc(), sums, InputKind::Image, &mut reader)
 }
 
 // Adds an input to a sum. Returns whether it is damaged.
@@ -131,7 +134,10 @@ fn add_named<R: Files<File = File> + Input + AllocGlobal>(
     match kind {
         InputKind::Other if name.is_found => Ok(false),
         InputKind::Image if is_live && path != DASH => add_look(context, sums, path),
-        _ => add_from(context.alloc(), sums, kind, &mut Watched::new(peeked)),
+        _ => {
+            let mut reader = Watched::new(peeked);
+            add_from(context.alloc(), sums, kind, &mut reader)
+        }
     }
 }
 

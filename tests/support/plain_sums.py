@@ -218,13 +218,18 @@ def sum_of(inputs: Iterable[tuple[T, bytes]]) -> tuple[Sum, list[tuple[T, str]]]
     return whole, left
 
 
+def shown(name: bytes) -> str:
+    """A name as the line of a fault has it: of a long one the first 64 bytes."""
+    return name.decode() if len(name) <= 64 else f"{name[:64].decode()}..."
+
+
 def less(name: bytes, part: Part, before: Part) -> Part:
     """What a part has more than an earlier one; raises that it fell."""
     units = {key: part.units.get(key, 0) - before.units.get(key, 0) for key in {**part.units, **before.units}}
     marks = {key: part.marks.get(key, 0) - before.marks.get(key, 0) for key in units}
     redundant = part.redundant - before.redundant
     if min([*units.values(), *marks.values(), redundant]) < 0:
-        raise Less(f"Fell {name.decode()}")
+        raise Less(f"Fell {shown(name)}")
     return dataclasses.replace(
         part,
         units={key: units[key] for key in part.units},
@@ -243,9 +248,9 @@ def since(now: Sum, old: Sum) -> Sum:
         if (name, spec) in now.parts:
             parts[name, spec] = less(name, now.parts[name, spec], before)
         elif any(other == name for other, _ in now.parts):
-            raise Less(f"OtherSpec {name.decode()}")
+            raise Less(f"OtherSpec {shown(name)}")
         elif any([*before.units.values(), *before.marks.values(), before.amounts, before.taken, before.redundant]):
-            raise Less(f"Fell {name.decode()}")
+            raise Less(f"Fell {shown(name)}")
     return dataclasses.replace(now, parts=parts)
 
 

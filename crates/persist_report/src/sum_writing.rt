@@ -1,6 +1,6 @@
 //! The texts of sums of inputs.
 
-ghost use Rattle.std.specs.Prelude.{◌≡◌, false, map, All, IfErr};
+ghost use Rattle.std.specs.Prelude.{◌≡◌, false, map, All, IfErr, IfOk};
 ghost use Rattle.image_reader.specs.Readable.{IsReadable};
 ghost use Rattle.image_reader.specs.Views.{histogram_view};
 ghost use Rattle.persist_report.specs.Failure.{UsageIsMistake};
@@ -217,7 +217,8 @@ fn make_composed<R: AllocGlobal>(
     is_damaged: bool,
     left: u64,
 ) -> Result<Composed, Failure>
-    ensures { IfErr result UsageIsMistake }
+    ensures mistake { IfErr result UsageIsMistake }
+    ensures wrong { IfOk result (λ composed. IfErr composed.wrong UsageIsMistake) }
 {
     let alloc = context.alloc();
     if !sums.is_well_formed()? {
@@ -247,7 +248,8 @@ fn compose<R: Files<File = File> + Input + Eprint + AllocGlobal + Threads + Sync
     names: &[Named],
     text: Text<'_>,
 ) -> Result<Composed, Failure>
-    ensures { IfErr result UsageIsMistake }
+    ensures mistake { IfErr result UsageIsMistake }
+    ensures wrong { IfOk result (λ composed. IfErr composed.wrong UsageIsMistake) }
 {
     let workers = inputs.workers.map_or(1, |workers| workers.count() as usize);
     let how = Reading {
@@ -278,6 +280,7 @@ fn write_composed<R: Files<File = File> + Clock + Print + RandomSource + AllocGl
     composed: Composed,
     to: Option<&str>,
 ) -> Result<(), Failure>
+    requires { IfErr composed.wrong UsageIsMistake }
     ensures { IfErr result UsageIsMistake }
 {
     let mut writer = open_out(context, to.unwrap_or(DASH))?;

@@ -1,5 +1,5 @@
 """Sums of many inputs, beside a plain sum (plain_sums.py): folders of forged images, lists of files, totals that are
-read again, and what came since an earlier sum; each text, for any number of workers."""
+read again, and what came since an earlier sum; each text."""
 
 from __future__ import annotations
 
@@ -16,7 +16,6 @@ from support.program import EXAMPLE, ROOT, Answer, Case, Word, answer, content, 
 PROGRAM = "persist_report"
 FOLDERS = 100
 MOST_IMAGES = 12
-WORKERS = (1, 2, 4, 16)
 CRASH = ROOT / "examples" / "crash.img"
 STOOD = b"what stood there before"
 MAPPED = 0.1
@@ -77,7 +76,7 @@ def filled(folder: pathlib.Path, chance: random.Random) -> list[tuple[pathlib.Pa
 
 
 def folders(program: pathlib.Path, top: pathlib.Path, seed: int | str) -> Iterator[Case]:
-    """Folders of forged images and totals: each text, for any number of workers."""
+    """Folders of forged images and totals: each text."""
     for number in range(FOLDERS):
         chance = random.Random(f"sums {seed} {number}")
         folder = top / f"folder {number}"
@@ -87,9 +86,6 @@ def folders(program: pathlib.Path, top: pathlib.Path, seed: int | str) -> Iterat
             title = f"folder {number} of seed {seed}, {' '.join(words)}"
             wanted = wanted_of(text, left)
             yield title, difference(wanted, answer(program, [words[0], folder, *words[1:]]))
-            workers = str(chance.choice(WORKERS))
-            came = answer(program, [words[0], folder, *words[1:], "--workers", workers])
-            yield f"{title}, {workers} workers", difference(wanted, came)
         yield from listed(program, folder, files, f"folder {number} of seed {seed}")
 
 
@@ -105,9 +101,6 @@ def listed(
     lines = "".join(f"{path}\n" for path in paths).encode()
     names = folder / "in it" / "names"
     names.write_bytes(lines)
-    for workers in WORKERS:
-        came = answer(program, ["report", *paths, "--workers", str(workers)])
-        yield f"{title}, files, {workers} workers", difference(wanted, came)
     yield f"{title}, files", difference(wanted, answer(program, ["report", *paths]))
     yield f"{title}, a list", difference(wanted, answer(program, ["report", "--files-from", names]))
     came = answer(program, ["report", "--files-from", "-"], lines)
@@ -121,9 +114,7 @@ def listed(
     yield f"{title}, show --also", difference(wanted_of(text, left), answer(program, shown))
     if left:
         refused = fault(f'{left[0][1]}: "{left[0][0]}"', 3)
-        for workers in (1, 4):
-            came = answer(program, ["report", *paths, "--strict", "--workers", str(workers)])
-            yield f"{title}, --strict, {workers} workers", difference(refused, came)
+        yield f"{title}, --strict", difference(refused, answer(program, ["report", *paths, "--strict"]))
     else:
         yield f"{title}, --strict", difference(wanted, answer(program, ["report", *paths, "--strict"]))
 
@@ -221,7 +212,7 @@ def files(program: pathlib.Path, top: pathlib.Path) -> Iterator[Case]:
     two, _ = plain_sums.sum_of([(CRASH, crash), (EXAMPLE, example)])
     wanted = Answer(plain_sums.report_of(two, 0))
     yield "standard input behind a file", difference(wanted, answer(program, ["report", CRASH, "-"], example))
-    yield "standard input first", difference(wanted, answer(program, ["report", "-", EXAMPLE, "--workers", "4"], crash))
+    yield "standard input first", difference(wanted, answer(program, ["report", "-", EXAMPLE], crash))
     empty = top / "empty"
     empty.mkdir()
     none = plain_sums.Sum()
@@ -236,8 +227,8 @@ def files(program: pathlib.Path, top: pathlib.Path) -> Iterator[Case]:
     )
     yield "a missing file alone", difference(fault("Read", 4), answer(program, ["report", gone]))
     yield "a missing list", difference(fault("Read", 4), answer(program, ["report", "--files-from", gone]))
-    wanted = Answer(plain_sums.report_of(none, 1), told([(gone, UNREAD)]), 3)
-    yield "a missing file alone, of a sum", difference(wanted, answer(program, ["report", gone, "--workers", "2"]))
+    wanted = Answer(plain_sums.totals_text(none), told([(gone, UNREAD)]), 3)
+    yield "a missing file alone, of a sum", difference(wanted, answer(program, ["report", gone, "--totals"]))
     for words in (["report"], ["show"], ["export"], ["report", "--rows"]):
         alone = answer(program, [*words, CRASH])
         folder = top / "one"
@@ -343,9 +334,6 @@ def usage(program: pathlib.Path, top: pathlib.Path) -> Iterator[Case]:
         ["report", CRASH, "--files-from", "-", "--minus", "-"],
         ["report", "-", "--minus", "-"],
         ["report", "--totals", "--rows", CRASH],
-        ["report", "--workers", "0", CRASH],
-        ["report", "--workers", "17", CRASH],
-        ["report", "--workers", "x", CRASH],
         ["export", "--totals", CRASH],
         ["show", "--totals", CRASH],
         ["show", CRASH, "--also", EXAMPLE, "--html"],

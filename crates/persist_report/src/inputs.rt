@@ -9,7 +9,6 @@ use crate::dashes::{DASH, two_inputs};
 use crate::explaining::unopened;
 use crate::failure::Failure;
 use crate::leftover::is_new_name;
-use crate::workers::Workers;
 use persist_report_core::CliFault;
 use std::alloc::{AllocError, Global};
 use std::fs::File;
@@ -26,8 +25,6 @@ pub struct Inputs<'a> {
     pub list: Option<&'a str>,
     /// What is taken off the sum.
     pub earlier: Option<&'a str>,
-    /// How many workers add up, where that is said.
-    pub workers: Option<Workers>,
     /// Whether an input that cannot be read ends the command.
     pub is_strict: bool,
     /// Whether the sum is written whole.
@@ -62,7 +59,6 @@ impl<'a> Inputs<'a> {
         self.files.len() > 1
             || self.list.is_some()
             || self.earlier.is_some()
-            || self.workers.is_some()
             || self.is_strict
             || self.has_totals
     }
@@ -192,11 +188,6 @@ fn put_list<R: Files<File = File> + Input + AllocGlobal>(
         }
     }
     Ok(())
-}
-
-/// Whether one of some names is standard input.
-pub fn has_dash(names: &[Named]) -> bool {
-    names.iter().any(|name| name.path.as_str() == DASH)
 }
 
 // How many of some names are standard input, counted on from a number.

@@ -43,8 +43,7 @@ pub fn run<
         + RandomSource
         + AllocGlobal
         + Threads
-        + Wait
-        + Sync,
+        + Wait,
 >(rt: &R) -> Result<(), Failure>
     ensures { IfErr result UsageIsMistake }
 {
@@ -163,8 +162,7 @@ fn meet<
         + RandomSource
         + AllocGlobal
         + Threads
-        + Wait
-        + Sync,
+        + Wait,
 >(context: &Context<'_, R>, task: &Task<'_>, inputs: &Inputs<'_>) -> Result<(), Failure>
     ensures { IfErr result UsageIsMistake }
 {
@@ -254,8 +252,7 @@ fn meet_again<
         + RandomSource
         + AllocGlobal
         + Threads
-        + Wait
-        + Sync,
+        + Wait,
 >(
     context: &Context<'_, R>,
     task: &Task<'_>,

@@ -30,7 +30,6 @@ use std::fs::File;
 use std::io::Read;
 use std::random::RandomSource;
 use std::rt::Files;
-use std::thread::Threads;
 use std::time::Clock;
 use sum_commands::{InputFault, InputKind};
 use sum_texts::{Totals, report_of, totals_text};
@@ -111,7 +110,7 @@ fn minus_failure<R: AllocGlobal>(context: &Context<'_, R>, fault: MinusFault) ->
 }
 
 // The sum less that of an earlier file or folder, each of whose inputs has to be read.
-fn less_earlier<R: Files<File = File> + Input + AllocGlobal + Threads + Sync>(
+fn less_earlier<R: Files<File = File> + Input + AllocGlobal>(
     context: &Context<'_, R>,
     sums: Sums,
     earlier: &str,
@@ -123,7 +122,6 @@ fn less_earlier<R: Files<File = File> + Input + AllocGlobal + Threads + Sync>(
     let before = sum_of_names(
         context,
         &names,
-        1,
         Reading {
             is_live: false,
             is_strict: true,
@@ -242,7 +240,7 @@ fn make_composed<R: AllocGlobal>(
 }
 
 // The text of the sum of inputs by their names.
-fn compose<R: Files<File = File> + Input + Eprint + AllocGlobal + Threads + Sync>(
+fn compose<R: Files<File = File> + Input + Eprint + AllocGlobal>(
     context: &Context<'_, R>,
     inputs: &Inputs<'_>,
     names: &[Named],
@@ -251,7 +249,6 @@ fn compose<R: Files<File = File> + Input + Eprint + AllocGlobal + Threads + Sync
     ensures mistake { IfErr result UsageIsMistake }
     ensures wrong { IfOk result (λ composed. IfErr composed.wrong UsageIsMistake) }
 {
-    let workers = inputs.workers.map_or(1, |workers| workers.count() as usize);
     let how = Reading {
         is_live: context.is_live,
         is_strict: inputs.is_strict,
@@ -260,7 +257,7 @@ fn compose<R: Files<File = File> + Input + Eprint + AllocGlobal + Threads + Sync
         sums,
         left,
         is_damaged,
-    } = sum_of_names(context, names, workers, how)?;
+    } = sum_of_names(context, names, how)?;
     let count = left.len() as u64;
     if inputs.is_strict {
         first_failure(context, names, left)?;
@@ -305,15 +302,7 @@ fn write_composed<R: Files<File = File> + Clock + Print + RandomSource + AllocGl
 /// Writes a text of the sum of inputs: to the file `to`, or to standard output if there is none. Inputs that cannot be read are
 /// told and left out, or the first ends it. `Usage` comes only for a mistake on the command line.
 pub fn write_sum<
-    R: Files<File = File>
-        + Clock
-        + Input
-        + Print
-        + Eprint
-        + RandomSource
-        + AllocGlobal
-        + Threads
-        + Sync,
+    R: Files<File = File> + Clock + Input + Print + Eprint + RandomSource + AllocGlobal,
 >(
     context: &Context<'_, R>,
     inputs: &Inputs<'_>,

@@ -1,4 +1,4 @@
-//! The sum of many inputs, which workers read and add up.
+//! The sum of many inputs.
 
 ghost use Rattle.std.specs.Prelude.{◌≡◌, false};
 ghost use Rattle.segment_image.specs.Watched.{has_failed};
@@ -7,7 +7,7 @@ use crate::context::Context;
 use crate::dashes::DASH;
 use crate::failure::Failure;
 use crate::incoming::Incoming;
-use crate::inputs::{Named, has_dash};
+use crate::inputs::Named;
 use crate::looking::look_at;
 use crate::peeked::Peeked;
 use fault_texts::Origin;
@@ -18,9 +18,8 @@ use std::alloc::{AllocError, Global};
 use std::fs::File;
 use std::io::Read;
 use std::rt::Files;
-use std::thread::Threads;
-use std::{fmt, fs, thread};
-use sum_commands::{InputFault, InputKind, add_image, add_totals, append_next, part_of_inputs};
+use std::{fmt, fs};
+use sum_commands::{InputFault, InputKind, add_image, add_totals};
 
 // A totals has at most so many bytes.
 const MAX_TOTALS: usize = 1 << 40;
@@ -166,13 +165,6 @@ impl Summed {
         }
     }
 
-    // Whether one was left out with which a total would not fit.
-    fn has_too_many(&self) -> bool {
-        self.left
-            .iter()
-            .any(|left| matches!(left.fault, InputFault::TooMany))
-    }
-
     // Whether nothing more is to be read.
     fn is_ended(&self, how: Reading) -> bool {
         how.is_strict && !self.left.is_empty()
@@ -201,66 +193,15 @@ fn add_part<R: Files<File = File> + Input + AllocGlobal>(
     Ok(())
 }
 
-// The sum of the inputs from one place to another.
-fn sum_part<R: Files<File = File> + Input + AllocGlobal>(
+/// Returns the sum of inputs.
+pub fn sum_of_names<R: Files<File = File> + Input + AllocGlobal>(
     context: &Context<'_, R>,
     names: &[Named],
-    part: (usize, usize),
     how: Reading,
 ) -> Result<Summed, CliFault> {
     let mut summed = Summed::none(context.alloc());
-    add_part(context, &mut summed, names, part, how)?;
+    add_part(context, &mut summed, names, (0, names.len()), how)?;
     Ok(summed)
-}
-
-// Adds the sum of the inputs from one place to another behind those of others. Where a total would not fit, which of them are left
-// out is seen when they are added one by one.
-fn append_part<R: Files<File = File> + Input + AllocGlobal>(
-    context: &Context<'_, R>,
-    all: &mut Summed,
-    names: &[Named],
-    part: (usize, usize),
-    how: Reading,
-    summed: Summed,
-) -> Result<(), CliFault> {
-    if all.is_ended(how) {
-        return Ok(());
-    }
-    if summed.has_too_many() || append_next(&mut all.sums, &summed.sums).is_err() {
-        return add_part(context, all, names, part, how);
-    }
-    all.is_damaged = all.is_damaged || summed.is_damaged;
-    for left in summed.left {
-        put_left(&mut all.left, left)?;
-    }
-    Ok(())
-}
-
-/// Returns the sum of inputs, which so many workers read and add up: the same for any number of them.
-pub fn sum_of_names<R: Files<File = File> + Input + AllocGlobal + Threads + Sync>(
-    context: &Context<'_, R>,
-    names: &[Named],
-    workers: usize,
-    how: Reading,
-) -> Result<Summed, CliFault> {
-    if workers <= 1 || has_dash(names) {
-        return sum_part(context, names, (0, names.len()), how);
-    }
-    let parts = thread::map_indices(
-        context.rt,
-        context.alloc(),
-        workers,
-        &|worker: usize| {
-            let part = part_of_inputs(names.len(), workers, worker);
-            sum_part(context, names, part, how)
-        },
-    )?;
-    let mut all = Summed::none(context.alloc());
-    for (worker, summed) in parts.into_iter().enumerate() {
-        let part = part_of_inputs(names.len(), workers, worker);
-        append_part(context, &mut all, names, part, how, summed?)?;
-    }
-    Ok(all)
 }
 
 /// Tells which inputs are left out, a line each, on the error stream. If that cannot be written, nothing is said.

@@ -24,7 +24,6 @@ use std::fs::File;
 use std::io::Read;
 use std::random::RandomSource;
 use std::rt::Files;
-use std::thread::Threads;
 use std::time::Clock;
 use sum_commands::InputKind;
 
@@ -86,15 +85,7 @@ fn write_to<'a, R: Files<File = File> + Clock + Print + RandomSource + AllocGlob
 /// said. What is wrong with what was read comes after the text. `Usage` comes only for a mistake on the command line.
 pub fn write_inputs<
     'a,
-    R: Files<File = File>
-        + Clock
-        + Input
-        + Print
-        + Eprint
-        + RandomSource
-        + AllocGlobal
-        + Threads
-        + Sync,
+    R: Files<File = File> + Clock + Input + Print + Eprint + RandomSource + AllocGlobal,
 >(
     context: &Context<'_, R>,
     inputs: &Inputs<'a>,
@@ -141,15 +132,7 @@ fn labels_of<'a>(alloc: Global, words: &[&'a str]) -> Result<Option<Vec<Label<'a
 /// KEY=VALUE; with a family for each histogram where that is asked for. `Usage` comes only for a mistake on the command line.
 pub fn write_export<
     'a,
-    R: Files<File = File>
-        + Clock
-        + Input
-        + Print
-        + Eprint
-        + RandomSource
-        + AllocGlobal
-        + Threads
-        + Sync,
+    R: Files<File = File> + Clock + Input + Print + Eprint + RandomSource + AllocGlobal,
 >(
     context: &Context<'_, R>,
     inputs: &Inputs<'a>,

@@ -107,13 +107,14 @@ def files(program: pathlib.Path, folder: pathlib.Path) -> Iterator[Case]:
         "a name with a hyphen": (["--", "-image"], REPORT),
         "a file without bytes": (["/dev/null"], fault("Image TooShort", 3)),
         "a device without an end": (["/dev/zero"], fault("TooLong", 3)),
-        "a directory": ([folder], READ_FAULT),
         "a missing file": (["missing.img"], READ_FAULT),
         "an empty name": ([""], READ_FAULT),
         "a file that opens and cannot be read": (["/proc/self/mem"], READ_FAULT),
     }
     for name, (words, right) in wanted.items():
         yield name, difference(right, answer(program, ["report", *words], cwd=folder))
+    # A text of a directory is that of the images in it (part `sums`).
+    yield "a directory", difference(READ_FAULT, answer(program, ["info", folder], cwd=folder))
 
 
 def answer_to_pieces(program: pathlib.Path, data: bytes) -> Answer:
@@ -164,7 +165,7 @@ def outputs(program: pathlib.Path, folder: pathlib.Path) -> Iterator[Case]:
     asked: list[list[Word]] = [
         ["report"], ["report", EXAMPLE], ["--help"], ["report", "--help"], ["run", "--help"], ["--version"],
     ]
-    faulty: list[tuple[list[Word], int]] = [(["report", folder], 4), ([], 2)]
+    faulty: list[tuple[list[Word], int]] = [(["info", folder], 4), ([], 2)]
     for name, output in (
         ("a full device", os.open("/dev/full", os.O_WRONLY)),
         ("a closed pipe", pipe_without_reader()),

@@ -18,12 +18,10 @@
 enum { WORD = 8, HEADER_WORDS = 16, MOST_BYTES = 8 * 1048576 + 80, LONGEST_NAME = 64 };
 
 /* The words of an image's header that are looked at here. */
-enum { COOKIE_AT = 0, VERSION_AT = 1, SIZE_AT = 2, PAGE_AT = 3, ID_AT = 4 };
+enum { VERSION_AT = 1, SIZE_AT = 2, PAGE_AT = 3, ID_AT = 4 };
 
 /* How often the texts of a folder begin again, and how many segments are folded at once. */
 enum { MOST_TIMES = 16, MOST_FOLDED = 256 };
-
-static const uint64_t COOKIE = 0x408305DC;
 
 /* ---- What is open in this process ---- */
 

@@ -791,6 +791,15 @@ static bool may_adopt(const char *folder, uint64_t number, const char *path, str
     return may;
 }
 
+/* Whether the totals have what is in a segment: whoever folded it was killed before it removed it. Its lock is held, so no fold adds it
+ * meanwhile. */
+static bool is_folded(const char *folder, const struct povundiri_owned *owned, uint64_t id) {
+    struct totals totals;
+    const bool is = read_totals(folder, &totals) != 0 || names(&totals, owned->number, id);
+    free_totals(&totals);
+    return is;
+}
+
 uint32_t povundiri_folder_adopt(const char *folder, struct povundiri_shape shape, struct povundiri_found *found, int *fault) {
     struct listing listing;
     struct povundiri_opened opened;
@@ -810,7 +819,7 @@ uint32_t povundiri_folder_adopt(const char *folder, struct povundiri_shape shape
         return POVUNDIRI_DONE;
     }
     status = povundiri_open(owned->path, shape, POVUNDIRI_ADOPT_OR_FAIL, NULL, &owned->file, &owned->segment, &opened);
-    if (status == POVUNDIRI_DONE && !opened.spent) {
+    if (status == POVUNDIRI_DONE && !opened.spent && !is_folded(folder, owned, opened.shape.id)) {
         found->adopted = owned;
         return status;
     }

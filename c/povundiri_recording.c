@@ -781,11 +781,12 @@ static uint32_t text_of(const struct povundiri_recording *recording, struct povu
     size_t needed = 0;
     uint32_t status = text_call(sums, asked, NULL, 0, &needed);
     if (status != POVUNDIRI_SHORT && status != POVUNDIRI_DONE) return status;
-    *text = (char *)malloc(needed + behind);
+    *text = (char *)malloc(needed + behind + 1);
     if (*text == NULL) return POVUNDIRI_NO_MEMORY;
     status = text_call(sums, asked, *text, needed, &needed);
     if (status == POVUNDIRI_DONE) {
         *length = needed + write_behind(recording, asked, left, *text + needed, behind);
+        (*text)[*length] = 0;
     } else {
         free(*text);
         *text = NULL;

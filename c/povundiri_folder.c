@@ -1,6 +1,6 @@
-#define _GNU_SOURCE /* renameat2 */
+#define _GNU_SOURCE /* O_NOFOLLOW and the like */
 
-#include "povundiri_folder.h"
+#include "povundiri_folder_parts.h"
 
 #include <dirent.h>
 #include <errno.h>
@@ -14,26 +14,14 @@
 #include <sys/stat.h>
 #include <unistd.h>
 
-/* Words have 64 bits. A file begins with a word of zeros, and then the image. */
-enum { WORD = 8, HEADER_WORDS = 16, MOST_BYTES = 8 * 1048576 + 80, LONGEST_NAME = 64 };
-
-/* The words of an image's header that are looked at here. */
-enum { VERSION_AT = 1, SIZE_AT = 2, PAGE_AT = 3, ID_AT = 4 };
-
 /* How often the texts of a folder begin again, and how many segments are folded at once. */
 enum { MOST_TIMES = 16, MOST_FOLDED = 256 };
 
 /* ---- What is open in this process ---- */
 
-/* A descriptor, which a child of fork does not keep: with it, it would keep a lock. */
-struct held {
-    struct held *next;
-    int descriptor;
-};
-
 /* Held while a descriptor is opened or closed, and while the process forks. */
 static pthread_mutex_t mutex = PTHREAD_MUTEX_INITIALIZER;
-static struct held *all;
+static struct povundiri_held *all;
 static pthread_once_t once = PTHREAD_ONCE_INIT;
 static bool is_watched;
 
@@ -46,7 +34,7 @@ static void in_parent(void) {
 }
 
 static void in_child(void) {
-    struct held *held;
+    struct povundiri_held *held;
     for (held = all; held != NULL; held = held->next) close(held->descriptor);
     all = NULL;
     pthread_mutex_unlock(&mutex);
@@ -61,7 +49,7 @@ bool povundiri_folder_watch(void) {
     return is_watched;
 }
 
-static int open_held(struct held *held, const char *path, int flags) {
+int povundiri_parts_open(struct povundiri_held *held, const char *path, int flags) {
     int fault;
     do {
         pthread_mutex_lock(&mutex);
@@ -77,8 +65,8 @@ static int open_held(struct held *held, const char *path, int flags) {
 }
 
 /* In a child that was forked meanwhile it is not there any more. */
-static void close_held(struct held *held) {
-    struct held **link;
+void povundiri_parts_close(struct povundiri_held *held) {
+    struct povundiri_held **link;
     pthread_mutex_lock(&mutex);
     for (link = &all; *link != NULL && *link != held;) link = &(*link)->next;
     if (*link == held) {
@@ -96,16 +84,16 @@ static int lock(int descriptor) {
 }
 
 /* Opens a regular file and takes its lock: EBUSY if somebody has it; ENOENT if the path leads to another file by now, or to none. */
-static int open_locked(struct held *held, const char *path, struct stat *about) {
+int povundiri_parts_open_locked(struct povundiri_held *held, const char *path, struct stat *about) {
     struct stat named;
-    int fault = open_held(held, path, O_RDONLY);
+    int fault = povundiri_parts_open(held, path, O_RDONLY);
     if (fault != 0) return fault;
     fault = lock(held->descriptor);
     if (fault == 0 && fstat(held->descriptor, about) != 0) fault = errno;
     if (fault == 0 && fstatat(AT_FDCWD, path, &named, AT_SYMLINK_NOFOLLOW) != 0) fault = errno;
     if (fault == 0 && (named.st_dev != about->st_dev || named.st_ino != about->st_ino)) fault = ENOENT;
     if (fault == 0 && !S_ISREG(about->st_mode)) fault = EINVAL;
-    if (fault != 0) close_held(held);
+    if (fault != 0) povundiri_parts_close(held);
     return fault;
 }
 
@@ -140,17 +128,17 @@ static int sync_descriptor(int descriptor) {
 }
 
 static int sync_folder(const char *folder) {
-    struct held held;
-    int fault = open_held(&held, folder, O_RDONLY | O_DIRECTORY);
+    struct povundiri_held held;
+    int fault = povundiri_parts_open(&held, folder, O_RDONLY | O_DIRECTORY);
     if (fault != 0) return fault;
     fault = sync_descriptor(held.descriptor);
-    close_held(&held);
+    povundiri_parts_close(&held);
     return fault;
 }
 
 /* ---- Names ---- */
 
-static int join(char *path, const char *folder, const char *name) {
+int povundiri_parts_join(char *path, const char *folder, const char *name) {
     const int length = snprintf(path, POVUNDIRI_PATH_BYTES, "%s/%s", folder, name);
     return length < 0 || length >= POVUNDIRI_PATH_BYTES ? ENAMETOOLONG : 0;
 }
@@ -159,10 +147,10 @@ static void name_of(char *name, uint64_t number, const char *kind) {
     snprintf(name, LONGEST_NAME, "%010" PRIu64 ".%s", number, kind);
 }
 
-static int path_of(char *path, const char *folder, uint64_t number, const char *kind) {
+int povundiri_parts_path(char *path, const char *folder, uint64_t number, const char *kind) {
     char name[LONGEST_NAME];
     name_of(name, number, kind);
-    return join(path, folder, name);
+    return povundiri_parts_join(path, folder, name);
 }
 
 /* The number of a file of this kind, as it is spelled; 0 if it is none. */
@@ -180,22 +168,11 @@ static uint64_t number_of(const char *name, const char *kind) {
 
 /* ---- What stands in a folder ---- */
 
-struct listing {
-    uint64_t *numbers; /* of segments, ascending */
-    size_t count, room;
-    uint64_t last;     /* the greatest number of a segment or of a damaged file; 0: there is none */
-    bool is_marked;    /* as a recording's */
-    bool is_empty;
-};
-
-/* What is done with each name. A fault ends it. */
-typedef int each_name(void *context, const char *name);
-
-static int for_each(const char *folder, each_name *call, void *context) {
-    struct held held;
+int povundiri_parts_each(const char *folder, povundiri_each_name *call, void *context) {
+    struct povundiri_held held;
     const struct dirent *entry;
     DIR *names;
-    int fault = open_held(&held, folder, O_RDONLY | O_DIRECTORY), copy;
+    int fault = povundiri_parts_open(&held, folder, O_RDONLY | O_DIRECTORY), copy;
     if (fault != 0) return fault;
     /* The stream has a descriptor of its own, without a lock. */
     copy = fcntl(held.descriptor, F_DUPFD_CLOEXEC, 0);
@@ -203,7 +180,7 @@ static int for_each(const char *folder, each_name *call, void *context) {
     if (names == NULL) {
         fault = errno;
         if (copy >= 0) close(copy);
-        close_held(&held);
+        povundiri_parts_close(&held);
         return fault;
     }
     do {
@@ -216,12 +193,12 @@ static int for_each(const char *folder, each_name *call, void *context) {
         }
     } while (entry != NULL && fault == 0);
     closedir(names);
-    close_held(&held);
+    povundiri_parts_close(&held);
     return fault;
 }
 
 static int list_name(void *context, const char *name) {
-    struct listing *listing = (struct listing *)context;
+    struct povundiri_listing *listing = (struct povundiri_listing *)context;
     const uint64_t number = number_of(name, "seg"), damaged = number_of(name, "damaged");
     listing->is_empty = false;
     if (strcmp(name, "recording") == 0) listing->is_marked = true;
@@ -246,22 +223,22 @@ static int ascending(const void *one, const void *other) {
 }
 
 /* `numbers` are for free(), also after a fault. */
-static int list(const char *folder, struct listing *listing) {
-    const struct listing none = {NULL, 0, 0, 0, false, true};
+int povundiri_parts_list(const char *folder, struct povundiri_listing *listing) {
+    const struct povundiri_listing none = {NULL, 0, 0, 0, false, true};
     int fault;
     *listing = none;
-    fault = for_each(folder, list_name, listing);
+    fault = povundiri_parts_each(folder, list_name, listing);
     if (listing->count > 1) qsort(listing->numbers, listing->count, sizeof *listing->numbers, ascending);
     return fault;
 }
 
 int povundiri_folder_count(const char *folder, uint64_t *segments) {
-    struct listing listing;
+    struct povundiri_listing listing;
     int fault, state;
     if (folder == NULL || segments == NULL) return EINVAL;
     if (!povundiri_folder_watch()) return ENOMEM;
     pthread_setcancelstate(PTHREAD_CANCEL_DISABLE, &state);
-    fault = list(folder, &listing);
+    fault = povundiri_parts_list(folder, &listing);
     pthread_setcancelstate(state, NULL);
     *segments = listing.count;
     free(listing.numbers);
@@ -270,30 +247,16 @@ int povundiri_folder_count(const char *folder, uint64_t *segments) {
 
 /* ---- Totals ---- */
 
-/* A segment that is in the totals. */
-struct named {
-    uint64_t number, id;
-};
-
-/* The file `totals`, or nothing. */
-struct totals {
-    char *text;
-    size_t length;
-    struct named *of;
-    size_t count;
-    uint64_t serial; /* 0: no fold made it */
-};
-
-static void free_totals(struct totals *totals) {
+void povundiri_parts_free(struct povundiri_totals_file *totals) {
     free(totals->text);
     free(totals->of);
 }
 
 /* Reads a file whole, and a zero behind it. It is for free(). */
 static int read_file(const char *path, char **bytes, size_t *length) {
-    struct held held;
+    struct povundiri_held held;
     struct stat about;
-    int fault = open_held(&held, path, O_RDONLY);
+    int fault = povundiri_parts_open(&held, path, O_RDONLY);
     *bytes = NULL;
     *length = 0;
     if (fault != 0) return fault;
@@ -304,12 +267,12 @@ static int read_file(const char *path, char **bytes, size_t *length) {
         fault = *bytes == NULL ? ENOMEM : read_all(held.descriptor, *bytes, (size_t)about.st_size, length);
     }
     if (fault == 0) (*bytes)[*length] = 0;
-    close_held(&held);
+    povundiri_parts_close(&held);
     return fault;
 }
 
 /* The lines `of` and `fold` of a text that povundiri_sums_add_totals has taken: so they are as they have to be. */
-static int parse_totals(struct totals *totals) {
+static int parse_totals(struct povundiri_totals_file *totals) {
     const char *line = totals->text;
     size_t room = 0;
     for (; line != NULL && *line != 0; line = strchr(line, '\n'), line = line == NULL ? NULL : line + 1) {
@@ -317,9 +280,9 @@ static int parse_totals(struct totals *totals) {
         if (strncmp(line, "fold,", 5) == 0) totals->serial = strtoull(line + 5, NULL, 10);
         if (strncmp(line, "of,", 3) != 0) continue;
         if (totals->count == room) {
-            struct named *of;
+            struct povundiri_named *of;
             room = room == 0 ? 64 : 2 * room;
-            of = (struct named *)realloc(totals->of, room * sizeof *of);
+            of = (struct povundiri_named *)realloc(totals->of, room * sizeof *of);
             if (of == NULL) return ENOMEM;
             totals->of = of;
         }
@@ -331,17 +294,17 @@ static int parse_totals(struct totals *totals) {
 }
 
 /* No file is a totals without text. */
-static int read_totals(const char *folder, struct totals *totals) {
-    const struct totals none = {NULL, 0, NULL, 0, 0};
+int povundiri_parts_totals(const char *folder, struct povundiri_totals_file *totals) {
+    const struct povundiri_totals_file none = {NULL, 0, NULL, 0, 0};
     char path[POVUNDIRI_PATH_BYTES];
-    int fault = join(path, folder, "totals");
+    int fault = povundiri_parts_join(path, folder, "totals");
     *totals = none;
     if (fault == 0) fault = read_file(path, &totals->text, &totals->length);
     if (fault == ENOENT) return 0;
     return fault == 0 ? parse_totals(totals) : fault;
 }
 
-static bool names(const struct totals *totals, uint64_t number, uint64_t id) {
+bool povundiri_parts_names(const struct povundiri_totals_file *totals, uint64_t number, uint64_t id) {
     size_t i;
     for (i = 0; i < totals->count; i += 1) {
         if (totals->of[i].number == number && totals->of[i].id == id) return true;
@@ -350,7 +313,7 @@ static bool names(const struct totals *totals, uint64_t number, uint64_t id) {
 }
 
 /* The sum of the totals, in an empty handle. */
-static uint32_t begin_sums(const struct totals *totals, struct povundiri_handle *sums) {
+static uint32_t begin_sums(const struct povundiri_totals_file *totals, struct povundiri_handle *sums) {
     uint32_t status = povundiri_sums_new(sums);
     if (status == POVUNDIRI_DONE && totals->text != NULL) status = povundiri_sums_add_totals(sums, totals->text, totals->length, NULL);
     return status;
@@ -358,15 +321,8 @@ static uint32_t begin_sums(const struct totals *totals, struct povundiri_handle 
 
 /* ---- Images ---- */
 
-/* The words of the image in a file, and how many; the words begin behind the first one. */
-struct image {
-    uint64_t *bytes;
-    const uint64_t *words;
-    size_t count;
-};
-
 /* Reads the image of a final segment. `bytes` are for free(), also after a fault. */
-static int read_image(int descriptor, off_t length, struct image *image) {
+int povundiri_parts_image(int descriptor, off_t length, struct povundiri_image *image) {
     size_t got = 0, there;
     int fault;
     image->bytes = NULL;
@@ -382,66 +338,57 @@ static int read_image(int descriptor, off_t length, struct image *image) {
     return fault;
 }
 
-static bool is_image_fault(uint32_t status) {
+bool povundiri_parts_is_fault(uint32_t status) {
     return status >= POVUNDIRI_IMAGE_TOO_SHORT && status <= POVUNDIRI_IMAGE_BAD_QUEUE;
-}
-
-/* Whether nothing was begun in it. */
-static bool is_unmade(const struct image *image) {
-    size_t i;
-    for (i = 0; i < image->count + (image->count < HEADER_WORDS ? HEADER_WORDS : 0); i += 1) {
-        if (image->words[i] != 0) return false;
-    }
-    return true;
 }
 
 /* ---- The sum of a folder ---- */
 
 /* Adds a look at a segment, if the totals do not name it. */
-static uint32_t add_look(const char *path, uint64_t number, const struct totals *totals, struct povundiri_handle *sums, uint64_t *left,
+static uint32_t add_look(const char *path, uint64_t number, const struct povundiri_totals_file *totals, struct povundiri_handle *sums, uint64_t *left,
                          int *fault) {
     uint64_t *words = NULL;
     size_t length = 0;
     uint32_t status = povundiri_file_look(path, &words, &length, fault);
-    if (is_image_fault(status) || status == POVUNDIRI_ADOPT_OLD_VERSION) {
+    if (povundiri_parts_is_fault(status) || status == POVUNDIRI_ADOPT_OLD_VERSION) {
         *left += 1;
         return POVUNDIRI_DONE;
     }
-    if (status == POVUNDIRI_DONE && !names(totals, number, words[ID_AT])) status = povundiri_sums_add(sums, number, words, length);
+    if (status == POVUNDIRI_DONE && !povundiri_parts_names(totals, number, words[ID_AT])) status = povundiri_sums_add(sums, number, words, length);
     free(words);
     return status;
 }
 
-static uint32_t add_looks(const char *folder, const struct listing *listing, const struct totals *totals, struct povundiri_handle *sums,
+static uint32_t add_looks(const char *folder, const struct povundiri_listing *listing, const struct povundiri_totals_file *totals, struct povundiri_handle *sums,
                           uint64_t *left, int *fault) {
     uint32_t status = POVUNDIRI_DONE;
     char path[POVUNDIRI_PATH_BYTES];
     size_t i;
     *left = 0;
     for (i = 0; i < listing->count && status == POVUNDIRI_DONE; i += 1) {
-        *fault = path_of(path, folder, listing->numbers[i], "seg");
+        *fault = povundiri_parts_path(path, folder, listing->numbers[i], "seg");
         status = *fault != 0 ? (uint32_t)POVUNDIRI_SYSTEM : add_look(path, listing->numbers[i], totals, sums, left, fault);
     }
     return status;
 }
 
 /* Whether a fold has ended since these totals were read. */
-static int look_for_fold(const char *folder, const struct totals *totals, bool *has_ended) {
-    struct totals now;
-    const int fault = read_totals(folder, &now);
+static int look_for_fold(const char *folder, const struct povundiri_totals_file *totals, bool *has_ended) {
+    struct povundiri_totals_file now;
+    const int fault = povundiri_parts_totals(folder, &now);
     *has_ended = fault == 0 && (now.serial != totals->serial || (now.text == NULL) != (totals->text == NULL));
-    free_totals(&now);
+    povundiri_parts_free(&now);
     return fault;
 }
 
 /* Once; `again` if a fold ended meanwhile: then nothing is in the handle. */
 static uint32_t sums_once(const char *folder, struct povundiri_handle *sums, uint64_t *left, int *fault, bool *again) {
-    struct totals totals;
-    struct listing listing = {NULL, 0, 0, 0, false, true};
+    struct povundiri_totals_file totals;
+    struct povundiri_listing listing = {NULL, 0, 0, 0, false, true};
     uint32_t status = POVUNDIRI_SYSTEM;
     *again = false;
-    *fault = read_totals(folder, &totals);
-    if (*fault == 0) *fault = list(folder, &listing);
+    *fault = povundiri_parts_totals(folder, &totals);
+    if (*fault == 0) *fault = povundiri_parts_list(folder, &listing);
     if (*fault == 0) status = begin_sums(&totals, sums);
     if (status == POVUNDIRI_DONE) status = add_looks(folder, &listing, &totals, sums, left, fault);
     if (status == POVUNDIRI_SYSTEM && *fault == ENOENT && listing.is_marked) *again = true;
@@ -451,7 +398,7 @@ static uint32_t sums_once(const char *folder, struct povundiri_handle *sums, uin
     }
     if (status != POVUNDIRI_DONE || *again) povundiri_sums_drop(sums);
     free(listing.numbers);
-    free_totals(&totals);
+    povundiri_parts_free(&totals);
     return status == POVUNDIRI_SYSTEM && *fault == ENOMEM ? (uint32_t)POVUNDIRI_NO_MEMORY : status;
 }
 
@@ -478,41 +425,41 @@ uint32_t povundiri_folder_sums(const char *folder, struct povundiri_handle *sums
 
 /* A segment whose lock is held, since it is final. */
 struct final {
-    struct held held;
-    struct named named;
+    struct povundiri_held held;
+    struct povundiri_named named;
 };
 
 /* What is known of a fold. */
 struct fold {
     const char *folder;
-    struct totals totals;        /* those that were there; of those that they name only such that still stand, and the greatest number */
-    struct listing listing;
+    struct povundiri_totals_file totals;        /* those that were there; of those that they name only such that still stand, and the greatest number */
+    struct povundiri_listing listing;
     struct povundiri_handle sums;
     struct final *finals;        /* that are added */
     size_t count;
 };
 
 /* Removes a file that the totals name, under its lock. False if it still stands. */
-static bool is_removed(const char *folder, const struct named *named) {
-    struct held held;
+static bool is_removed(const char *folder, const struct povundiri_named *named) {
+    struct povundiri_held held;
     struct stat about;
-    struct image image;
+    struct povundiri_image image;
     char path[POVUNDIRI_PATH_BYTES];
     bool removed;
-    int fault = path_of(path, folder, named->number, "seg");
-    if (fault == 0) fault = open_locked(&held, path, &about);
+    int fault = povundiri_parts_path(path, folder, named->number, "seg");
+    if (fault == 0) fault = povundiri_parts_open_locked(&held, path, &about);
     if (fault == ENOENT) return true;
     if (fault != 0) return false;
     /* Another segment of that number stays: it is not in the totals. */
-    removed = read_image(held.descriptor, about.st_size, &image) == 0 && (image.words[ID_AT] != named->id || unlink(path) == 0);
+    removed = povundiri_parts_image(held.descriptor, about.st_size, &image) == 0 && (image.words[ID_AT] != named->id || unlink(path) == 0);
     free(image.bytes);
-    close_held(&held);
+    povundiri_parts_close(&held);
     return removed;
 }
 
 /* Removes what the totals name already. They need not name it any more then, but for the greatest number. */
 static int remove_named(struct fold *fold) {
-    struct totals *const totals = &fold->totals;
+    struct povundiri_totals_file *const totals = &fold->totals;
     size_t i, kept = 0;
     uint64_t greatest = 0;
     if (totals->count == 0) return 0;
@@ -520,7 +467,7 @@ static int remove_named(struct fold *fold) {
         if (totals->of[i].number > greatest) greatest = totals->of[i].number;
     }
     for (i = 0; i < totals->count; i += 1) {
-        const struct named named = totals->of[i];
+        const struct povundiri_named named = totals->of[i];
         const bool removed = is_removed(fold->folder, &named);
         if (removed && named.number != greatest) continue;
         totals->of[kept] = named;
@@ -533,29 +480,29 @@ static int remove_named(struct fold *fold) {
 /* Adds a segment, if it is final and the totals do not name it, and keeps its lock. */
 static uint32_t add_final(struct fold *fold, uint64_t number, int *fault) {
     struct final *const final = &fold->finals[fold->count];
-    struct image image = {NULL, NULL, 0};
+    struct povundiri_image image = {NULL, NULL, 0};
     struct stat about;
     char path[POVUNDIRI_PATH_BYTES];
     uint32_t status = POVUNDIRI_DONE;
-    *fault = path_of(path, fold->folder, number, "seg");
-    if (*fault == 0) *fault = open_locked(&final->held, path, &about);
+    *fault = povundiri_parts_path(path, fold->folder, number, "seg");
+    if (*fault == 0) *fault = povundiri_parts_open_locked(&final->held, path, &about);
     if (*fault == EBUSY || *fault == ENOENT || *fault == EINVAL || *fault == EACCES || *fault == ELOOP) {
         *fault = 0;
         return POVUNDIRI_DONE;
     }
     if (*fault != 0) return POVUNDIRI_SYSTEM;
-    *fault = read_image(final->held.descriptor, about.st_size, &image);
+    *fault = povundiri_parts_image(final->held.descriptor, about.st_size, &image);
     final->named.number = number;
     final->named.id = image.bytes != NULL ? image.words[ID_AT] : 0;
     if (*fault != 0) {
         status = POVUNDIRI_SYSTEM;
-    } else if (!names(&fold->totals, number, final->named.id)) {
+    } else if (!povundiri_parts_names(&fold->totals, number, final->named.id)) {
         status = povundiri_sums_add(&fold->sums, number, image.words, image.count);
         if (status == POVUNDIRI_DONE) fold->count += 1;
     }
-    if (fold->count == 0 || &fold->finals[fold->count - 1] != final) close_held(&final->held);
+    if (fold->count == 0 || &fold->finals[fold->count - 1] != final) povundiri_parts_close(&final->held);
     free(image.bytes);
-    return is_image_fault(status) || status == POVUNDIRI_TOO_MANY ? (uint32_t)POVUNDIRI_DONE : status;
+    return povundiri_parts_is_fault(status) || status == POVUNDIRI_TOO_MANY ? (uint32_t)POVUNDIRI_DONE : status;
 }
 
 static uint32_t add_finals(struct fold *fold, int *fault) {
@@ -584,7 +531,7 @@ static uint32_t text_of(struct fold *fold, char **text, size_t *length) {
     memcpy(last, *text + end, needed - end);
     at = end;
     for (i = 0; i < fold->totals.count + fold->count; i += 1) {
-        const struct named *const named = i < fold->totals.count ? &fold->totals.of[i] : &fold->finals[i - fold->totals.count].named;
+        const struct povundiri_named *const named = i < fold->totals.count ? &fold->totals.of[i] : &fold->finals[i - fold->totals.count].named;
         at += (size_t)snprintf(*text + at, LONGEST_LINE, "of,%" PRIu64 ",%" PRIu64 "\n", named->number, named->id);
     }
     at += (size_t)snprintf(*text + at, LONGEST_LINE, "fold,%" PRIu64 "\n", fold->totals.serial + 1);
@@ -595,15 +542,15 @@ static uint32_t text_of(struct fold *fold, char **text, size_t *length) {
 
 /* Writes a file beside its place, syncs it, and gives it its place. Only whoever has the lock of folds comes here. */
 static int put_totals(const char *folder, const char *text, size_t length) {
-    struct held held;
+    struct povundiri_held held;
     char path[POVUNDIRI_PATH_BYTES], place[POVUNDIRI_PATH_BYTES];
-    int fault = join(path, folder, "totals.new");
-    if (fault == 0) fault = join(place, folder, "totals");
-    if (fault == 0) fault = open_held(&held, path, O_WRONLY | O_CREAT | O_TRUNC);
+    int fault = povundiri_parts_join(path, folder, "totals.new");
+    if (fault == 0) fault = povundiri_parts_join(place, folder, "totals");
+    if (fault == 0) fault = povundiri_parts_open(&held, path, O_WRONLY | O_CREAT | O_TRUNC);
     if (fault != 0) return fault;
     fault = write_all(held.descriptor, text, length);
     if (fault == 0) fault = sync_descriptor(held.descriptor);
-    close_held(&held);
+    povundiri_parts_close(&held);
     if (fault == 0 && rename(path, place) != 0) fault = errno;
     if (fault != 0) {
         unlink(path);
@@ -617,7 +564,7 @@ static void remove_finals(const struct fold *fold) {
     char path[POVUNDIRI_PATH_BYTES];
     size_t i;
     for (i = 0; i < fold->count; i += 1) {
-        if (path_of(path, fold->folder, fold->finals[i].named.number, "seg") == 0) unlink(path);
+        if (povundiri_parts_path(path, fold->folder, fold->finals[i].named.number, "seg") == 0) unlink(path);
     }
 }
 
@@ -626,11 +573,11 @@ static uint32_t fold_locked(struct fold *fold, int *fault) {
     uint32_t status = POVUNDIRI_SYSTEM;
     char *text = NULL;
     size_t length = 0;
-    *fault = read_totals(fold->folder, &fold->totals);
+    *fault = povundiri_parts_totals(fold->folder, &fold->totals);
     if (*fault == 0) status = begin_sums(&fold->totals, &fold->sums);
     if (status != POVUNDIRI_DONE) return status;
     *fault = remove_named(fold);
-    if (*fault == 0) *fault = list(fold->folder, &fold->listing);
+    if (*fault == 0) *fault = povundiri_parts_list(fold->folder, &fold->listing);
     status = *fault == 0 ? add_finals(fold, fault) : (uint32_t)POVUNDIRI_SYSTEM;
     if (status != POVUNDIRI_DONE || fold->count == 0) return status;
     status = text_of(fold, &text, &length);
@@ -650,21 +597,21 @@ static uint32_t fold_once(const char *folder, uint64_t *folded, int *fault) {
     fold.finals = (struct final *)calloc(MOST_FOLDED, sizeof *fold.finals);
     status = fold.finals == NULL ? (uint32_t)POVUNDIRI_NO_MEMORY : fold_locked(&fold, fault);
     *folded = status == POVUNDIRI_DONE ? fold.count : 0;
-    for (i = 0; i < fold.count; i += 1) close_held(&fold.finals[i].held);
+    for (i = 0; i < fold.count; i += 1) povundiri_parts_close(&fold.finals[i].held);
     free(fold.finals);
     free(fold.listing.numbers);
-    free_totals(&fold.totals);
+    povundiri_parts_free(&fold.totals);
     if (fold.sums.full) povundiri_sums_drop(&fold.sums);
     return status == POVUNDIRI_SYSTEM && *fault == ENOMEM ? (uint32_t)POVUNDIRI_NO_MEMORY : status;
 }
 
 static uint32_t fold_all(const char *folder, uint64_t *folded, int *fault) {
-    struct held held;
+    struct povundiri_held held;
     char path[POVUNDIRI_PATH_BYTES];
     uint64_t more = MOST_FOLDED;
     uint32_t status = POVUNDIRI_SYSTEM;
-    *fault = join(path, folder, "fold.lock");
-    if (*fault == 0) *fault = open_held(&held, path, O_RDWR | O_CREAT);
+    *fault = povundiri_parts_join(path, folder, "fold.lock");
+    if (*fault == 0) *fault = povundiri_parts_open(&held, path, O_RDWR | O_CREAT);
     if (*fault != 0) return status;
     *fault = lock(held.descriptor);
     if (*fault == 0) {
@@ -673,7 +620,7 @@ static uint32_t fold_all(const char *folder, uint64_t *folded, int *fault) {
             *folded += more;
         } while (status == POVUNDIRI_DONE && more == MOST_FOLDED);
     }
-    close_held(&held);
+    povundiri_parts_close(&held);
     return *fault == EBUSY ? (uint32_t)POVUNDIRI_BUSY : status;
 }
 
@@ -691,199 +638,4 @@ uint32_t povundiri_folder_fold(const char *folder, uint64_t *folded, int *fault)
     pthread_setcancelstate(state, NULL);
     if (status != POVUNDIRI_SYSTEM) *fault = 0;
     return status;
-}
-
-/* ---- Entering a folder ---- */
-
-/* Marks an empty folder as a recording's. EEXIST if it is another one. */
-static int mark(const char *folder) {
-    struct listing listing;
-    struct held held;
-    char path[POVUNDIRI_PATH_BYTES];
-    int fault = list(folder, &listing);
-    free(listing.numbers);
-    if (fault != 0 || listing.is_marked) return fault;
-    fault = join(path, folder, "recording");
-    if (fault != 0) return fault;
-    if (!listing.is_empty) {
-        /* Another process may have marked it, and begun, after the list was read. */
-        struct stat about;
-        return fstatat(AT_FDCWD, path, &about, AT_SYMLINK_NOFOLLOW) == 0 ? 0 : EEXIST;
-    }
-    fault = open_held(&held, path, O_WRONLY | O_CREAT);
-    if (fault == 0) close_held(&held);
-    return fault;
-}
-
-/* Removes a spare that nobody holds: whoever made it was killed. */
-static int sweep_name(void *context, const char *name) {
-    struct held held;
-    struct stat about;
-    char path[POVUNDIRI_PATH_BYTES];
-    if (strncmp(name, "spare-", 6) != 0 || join(path, (const char *)context, name) != 0) return 0;
-    if (open_locked(&held, path, &about) != 0) return 0;
-    unlink(path);
-    close_held(&held);
-    return 0;
-}
-
-int povundiri_folder_enter(const char *folder, char **absolute) {
-    char place[POVUNDIRI_PATH_BYTES];
-    int fault;
-    *absolute = NULL;
-    if (!povundiri_folder_watch()) return ENOMEM;
-    if (mkdir(folder, 0700) != 0 && errno != EEXIST) return errno;
-    *absolute = realpath(folder, NULL);
-    if (*absolute == NULL) return errno;
-    fault = strlen(*absolute) + LONGEST_NAME < sizeof place ? mark(*absolute) : ENAMETOOLONG;
-    if (fault == 0) for_each(*absolute, sweep_name, *absolute);
-    if (fault != 0) {
-        free(*absolute);
-        *absolute = NULL;
-    }
-    return fault;
-}
-
-/* ---- Segments of this process ---- */
-
-static struct povundiri_owned *new_owned(void) {
-    return (struct povundiri_owned *)calloc(1, sizeof(struct povundiri_owned));
-}
-
-void povundiri_folder_release(struct povundiri_owned *owned) {
-    if (owned == NULL) return;
-    if (owned->number == 0 && povundiri_file_is_open(&owned->file)) unlink(owned->path);
-    if (owned->segment.full) povundiri_drop(&owned->segment);
-    povundiri_file_close(&owned->file);
-    free(owned);
-}
-
-static int set_aside(const char *folder, const char *path, uint64_t number, char *name) {
-    int fault = path_of(name, folder, number, "damaged");
-    if (fault == 0 && renameat2(AT_FDCWD, path, AT_FDCWD, name, RENAME_NOREPLACE) != 0) {
-        fault = errno == EINVAL || errno == ENOSYS ? (link(path, name) == 0 && unlink(path) == 0 ? 0 : errno) : errno;
-    }
-    if (fault != 0) name[0] = 0;
-    return fault;
-}
-
-/* Whether the newest may be opened as a segment of this shape: it is final, and has it, or nothing was begun there. One whose header has a
- * fault gets another name. */
-static bool may_adopt(const char *folder, uint64_t number, const char *path, struct povundiri_shape shape, struct povundiri_found *found) {
-    struct held held;
-    struct stat about;
-    struct image image;
-    bool may = false;
-    if (open_locked(&held, path, &about) != 0) return false;
-    if (read_image(held.descriptor, about.st_size, &image) == 0) {
-        const uint32_t status = povundiri_report_bounded(image.words, image.count, NULL, 0, NULL, 0);
-        if (is_unmade(&image)) {
-            may = true;
-        } else if (is_image_fault(status)) {
-            found->refused = status;
-            set_aside(folder, path, number, found->set_aside);
-        } else {
-            may = image.words[SIZE_AT] == shape.size && image.words[PAGE_AT] == shape.page && image.words[VERSION_AT] == shape.version;
-        }
-    }
-    free(image.bytes);
-    close_held(&held);
-    return may;
-}
-
-/* Whether the totals have what is in a segment: whoever folded it was killed before it removed it. Its lock is held, so no fold adds it
- * meanwhile. */
-static bool is_folded(const char *folder, const struct povundiri_owned *owned, uint64_t id) {
-    struct totals totals;
-    const bool is = read_totals(folder, &totals) != 0 || names(&totals, owned->number, id);
-    free_totals(&totals);
-    return is;
-}
-
-uint32_t povundiri_folder_adopt(const char *folder, struct povundiri_shape shape, struct povundiri_found *found, int *fault) {
-    struct listing listing;
-    struct povundiri_opened opened;
-    struct povundiri_owned *owned;
-    uint64_t number = 0;
-    uint32_t status;
-    memset(found, 0, sizeof *found);
-    *fault = list(folder, &listing);
-    if (*fault == 0 && listing.count > 0) number = listing.numbers[listing.count - 1];
-    free(listing.numbers);
-    if (*fault != 0) return POVUNDIRI_SYSTEM;
-    owned = number == 0 ? NULL : new_owned();
-    if (owned == NULL) return number == 0 ? POVUNDIRI_DONE : POVUNDIRI_NO_MEMORY;
-    owned->number = number;
-    if (path_of(owned->path, folder, number, "seg") != 0 || !may_adopt(folder, number, owned->path, shape, found)) {
-        free(owned);
-        return POVUNDIRI_DONE;
-    }
-    status = povundiri_open(owned->path, shape, POVUNDIRI_ADOPT_OR_FAIL, NULL, &owned->file, &owned->segment, &opened);
-    if (status == POVUNDIRI_DONE && !opened.spent && !is_folded(folder, owned, opened.shape.id)) {
-        found->adopted = owned;
-        return status;
-    }
-    /* It stays under its name, and is read like any other. */
-    found->refused = status;
-    povundiri_folder_release(owned);
-    return POVUNDIRI_DONE;
-}
-
-uint32_t povundiri_folder_spare(const char *folder, struct povundiri_shape shape, uint64_t random, struct povundiri_owned **spare, int *fault) {
-    struct povundiri_owned *const owned = new_owned();
-    struct povundiri_opened opened;
-    char name[LONGEST_NAME];
-    uint32_t status;
-    *spare = NULL;
-    *fault = 0;
-    if (owned == NULL) return POVUNDIRI_NO_MEMORY;
-    snprintf(name, sizeof name, "spare-%ld-%016" PRIx64, (long)getpid(), random);
-    *fault = join(owned->path, folder, name);
-    status = *fault != 0 ? (uint32_t)POVUNDIRI_SYSTEM
-                         : povundiri_open(owned->path, shape, POVUNDIRI_ADOPT_OR_FAIL, NULL, &owned->file, &owned->segment, &opened);
-    if (status == POVUNDIRI_DONE) {
-        *spare = owned;
-        return status;
-    }
-    if (status == POVUNDIRI_SYSTEM && *fault == 0) {
-        *fault = opened.fault;
-        /* It was made, and is empty. */
-        unlink(owned->path);
-    }
-    free(owned);
-    return status;
-}
-
-/* The number that comes behind all that stand, and all that the totals name. */
-static int next_number(const char *folder, uint64_t *number) {
-    struct listing listing;
-    struct totals totals;
-    size_t i;
-    int fault = list(folder, &listing);
-    free(listing.numbers);
-    if (fault != 0) return fault;
-    fault = read_totals(folder, &totals);
-    for (i = 0; i < totals.count; i += 1) {
-        if (totals.of[i].number > listing.last) listing.last = totals.of[i].number;
-    }
-    free_totals(&totals);
-    *number = listing.last + 1;
-    return fault;
-}
-
-int povundiri_folder_commit(const char *folder, struct povundiri_owned *spare) {
-    char path[POVUNDIRI_PATH_BYTES];
-    uint64_t number = 0;
-    int fault = next_number(folder, &number);
-    if (fault != 0) return fault;
-    do {
-        fault = path_of(path, folder, number, "seg");
-        if (fault == 0 && link(spare->path, path) != 0) fault = errno;
-        if (fault == EEXIST) number += 1;
-    } while (fault == EEXIST);
-    if (fault != 0) return fault;
-    unlink(spare->path);
-    spare->number = number;
-    memcpy(spare->path, path, sizeof path);
-    return 0;
 }

@@ -10,3 +10,4 @@ pub mod Present
 pub mod Reporting
 pub mod Mailboxes
 pub mod Looking
+pub mod Summing

@@ -89,6 +89,11 @@ abbrev pub AddsOther : Option Sums → Sums → ℕ → Sums → Type 0
 AddsOther (Some other) old status new = ((status ≡ 0) × Appends other old new) ⊎ (((status ≡ 13) ⊎ (status ≡ 19)) × (new ≡ old))
 AddsOther None old status new = (status ≡ 5) × (new ≡ old)
 
+-- the same, where a length is beside the status
+abbrev pub AppendsOrRefuses : Sums → Sums → Result (Unit {0}) Refused → Sums → Type 0
+AppendsOrRefuses other old (Ok _) new = Appends other old new
+AppendsOrRefuses other old (Err why) new = ((why ≡ refused_with 13) ⊎ (why ≡ refused_with 19)) × (new ≡ old)
+
 -- that of two handles, either of which may be empty
 abbrev pub AnswersAppend : Option Contents → Option Contents → ℕ → Option Contents → Type 0
 AnswersAppend None held status new = (status ≡ 3) × (new ≡ held)

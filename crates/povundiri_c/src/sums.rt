@@ -4,7 +4,7 @@ ghost use Rattle.std.specs.Prelude.{◌≡◌, ◌≢◌, Some, IfErr, IfOk};
 ghost use Rattle.segment_image.specs.Head.{header_of};
 ghost use Rattle.reading_sums.specs.Whole.{IsWellFormed};
 ghost use Rattle.povundiri_c.specs.Status.{status_of_image_fault, status_of_sums_fault};
-ghost use Rattle.povundiri_c.specs.Sums.{AddsOther, AddsTotals, IsImageAdded, IsSaidOfAdding, IsSumText, IsTextOrStatus, IsTotalsOrStatus};
+ghost use Rattle.povundiri_c.specs.Sums.{AddsOther, AddsTotals, AppendsOrRefuses, IsImageAdded, IsSaidOfAdding, IsSumText, IsTextOrStatus, IsTotalsOrStatus};
 
 use crate::status::{
     BAD_TOTALS, DONE, NO_MEMORY, Refused, of_image_fault, of_sums_fault,
@@ -46,6 +46,7 @@ pub(crate) fn add_other(sums: &mut Sums, other: &Sums) -> u32
 
 // Adds totals. Or the status says why not, and the sum is unchanged.
 fn add_read(sums: &mut Sums, totals: &Totals) -> Result<(), Refused>
+    ensures { AppendsOrRefuses totals.now.sums sums.old result sums.new }
 {
     match sums.append(&totals.sums) {
         Ok(()) => Ok(()),

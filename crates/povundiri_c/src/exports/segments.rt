@@ -16,8 +16,8 @@ use crate::types::SegmentShape;
 use live_segment::{Lender, Memory, Opener, Room, Segment};
 use std::alloc::Global;
 
-// Fills a handle, which is empty.
-fn fill(alloc: Global, out: &mut Handle, held: Contents) -> u32
+/// Fills a handle, which is empty.
+pub(super) fn fill(alloc: Global, out: &mut Handle, held: Contents) -> u32
     ensures { ((result ≡ 0) × (out.new.boxed.held ≡ Some held)) ⊎ ((result ≡ 13) × (out.new.boxed.held ≡ out.old.boxed.held)) }
 {
     match Box::new(alloc, held) {

@@ -8,9 +8,10 @@ ghost use Rattle.povundiri_c.specs.Asking.{AreListed};
 ghost use Rattle.povundiri_c.specs.Segments.{IntoEmpty};
 ghost use Rattle.povundiri_c.specs.Sums.{AddsImage, AnswersAppend, AnswersTotalsAdded, AskedByHandle, IsSumExport, IsSumMade, IsSumReport, IsSumShow, IsSumText, IsTextOrStatus, IsTotalsOrStatus, OfSums};
 
+use super::segments::fill;
 use crate::contents::Contents;
 use crate::handle::Handle;
-use crate::status::{BAD_PREFIX, DONE, EMPTY, NOT_EMPTY, NO_MEMORY, Refused, SHORT};
+use crate::status::{BAD_PREFIX, DONE, EMPTY, NOT_EMPTY, Refused, SHORT};
 use crate::texts::TextAsked;
 use reading_sums::Sums;
 use reading_texts::is_prefix;
@@ -25,13 +26,7 @@ pub extern "C" fn povundiri_proved_sums_new(alloc: Global, out: &mut Handle) -> 
     if out.is_full() {
         return NOT_EMPTY;
     }
-    match Box::new(alloc, Contents::Sums(Sums::new(alloc))) {
-        Ok(boxed) => {
-            out.put(boxed);
-            DONE
-        }
-        Err(_) => NO_MEMORY,
-    }
+    fill(alloc, out, Contents::Sums(Sums::new(alloc)))
 }
 
 /// Reads an image and adds it to a sum, under a number, as the library's `Sums::add` does.

@@ -1,0 +1,98 @@
+-- Sums that C holds.
+use Rattle.std.proofs.Common.{◌≡◌, ◌⊎◌, ℕ, List, [], refl, sym, ap, ◌∙◌, subst, inl, inr, Option, Some, None, Result, Ok, Err, MatchResult, IfOk, MutBor}
+use Rattle.std.proofs.lemmas.Result.{MatchResult-at_ok, MatchResult-at_err}
+use Rattle.std.specs.Fn.{FnOnceReturnsAtMut, Once}
+use Rattle.std.specs.declared.vec.Vec.{Vec}
+use Rattle.std.specs.declared.alloc.AllocError.{AllocError}
+use Rattle.std.specs.declared.alloc.Global.{Global}
+use Rattle.bucket_ranges.specs.Reading as ranges
+use Rattle.bucket_ranges.specs.Reading.{IsReading}
+use Rattle.segment_image.specs.Head.{header_of}
+use Rattle.segment_image.specs.declared.head.SegmentHead.{SegmentHead}
+use Rattle.segment_image.specs.declared.fault.ImageFault.{ImageFault}
+use Rattle.segment_image.specs.declared.fault.ImageFault.TheVariants.{NoMemory}
+use Rattle.image_reader.specs.declared.reading.Reading.{Reading}
+use Rattle.image_reader.specs.Views.{reading_view}
+use Rattle.reading_shows.specs.declared.choice.Choice.TheVariants.{All}
+use Rattle.reading_shows.specs.declared.style.Style.{Style}
+use Rattle.reading_shows.specs.Showing.{IsShowOf}
+use Rattle.reading_sums.specs.declared.sums.Sums.{Sums}
+use Rattle.reading_sums.specs.Sums.{IsSumOver}
+use Rattle.reading_sums.specs.Whole.{IsWellFormed}
+use Rattle.sum_texts.specs.declared.totals.Totals.{Totals}
+use Rattle.sum_texts.specs.Lines.{totals_text}
+use Rattle.sum_texts.specs.Views.{whole_of}
+use Rattle.povundiri_c.specs.declared.contents.Contents.{Contents}
+use Rattle.povundiri_c.specs.declared.contents.Contents.TheVariants as contents
+use Rattle.povundiri_c.specs.declared.status.Refused.{Refused}
+use Rattle.povundiri_c.specs.Calls.{ByHandle}
+use Rattle.povundiri_c.specs.Reports.{style_asked}
+use Rattle.povundiri_c.specs.Status.{status_of_image_fault}
+use Rattle.povundiri_c.specs.Sums.{Adds, AddsTotals, AppendsOrRefuses, AskedByHandle, AskedOfSums, BySums, IsImageAdded, IsSaidOfAdding, IsShownAs, IsSumMade, IsSumShow, sums_in}
+
+-- the contents are a sum
+pub by_sums : {A : Type 0} (other : A) (Calls : Sums → A → Sums → Type 0) (it : Contents) (sums after : Sums) (answer : A)
+    → it ≡ contents.Sums sums → Calls sums answer after → BySums other Calls it answer (contents.Sums after)
+by_sums other Calls it sums after answer is calls =
+    subst (λ (one : Contents). BySums other Calls one answer (contents.Sums after)) (sym is) (after, refl, calls)
+
+-- a handle was filled with the sum of no images, or not
+pub sum_made : (sums : Sums) (status : ℕ) (old new : Option Contents) → IsSumOver [] sums → IsWellFormed sums
+    → ((status ≡ 0) × (new ≡ Some (contents.Sums sums))) ⊎ ((status ≡ 13) × (new ≡ old)) → IsSumMade status old new
+sum_made sums status old new over formed (inl filled) = inl (filled.0, (sums, filled.1, over, formed))
+sum_made sums status old new over formed (inr same) = inr same
+
+-- ---- images
+
+-- words whose header has no fault are not read only when memory runs out
+pub said_of_adding : {X : Type 0} (outer : Result SegmentHead ImageFault) (result : Result X ImageFault) (why : ImageFault) (status : ℕ) (P : SegmentHead → X → Type 0)
+    → MatchResult outer (λ head. MatchResult result (P head) (λ fault. fault ≡ NoMemory)) (λ fault. result ≡ Err fault) → result ≡ Err why → status ≡ status_of_image_fault why
+    → IfOk outer (λ _. IsSaidOfAdding status)
+said_of_adding (Ok head) result why status P held is says =
+    inr (inr (inr (says ∙ ap status_of_image_fault (MatchResult-at_err (P head) (λ fault. fault ≡ NoMemory) why is held))))
+said_of_adding (Err fault) result why status P held is says = tt
+
+-- what the words read as was added
+pub image_added : (number : ℕ) (words : List ℕ) (outer : Result SegmentHead ImageFault) (result : Result Reading ImageFault) (reading : Reading) (old new : Sums) (Q : ImageFault → Type 0)
+    → header_of words ≡ outer
+    → MatchResult outer (λ head. MatchResult result (λ read. IsReading words head (reading_view read)) Q) (λ fault. result ≡ Err fault)
+    → result ≡ Ok reading → Adds number (reading_view reading) old new → IsImageAdded number words old new
+image_added number words (Ok head) result reading old new Q same held is adds = record {
+  head = head;
+  head_is = same;
+  reading = reading_view reading;
+  reading_is = MatchResult-at_ok (λ read. IsReading words head (reading_view read)) Q reading is held;
+  adds = adds;
+}
+image_added number words (Err fault) result reading old new Q same held is adds =
+    absurd (subst (λ (read : Result Reading ImageFault). MatchResult read (λ _. Unit {0}) (λ _. ⊥)) (sym is ∙ held) tt)
+
+-- ---- totals
+
+-- a totals was read, and its sum was appended, or not
+pub totals_added : (text : List ℕ) (totals : Totals) (old : Sums) (answer : Result (Unit {0}) Refused) (new : Sums)
+    → text ≡ totals_text (whole_of totals) → IsWellFormed totals.sums → AppendsOrRefuses totals.sums old answer new → AddsTotals text old answer new
+totals_added text totals old (Ok none) new same formed appends = (totals, (record { text_is = same; well_formed = formed }, appends))
+totals_added text totals old (Err why) new same formed (inl memory, unchanged) = (inl memory, unchanged)
+totals_added text totals old (Err why) new same formed (inr many, unchanged) = (inr (inl many), unchanged)
+
+-- ---- texts
+
+-- the text of a reading that a sum is shown as, in the style that is asked for
+pub sum_shown : (width : ℕ) (sums : Sums) (reading : ranges.Reading) (style : Style) (result : Result (Vec ℕ Global) AllocError) → style ≡ style_asked width
+    → IsShownAs sums reading → IfOk result (λ text. IsShowOf style All reading text.items) → IfOk result (λ text. IsSumShow width sums text.items)
+sum_shown width sums reading style (Ok text) same shown is =
+    (reading, (shown, subst (λ (one : Style). IsShowOf one All reading text.items) same is))
+sum_shown width sums reading style (Err why) same shown is = tt
+
+-- a closure that asks a sum for a text leaves what the handle holds
+pub asked_by : {F : Type 0} (empty : Result (Vec ℕ Global) ℕ) (g : Once F (MutBor Contents × Unit {0}) (Result (Vec ℕ Global) ℕ × (MutBor Contents × Unit {0}))) (f : F) (Asks : Sums → Result (Vec ℕ Global) ℕ → Type 0)
+    → empty ≡ Err 3
+    → ((shown left : MutBor Contents) (answer : Result (Vec ℕ Global) ℕ) → g.post f (shown, tt) (answer, (left, tt)) → AskedOfSums Asks shown.now answer × (left.now ≡ shown.now))
+    → (old new : Option Contents) (answer : Result (Vec ℕ Global) ℕ) → ByHandle empty (FnOnceReturnsAtMut g f) old answer new → AskedByHandle Asks old answer × (new ≡ old)
+asked_by empty g f Asks none each None new answer is = (is.0 ∙ none, is.1)
+asked_by empty g f Asks none each (Some held) new answer (after, same, does) =
+    let made = each does.shown does.left answer does.met in (
+      subst (λ (one : Contents). AskedOfSums Asks one answer) does.shows made.0,
+      same ∙ ap Some (sym does.leaves ∙ made.1 ∙ does.shows),
+    )

@@ -154,6 +154,11 @@ uint32_t povundiri_recording_show(struct povundiri_recording *recording, uint16_
 /* povundiri_folder_fold of its folder. */
 uint32_t povundiri_recording_fold(struct povundiri_recording *recording, uint64_t *folded, int *fault) POVUNDIRI_CHECKED;
 
+/* ---- For povundiri_recorded.c alone ---- */
+
+const char *povundiri_recording_folder(const struct povundiri_recording *recording);
+uint64_t povundiri_recording_fold_at(const struct povundiri_recording *recording);
+
 #ifdef __cplusplus
 }
 #endif

@@ -73,5 +73,6 @@ module _ {A : Type 0} (counts : A → List (ℤ × ℕ)) (Calls : Hist → Owned
   pub fits : (held held' : Option Contents) → SizesOfRecorder (AtPlaceInRoom place room Calls) held (Ok value) held' → length (counts value) ≤ room
   fits None held' (is, same) = absurd (answered value _ is)
   fits (Some (contents.Segment owned)) held' (after, new, (is, same)) = absurd (answered value _ is)
+  fits (Some (contents.Sums sums)) held' (after, new, (is, same)) = absurd (answered value _ is)
   fits (Some contents.Nothing) held' (after, new, (is, same)) = absurd (answered value _ is)
   fits (Some (contents.Recorder joinable)) held' (after, new, (mine, is, mailbox, calls)) = fits_recorder joinable.owned mine.owned calls

@@ -1,7 +1,6 @@
 -- Sums that C holds.
-use Rattle.std.proofs.Common.{◌≡◌, ◌⊎◌, ℕ, List, [], refl, sym, ap, ◌∙◌, subst, inl, inr, Option, Some, None, Result, Ok, Err, MatchResult, IfOk, MutBor}
+use Rattle.std.proofs.Common.{◌≡◌, ◌⊎◌, ℕ, List, [], refl, sym, ap, ◌∙◌, subst, inl, inr, Option, Some, None, Result, Ok, Err, MatchResult, IfOk}
 use Rattle.std.proofs.lemmas.Result.{MatchResult-at_ok, MatchResult-at_err}
-use Rattle.std.specs.Fn.{FnOnceReturnsAtMut, Once}
 use Rattle.std.specs.declared.vec.Vec.{Vec}
 use Rattle.std.specs.declared.alloc.AllocError.{AllocError}
 use Rattle.std.specs.declared.alloc.Global.{Global}
@@ -25,10 +24,9 @@ use Rattle.sum_texts.specs.Views.{whole_of}
 use Rattle.povundiri_c.specs.declared.contents.Contents.{Contents}
 use Rattle.povundiri_c.specs.declared.contents.Contents.TheVariants as contents
 use Rattle.povundiri_c.specs.declared.status.Refused.{Refused}
-use Rattle.povundiri_c.specs.Calls.{ByHandle}
 use Rattle.povundiri_c.specs.Reports.{style_asked}
 use Rattle.povundiri_c.specs.Status.{status_of_image_fault}
-use Rattle.povundiri_c.specs.Sums.{Adds, AddsTotals, AppendsOrRefuses, AskedByHandle, AskedOfSums, BySums, IsImageAdded, IsSaidOfAdding, IsShownAs, IsSumMade, IsSumShow, sums_in}
+use Rattle.povundiri_c.specs.Sums.{Adds, AddsTotals, AppendsOrRefuses, BySums, IsImageAdded, IsSaidOfAdding, IsShownAs, IsSumMade, IsSumShow, sums_in}
 
 -- the contents are a sum
 pub by_sums : {A : Type 0} (other : A) (Calls : Sums → A → Sums → Type 0) (it : Contents) (sums after : Sums) (answer : A)
@@ -39,8 +37,15 @@ by_sums other Calls it sums after answer is calls =
 -- a handle was filled with the sum of no images, or not
 pub sum_made : (sums : Sums) (status : ℕ) (old new : Option Contents) → IsSumOver [] sums → IsWellFormed sums
     → ((status ≡ 0) × (new ≡ Some (contents.Sums sums))) ⊎ ((status ≡ 13) × (new ≡ old)) → IsSumMade status old new
-sum_made sums status old new over formed (inl filled) = inl (filled.0, (sums, filled.1, over, formed))
+sum_made sums status old new over formed (inl filled) = inl (filled.0, sums, filled.1, over, formed)
 sum_made sums status old new over formed (inr same) = inr same
+
+-- what is no sum has none
+pub no_sums : (it : Contents) → ((sums : Sums) → it ≡ contents.Sums sums → ⊥) → sums_in it ≡ None
+no_sums (contents.Sums sums) other = absurd (other sums refl)
+no_sums (contents.Segment owned) other = refl
+no_sums (contents.Recorder joinable) other = refl
+no_sums contents.Nothing other = refl
 
 -- ---- images
 
@@ -72,7 +77,7 @@ image_added number words (Err fault) result reading old new Q same held is adds 
 -- a totals was read, and its sum was appended, or not
 pub totals_added : (text : List ℕ) (totals : Totals) (old : Sums) (answer : Result (Unit {0}) Refused) (new : Sums)
     → text ≡ totals_text (whole_of totals) → IsWellFormed totals.sums → AppendsOrRefuses totals.sums old answer new → AddsTotals text old answer new
-totals_added text totals old (Ok none) new same formed appends = (totals, (record { text_is = same; well_formed = formed }, appends))
+totals_added text totals old (Ok none) new same formed appends = (totals, record { text_is = same; well_formed = formed }, appends)
 totals_added text totals old (Err why) new same formed (inl memory, unchanged) = (inl memory, unchanged)
 totals_added text totals old (Err why) new same formed (inr many, unchanged) = (inr (inl many), unchanged)
 
@@ -82,17 +87,5 @@ totals_added text totals old (Err why) new same formed (inr many, unchanged) = (
 pub sum_shown : (width : ℕ) (sums : Sums) (reading : ranges.Reading) (style : Style) (result : Result (Vec ℕ Global) AllocError) → style ≡ style_asked width
     → IsShownAs sums reading → IfOk result (λ text. IsShowOf style All reading text.items) → IfOk result (λ text. IsSumShow width sums text.items)
 sum_shown width sums reading style (Ok text) same shown is =
-    (reading, (shown, subst (λ (one : Style). IsShowOf one All reading text.items) same is))
+    (reading, shown, subst (λ (one : Style). IsShowOf one All reading text.items) same is)
 sum_shown width sums reading style (Err why) same shown is = tt
-
--- a closure that asks a sum for a text leaves what the handle holds
-pub asked_by : {F : Type 0} (empty : Result (Vec ℕ Global) ℕ) (g : Once F (MutBor Contents × Unit {0}) (Result (Vec ℕ Global) ℕ × (MutBor Contents × Unit {0}))) (f : F) (Asks : Sums → Result (Vec ℕ Global) ℕ → Type 0)
-    → empty ≡ Err 3
-    → ((shown left : MutBor Contents) (answer : Result (Vec ℕ Global) ℕ) → g.post f (shown, tt) (answer, (left, tt)) → AskedOfSums Asks shown.now answer × (left.now ≡ shown.now))
-    → (old new : Option Contents) (answer : Result (Vec ℕ Global) ℕ) → ByHandle empty (FnOnceReturnsAtMut g f) old answer new → AskedByHandle Asks old answer × (new ≡ old)
-asked_by empty g f Asks none each None new answer is = (is.0 ∙ none, is.1)
-asked_by empty g f Asks none each (Some held) new answer (after, same, does) =
-    let made = each does.shown does.left answer does.met in (
-      subst (λ (one : Contents). AskedOfSums Asks one answer) does.shows made.0,
-      same ∙ ap Some (sym does.leaves ∙ made.1 ∙ does.shows),
-    )

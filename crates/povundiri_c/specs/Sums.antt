@@ -12,7 +12,7 @@ use Rattle.reading_sums.specs.Sums.{IsSumOver}
 use Rattle.reading_sums.specs.Views.{parts_of}
 use Rattle.reading_sums.specs.Whole.{IsWellFormed, IsWholeReading}
 use Rattle.sum_texts.specs.declared.totals.Totals.{Totals}
-use Rattle.sum_texts.specs.Endings.{IsReportOf}
+use Rattle.sum_texts.specs.Endings as endings
 use Rattle.sum_texts.specs.Lines.{Whole, totals_text}
 use Rattle.sum_texts.specs.Views.{whole_of}
 use Rattle.sum_texts.specs.Writable.{IsWritable}
@@ -141,7 +141,7 @@ pub record IsShownAs (sums : Sums) (reading : Reading) : Type 0 where
 
 -- the report of a sum, of which no input was left out
 abbrev pub IsSumReport : Sums → List ℕ → Type 0
-IsSumReport sums text = IsReportOf sums 0 text
+IsSumReport sums text = endings.IsSumReport sums 0 text
 
 -- the metrics of a sum with this prefix
 abbrev pub IsSumExport : List ℕ → Sums → List ℕ → Type 0

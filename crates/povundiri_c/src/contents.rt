@@ -7,7 +7,7 @@ ghost use Rattle.povundiri_c.specs.Joins.{BySegment, GivesRecorder, ServesConten
 ghost use Rattle.povundiri_c.specs.Looks.{IsLookIn};
 ghost use Rattle.povundiri_c.specs.Recorders.{Adds, AtPlace, refused_with};
 ghost use Rattle.povundiri_c.specs.Segments.{AnswersClose};
-ghost use Rattle.povundiri_c.specs.Sums.{AddsImage, AddsOther, AddsTotals, AskedOfSums, BySums, IsSumText, IsTextOrStatus, IsTotalsOrStatus, sums_in};
+ghost use Rattle.povundiri_c.specs.Sums.{AddsImage, AddsOther, AddsTotals, AskedOfSums, BySums, IsSumExport, IsSumReport, IsSumShow, IsTextOrStatus, IsTotalsOrStatus, sums_in};
 
 use crate::joinable_recorder::JoinableRecorder;
 use crate::owned_segment::{JoinOrLend, OwnedSegment};
@@ -199,16 +199,32 @@ impl Contents {
         }
     }
 
-    /// A text of the sum.
-    pub(crate) fn text_of_sums(
-        &mut self,
-        alloc: Global,
-        asked: TextAsked<'_>,
-    ) -> Result<Vec<u8>, u32>
-        ensures { AskedOfSums (IsTextOrStatus (IsSumText asked.entry)) self.old result × (self.new ≡ self.old) }
+    /// The report of the sum.
+    pub(crate) fn sum_report(&mut self, alloc: Global) -> Result<Vec<u8>, u32>
+        ensures { AskedOfSums (IsTextOrStatus IsSumReport) self.old result × (self.new ≡ self.old) }
     {
         match self {
-            Contents::Sums(sums) => text_of_sums(alloc, sums, asked),
+            Contents::Sums(sums) => text_of_sums(alloc, sums, TextAsked::Report),
+            _ => Err(OTHER_KIND),
+        }
+    }
+
+    /// The metrics of the sum, whose names begin with this prefix.
+    pub(crate) fn sum_metrics(&mut self, alloc: Global, prefix: &[u8]) -> Result<Vec<u8>, u32>
+        ensures { AskedOfSums (IsTextOrStatus (IsSumExport prefix.now)) self.old result × (self.new ≡ self.old) }
+    {
+        match self {
+            Contents::Sums(sums) => text_of_sums(alloc, sums, TextAsked::Export { prefix }),
+            _ => Err(OTHER_KIND),
+        }
+    }
+
+    /// The text of the sum for people, with so many cells in a line.
+    pub(crate) fn sum_shown(&mut self, alloc: Global, width: u16) -> Result<Vec<u8>, u32>
+        ensures { AskedOfSums (IsTextOrStatus (IsSumShow width)) self.old result × (self.new ≡ self.old) }
+    {
+        match self {
+            Contents::Sums(sums) => text_of_sums(alloc, sums, TextAsked::Show { width }),
             _ => Err(OTHER_KIND),
         }
     }

@@ -6,3 +6,4 @@ pub mod LineLacks
 pub mod Fronts
 pub mod Wholes
 pub mod Texts
+mod Formed

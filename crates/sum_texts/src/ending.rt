@@ -1,6 +1,9 @@
 //! The report of a sum: that of its reading, and lines behind it of what that leaves out.
 
+ghost use Rattle.std.specs.Prelude.{◌≡◌, ◌++◌, IfOk, OnOk};
+ghost use Rattle.std.specs.List.{flat_map};
 ghost use Rattle.reading_sums.specs.Whole.{IsWellFormed};
+ghost use Rattle.sum_texts.specs.Endings.{other_line, inputs_line, ending_text, IsSumReport};
 
 use crate::writing::{put_line, put_number_line};
 use itoa::Buffer;
@@ -9,7 +12,9 @@ use reading_texts::report_text;
 use std::alloc::{AllocError, Global};
 
 // Puts the lines of what a reading leaves out.
-fn put_others(text: &mut Vec<u8>, others: &[OtherSpec]) -> Result<(), AllocError> {
+fn put_others(text: &mut Vec<u8>, others: &[OtherSpec]) -> Result<(), AllocError>
+    ensures { OnOk result (text.new.items ≡ text.old.items ++ flat_map other_line others.now) }
+{
     for other in others {
         let mut images = Buffer::new();
         let mut units = Buffer::new();
@@ -27,7 +32,9 @@ fn put_others(text: &mut Vec<u8>, others: &[OtherSpec]) -> Result<(), AllocError
 }
 
 // Puts the line of how many inputs were left out, where some were.
-fn put_left(text: &mut Vec<u8>, left: u64) -> Result<(), AllocError> {
+fn put_left(text: &mut Vec<u8>, left: u64) -> Result<(), AllocError>
+    ensures { OnOk result (text.new.items ≡ text.old.items ++ inputs_line left) }
+{
     if left == 0 {
         return Ok(());
     }
@@ -40,8 +47,10 @@ fn put_ending(
     images: u64,
     others: &[OtherSpec],
     left: u64,
-) -> Result<(), AllocError> {
-    if images <= 1 && left == 0 && others.is_empty() {
+) -> Result<(), AllocError>
+    ensures { OnOk result (text.new.items ≡ text.old.items ++ ending_text images others.now left) }
+{
+    if images <= 1 && others.is_empty() && left == 0 {
         return Ok(());
     }
     put_number_line(text, b"!images", images)?;
@@ -49,9 +58,13 @@ fn put_ending(
     put_left(text, left)
 }
 
-/// Returns the report of a sum.
+/// Returns the report of a sum, beside which so many inputs were left out: that of its reading, and behind it, where there
+/// are several images, or a histogram or an input was left out, how many images there are, each name and spec that the
+/// reading leaves out, with its images and units, and how many inputs were left out [text]. It fails for want of memory
+/// alone.
 pub fn report_of(alloc: Global, sums: &Sums, left: u64) -> Result<Vec<u8>, AllocError>
     requires { IsWellFormed sums.now }
+    ensures text { IfOk result (λ text. IsSumReport sums.now left text.items) }
 {
     let reading = sums.reading(alloc)?;
     let others = sums.others(alloc)?;

@@ -1,9 +1,10 @@
-//! The text of a totals that is written by hand.
+//! Totals and reports that are written by hand.
 
-use crate::{Totals, report_of, totals_of, totals_text};
+use crate::{Totals, TotalsFault, report_of, totals_of, totals_text};
 use bucket_ranges::{CustomValues, Spec};
 use image_reader::{HistReading, Reading};
 use reading_sums::Sums;
+use reading_texts::report_text;
 use std::alloc::{AllocError, Global};
 use std::test::Fail;
 
@@ -98,5 +99,112 @@ fn totals_are_read_back(rt: HostRuntime) -> Result<(), Fail> {
     let lines =
         b"Load,boolean,0,1,1\nLoad,total,1,0\nValue,sparse,-2147483648,-2147483647,8\nValue,sparse,9,10,1\nValue,total,9,-9223372036854775808\n!flag,full\n!redundant,Value,15\n!images,3\n!other,Load,2,18446744073709551615\n!left,6\n";
     assert_eq!(rt; report.as_slice(), lines.as_slice());
+    Ok(())
+}
+
+// Texts that are the totals of no well-formed sum, each with the line that is told.
+const REFUSED: [(&[u8], u64); 9] = [
+    (b"", 1),
+    (b"totals,1\n", 2),
+    (b"totals,1\nimages,0,0,0,0,0\nend,0", 4),
+    (b"totals,1\nimages,0,0,0,0,0\nend,1\n", 3),
+    (b"totals,1\nimages,0,0,0,0,00\nend,0\n", 2),
+    (
+        b"totals,1\nimages,1,0,0,0,0\nhist,B,1,0,0,0,0,sparse\nkey,1,2\nend,1\n",
+        4,
+    ),
+    (
+        b"totals,1\nimages,1,0,0,0,0\nhist,B,1,0,0,0,0,sparse\nhist,A,1,0,0,0,0,sparse\nend,2\n",
+        4,
+    ),
+    (
+        b"totals,1\nimages,1,0,0,0,0\nhist,A,1,0,0,0,0,sparse\nkey,1,2,0\nkey,2,1,0\nhist,B,1,0,0,0,0,sparse\nkey,7,1,0\nhist,C,1,0,0,0,0,linear,1,0,3\nhist,D,1,0,0,0,0,sparse\nend,4\n",
+        8,
+    ),
+    (
+        b"totals,1\nimages,1,0,0,0,0\nhist,B,1,0,0,0,0,boolean\nkey,0,2,0\nend,1\n",
+        3,
+    ),
+];
+
+#[test]
+fn texts_are_refused(rt: HostRuntime) -> Result<(), Fail> {
+    let alloc = rt.alloc();
+    for (text, line) in REFUSED {
+        match totals_of(alloc, text) {
+            Ok(_) => assert_eq!(rt; text, b"".as_slice()),
+            Err(fault) => assert_eq!(rt; fault, TotalsFault::BadTotals(line)),
+        }
+    }
+    Ok(())
+}
+
+// An image with these histograms.
+fn image(alloc: Global, hists: Vec<HistReading>) -> Reading {
+    Reading {
+        id: 7,
+        full: false,
+        corrupt: false,
+        hists,
+        bad: Vec::new(alloc),
+        stopped: None,
+    }
+}
+
+// The two images of the example in `docs/FORMAT.md`; the second has its names in no order.
+fn example(alloc: Global) -> Result<(Reading, Reading), AllocError> {
+    let linear = || Spec::Linear {
+        min: 1,
+        max: 10,
+        n: 3,
+    };
+    let first = &[(0, 4), (1, 0), (10, 1)];
+    let second = &[(0, 1), (1, 2), (10, 0)];
+    let mut load = hist(alloc, b"Load", linear(), first, &[0, 0, 0], (20, 0))?;
+    load.redundant = 5;
+    let mut more = hist(alloc, b"Load", linear(), second, &[0, 0, 0], (5, 0))?;
+    more.redundant = 3;
+    let mut code = hist(alloc, b"Code", Spec::Sparse, &[(7, 1)], &[0], (7, 0))?;
+    code.redundant = 1;
+    let mut one = Vec::new(alloc);
+    one.push(load)?;
+    let mut two = Vec::new(alloc);
+    two.push(more)?;
+    two.push(code)?;
+    Ok((image(alloc, one), image(alloc, two)))
+}
+
+#[test]
+fn one_image_reports_the_same(rt: HostRuntime) -> Result<(), Fail> {
+    let alloc = rt.alloc();
+    let (_, second) = example(alloc)?;
+    let mut sums = Sums::new(alloc);
+    sums.add(2, &second)?;
+    let report = report_of(alloc, &sums, 0)?;
+    let same = report_text(alloc, &second)?;
+    assert_eq!(rt; report.as_slice(), same.as_slice());
+    Ok(())
+}
+
+#[test]
+fn two_images_report_how_many(rt: HostRuntime) -> Result<(), Fail> {
+    let alloc = rt.alloc();
+    let (first, second) = example(alloc)?;
+    let mut sums = Sums::new(alloc);
+    sums.add(1, &first)?;
+    sums.add(2, &second)?;
+    let report = report_of(alloc, &sums, 0)?;
+    let lines =
+        b"Code,sparse,7,8,1\nCode,total,1,7\nLoad,linear,0,1,5\nLoad,linear,1,10,2\nLoad,linear,10,2147483647,1\nLoad,total,8,25\n!images,2\n";
+    assert_eq!(rt; report.as_slice(), lines.as_slice());
+    let totals = Totals {
+        sums,
+        of: Vec::new(alloc),
+        fold: None,
+    };
+    let text = totals_text(alloc, &totals)?;
+    let spelled =
+        b"totals,1\nimages,2,0,0,0,0\nhist,Code,1,2,7,0,1,sparse\nkey,7,1,0\nhist,Load,2,1,25,0,8,linear,1,10,3\nkey,0,5,0\nkey,1,2,0\nkey,10,1,0\nend,2\n";
+    assert_eq!(rt; text.as_slice(), spelled.as_slice());
     Ok(())
 }

@@ -6,13 +6,12 @@ ghost use Rattle.std.specs.declared.alloc.Global.{Global};
 ghost use Rattle.reading_texts.specs.Labels.{is_metric_word};
 ghost use Rattle.povundiri_c.specs.Asking.{AreListed};
 ghost use Rattle.povundiri_c.specs.Segments.{IntoEmpty};
-ghost use Rattle.povundiri_c.specs.Sums.{AddsImage, AnswersAppend, AnswersTotalsAdded, AskedByHandle, IsSumExport, IsSumMade, IsSumReport, IsSumShow, IsSumText, IsTextOrStatus, IsTotalsOrStatus, OfSums};
+ghost use Rattle.povundiri_c.specs.Sums.{AddsImage, AnswersAppend, AnswersTotalsAdded, AskedByHandle, IsSumExport, IsSumMade, IsSumReport, IsSumShow, IsTextOrStatus, IsTotalsOrStatus, OfSums};
 
 use super::segments::fill;
 use crate::contents::Contents;
 use crate::handle::Handle;
 use crate::status::{BAD_PREFIX, DONE, EMPTY, NOT_EMPTY, Refused, SHORT};
-use crate::texts::TextAsked;
 use reading_sums::Sums;
 use reading_texts::is_prefix;
 use std::alloc::Global;
@@ -99,21 +98,6 @@ fn put_text(found: Result<Vec<u8>, u32>, text: &mut [u8], needed: &mut usize) ->
     DONE
 }
 
-// Writes a text of the sum that a handle holds.
-fn write_asked(
-    alloc: Global,
-    sums: &mut Handle,
-    asked: TextAsked<'_>,
-    text: &mut [u8],
-    needed: &mut usize,
-) -> u32
-    ensures answer { (answer : Result (Vec ℕ Global) ℕ) × AskedByHandle (IsTextOrStatus (IsSumText asked.entry)) sums.old.boxed.held answer × AreListed answer result needed.old needed.new text.old text.new }
-    ensures same { sums.new.boxed.held ≡ sums.old.boxed.held }
-{
-    let found = sums.call(Err(EMPTY), |held| held.text_of_sums(alloc, asked));
-    put_text(found, text, needed)
-}
-
 /// Writes the report of a sum as CSV, where there is room for it, and how many bytes it has. The handle holds the same
 /// [same].
 ///
@@ -131,7 +115,8 @@ pub extern "C" fn povundiri_proved_sums_report(
     ensures answer { (answer : Result (Vec ℕ Global) ℕ) × AskedByHandle (IsTextOrStatus IsSumReport) sums.old.boxed.held answer × AreListed answer result needed.old needed.new text.old text.new }
     ensures same { sums.new.boxed.held ≡ sums.old.boxed.held }
 {
-    write_asked(alloc, sums, TextAsked::Report, text, needed)
+    let found = sums.call(Err(EMPTY), |held| held.sum_report(alloc));
+    put_text(found, text, needed)
 }
 
 /// Writes the totals of a sum, from which `povundiri_proved_sums_add_totals` reads the same sum. The statuses are those of
@@ -171,7 +156,8 @@ pub extern "C" fn povundiri_proved_sums_export(
     if !is_prefix(prefix) {
         return BAD_PREFIX;
     }
-    write_asked(alloc, sums, TextAsked::Export { prefix }, text, needed)
+    let found = sums.call(Err(EMPTY), |held| held.sum_metrics(alloc, prefix));
+    put_text(found, text, needed)
 }
 
 /// Writes the text of a sum for people, of all its histograms. A line has so many cells, and 80 where 0 are asked for. The
@@ -187,5 +173,6 @@ pub extern "C" fn povundiri_proved_sums_show(
     ensures answer { (answer : Result (Vec ℕ Global) ℕ) × AskedByHandle (IsTextOrStatus (IsSumShow width)) sums.old.boxed.held answer × AreListed answer result needed.old needed.new text.old text.new }
     ensures same { sums.new.boxed.held ≡ sums.old.boxed.held }
 {
-    write_asked(alloc, sums, TextAsked::Show { width }, text, needed)
+    let found = sums.call(Err(EMPTY), |held| held.sum_shown(alloc, width));
+    put_text(found, text, needed)
 }

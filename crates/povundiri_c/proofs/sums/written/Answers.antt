@@ -1,3 +1,4 @@
+use Rattle.std.proofs.Common.{rules}
 use Rattle.image_reader.specs.Views.{reading_view}
 use Rattle.povundiri_c.proofs.Summing.{sum_shown}
 use Rattle.povundiri_c.proofs.sums.written.Goals as goal
@@ -9,5 +10,5 @@ returns-in_ok-reading-in-Show c =
       readable = c.in_ok-reading-in-Show.ensures.readable c.requires;
       full = c.in_ok-reading-in-Show.ensures.full;
       corrupt = c.in_ok-reading-in-Show.ensures.corrupt;
-      rest = c.in_ok-reading-in-Show.ensures.rest;
+      rest = search (c.in_ok-reading-in-Show.ensures.rest, rules);
     }) c.show_text.ensures)

@@ -1,0 +1,113 @@
+-- Well-formed sums by their parts: what is well formed stays so where the parts are the same.
+use Rattle.std.proofs.Common.{◌≡◌, ◌∙◌, ◌∷◌, ◌++◌, ◌+◌, ◌≤◌, ◌↔◌, Bool, true, false, Option, None, is_some, ℕ, List, [], map, take, length, sum_by, nat_cmp, length-append, refl, ap, sym, subst, arith}
+use Rattle.std.specs.declared.cmp.Ordering.{Ordering}
+use Rattle.std.specs.declared.cmp.Ordering.TheVariants.{Less}
+use Rattle.std.specs.Ordering.{ordering_then}
+use Rattle.std.specs.Cmp.Lexicographic.{slice_cmp}
+use Rattle.std.specs.List.{All, AllByRecursion, flat_map}
+use Rattle.std.specs.List.Sorted.{IsStrictlySortedBy}
+use Rattle.std.proofs.lemmas.List.{length-map}
+use Rattle.std.proofs.lemmas.List.Elements.{All-map, All-nil}
+use Rattle.std.proofs.lemmas.List.Concat.{length-flat_map}
+use Rattle.std.proofs.lemmas.List.Sums.{sum_by-cons, sum_by-take-le}
+use Rattle.reading_sums.specs.declared.hist.HistSum.{HistSum}
+use Rattle.reading_sums.specs.Orders.{hist_cmp, spec_cmp}
+use Rattle.reading_sums.specs.Totals.{Part}
+use Rattle.reading_sums.specs.Views.{part_of}
+use Rattle.reading_sums.specs.Whole.{AreWhole, IsWholeHist, IsWholeList}
+use Rattle.reading_sums.proofs.OneReading.{all-values}
+use Rattle.sum_texts.specs.Lines.{Whole, key_fields, line_bytes, line_text, lines_of, part_lines, segment_fields, fold_lines, end_fields, totals_text}
+use Rattle.sum_texts.specs.Writable.{AreFormed, line_count, name_line}
+
+-- the order of histograms, of their parts
+abbrev pub part_cmp : Part → Part → Ordering
+part_cmp a b = ordering_then (slice_cmp nat_cmp a.name b.name) (spec_cmp a.spec b.spec)
+
+all-parts : (x : HistSum) (xs : List HistSum) → AllByRecursion (λ y. hist_cmp x y ≡ Less) xs → AllByRecursion (λ y. part_cmp (part_of x) y ≡ Less) (map part_of xs)
+all-parts x [] all = tt
+all-parts x (y ∷ ys) all = (all.0, all-parts x ys all.1)
+
+all-hists : (x : HistSum) (xs : List HistSum) → AllByRecursion (λ y. part_cmp (part_of x) y ≡ Less) (map part_of xs) → AllByRecursion (λ y. hist_cmp x y ≡ Less) xs
+all-hists x [] all = tt
+all-hists x (y ∷ ys) all = (all.0, all-hists x ys all.1)
+
+-- histograms ascend where their parts do
+parts-ascend : (hists : List HistSum) → IsStrictlySortedBy hist_cmp hists → IsStrictlySortedBy part_cmp (map part_of hists)
+unfolding IsStrictlySortedBy
+parts-ascend [] up = tt
+parts-ascend (x ∷ xs) up = (all-parts x xs up.0, parts-ascend xs up.1)
+
+hists-ascend : (hists : List HistSum) → IsStrictlySortedBy part_cmp (map part_of hists) → IsStrictlySortedBy hist_cmp hists
+unfolding IsStrictlySortedBy
+hists-ascend [] up = tt
+hists-ascend (x ∷ xs) up = (all-hists x xs up.0, hists-ascend xs up.1)
+
+-- a part that is whole
+abbrev pub IsWholePart : Part → Type 0
+IsWholePart part = IsWholeList part.spec part.keys
+
+-- histograms are those of a well-formed sum where others of the same parts are
+pub formed-alike : (a b : List HistSum) → map part_of a ≡ map part_of b → AreWhole b → AreWhole a
+formed-alike a b same whole = record {
+  ascending = hists-ascend a (subst (IsStrictlySortedBy part_cmp) (sym same) (parts-ascend b whole.ascending));
+  whole = all-values IsWholePart part_of a (subst (All IsWholePart) (sym same) (All-map IsWholePart part_of b whole.whole));
+}
+
+-- ---- parts
+
+-- whether histograms are those of a well-formed sum is a matter of their parts
+pub formed-answer : (b : Bool) (hists : List HistSum) (parts : List Part) → map part_of hists ≡ parts → ((b ≡ true) ↔ AreWhole hists)
+    → (b ≡ true) ↔ AreFormed parts
+formed-answer b hists parts same answer = (
+  (λ yes. record { hists = hists; same = same; whole = answer.0 yes }),
+  (λ formed. answer.1 (formed-alike hists formed.hists (same ∙ sym formed.same) formed.whole)),
+)
+
+-- parts of no names are those of a well-formed sum
+pub none-formed : AreFormed []
+unfolding IsStrictlySortedBy
+none-formed = record { hists = []; same = refl; whole = record { ascending = tt; whole = All-nil IsWholeHist } }
+
+-- the lines of names, by the histograms
+pub counted : (hists : List HistSum) → sum_by line_count (map part_of hists) ≡ sum_by (λ (hist : HistSum). length hist.keys.items + 1) hists
+counted [] = refl
+counted (hist ∷ hists) =
+    let keys : length (map key_fields hist.keys.items) ≡ length hist.keys.items = length-map hist.keys.items key_fields in
+    let own : (hist : HistSum) → ℕ = λ hist. length hist.keys.items + 1 in
+    let here : line_count (part_of hist) ≡ own hist = omega (arith, keys) in
+    sum_by-cons line_count (part_of hist) (map part_of hists)
+    ∙ (ap (λ n. n + sum_by line_count (map part_of hists)) here
+    ∙ (ap (λ n. own hist + n) (counted hists) ∙ sym (sum_by-cons own hist hists)))
+
+-- where none was found, the histograms are those of no well-formed sum
+pub unformed : {X : Type 0} (found : Option X) (hists : List HistSum) → found ≡ None → ((is_some found ≡ true) ↔ AreWhole hists) → AreWhole hists → ⊥
+unformed found hists none answer whole =
+    let no : false ≡ true = subst (λ f. is_some f ≡ true) none (answer.1 whole) in
+    cc no
+
+-- ---- lines
+
+-- each line has a byte at least
+lines-long : (lines : List (List (List ℕ))) → length lines ≤ length (flat_map line_text lines)
+lines-long [] = omega arith
+lines-long (line ∷ lines) =
+    let more = lines-long lines in
+    let both : length (line_text line ++ flat_map line_text lines) ≡ length (line_text line) + length (flat_map line_text lines) = length-append (line_text line) (flat_map line_text lines) in
+    let own : length (line_text line) ≡ length (line_bytes line) + 1 = length-append (line_bytes line) (10 ∷ []) in
+    omega (arith, more, both, own)
+
+-- the number of a line is no greater than the length of the text
+pub line-within : (whole : Whole) (index : ℕ) → name_line whole.parts index ≤ length (totals_text whole)
+line-within whole index =
+    let some = sum_by-take-le line_count whole.parts index in
+    let all : length (flat_map part_lines whole.parts) ≡ sum_by line_count whole.parts = length-flat_map part_lines whole.parts in
+    let names = flat_map part_lines whole.parts in
+    let last : List (List (List ℕ)) = end_fields (length whole.parts) ∷ [] in
+    let ends : length (names ++ (map segment_fields whole.of ++ (fold_lines whole.fold ++ last))) ≡ length names + length (map segment_fields whole.of ++ (fold_lines whole.fold ++ last)) =
+    length-append names (map segment_fields whole.of ++ (fold_lines whole.fold ++ last)) in
+    let segments : length (map segment_fields whole.of ++ (fold_lines whole.fold ++ last)) ≡ length (map segment_fields whole.of) + length (fold_lines whole.fold ++ last) =
+    length-append (map segment_fields whole.of) (fold_lines whole.fold ++ last) in
+    let fold : length (fold_lines whole.fold ++ last) ≡ length (fold_lines whole.fold) + 1 = length-append (fold_lines whole.fold) last in
+    let lines : length (lines_of whole) ≡ 2 + length (names ++ (map segment_fields whole.of ++ (fold_lines whole.fold ++ last))) = omega arith in
+    let long = lines-long (lines_of whole) in
+    omega (arith, some, all, ends, segments, fold, lines, long)

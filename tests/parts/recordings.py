@@ -1,9 +1,9 @@
-"""Threads of a C++ program record into a folder, in segments so small that one is begun each few milliseconds, and the
-program is killed at a random moment and starts again in the same folder.
+"""Threads of a C++ program record into a folder, in segments so small that one is begun each few milliseconds, and
+the program is killed at a random moment and starts again in the same folder.
 
-The sum of the folder has of each histogram at least what had ended, and at most what was begun, over all that ran there:
-one after the other, two at once, or one that starts while another ends; with folds and without, some of which are killed
-at one of their calls of the system; and no reader beside them sees a number fall.
+The sum of the folder has of each histogram at least what had ended, and at most what was begun, over all that ran
+there: one after the other, two at once, or one that starts while another ends; with folds and without, some of which
+are killed at one of their calls of the system; and no reader beside them sees a number fall.
 """
 
 from __future__ import annotations
@@ -15,7 +15,6 @@ import pathlib
 import random
 import re
 import shutil
-import signal
 import struct
 import subprocess
 import tempfile
@@ -23,15 +22,13 @@ import time
 from collections.abc import Iterator, Sequence
 
 from support import native
-from support.program import Answer, Case, answer
+from support.program import Case, answer
 
 PROGRAM = "persist_report"
-SOURCES = ("povundiri_recording.hpp", "povundiri_recording.c")
 NAMES = (b"scale", b"boolean", b"linear", b"sparse", b"custom")
-THREADS = 8
 # Bytes of a segment, and the least nanoseconds between two.
 SIZES = ((16_384, 1_000_000), (32_768, 1), (65_536, 1_000_000))
-KILLS, FOLDED_KILLS = 100, 60
+FOLDED_KILLS = 60
 # What a fold does that another process can see; it is killed at each.
 CALLS = ("openat", "flock", "unlink", "fsync", "rename", "write", "close", "pread64")
 MODES = ("-", "r", "f", "rf", "i", "o")
@@ -58,7 +55,9 @@ def units_of(report: bytes) -> Counts:
 class Folder:
     """A folder, and what all that ran there have told."""
 
-    def __init__(self, recording: pathlib.Path, reader: pathlib.Path, home: pathlib.Path, chance: random.Random) -> None:
+    def __init__(
+        self, recording: pathlib.Path, reader: pathlib.Path, home: pathlib.Path, chance: random.Random
+    ) -> None:
         self.recording, self.reader, self.home, self.chance = recording, reader, home, chance
         self.folder = home / "metrics"
         self.tallies: list[pathlib.Path] = []
@@ -136,7 +135,8 @@ def beside(runs: Folder, pairs: int) -> str | None:
 
 def to_its_end(runs: Folder, mode: str, seconds: int = 2) -> str | None:
     """A run that is not killed: what it counted is there to the unit, and nothing was missed but what is said."""
-    came = answer(runs.words(0, SIZES[0], seconds, mode)[0], runs.words(0, SIZES[0], seconds, mode)[1:])
+    program, *words = runs.words(0, SIZES[0], seconds, mode)
+    came = answer(program, words)
     if came.status != 0 or came.error:
         return f"{came}"
     begun, ended = told(runs.tallies[0])
@@ -148,9 +148,8 @@ def to_its_end(runs: Folder, mode: str, seconds: int = 2) -> str | None:
 def calls_of(runs: Folder, copy: pathlib.Path) -> list[tuple[str, int]]:
     """Each call of the system that a fold of a copy makes, by its name and how often it was made by then."""
     log = runs.home / "log"
-    subprocess.run(
-        ["strace", "-f", "-o", log, "-e", f"trace={','.join(CALLS)}", runs.reader, "fold", copy], check=True, capture_output=True
-    )
+    words = ["strace", "-f", "-o", str(log), "-e", f"trace={','.join(CALLS)}", str(runs.reader), "fold", str(copy)]
+    subprocess.run(words, check=True, capture_output=True)
     numbers: collections.Counter[str] = collections.Counter()
     made = []
     for name in re.findall(r"^\d+ +(\w+)\(", log.read_text(), re.M):
@@ -171,8 +170,10 @@ def folds_killed(runs: Folder) -> str | None:
     for name, number in made[::step] + made[-20:]:
         shutil.rmtree(copy)
         shutil.copytree(runs.folder, copy)
-        words = ["strace", "-f", "-o", "/dev/null", "-e", f"inject={name}:signal=KILL:when={number}", runs.reader, "fold", copy]
-        subprocess.run(words, capture_output=True)
+        kill = f"inject={name}:signal=KILL:when={number}"
+        words = ["strace", "-f", "-o", "/dev/null", "-e", kill, str(runs.reader), "fold", str(copy)]
+        if subprocess.run(words, capture_output=True).returncode != -9:
+            return f"not killed at {name} {number}"
         for _ in range(2):
             if units_of(answer(runs.reader, ["report", copy]).output) != before:
                 return f"killed at {name} {number}: the sum is another one"
@@ -185,24 +186,28 @@ def folds_killed(runs: Folder) -> str | None:
 
 
 def cases(program: pathlib.Path, options: argparse.Namespace) -> Iterator[Case]:
-    chance = random.Random(getattr(options, "seed", 0))
+    chance = random.Random(options.seed)
     with tempfile.TemporaryDirectory() as scratch:
         folder = pathlib.Path(scratch)
         try:
             installed = native.Installed(folder)
             recording = installed.program(native.PROGRAMS / "recording.cpp")
             reader = installed.program(native.PROGRAMS / "folder.c")
+            checked = installed.program(native.PROGRAMS / "recorded.cpp", *native.SANITIZED)
         except native.Failed as why:
             yield "the library", str(why)
             return
+        (folder / "checked").mkdir()
+        yield from native.checks_of("recorded.cpp", [checked, folder / "checked"], {"ASAN_OPTIONS": "detect_leaks=1"})
 
         def runs(name: str) -> Folder:
             home = folder / name
             home.mkdir()
             return Folder(recording, reader, home, chance)
 
+        kills = options.kills // 2
         for mode in ("-", "f", "rf"):
-            yield f"killed, mode {mode}", killed(runs(f"killed_{mode}"), KILLS, mode)
+            yield f"killed, mode {mode}", killed(runs(f"killed_{mode}"), kills, mode)
         yield "two at once", beside(runs("beside"), 10)
         for mode in MODES:
             yield f"to its end, mode {mode}", to_its_end(runs(f"end_{mode}"), mode)

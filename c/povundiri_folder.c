@@ -345,8 +345,8 @@ bool povundiri_parts_is_fault(uint32_t status) {
 /* ---- The sum of a folder ---- */
 
 /* Adds a look at a segment, if the totals do not name it. */
-static uint32_t add_look(const char *path, uint64_t number, const struct povundiri_totals_file *totals, struct povundiri_handle *sums, uint64_t *left,
-                         int *fault) {
+static uint32_t add_look(const char *path, uint64_t number, const struct povundiri_totals_file *totals, struct povundiri_handle *sums,
+                         uint64_t *left, int *fault) {
     uint64_t *words = NULL;
     size_t length = 0;
     uint32_t status = povundiri_file_look(path, &words, &length, fault);
@@ -354,13 +354,15 @@ static uint32_t add_look(const char *path, uint64_t number, const struct povundi
         *left += 1;
         return POVUNDIRI_DONE;
     }
-    if (status == POVUNDIRI_DONE && !povundiri_parts_names(totals, number, words[ID_AT])) status = povundiri_sums_add(sums, number, words, length);
+    if (status == POVUNDIRI_DONE && !povundiri_parts_names(totals, number, words[ID_AT])) {
+        status = povundiri_sums_add(sums, number, words, length);
+    }
     free(words);
     return status;
 }
 
-static uint32_t add_looks(const char *folder, const struct povundiri_listing *listing, const struct povundiri_totals_file *totals, struct povundiri_handle *sums,
-                          uint64_t *left, int *fault) {
+static uint32_t add_looks(const char *folder, const struct povundiri_listing *listing, const struct povundiri_totals_file *totals,
+                          struct povundiri_handle *sums, uint64_t *left, int *fault) {
     uint32_t status = POVUNDIRI_DONE;
     char path[POVUNDIRI_PATH_BYTES];
     size_t i;
@@ -432,7 +434,7 @@ struct final {
 /* What is known of a fold. */
 struct fold {
     const char *folder;
-    struct povundiri_totals_file totals;        /* those that were there; of those that they name only such that still stand, and the greatest number */
+    struct povundiri_totals_file totals; /* of the segments that they name at last only such as still stand, and the greatest */
     struct povundiri_listing listing;
     struct povundiri_handle sums;
     struct final *finals;        /* that are added */
@@ -531,7 +533,8 @@ static uint32_t text_of(struct fold *fold, char **text, size_t *length) {
     memcpy(last, *text + end, needed - end);
     at = end;
     for (i = 0; i < fold->totals.count + fold->count; i += 1) {
-        const struct povundiri_named *const named = i < fold->totals.count ? &fold->totals.of[i] : &fold->finals[i - fold->totals.count].named;
+        const struct povundiri_named *const named =
+            i < fold->totals.count ? &fold->totals.of[i] : &fold->finals[i - fold->totals.count].named;
         at += (size_t)snprintf(*text + at, LONGEST_LINE, "of,%" PRIu64 ",%" PRIu64 "\n", named->number, named->id);
     }
     at += (size_t)snprintf(*text + at, LONGEST_LINE, "fold,%" PRIu64 "\n", fold->totals.serial + 1);

@@ -81,7 +81,8 @@ int povundiri_folder_enter(const char *folder, char **absolute);
 uint32_t povundiri_folder_adopt(const char *folder, struct povundiri_shape shape, struct povundiri_found *found, int *fault);
 
 /* A spare of this shape. */
-uint32_t povundiri_folder_spare(const char *folder, struct povundiri_shape shape, uint64_t random, struct povundiri_owned **spare, int *fault);
+uint32_t povundiri_folder_spare(const char *folder, struct povundiri_shape shape, uint64_t random, struct povundiri_owned **spare,
+                                int *fault);
 
 /* Gives a spare the next number. On a fault it is a spare still, or has both names. */
 int povundiri_folder_commit(const char *folder, struct povundiri_owned *spare);

@@ -156,7 +156,8 @@ uint32_t povundiri_folder_adopt(const char *folder, struct povundiri_shape shape
     return POVUNDIRI_DONE;
 }
 
-uint32_t povundiri_folder_spare(const char *folder, struct povundiri_shape shape, uint64_t random, struct povundiri_owned **spare, int *fault) {
+uint32_t povundiri_folder_spare(const char *folder, struct povundiri_shape shape, uint64_t random, struct povundiri_owned **spare,
+                                int *fault) {
     struct povundiri_owned *const owned = new_owned();
     struct povundiri_opened opened;
     char name[LONGEST_NAME];

@@ -37,7 +37,10 @@ static size_t write_behind(const struct povundiri_recording *recording, const st
     size_t at = 0, i;
 #define PUT(...) at += (size_t)snprintf(room > at ? text + at : NULL, room > at ? room - at : 0, __VA_ARGS__)
     if (asked->what == REPORT && left > 0) PUT("!left,%" PRIu64 "\n", left);
-    if (asked->what == EXPORT) PUT("# HELP %s_missed_total Units that were not counted, by reason.\n# TYPE %s_missed_total counter\n", prefix, prefix);
+    if (asked->what == EXPORT) {
+        PUT("# HELP %s_missed_total Units that were not counted, by reason.\n", prefix);
+        PUT("# TYPE %s_missed_total counter\n", prefix);
+    }
     for (i = 0; i < POVUNDIRI_MISSED_REASONS; i += 1) {
         const uint64_t missed = povundiri_recording_missed(recording, (enum povundiri_missed)i);
         if (asked->what == EXPORT) PUT("%s_missed_total{reason=\"%s\"} %" PRIu64 "\n", prefix, REASONS[i], missed);

@@ -515,7 +515,9 @@ uint64_t povundiri_recording_missed(const struct povundiri_recording *recording,
 static bool is_same_spec(const struct metric *metric, struct povundiri_spec spec, const uint32_t *values, size_t count) {
     const bool has_bounds = spec.kind == POVUNDIRI_LINEAR || spec.kind == POVUNDIRI_SCALE;
     if (metric->spec.kind != spec.kind) return false;
-    if (spec.kind == POVUNDIRI_CUSTOM) return metric->count == count && (count == 0 || memcmp(metric->values, values, count * sizeof *values) == 0);
+    if (spec.kind == POVUNDIRI_CUSTOM) {
+        return metric->count == count && (count == 0 || memcmp(metric->values, values, count * sizeof *values) == 0);
+    }
     return !has_bounds ||
            (metric->spec.minimum == spec.minimum && metric->spec.maximum == spec.maximum && metric->spec.buckets == spec.buckets);
 }
@@ -624,8 +626,8 @@ uint32_t povundiri_recording_hist(struct povundiri_recording *recording, const c
     return status;
 }
 
-uint32_t povundiri_recording_scale(struct povundiri_recording *recording, const char *name, uint32_t minimum, uint32_t maximum, uint32_t bits,
-                                   size_t *metric) {
+uint32_t povundiri_recording_scale(struct povundiri_recording *recording, const char *name, uint32_t minimum, uint32_t maximum,
+                                   uint32_t bits, size_t *metric) {
     const struct povundiri_spec spec = {POVUNDIRI_SCALE, minimum, maximum, bits};
     return name == NULL ? (uint32_t)POVUNDIRI_NULL : povundiri_recording_hist(recording, name, strlen(name), spec, NULL, 0, metric);
 }

@@ -92,8 +92,8 @@ enum povundiri_missed {
 
 /* Begins to record into a folder, which is made where there is none. It has to be empty or a recording's.
  *
- * POVUNDIRI_DONE: *recording is not null. It is so also where no segment can be made, as on a full disk: then samples are missed, as NO_SPACE,
- * and it is tried again once a second.
+ * POVUNDIRI_DONE: *recording is not null. It is so also where no segment can be made, as on a full disk: then samples are missed, as
+ * NO_SPACE, and it is tried again once a second.
  *   POVUNDIRI_NULL, POVUNDIRI_NOT_EMPTY (*recording), POVUNDIRI_NO_MEMORY
  *   POVUNDIRI_OPEN_BAD_SHAPE   no segment has so many bytes
  *   POVUNDIRI_SYSTEM           began->fault says what: EEXIST: the folder is not empty, and not a recording's; others as the calls say
@@ -106,7 +106,8 @@ void povundiri_recording_end(struct povundiri_recording *recording);
 
 /* ---- Samples ---- */
 
-/* The number of a histogram for all threads, by its name and its spec (povundiri_hist): the same for the same. It is found in the segment at once.
+/* The number of a histogram for all threads, by its name and its spec (povundiri_hist): the same for the same. It is found in the segment
+ * at once.
  *
  * POVUNDIRI_DONE; or one of these, and there is a number all the same:
  *   POVUNDIRI_REFUSED_OTHER_SPEC   this segment has it with another spec: until the next one is begun, samples are missed
@@ -118,8 +119,8 @@ uint32_t povundiri_recording_hist(struct povundiri_recording *recording, const c
                                   const uint32_t *values, size_t values_length, size_t *metric) POVUNDIRI_CHECKED;
 
 /* The same for a name that ends at its first zero byte, for a scale (povundiri_hist_scale). */
-uint32_t povundiri_recording_scale(struct povundiri_recording *recording, const char *name, uint32_t minimum, uint32_t maximum, uint32_t bits,
-                                   size_t *metric) POVUNDIRI_CHECKED;
+uint32_t povundiri_recording_scale(struct povundiri_recording *recording, const char *name, uint32_t minimum, uint32_t maximum,
+                                   uint32_t bits, size_t *metric) POVUNDIRI_CHECKED;
 
 /* Counts a sample: `count` units of a value. False if it was missed, or if there is no such metric. Any thread may call it at any time, also
  * one that ends. errno stays as it was.

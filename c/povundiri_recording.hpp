@@ -32,7 +32,9 @@ public:
     constexpr Metric() noexcept = default;
 
     // Counts a sample: 'count' units of a value. False if it was missed.
-    bool add(Value value, std::uint32_t count = 1) const noexcept { return povundiri_recording_add(recording_, number_, value.get(), count); }
+    bool add(Value value, std::uint32_t count = 1) const noexcept {
+        return povundiri_recording_add(recording_, number_, value.get(), count);
+    }
 
     // Done; or why samples are missed for now: RefusedOtherSpec, RefusedTooLarge (povundiri_recording_hist).
     Status told() const noexcept { return told_; }
@@ -116,7 +118,9 @@ public:
 
     // What the folder has: its report as CSV, its metrics for Prometheus, its text for people, its sum.
     std::string report() {
-        return text("report", [this](char** at, std::size_t* size, int* fault) { return povundiri_recording_report(recording_, at, size, fault); });
+        return text("report", [this](char** at, std::size_t* size, int* fault) {
+            return povundiri_recording_report(recording_, at, size, fault);
+        });
     }
     std::string prometheus(const char* prefix = nullptr) {
         return text("prometheus", [this, prefix](char** at, std::size_t* size, int* fault) {

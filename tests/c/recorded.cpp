@@ -120,7 +120,7 @@ void again() {
 void too_large() {
     Recording recording;
     HOLDS(opens(folder("large"), recording, small()));
-    Metric metric, custom;
+    Metric metric;
     const povundiri_spec spec = {POVUNDIRI_LINEAR, 1, 100'000, 999};
     const Status status = recording.try_hist("l", spec, {}, metric);
     HOLDS(status == Status::Done || status == Status::RefusedTooLarge);

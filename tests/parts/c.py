@@ -73,7 +73,7 @@ def checked(
 
 def exported(installed: native.Installed) -> Iterator[Case]:
     """Each function that the headers declare is in the archive, by its name."""
-    text = "".join((native.LIBRARY / name).read_text() for name in ("povundiri.h", "povundiri_file.h"))
+    text = "".join((native.LIBRARY / name).read_text() for name in compiling.C_HEADERS)
     declared = set(re.findall(r"^(?:inline )?[a-z][\w ]*[ *](povundiri_\w+)\(", text, re.MULTILINE))
     defined = set(
         re.findall(

@@ -67,6 +67,9 @@ std::uint32_t counted(povundiri_handle* recorder, std::size_t hist, povundiri_co
     return POVUNDIRI_DONE;
 }
 
+// What a call of a sum returns.
+std::uint32_t no_sums(const povundiri_handle* handle) { return handle->full ? POVUNDIRI_OTHER_KIND : POVUNDIRI_EMPTY; }
+
 }  // namespace
 
 extern "C" {
@@ -230,5 +233,29 @@ std::uint32_t povundiri_proved_export(const std::uint64_t*, std::size_t, const s
 std::uint32_t povundiri_proved_show(const std::uint64_t*, std::size_t, std::uint16_t, std::uint8_t*, std::size_t, std::size_t* needed) {
     *needed = 0;
     return POVUNDIRI_DONE;
+}
+
+// There are no sums here: each handle is of another kind, or empty.
+std::uint32_t povundiri_proved_sums_new(povundiri_handle*) { return POVUNDIRI_NO_MEMORY; }
+
+std::uint32_t povundiri_proved_sums_add(povundiri_handle* sums, std::uint64_t, const std::uint64_t*, std::size_t) { return no_sums(sums); }
+
+std::uint32_t povundiri_proved_sums_add_totals(povundiri_handle* sums, const std::uint8_t*, std::size_t, std::size_t* line) {
+    *line = 0;
+    return no_sums(sums);
+}
+
+std::uint32_t povundiri_proved_sums_append(povundiri_handle* sums, povundiri_handle*) { return no_sums(sums); }
+
+std::uint32_t povundiri_proved_sums_report(povundiri_handle* sums, std::uint8_t*, std::size_t, std::size_t*) { return no_sums(sums); }
+
+std::uint32_t povundiri_proved_sums_totals(povundiri_handle* sums, std::uint8_t*, std::size_t, std::size_t*) { return no_sums(sums); }
+
+std::uint32_t povundiri_proved_sums_export(povundiri_handle* sums, const std::uint8_t*, std::size_t, std::uint8_t*, std::size_t, std::size_t*) {
+    return no_sums(sums);
+}
+
+std::uint32_t povundiri_proved_sums_show(povundiri_handle* sums, std::uint16_t, std::uint8_t*, std::size_t, std::size_t*) {
+    return no_sums(sums);
 }
 }

@@ -26,7 +26,7 @@ use Rattle.povundiri_c.specs.declared.contents.Contents.TheVariants as contents
 use Rattle.povundiri_c.specs.declared.status.Refused.{Refused}
 use Rattle.povundiri_c.specs.Reports.{style_asked}
 use Rattle.povundiri_c.specs.Status.{status_of_image_fault}
-use Rattle.povundiri_c.specs.Sums.{Adds, AddsTotals, AppendsOrRefuses, BySums, IsImageAdded, IsSaidOfAdding, IsShownAs, IsSumMade, IsSumShow, sums_in}
+use Rattle.povundiri_c.specs.Sums.{IsReadingAdded, AddsTotalsText, AppendsOrRefuses, BySums, IsImageAdded, IsSaidOfAdding, IsShownAs, IsSumMade, IsSumShow, sums_in}
 
 -- the contents are a sum
 pub by_sums : {A : Type 0} (other : A) (Calls : Sums → A → Sums → Type 0) (it : Contents) (sums after : Sums) (answer : A)
@@ -61,7 +61,7 @@ said_of_adding (Err fault) result why status P held is says = tt
 pub image_added : (number : ℕ) (words : List ℕ) (outer : Result SegmentHead ImageFault) (result : Result Reading ImageFault) (reading : Reading) (old new : Sums) (Q : ImageFault → Type 0)
     → header_of words ≡ outer
     → MatchResult outer (λ head. MatchResult result (λ read. IsReading words head (reading_view read)) Q) (λ fault. result ≡ Err fault)
-    → result ≡ Ok reading → Adds number (reading_view reading) old new → IsImageAdded number words old new
+    → result ≡ Ok reading → IsReadingAdded number (reading_view reading) old new → IsImageAdded number words old new
 image_added number words (Ok head) result reading old new Q same held is adds = record {
   head = head;
   head_is = same;
@@ -76,7 +76,7 @@ image_added number words (Err fault) result reading old new Q same held is adds 
 
 -- a totals was read, and its sum was appended, or not
 pub totals_added : (text : List ℕ) (totals : Totals) (old : Sums) (answer : Result (Unit {0}) Refused) (new : Sums)
-    → text ≡ totals_text (whole_of totals) → IsWellFormed totals.sums → AppendsOrRefuses totals.sums old answer new → AddsTotals text old answer new
+    → text ≡ totals_text (whole_of totals) → IsWellFormed totals.sums → AppendsOrRefuses totals.sums old answer new → AddsTotalsText text old answer new
 totals_added text totals old (Ok none) new same formed appends = (totals, record { text_is = same; well_formed = formed }, appends)
 totals_added text totals old (Err why) new same formed (inl memory, unchanged) = (inl memory, unchanged)
 totals_added text totals old (Err why) new same formed (inr many, unchanged) = (inr (inl many), unchanged)

@@ -47,7 +47,7 @@ IsSumMade status old new =
 -- ---- an image is added
 
 -- what `Sums::add` says of a sum before and after
-pub record Adds (number : ℕ) (reading : Reading) (old new : Sums) : Type 0 where
+pub record IsReadingAdded (number : ℕ) (reading : Reading) (old new : Sums) : Type 0 where
   pub sum : (readings : List (ℕ × Reading)) → IsSumOver readings old → IsSumOver (readings ++ (number, reading) ∷ []) new
   pub well_formed : IsWellFormed old → IsWholeReading reading → IsWellFormed new
 
@@ -57,7 +57,7 @@ pub record IsImageAdded (number : ℕ) (words : List ℕ) (old new : Sums) : Typ
   pub head_is : header_of words ≡ Ok head
   pub reading : Reading
   pub reading_is : IsReading words head reading
-  pub adds : Adds number reading old new
+  pub adds : IsReadingAdded number reading old new
 
 -- what is returned for words whose header has no fault: they were added, memory ran out for that or for the reading, or a total would not fit
 abbrev pub IsSaidOfAdding : ℕ → Type 0
@@ -115,9 +115,9 @@ abbrev pub IsNotAdded : List ℕ → Refused → Type 0
 IsNotAdded text why = (why ≡ refused_with 13) ⊎ (why ≡ refused_with 19) ⊎ ((why.status ≡ 20) × IsNoTotalsText text)
 
 -- The sum that a text of totals says is added; or the status says why not, and the sum is unchanged.
-abbrev pub AddsTotals : List ℕ → Sums → Result (Unit {0}) Refused → Sums → Type 0
-AddsTotals text old (Ok _) new = (totals : Totals) × IsTotalsText text totals × Appends totals.sums old new
-AddsTotals text old (Err why) new = IsNotAdded text why × (new ≡ old)
+abbrev pub AddsTotalsText : List ℕ → Sums → Result (Unit {0}) Refused → Sums → Type 0
+AddsTotalsText text old (Ok _) new = (totals : Totals) × IsTotalsText text totals × Appends totals.sums old new
+AddsTotalsText text old (Err why) new = IsNotAdded text why × (new ≡ old)
 
 -- it is returned with the number of a line, 0 where the text says a totals
 abbrev pub IsSaidWithLine : Result (Unit {0}) Refused → ℕ → ℕ → Type 0
@@ -127,7 +127,7 @@ IsSaidWithLine (Err why) status line = (status ≡ why.status) × (line ≡ why.
 -- that of the sum that a handle holds
 abbrev pub AnswersTotalsAdded : List ℕ → Option Contents → ℕ → ℕ → Option Contents → Type 0
 AnswersTotalsAdded text held status line held' =
-    (answer : Result (Unit {0}) Refused) × ByHandle (Err (refused_with 3)) (BySums (Err (refused_with 5)) (AddsTotals text)) held answer held'
+    (answer : Result (Unit {0}) Refused) × ByHandle (Err (refused_with 3)) (BySums (Err (refused_with 5)) (AddsTotalsText text)) held answer held'
     × IsSaidWithLine answer status line
 
 -- ---- texts
@@ -140,8 +140,8 @@ pub record IsShownAs (sums : Sums) (reading : Reading) : Type 0 where
   pub rest : (reading.id ≡ 0) × (reading.bad ≡ []) × (reading.stopped ≡ None)
 
 -- the report of a sum, of which no input was left out
-abbrev pub IsSumReport : Sums → List ℕ → Type 0
-IsSumReport sums text = endings.IsSumReport sums 0 text
+abbrev pub IsReportAsked : Sums → List ℕ → Type 0
+IsReportAsked sums text = endings.IsSumReport sums 0 text
 
 -- the metrics of a sum with this prefix
 abbrev pub IsSumExport : List ℕ → Sums → List ℕ → Type 0
@@ -153,7 +153,7 @@ IsSumShow width sums text = (reading : Reading) × IsShownAs sums reading × IsS
 
 -- the text that is asked for
 abbrev pub IsSumText : TextAsked → Sums → List ℕ → Type 0
-IsSumText Report = IsSumReport
+IsSumText Report = IsReportAsked
 IsSumText (Export prefix) = IsSumExport prefix.now
 IsSumText (Show width) = IsSumShow width
 

@@ -7,7 +7,7 @@ ghost use Rattle.povundiri_c.specs.Joins.{BySegment, GivesRecorder, ServesConten
 ghost use Rattle.povundiri_c.specs.Looks.{IsLookIn};
 ghost use Rattle.povundiri_c.specs.Recorders.{Adds, AtPlace, refused_with};
 ghost use Rattle.povundiri_c.specs.Segments.{AnswersClose};
-ghost use Rattle.povundiri_c.specs.Sums.{AddsImage, AddsOther, AddsTotals, AskedOfSums, BySums, IsSumExport, IsSumReport, IsSumShow, IsTextOrStatus, IsTotalsOrStatus, sums_in};
+ghost use Rattle.povundiri_c.specs.Sums.{AddsImage, AddsOther, AddsTotalsText, AskedOfSums, BySums, IsSumExport, IsReportAsked, IsSumShow, IsTextOrStatus, IsTotalsOrStatus, sums_in};
 
 use crate::joinable_recorder::JoinableRecorder;
 use crate::owned_segment::{JoinOrLend, OwnedSegment};
@@ -178,7 +178,7 @@ impl Contents {
 
     /// Adds what a text of totals says to the sum.
     pub(crate) fn add_totals(&mut self, alloc: Global, text: &[u8]) -> Result<(), Refused>
-        ensures { BySums (Err (refused_with 5)) (AddsTotals text.now) self.old result self.new }
+        ensures { BySums (Err (refused_with 5)) (AddsTotalsText text.now) self.old result self.new }
     {
         match self {
             Contents::Sums(sums) => add_totals(alloc, sums, text),
@@ -201,7 +201,7 @@ impl Contents {
 
     /// The report of the sum.
     pub(crate) fn sum_report(&mut self, alloc: Global) -> Result<Vec<u8>, u32>
-        ensures { AskedOfSums (IsTextOrStatus IsSumReport) self.old result × (self.new ≡ self.old) }
+        ensures { AskedOfSums (IsTextOrStatus IsReportAsked) self.old result × (self.new ≡ self.old) }
     {
         match self {
             Contents::Sums(sums) => text_of_sums(alloc, sums, TextAsked::Report),

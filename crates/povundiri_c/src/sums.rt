@@ -4,11 +4,9 @@ ghost use Rattle.std.specs.Prelude.{◌≡◌, ◌≢◌, Some, IfErr, IfOk};
 ghost use Rattle.segment_image.specs.Head.{header_of};
 ghost use Rattle.reading_sums.specs.Whole.{IsWellFormed};
 ghost use Rattle.povundiri_c.specs.Status.{status_of_image_fault, status_of_sums_fault};
-ghost use Rattle.povundiri_c.specs.Sums.{AddsOther, AddsTotals, AppendsOrRefuses, IsImageAdded, IsSaidOfAdding, IsSumText, IsTextOrStatus, IsTotalsOrStatus};
+ghost use Rattle.povundiri_c.specs.Sums.{AddsOther, AddsTotalsText, AppendsOrRefuses, IsImageAdded, IsSaidOfAdding, IsSumText, IsTextOrStatus, IsTotalsOrStatus};
 
-use crate::status::{
-    BAD_TOTALS, DONE, NO_MEMORY, Refused, of_image_fault, of_sums_fault,
-};
+use crate::status::{BAD_TOTALS, DONE, NO_MEMORY, Refused, of_image_fault, of_sums_fault};
 use crate::texts::{TextAsked, style_of};
 use image_reader::read;
 use reading_shows::{Choice, show_text};
@@ -57,7 +55,7 @@ fn add_read(sums: &mut Sums, totals: &Totals) -> Result<(), Refused>
 /// Adds what a text of totals says. Or the status says why not, with the number of a line where the text is none, and the
 /// sum is unchanged.
 pub(crate) fn add_totals(alloc: Global, sums: &mut Sums, text: &[u8]) -> Result<(), Refused>
-    ensures { AddsTotals text.now sums.old result sums.new }
+    ensures { AddsTotalsText text.now sums.old result sums.new }
 {
     match totals_of(alloc, text) {
         Ok(totals) => add_read(sums, &totals),
@@ -88,11 +86,7 @@ fn written(alloc: Global, sums: &Sums, asked: TextAsked<'_>) -> Result<Vec<u8>, 
 }
 
 /// The text of a sum. Or the status says why there is none.
-pub(crate) fn text_of_sums(
-    alloc: Global,
-    sums: &Sums,
-    asked: TextAsked<'_>,
-) -> Result<Vec<u8>, u32>
+pub(crate) fn text_of_sums(alloc: Global, sums: &Sums, asked: TextAsked<'_>) -> Result<Vec<u8>, u32>
     ensures { IsTextOrStatus (IsSumText asked.entry) sums.now result }
 {
     match sums.is_well_formed() {
@@ -119,6 +113,10 @@ pub(crate) fn totals_of_sums(alloc: Global, sums: Sums) -> (Sums, Result<Vec<u8>
         Ok(text) => Ok(text),
         Err(_) => Err(NO_MEMORY),
     };
-    let Totals { sums, of: _, fold: _ } = totals;
+    let Totals {
+        sums,
+        of: _,
+        fold: _,
+    } = totals;
     (sums, text)
 }

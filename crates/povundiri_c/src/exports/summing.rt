@@ -6,7 +6,7 @@ ghost use Rattle.std.specs.declared.alloc.Global.{Global};
 ghost use Rattle.reading_texts.specs.Labels.{is_metric_word};
 ghost use Rattle.povundiri_c.specs.Asking.{AreListed};
 ghost use Rattle.povundiri_c.specs.Segments.{IntoEmpty};
-ghost use Rattle.povundiri_c.specs.Sums.{AddsImage, AnswersAppend, AnswersTotalsAdded, AskedByHandle, IsSumExport, IsSumMade, IsSumReport, IsSumShow, IsTextOrStatus, IsTotalsOrStatus, OfSums};
+ghost use Rattle.povundiri_c.specs.Sums.{AddsImage, AnswersAppend, AnswersTotalsAdded, AskedByHandle, IsSumExport, IsSumMade, IsReportAsked, IsSumShow, IsTextOrStatus, IsTotalsOrStatus, OfSums};
 
 use super::segments::fill;
 use crate::contents::Contents;
@@ -112,7 +112,7 @@ pub extern "C" fn povundiri_proved_sums_report(
     text: &mut [u8],
     needed: &mut usize,
 ) -> u32
-    ensures answer { (answer : Result (Vec ℕ Global) ℕ) × AskedByHandle (IsTextOrStatus IsSumReport) sums.old.boxed.held answer × AreListed answer result needed.old needed.new text.old text.new }
+    ensures answer { (answer : Result (Vec ℕ Global) ℕ) × AskedByHandle (IsTextOrStatus IsReportAsked) sums.old.boxed.held answer × AreListed answer result needed.old needed.new text.old text.new }
     ensures same { sums.new.boxed.held ≡ sums.old.boxed.held }
 {
     let found = sums.call(Err(EMPTY), |held| held.sum_report(alloc));

@@ -123,6 +123,17 @@ void fold(povundiri::Recording& recording) {
     }
 }
 
+// A sample, and then nothing: the thread holds the segment that it was counted in.
+void idle(const povundiri::Metric& metric, Cell& cell) {
+    cell.begun += 1;
+    if (metric.add(1)) {
+        cell.ended += 1;
+    } else {
+        cell.begun -= 1;
+    }
+    while (!ends) std::this_thread::sleep_for(std::chrono::milliseconds(1));
+}
+
 std::uint64_t number(const char* word) { return std::strtoull(word, nullptr, 10); }
 
 void run(const Words& words) {
@@ -148,6 +159,7 @@ void run(const Words& words) {
     }
     if (words.mode.find('r') != std::string::npos) threads.emplace_back([&] { read(recording, tally); });
     if (words.mode.find('f') != std::string::npos) threads.emplace_back([&] { fold(recording); });
+    if (words.mode.find('i') != std::string::npos) threads.emplace_back([&] { idle(metrics[1], tally[0][1]); });
     if (words.seconds == 0) {
         while (true) pause();
     }

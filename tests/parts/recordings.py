@@ -31,7 +31,7 @@ SIZES = ((16_384, 1_000_000), (32_768, 1), (65_536, 1_000_000))
 FOLDED_KILLS = 60
 # What a fold does that another process can see; it is killed at each.
 CALLS = ("openat", "flock", "unlink", "fsync", "rename", "write", "close", "pread64")
-MODES = ("-", "r", "f", "rf", "i", "o")
+MODES = ("-", "r", "f", "rf", "fi", "o")
 
 Counts = collections.Counter[bytes]
 

@@ -185,6 +185,25 @@ def folds_killed(runs: Folder) -> str | None:
     return None
 
 
+def beginnings_killed(runs: Folder) -> str | None:
+    """The program is killed at calls of the system with which it makes a spare and begins a segment."""
+    for name in ("link", "unlink", "fallocate", "mmap", "flock", "openat"):
+        for number in (1, 2, 3, 4, 5, 8, 13, 21):
+            words = runs.words(0, SIZES[0], 1, "-")
+            kill = f"inject={name}:signal=KILL:when={number}"
+            subprocess.run(["strace", "-f", "-o", "/dev/null", "-e", kill, *words], capture_output=True)
+            wrong = runs.wrong() if (runs.folder / "recording").exists() else None
+            if wrong is not None:
+                return f"killed at {name} {number}: {wrong}"
+        folded = answer(runs.reader, ["fold", runs.folder])
+        if folded.status != 0:
+            return f"fold: {folded}"
+    with runs.running(0, SIZES[0]):
+        time.sleep(0.05)
+    left = [path.name for path in runs.folder.glob("spare-*")]
+    return f"spares are left: {left}" if len(left) > 2 else runs.wrong()
+
+
 def cases(program: pathlib.Path, options: argparse.Namespace) -> Iterator[Case]:
     chance = random.Random(options.seed)
     with tempfile.TemporaryDirectory() as scratch:
@@ -215,3 +234,4 @@ def cases(program: pathlib.Path, options: argparse.Namespace) -> Iterator[Case]:
             print("left out: folds that are killed: there is no strace", flush=True)
         else:
             yield "folds that are killed", folds_killed(runs("folds"))
+            yield "killed as it begins a segment", beginnings_killed(runs("beginnings"))

@@ -1,8 +1,8 @@
 """Threads that record beside one another: the report is what a plain tally of their samples and batches says, and all
 deltas of a histogram, the last among them, add up to it.
 
-The program prints the samples and batches that were accepted, what each delta and snapshot was answered, and the report
-of the image.
+The program prints the samples and batches that were accepted, what each delta and snapshot was answered, what threads
+read of the whole segment meanwhile, and the report of the image.
 """
 
 from __future__ import annotations
@@ -23,11 +23,23 @@ RECORDS = 100
 Pairs = list[tuple[int, int]]
 Sample = tuple[str, int, int]
 Batch = tuple[str, int, Pairs]
+# What a thread read of the whole segment: after how many of its own samples and batches, and of each histogram its
+# name, its redundant count and its units.
+Read = tuple[int, int, list[tuple[str, int, Pairs]]]
 
 SPECS: dict[str, plain_tally.Spec] = {
     "boolean": ("boolean",), "custom": ("custom", 10, 100, 1000), "linear": ("linear", 1, 100, 20),
     "sparse": ("sparse",),
 }
+
+
+class Thread:
+    """What a round printed of one thread: its samples and batches, and what it read."""
+
+    def __init__(self) -> None:
+        self.samples: list[Sample] = []
+        self.batches: list[Batch] = []
+        self.reads: list[Read] = []
 
 
 class Round:
@@ -38,9 +50,11 @@ class Round:
         self.batches: list[Batch] = []
         self.deltas: dict[str, list[tuple[int, Pairs]]] = collections.defaultdict(list)
         self.snapshots: dict[str, list[tuple[int, Pairs]]] = collections.defaultdict(list)
+        self.threads: list[Thread] = []
         self.report: list[str] = []
         kinds: dict[str, Callable[..., None]] = {
             "sample": self.sample, "batch": self.batch, "delta": self.delta, "snapshot": self.snapshot,
+            "thread": self.thread, "read": self.read, "histogram": self.histogram,
         }
         for place, line in enumerate(lines):
             kind, *fields = line.split(",")
@@ -49,11 +63,22 @@ class Round:
                 break
             kinds[kind](*fields)
 
+    def thread(self) -> None:
+        self.threads.append(Thread())
+
     def sample(self, name: str, value: str, count: str) -> None:
         self.samples.append((name, int(value), int(count)))
+        self.threads[-1].samples.append(self.samples[-1])
 
     def batch(self, name: str, total: str, *items: str) -> None:
         self.batches.append((name, int(total), pairs(items)))
+        self.threads[-1].batches.append(self.batches[-1])
+
+    def read(self, samples: str, batches: str) -> None:
+        self.threads[-1].reads.append((int(samples), int(batches), []))
+
+    def histogram(self, name: str, total: str, redundant: str, *units: str) -> None:
+        self.threads[-1].reads[-1][2].append((name, int(redundant), pairs(units)))
 
     def delta(self, name: str, total: str, *units: str) -> None:
         self.deltas[name].append((int(total), pairs(units)))
@@ -107,8 +132,28 @@ def wrong_snapshots(name: str, snapshots: Iterable[tuple[int, Pairs]], tallied: 
     return None
 
 
-def wrong_round(lines: Sequence[str]) -> str | None:
-    """What is wrong with a round, or None."""
+def wrong_reads(thread: Thread, histograms: dict[str, plain_tally.Histogram], counts_rise: bool) -> str | None:
+    """What is wrong with what a thread read, or None: each histogram is there once, and each bucket has at most the
+    units of all threads, at least those of its own samples and batches before, and no less than it read before. In a
+    segment of version 1 units may be on their way from one word to another, so the last two need not hold."""
+    before: dict[str, collections.Counter[int]] = {name: collections.Counter() for name in SPECS}
+    for samples, batches, found in thread.reads:
+        if sorted(name for name, _, _ in found) != sorted(SPECS):
+            return f"a thread read {[name for name, _, _ in found]}"
+        for name, redundant, units in found:
+            wrong = wrong_snapshots(name, [(redundant, units)], histograms[name])
+            own = tally(thread.samples[:samples], thread.batches[:batches])[name].counts
+            now = collections.Counter(dict(units))
+            if wrong is None and counts_rise and (own - now or before[name] - now):
+                wrong = f"a thread read {now} of {name}, had counted {own} and read {before[name]} before"
+            if wrong is not None:
+                return wrong
+            before[name] = now
+    return None
+
+
+def wrong_round(lines: Sequence[str], version: int) -> str | None:
+    """What is wrong with a round in a segment of a version, or None."""
     done = Round(lines)
     histograms = tally(done.samples, done.batches)
     wanted = plain_tally.report(histograms).decode().splitlines()
@@ -119,7 +164,7 @@ def wrong_round(lines: Sequence[str]) -> str | None:
         wrong = wrong or wrong_snapshots(name, done.snapshots[name], tallied)
         if wrong is not None:
             return wrong
-    return None
+    return next(filter(None, (wrong_reads(thread, histograms, version == 2) for thread in done.threads)), None)
 
 
 def rounds(program: pathlib.Path, words: Sequence[Word]) -> tuple[list[list[str]], str | None]:
@@ -143,7 +188,8 @@ def recorded(
         return wrong
     if len(every) != number:
         return f"{len(every)} rounds"
-    return next(filter(None, map(wrong_round, every)), None)
+    # The version follows the number of the round.
+    return next(filter(None, (wrong_round(lines, 1 + place % 2) for place, lines in enumerate(every))), None)
 
 
 def shared(program: pathlib.Path) -> str | None:

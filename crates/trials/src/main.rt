@@ -6,10 +6,13 @@
 //! snapshots. The indexes of a recorder have at most ENTRIES entries, if that is given. Then all are joined, one more delta of each histogram is taken, and the segment is closed. A round prints
 //!
 //!     round,NUMBER,VERSION
+//!     thread                                  before what each thread did
 //!     sample,NAME,VALUE,COUNT                 for each sample, those of a thread in their order
 //!     batch,NAME,SUM,VALUE,COUNT..            for each batch, those of a thread in their order
 //!     delta,NAME,SUM,KEY,UNITS..              for each delta
 //!     snapshot,NAME,SUM,REDUNDANT,KEY,UNITS.. for each snapshot
+//!     read,SAMPLES,BATCHES                    for each reading of the whole segment by a thread, of whose samples and batches so
+//!     histogram,NAME,SUM,REDUNDANT,KEY,..     many came before, and what it has of each histogram
 //!     report                                  and after this line the report of the image
 //!
 //! `trials walk THREADS RECORDS ROUNDS`: each round is a new segment with RECORDS records, along which THREADS

@@ -4,6 +4,7 @@ ghost use Rattle.std.specs.Prelude.{◌<◌, IfOk};
 ghost use Rattle.live_segment.specs.Holders.{SharesSegment};
 ghost use Rattle.live_segment.specs.RecorderState.{Knows};
 
+use live_reading::{LiveReading, reading};
 use live_segment::{CustomValues, Delta, Hist, Recorder, Refusal, Snapshot, Spec};
 use std::alloc::Global;
 
@@ -38,7 +39,15 @@ pub(crate) struct Batch {
     pub(crate) sum: i64,
 }
 
-/// What a thread did: its recorder, its samples and batches, and what its deltas and snapshots returned.
+/// What a thread read of the whole segment, and how many samples and batches of its own had been accepted before.
+#[derive(Drop)]
+pub(crate) struct Read {
+    pub(crate) samples: usize,
+    pub(crate) batches: usize,
+    pub(crate) reading: LiveReading,
+}
+
+/// What a thread did: its recorder, its samples and batches, what its deltas and snapshots returned, and what it read of the segment.
 #[derive(Drop)]
 pub(crate) struct Done<'a> {
     pub(crate) recorder: Recorder<'a>,
@@ -46,6 +55,7 @@ pub(crate) struct Done<'a> {
     pub(crate) batches: Vec<Batch>,
     pub(crate) deltas: Vec<(&'static str, Delta)>,
     pub(crate) snapshots: Vec<(&'static str, Snapshot)>,
+    pub(crate) reads: Vec<Read>,
 }
 
 // Numbers in no order (a linear congruence).
@@ -185,6 +195,22 @@ impl<'a> Caller<'a> {
         put(&mut self.done.snapshots, (name, snapshot))
     }
 
+    fn read(&mut self) -> Result<(), Refusal>
+        ensures { SharesSegment self.old.done.recorder self.new.done.recorder }
+    {
+        let samples = self.done.samples.len();
+        let batches = self.done.batches.len();
+        let reading = reading(self.alloc, &mut self.done.recorder)?;
+        put(
+            &mut self.done.reads,
+            Read {
+                samples,
+                batches,
+                reading,
+            },
+        )
+    }
+
     // The next call.
     fn call(&mut self) -> Result<(), Refusal>
         ensures { SharesSegment self.old.done.recorder self.new.done.recorder }
@@ -201,6 +227,7 @@ impl<'a> Caller<'a> {
             0 => self.take(name, histogram),
             1 => self.look(name, histogram),
             2..=4 => self.batch(name, histogram),
+            5 => self.read(),
             _ => self.add(name, histogram),
         }
     }
@@ -223,6 +250,7 @@ pub(crate) fn run<'a>(
             batches: Vec::new(alloc),
             deltas: Vec::new(alloc),
             snapshots: Vec::new(alloc),
+            reads: Vec::new(alloc),
         },
         histograms,
         numbers: Numbers { state: seed },

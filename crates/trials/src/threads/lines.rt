@@ -1,6 +1,7 @@
 //! The lines that a round prints.
 
-use crate::threads::calls::{Batch, Sample};
+use crate::threads::calls::{Batch, Read, Sample};
+use live_reading::LiveHistogram;
 use live_segment::{Delta, Snapshot};
 use std::io;
 
@@ -33,4 +34,20 @@ pub(crate) fn show_delta(rt: &impl Print, name: &str, delta: &Delta) -> io::Resu
 pub(crate) fn show_snapshot(rt: &impl Print, name: &str, snapshot: &Snapshot) -> io::Result<()> {
     print!(rt; "snapshot,{name},{},{}", snapshot.sum, snapshot.redundant)?;
     show_units(rt, snapshot.counts.as_slice())
+}
+
+// The line of a histogram of a reading.
+fn show_histogram(rt: &impl Print, histogram: &LiveHistogram) -> io::Result<()> {
+    let name = str::from_utf8(histogram.name.as_slice()).unwrap_or("?");
+    let snapshot = &histogram.snapshot;
+    print!(rt; "histogram,{name},{},{}", snapshot.sum, snapshot.redundant)?;
+    show_units(rt, snapshot.counts.as_slice())
+}
+
+pub(crate) fn show_read(rt: &impl Print, read: &Read) -> io::Result<()> {
+    println!(rt; "read,{},{}", read.samples, read.batches)?;
+    for histogram in read.reading.hists.iter() {
+        show_histogram(rt, histogram)?;
+    }
+    Ok(())
 }

@@ -4,7 +4,7 @@ ghost use Rattle.std.specs.Prelude.{◌≡◌, ◌<◌, ℕ, length, slice_index
 ghost use Rattle.live_segment.specs.Holders.{IsMadeWith, RecordsInto, SharesSegment};
 
 use crate::threads::calls::{Done, NAMES, UNITS, run, spec_of};
-use crate::threads::lines::{show_batch, show_delta, show_sample, show_snapshot};
+use crate::threads::lines::{show_batch, show_delta, show_read, show_sample, show_snapshot};
 use anyhow::Result;
 use live_segment::{Opener, Recorder, Refusal, Segment};
 use reading_shows::{Form, write_text};
@@ -83,6 +83,7 @@ fn run_all<'a, R: Threads + Sync>(
 }
 
 fn show_done(rt: &impl Print, done: &Done) -> io::Result<()> {
+    println!(rt; "thread")?;
     for sample in done.samples.iter() {
         show_sample(rt, *sample)?;
     }
@@ -94,6 +95,9 @@ fn show_done(rt: &impl Print, done: &Done) -> io::Result<()> {
     }
     for (name, snapshot) in done.snapshots.iter() {
         show_snapshot(rt, name, snapshot)?;
+    }
+    for read in done.reads.iter() {
+        show_read(rt, read)?;
     }
     Ok(())
 }

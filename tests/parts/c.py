@@ -73,7 +73,7 @@ def checked(
 
 def exported(installed: native.Installed) -> Iterator[Case]:
     """Each function that the headers declare is in the archive, by its name."""
-    text = "".join((native.LIBRARY / name).read_text() for name in ("povundiri.h", "povundiri_file.h"))
+    text = "".join((native.LIBRARY / name).read_text() for name in compiling.C_HEADERS)
     declared = set(re.findall(r"^(?:inline )?[a-z][\w ]*[ *](povundiri_\w+)\(", text, re.MULTILINE))
     defined = set(
         re.findall(
@@ -184,18 +184,24 @@ def report_in(program: Path, file: pathlib.Path) -> Answer:
     return answer(program, ["report", image]) if found == Answer(error=b"8\n") else found
 
 
+def segment_in(home: pathlib.Path) -> pathlib.Path:
+    """The segment that a program left in this folder: that of a recording, if it has one, or `latency.seg`."""
+    recorded = home / "metrics" / "0000000001.seg"
+    return recorded if recorded.exists() else home / "latency.seg"
+
+
 def recorded_twice(
     installed: native.Installed, program: pathlib.Path, source: pathlib.Path, home: pathlib.Path
 ) -> str | None:
-    """A program that records a thousand samples into latency.seg, run twice: the second time it continues with what
-    stands there."""
+    """A program that records a thousand samples into latency.seg, or into the folder metrics, run twice: the second
+    time it continues with what stands there."""
     built = installed.program(source)
     home.mkdir()
     for _ in range(2):
         came = answer(built, ["latency.seg"], cwd=home)
         if came.error or came.status != 0:
             return f"status {came.status}: {came.error[-1500:]!r}"
-    return difference(Answer(RECORDED.encode()), report_in(program, home / "latency.seg"))
+    return difference(Answer(RECORDED.encode()), report_in(program, segment_in(home)))
 
 
 def shown_programs(folder: pathlib.Path) -> Iterator[tuple[str, pathlib.Path]]:
@@ -204,7 +210,7 @@ def shown_programs(folder: pathlib.Path) -> Iterator[tuple[str, pathlib.Path]]:
         blocks = re.findall(r"(?:^(?: {4}.*)?\n)+", (ROOT / page).read_text(), re.MULTILINE)
         blocks = [block for block in blocks if block.lstrip("\n").startswith("    #include")]
         for number, block in enumerate(blocks):
-            kind = ".cpp" if "povundiri.hpp" in block else ".c"
+            kind = ".cpp" if ".hpp>" in block else ".c"
             source = folder / f"{pathlib.Path(page).stem}_{number}{kind}"
             source.write_text("".join(f"{line[4:]}\n" for line in block.strip("\n").splitlines()))
             yield f"program {number + 1} of {page}", source
@@ -241,7 +247,7 @@ def wrong_after_program(
     came = answer("bash", ["-e", "-c", commands], cwd=home, env=setting)
     if came.error or came.status != 0:
         return f"status {came.status}: {came.error[-1500:]!r}"
-    return difference(Answer(RECORDED.encode()), answer(program, ["report", home / "latency.seg"]))
+    return difference(Answer(RECORDED.encode()), answer(program, ["report", segment_in(home)]))
 
 
 def wrong_of(test: Test) -> str | None:
@@ -269,5 +275,5 @@ def cases(program: pathlib.Path, options: argparse.Namespace) -> Iterator[Case]:
         yield from sums(installed)
         for name, test in examples(installed, program, folder):
             yield name, wrong_of(test)
-        yield from services.cases(installed, program, folder, report_in)
+        yield from services.cases(installed, program, folder)
         yield from compiling.cases(installed, folder)

@@ -1,8 +1,8 @@
 """Threads that record beside one another: the report is what a plain tally of their samples and batches says, and all
 deltas of a histogram, the last among them, add up to it.
 
-The program prints the samples and batches that were accepted, what each delta and snapshot was answered, and the report
-of the image.
+The program prints the samples and batches that were accepted, what each delta and snapshot was answered, what threads
+read of the whole segment meanwhile and saw in looks at it, and the report of the image.
 """
 
 from __future__ import annotations
@@ -30,6 +30,27 @@ SPECS: dict[str, plain_tally.Spec] = {
 }
 
 
+class Read:
+    """What a thread read of the whole segment, or saw in a look at it, and after how many of its own samples and
+    batches: what was wrong, and of each histogram its name, its redundant count and its units."""
+
+    def __init__(self, samples: int, batches: int) -> None:
+        self.samples = samples
+        self.batches = batches
+        self.faults: list[str] = []
+        self.found: list[tuple[str, int, Pairs]] = []
+
+
+class Thread:
+    """What a round printed of one thread: its samples and batches, what it read, and its looks."""
+
+    def __init__(self) -> None:
+        self.samples: list[Sample] = []
+        self.batches: list[Batch] = []
+        self.reads: list[Read] = []
+        self.looks: list[Read] = []
+
+
 class Round:
     """What one round printed."""
 
@@ -38,9 +59,13 @@ class Round:
         self.batches: list[Batch] = []
         self.deltas: dict[str, list[tuple[int, Pairs]]] = collections.defaultdict(list)
         self.snapshots: dict[str, list[tuple[int, Pairs]]] = collections.defaultdict(list)
+        self.threads: list[Thread] = []
+        self.last = Read(0, 0)
         self.report: list[str] = []
         kinds: dict[str, Callable[..., None]] = {
             "sample": self.sample, "batch": self.batch, "delta": self.delta, "snapshot": self.snapshot,
+            "thread": self.thread, "read": self.read, "look": self.look, "fault": self.fault,
+            "histogram": self.histogram,
         }
         for place, line in enumerate(lines):
             kind, *fields = line.split(",")
@@ -49,11 +74,30 @@ class Round:
                 break
             kinds[kind](*fields)
 
+    def thread(self) -> None:
+        self.threads.append(Thread())
+
     def sample(self, name: str, value: str, count: str) -> None:
         self.samples.append((name, int(value), int(count)))
+        self.threads[-1].samples.append(self.samples[-1])
 
     def batch(self, name: str, total: str, *items: str) -> None:
         self.batches.append((name, int(total), pairs(items)))
+        self.threads[-1].batches.append(self.batches[-1])
+
+    def read(self, samples: str, batches: str) -> None:
+        self.last = Read(int(samples), int(batches))
+        self.threads[-1].reads.append(self.last)
+
+    def look(self, samples: str, batches: str) -> None:
+        self.last = Read(int(samples), int(batches))
+        self.threads[-1].looks.append(self.last)
+
+    def fault(self, fault: str) -> None:
+        self.last.faults.append(fault)
+
+    def histogram(self, name: str, total: str, redundant: str, *units: str) -> None:
+        self.last.found.append((name, int(redundant), pairs(units)))
 
     def delta(self, name: str, total: str, *units: str) -> None:
         self.deltas[name].append((int(total), pairs(units)))
@@ -107,8 +151,46 @@ def wrong_snapshots(name: str, snapshots: Iterable[tuple[int, Pairs]], tallied: 
     return None
 
 
-def wrong_round(lines: Sequence[str]) -> str | None:
-    """What is wrong with a round, or None."""
+def wrong_reads(
+    thread: Thread, reads: Iterable[Read], histograms: dict[str, plain_tally.Histogram], counts_rise: bool
+) -> str | None:
+    """What is wrong with what a thread read, or None: no fault, each histogram is there once, and each bucket has at
+    most the units of all threads, at least those of its own samples and batches before, and no less than it read
+    before. In a segment of version 1 units may be on their way from one word to another, so the last two need not
+    hold."""
+    before: dict[str, collections.Counter[int]] = {name: collections.Counter() for name in SPECS}
+    for read in reads:
+        if read.faults or sorted(name for name, _, _ in read.found) != sorted(SPECS):
+            return f"a thread read {[name for name, _, _ in read.found]}, with the faults {read.faults}"
+        accepted = tally(thread.samples[:read.samples], thread.batches[:read.batches])
+        for name, redundant, units in read.found:
+            wrong = wrong_snapshots(name, [(redundant, units)], histograms[name])
+            own, now = accepted[name].counts, collections.Counter(dict(units))
+            if wrong is None and counts_rise and (own - now or before[name] - now):
+                wrong = f"a thread read {now} of {name}, had counted {own} and read {before[name]} before"
+            if wrong is not None:
+                return wrong
+            before[name] = now
+    return None
+
+
+def wrong_looks(thread: Thread, histograms: dict[str, plain_tally.Histogram], version: int) -> str | None:
+    """What is wrong with the looks of a thread, or None: what may be wrong with what it read; and there is none at a
+    segment of version 1."""
+    if version == 2:
+        return wrong_reads(thread, thread.looks, histograms, True)
+    came = [look.faults for look in thread.looks if look.faults != ["OldVersion"] or look.found]
+    return f"looks at a segment of version 1 have the faults {came}" if came else None
+
+
+def wrong_thread(thread: Thread, histograms: dict[str, plain_tally.Histogram], version: int) -> str | None:
+    """What is wrong with what a thread saw of the whole segment, or None."""
+    wrong = wrong_reads(thread, thread.reads, histograms, version == 2)
+    return wrong or wrong_looks(thread, histograms, version)
+
+
+def wrong_round(lines: Sequence[str], version: int) -> str | None:
+    """What is wrong with a round in a segment of a version, or None."""
     done = Round(lines)
     histograms = tally(done.samples, done.batches)
     wanted = plain_tally.report(histograms).decode().splitlines()
@@ -119,7 +201,7 @@ def wrong_round(lines: Sequence[str]) -> str | None:
         wrong = wrong or wrong_snapshots(name, done.snapshots[name], tallied)
         if wrong is not None:
             return wrong
-    return None
+    return next(filter(None, (wrong_thread(thread, histograms, version) for thread in done.threads)), None)
 
 
 def rounds(program: pathlib.Path, words: Sequence[Word]) -> tuple[list[list[str]], str | None]:
@@ -143,7 +225,8 @@ def recorded(
         return wrong
     if len(every) != number:
         return f"{len(every)} rounds"
-    return next(filter(None, map(wrong_round, every)), None)
+    # The version follows the number of the round.
+    return next(filter(None, (wrong_round(lines, 1 + place % 2) for place, lines in enumerate(every))), None)
 
 
 def shared(program: pathlib.Path) -> str | None:

@@ -17,8 +17,8 @@ WARNINGS = [
     "-Wall", "-Wextra", "-Wpedantic", "-Wconversion", "-Wshadow", "-Werror", "-fsyntax-only", f"-I{native.LIBRARY}",
 ]
 CPP_WARNINGS = ["-Wold-style-cast", "-Wzero-as-null-pointer-constant"]
-C_HEADERS = ("povundiri.h", "povundiri_file.h")
-CPP_HEADERS = (*C_HEADERS, "povundiri_status.hpp", "povundiri.hpp")
+C_HEADERS = ("povundiri.h", "povundiri_file.h", "povundiri_folder.h", "povundiri_recording.h")
+CPP_HEADERS = (*C_HEADERS, "povundiri_status.hpp", "povundiri.hpp", "povundiri_recording.hpp")
 MOST_SECONDS = 300
 
 

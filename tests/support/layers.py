@@ -11,6 +11,7 @@ from __future__ import annotations
 
 import functools
 import pathlib
+import re
 import sys
 
 sys.path.insert(0, str(pathlib.Path(__file__).resolve().parents[1]))
@@ -20,7 +21,8 @@ LIST = ROOT / "crates.txt"
 # What a change of the machine must not prove again: nothing of it says what actors do.
 READING = [
     "image_reader", "reading_texts", "reading_sums", "sum_texts", "reading_overviews", "reading_shows",
-    "sum_commands", "persist_report_core", "segment_search", "segment_looks", "fault_texts", "schedule",
+    "recording_folders", "sum_commands", "persist_report_core", "segment_search", "segment_looks", "fault_texts",
+    "schedule",
 ]
 MACHINE = ["segment_machine", "segment_invariant", "segment_promises"]
 
@@ -66,7 +68,8 @@ def let_through() -> str | None:
     """The lists that have to be refused and are not, or None: of each crate that reads, where it stands on the machine
     itself or by a crate below it; and where the list lacks one."""
     text = LIST.read_text()
-    wrong = [f"{text}between: {below}\n".replace(f"\n{crate}: ", f"\n{crate}: {by} ")
+    # A line may have words between the crate and what it stands on.
+    wrong = [re.sub(rf"(?m)^({crate}(?: [^:\n]*)?):", rf"\1: {by}", f"{text}between: {below}\n")
              for crate in READING for below in MACHINE for by in (below, "between")]
     wrong += [text.replace(f"\n{crate}", f"\nno_{crate}") for crate in READING + MACHINE]
     came = [text for text in wrong if not difference(text)]

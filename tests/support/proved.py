@@ -31,7 +31,7 @@ WIDTH = 140
 # How many signs a clause may have that is shown as it stands.
 SHORT = 80
 # Programs of the tests, which promise nothing.
-PROGRAMS_OF_TESTS = ("trials", "worked_lists", "worked_rows")
+PROGRAMS_OF_TESTS = ("trials", "worked_lists", "worked_looks", "worked_rows", "worked_sums")
 
 FUNCTION = re.compile(r"^\s*(pub )?(?:const )?(?:unsafe )?(?:extern \"C\" )?fn (\w+)")
 ITEM = re.compile(r"^(?:unsafe )?(?:impl|pub trait)\b(?:<.*?>)? ?(?:(.*?) for )?(.*?)(?:<.*)? \{$")

@@ -1,5 +1,5 @@
-"""`examples/cpp/service.cpp`, run against files that a release, a fault or a disk left it. Whatever it finds, it
-answers requests until it is told to end, and says what it could not record.
+"""`examples/cpp/service.cpp`, run in folders that a release, a fault or a disk left it. Whatever it finds, it answers
+requests until it is told to end, and says what it could not record.
 """
 
 from __future__ import annotations
@@ -11,7 +11,7 @@ import signal
 import struct
 import subprocess
 import time
-from collections.abc import Callable, Iterator
+from collections.abc import Iterator
 from typing import Any
 
 from support import native
@@ -26,61 +26,57 @@ TEXTS = 4
 # Of the image in a file, which begins at byte 8, the word after which nothing was claimed.
 FREE_AT = 8 * (1 + 7)
 ALL_UNITS = 4_294_967_295
-
-# The report that a program makes of a file.
-ReportIn = Callable[[Path, pathlib.Path], Answer]
+FIRST = "0000000001.seg"
 
 
 def requests_of(report: Answer) -> int:
-    """How many requests a report of the service's file tells of."""
+    """How many requests a report tells of."""
     total = re.search(rb"^latency_us,total,(\d+),", report.output, re.MULTILINE)
     return 0 if total is None else int(total[1])
 
 
 class Service:
-    """The service, and the files of one run of the tests."""
+    """The service, and the folders of one run of the tests."""
 
-    def __init__(
-        self, installed: native.Installed, program: Path, folder: pathlib.Path, report_in: ReportIn
-    ) -> None:
+    def __init__(self, installed: native.Installed, program: Path, folder: pathlib.Path) -> None:
         self.installed = installed
         self.folder = folder / "services"
         self.folder.mkdir()
         self.program = installed.program(SOURCE)
+        self.sums = installed.program(native.PROGRAMS / "folder.c")
         self.reader = program
-        self.report_in: Callable[[pathlib.Path], Answer] = lambda file: report_in(program, file)
 
-    def recorded(self, file: pathlib.Path) -> int:
-        return requests_of(self.report_in(file))
+    def recorded(self, folder: pathlib.Path) -> int:
+        return requests_of(answer(self.sums, ["report", folder]))
 
-    def wait_for(self, running: subprocess.Popen[str], file: pathlib.Path, before: int) -> None:
+    def wait_for(self, running: subprocess.Popen[str], folder: pathlib.Path, before: int) -> None:
         """Returns once it has recorded more requests than there were before, or ends, or takes too long."""
         ends = time.monotonic() + MOST_SECONDS
-        while running.poll() is None and self.recorded(file) <= before and time.monotonic() < ends:
+        while running.poll() is None and self.recorded(folder) <= before and time.monotonic() < ends:
             time.sleep(0.05)
 
-    def killed(self, file: pathlib.Path, before: int) -> str:
+    def killed(self, folder: pathlib.Path, before: int) -> str:
         """What it prints until it is killed, once it has recorded more requests than there were before."""
-        with subprocess.Popen([self.program, file], stdout=subprocess.PIPE, text=True) as running:
+        with subprocess.Popen([self.program, folder], stdout=subprocess.PIPE, text=True) as running:
             try:
-                self.wait_for(running, file, before)
+                self.wait_for(running, folder, before)
             finally:
                 running.kill()
             return running.communicate()[0]
 
-    def looked(self, file: pathlib.Path) -> int:
-        """How many requests a look at its file has; `Failed` if there is no look, or it is not read whole."""
-        look = str(file.with_suffix(".img"))
-        for words in (["look", str(file), look], ["report", "--whole", look]):
+    def looked(self, folder: pathlib.Path) -> int:
+        """How many requests a look at its segment has; `Failed` if there is no look, or it is not read whole."""
+        look = str(folder.with_suffix(".img"))
+        for words in (["look", str(folder / FIRST), look], ["report", "--whole", look]):
             came = answer(self.reader, words)
             if (came.error, came.status) != (b"", 0):
                 raise native.Failed(f"{words[0]}: {came}")
         return requests_of(came)
 
-    def ended(self, file: pathlib.Path, **settings: Any) -> tuple[str, str]:
+    def ended(self, folder: pathlib.Path, **settings: Any) -> tuple[str, str]:
         """What it says to its two streams when it is told to end, once it has answered some hundred requests."""
         streams: dict[str, Any] = {"stdout": subprocess.PIPE, "stderr": subprocess.PIPE, "text": True}
-        with subprocess.Popen([self.program, file], **streams, **settings) as running:
+        with subprocess.Popen([self.program, folder], **streams, **settings) as running:
             time.sleep(1)
             running.send_signal(signal.SIGTERM)
             said, errors = running.communicate(timeout=MOST_SECONDS)
@@ -89,8 +85,8 @@ class Service:
         return said, errors
 
     def made(self, name: str, source: str) -> pathlib.Path:
-        """A file that a C++ program of these statements left, with `segment` in it."""
-        file, program = self.folder / name, self.folder / f"{name}.cpp"
+        """A folder whose segment a C++ program of these statements left, with `segment` in it."""
+        folder, program = self.folder / name, self.folder / f"{name}.cpp"
         program.write_text(
             "#include <povundiri.hpp>\n"
             "int main(int, char** words) {\n"
@@ -100,8 +96,10 @@ class Service:
             f"    {source}\n"
             "}\n"
         )
-        native.run([self.installed.program(program), file])
-        return file
+        folder.mkdir()
+        (folder / "recording").touch()
+        native.run([self.installed.program(program), folder / FIRST])
+        return folder
 
 
 def counts(said: str) -> tuple[int, int] | None:
@@ -113,12 +111,12 @@ def counts(said: str) -> tuple[int, int] | None:
 
 def is_killed_thrice(service: Service) -> str | None:
     """It continues with what the one before had left, and says so."""
-    file, before = service.folder / "killed.seg", 0
-    for _ in range(3):
-        said = service.killed(file, before)
-        if said != f"served before: {before}\n":
+    folder, before = service.folder / "killed", 0
+    for turn in range(3):
+        said = service.killed(folder, before)
+        if said != f"segment 1: {'continued' if turn else 'begun'}\n":
             return f"behind {before} requests it said {said!r}"
-        left = service.recorded(file)
+        left = service.recorded(folder)
         if left <= before:
             return f"behind {before} requests came {left}"
         before = left
@@ -126,14 +124,14 @@ def is_killed_thrice(service: Service) -> str | None:
 
 
 def is_looked_at(service: Service) -> str | None:
-    """While it runs, each look at its file is read whole, and has no fewer requests than the one before; the last one
-    has no more than it had answered when it ended."""
-    file, before = service.folder / "looked.seg", 0
-    with subprocess.Popen([service.program, file], stdout=subprocess.PIPE, text=True) as running:
+    """While it runs, each look at its segment is read whole, and has no fewer requests than the one before; the last
+    one has no more than it had answered when it ended."""
+    folder, before = service.folder / "looked", 0
+    with subprocess.Popen([service.program, folder], stdout=subprocess.PIPE, text=True) as running:
         try:
-            service.wait_for(running, file, 0)
+            service.wait_for(running, folder, 0)
             for _ in range(LOOKS):
-                found = service.looked(file)
+                found = service.looked(folder)
                 if found < before:
                     return f"behind a look with {before} requests came one with {found}"
                 before = found
@@ -145,11 +143,11 @@ def is_looked_at(service: Service) -> str | None:
 
 
 def publishes(service: Service) -> str | None:
-    """While it runs it writes its metrics: those of a look, with no fewer requests than the ones before, and no more
-    than it had answered when it ended."""
-    file, metrics = service.folder / "publishes.seg", service.folder / "publishes.prom"
+    """While it runs it writes its metrics, with no fewer requests than the ones before, and no more than it had
+    answered when it ended."""
+    folder, metrics = service.folder / "publishes", service.folder / "publishes.prom"
     found = [0]
-    words = [str(word) for word in (service.program, file, metrics)]
+    words = [str(word) for word in (service.program, folder, metrics)]
     with subprocess.Popen(words, stdout=subprocess.PIPE, stderr=subprocess.PIPE, text=True) as running:
         ends = time.monotonic() + MOST_SECONDS
         while len(found) < TEXTS and running.poll() is None and time.monotonic() < ends:
@@ -167,75 +165,73 @@ def publishes(service: Service) -> str | None:
 
 def ends_well(service: Service) -> str | None:
     """Told to end, it has recorded all that it answered."""
-    file = service.folder / "ends.seg"
-    said, errors = service.ended(file)
+    folder = service.folder / "ends"
+    said, errors = service.ended(folder)
     served, missed = counts(said) or (0, 0)
-    wrong = errors or served < ENOUGH or missed != 0 or service.recorded(file) != served
-    return f"{said} {errors} {service.recorded(file)}" if wrong else None
+    wrong = errors or served < ENOUGH or missed != 0 or service.recorded(folder) != served
+    return f"{said} {errors} {service.recorded(folder)}" if wrong else None
 
 
 def has_another_spec(service: Service) -> str | None:
     """A release before had other buckets: it answers, and does not record."""
-    file = service.made("spec.seg", 'recorder.add_or_throw(recorder.linear("latency_us", 1, 500, 10), 17);')
-    said, errors = service.ended(file)
+    folder = service.made("spec", 'recorder.add_or_throw(recorder.linear("latency_us", 1, 500, 10), 17);')
+    said, errors = service.ended(folder)
     served, missed = counts(said) or (0, 0)
     wrong = (
         served < ENOUGH
         or missed != served
         or "latency_us is not recorded: OtherSpec" not in errors
-        or service.recorded(file) != 1
+        or service.recorded(folder) != 1
     )
     return f"{said} {errors}" if wrong else None
 
 
 def has_few_units(service: Service) -> str | None:
-    """It records to the last unit, and then answers on."""
+    """It records to the last unit, and then into the next segment."""
     left = 100
-    file = service.made("units.seg", f'recorder.add_or_throw(recorder.boolean("other"), 1, {ALL_UNITS - left}u);')
-    said, errors = service.ended(file)
+    folder = service.made("units", f'recorder.add_or_throw(recorder.boolean("other"), 1, {ALL_UNITS - left}u);')
+    said, errors = service.ended(folder)
     served, missed = counts(said) or (0, 0)
-    wrong = errors or served < ENOUGH or served - missed != left or service.recorded(file) != left
-    if wrong:
-        return f"{said} {errors} {service.recorded(file)}"
-    said, errors = service.ended(file)
-    served, missed = counts(said) or (0, -1)
-    return None if f"{file} is full" in said and served == missed else f"spent: {said} {errors}"
+    segments = sorted(path.name for path in folder.glob("*.seg"))
+    wrong = errors or served < ENOUGH or missed != 0 or service.recorded(folder) != served
+    return f"{said} {errors} {segments}" if wrong or segments != [FIRST, "0000000002.seg"] else None
 
 
 def is_damaged(service: Service) -> str | None:
-    """A damaged file is set aside as it is, and a new one is begun."""
-    file = service.made("damaged.seg", 'recorder.add_or_throw(recorder.boolean("other"), 1);')
-    with open(file, "r+b") as stream:
+    """A damaged segment is set aside as it is, and a new one is begun."""
+    folder = service.made("damaged", 'recorder.add_or_throw(recorder.boolean("other"), 1);')
+    with open(folder / FIRST, "r+b") as stream:
         stream.seek(FREE_AT)
         stream.write(struct.pack("<Q", 15))
-    was = file.read_bytes()
-    said, errors = service.ended(file)
+    was = (folder / FIRST).read_bytes()
+    said, errors = service.ended(folder)
     served, missed = counts(said) or (0, 0)
-    aside = re.search(r"^set aside as (.*): BadFree$", said, re.MULTILINE)
+    aside = re.search(r"^set aside as (.*): BadFree\nsegment 2: begun$", said, re.MULTILINE)
     wrong = (
         errors
         or aside is None
         or pathlib.Path(aside[1]).read_bytes() != was
         or missed != 0
-        or service.recorded(file) != served
+        or service.recorded(folder) != served
     )
     return f"{said} {errors}" if wrong or served < ENOUGH else None
 
 
 def has_a_full_disk(service: Service) -> str | None:
-    """Without room for a file it records into memory."""
+    """Without room for a segment it answers, and says that nothing is recorded."""
     shim = service.folder / "full_disk.so"
     native.run([*native.compiler(".c"), "-shared", "-fPIC", "-o", shim, native.PROGRAMS / "full_disk.c"])
-    file = service.folder / "full.seg"
-    said, errors = service.ended(file, env={**os.environ, "LD_PRELOAD": str(shim)})
+    folder = service.folder / "full"
+    said, errors = service.ended(folder, env={**os.environ, "LD_PRELOAD": str(shim)})
     served, missed = counts(said) or (0, 0)
-    wrong = served < ENOUGH or missed != 0 or "No space left on device: recording into memory" not in errors
+    wrong = served < ENOUGH or missed != served or "No space left on device: recorded later" not in errors
     if wrong:
         return f"{said} {errors}"
-    # With room again, it takes what was left there as new.
-    said, errors = service.ended(file)
-    served, _ = counts(said) or (0, 0)
-    return f"behind the full disk: {said} {errors}" if errors or service.recorded(file) != served else None
+    # With room again, it begins.
+    said, errors = service.ended(folder)
+    served, missed = counts(said) or (0, -1)
+    is_right = not errors and missed == 0 and service.recorded(folder) == served
+    return None if is_right else f"behind the full disk: {said} {errors}"
 
 
 TESTS = (
@@ -245,17 +241,15 @@ TESTS = (
     ("told to end", ends_well),
     ("another spec of a release before", has_another_spec),
     ("to the last unit", has_few_units),
-    ("a damaged file", is_damaged),
+    ("a damaged segment", is_damaged),
     ("a full disk", has_a_full_disk),
 )
 
 
-def cases(
-    installed: native.Installed, program: Path, folder: pathlib.Path, report_in: ReportIn
-) -> Iterator[Case]:
+def cases(installed: native.Installed, program: Path, folder: pathlib.Path) -> Iterator[Case]:
     """Each test of the service, and what was wrong in it or None."""
     try:
-        service = Service(installed, program, folder, report_in)
+        service = Service(installed, program, folder)
     except native.Failed as why:
         yield "service.cpp", str(why)
         return

@@ -4,7 +4,5 @@
 #![tactic(auto)]
 
 mod live_reading;
-#[cfg(test)]
-mod tests;
 
 pub use live_reading::{LiveHistogram, LiveReading, reading};

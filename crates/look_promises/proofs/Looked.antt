@@ -7,12 +7,8 @@ pub mod Anatomy
 pub mod Lists
 pub mod Opening
 pub mod Counting
-pub mod Headers
 pub mod Reading
 pub mod Bounds
 pub mod Used
-pub mod Owned
-pub mod ApartBlocks
-pub mod Adoptable
 pub mod Adopted
 pub mod Rises

@@ -8,8 +8,6 @@
 
 mod opening;
 mod owned;
-#[cfg(test)]
-mod tests;
 
 pub use opening::{join, lend, owned_recorder};
 pub use owned::OwnedRecorder;

@@ -13,7 +13,6 @@
 //! Images to be merged are read whole too. What their deltas had not taken is added to a new segment, whose image is written.
 #![tactic(auto)]
 
-mod beside;
 mod gate;
 mod looking;
 mod merging;

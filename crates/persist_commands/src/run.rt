@@ -11,7 +11,6 @@ ghost use Rattle.persist_commands.specs.Recorded.{HasOnlyOpened, IsRecordedImage
 ghost use Rattle.persist_commands.specs.Run.{IsFaultOfRun, IsReportOfImage, IsRunOf, MayEndRun};
 ghost use Rattle.persist_commands.specs.Stop.{EndTogether, StopTellsWant, TellsWant};
 
-use crate::beside::{NotRun, run_beside};
 use crate::gate::Gate;
 use crate::opening::make_histograms;
 use crate::outputs::{text_of_image, write_image};
@@ -26,6 +25,7 @@ use std::alloc::Global;
 use std::io::{Read, Write};
 use std::sync::Wait;
 use std::thread::Threads;
+use thread_jobs::{NotRun, run_beside};
 
 // The workers that are to be started, each with a recorder that has the units of its calls.
 fn make_workers<'w, G: Gate>(

@@ -9,13 +9,13 @@ ghost use Rattle.persist_commands.specs.Parts.{part_from, part_of};
 ghost use Rattle.persist_commands.specs.Recording.{WorkerHasEnded, HasRecorded, HasWorked, HaveMet};
 ghost use Rattle.persist_commands.specs.Stop.{StopTellsWant};
 
-use crate::beside::Job;
 use crate::gate::Gate;
 use crate::stop::Stop;
 use live_segment::{Hist, Recorder};
 use persist_report_core::{CallKind, Script, ScriptCall, ScriptHist};
 use segment_calls::Refusal;
 use std::alloc::{AllocError, Global};
+use thread_jobs::Job;
 
 /// Which calls a worker makes: those whose number, from 0, leaves `part` when it is divided by the number of workers.
 #[derive(Clone, Copy)]

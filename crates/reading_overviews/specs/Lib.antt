@@ -4,3 +4,4 @@ pub use Rattle.bucket_ranges.specs.Reading
 pub mod Numbers
 pub mod Spent
 pub mod Overview
+pub mod SumOverview

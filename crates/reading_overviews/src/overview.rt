@@ -95,7 +95,11 @@ fn put_kind(
 }
 
 // Puts the line of the histograms, by kind.
-fn put_kinds(text: &mut Vec<u8>, is_human: bool, hists: &[HistReading]) -> Result<(), AllocError>
+pub(crate) fn put_kinds(
+    text: &mut Vec<u8>,
+    is_human: bool,
+    hists: &[HistReading],
+) -> Result<(), AllocError>
     ensures { OnOk result (text.new.items ≡ text.old.items ++ kinds_line is_human (map histogram_view hists.now)) }
 {
     text.extend_from_slice(b"histograms   ")?;

@@ -1,5 +1,5 @@
--- The web page of an image: its overview, and the list, the numbers and the sentences of its texts for people, as HTML that needs
--- nothing else.
+-- The web page of an image, or of a sum of images: its overview, and the list, the numbers and the sentences of its texts for
+-- people, as HTML that needs nothing else.
 use Rattle.std.specs.Prelude.{◌≡◌, Bool, true, ℕ, List, [], ◌∷◌, ◌++◌, codes}
 use Rattle.std.specs.Fmt.{decimal}
 use Rattle.std.specs.List.{flat_map, enumerate_from}
@@ -7,6 +7,9 @@ use Rattle.segment_image.specs.declared.head.SegmentHead.{SegmentHead}
 use Rattle.bucket_ranges.specs.Reading.{Histogram, Reading}
 use Rattle.reading_texts.specs.Rows.{rows_of}
 use Rattle.reading_texts.specs.Exporting.{joined}
+use Rattle.reading_overviews.specs.declared.sum_overview.SumHead.{SumHead}
+use Rattle.reading_overviews.specs.Overview.{overview}
+use Rattle.reading_overviews.specs.SumOverview.{sum_overview}
 use Rattle.reading_shows.specs.declared.choice.Choice.{Choice}
 use Rattle.reading_shows.specs.declared.source.Source.{Source}
 use Rattle.reading_shows.specs.Escapes.{escaped}
@@ -42,11 +45,12 @@ section all numbered =
     ++ codes "</p>\n"
     ++ table all numbered.1
 
--- the page of an image from such a source, of which these histograms are shown in this order; they are numbered from 0
-abbrev pub page_in_order : Source → Bool → List Histogram → SegmentHead → Reading → List ℕ
-page_in_order source all hists head reading =
+-- the page of a reading from such a source, with an overview of these lines, of which these histograms are shown in this order;
+-- they are numbered from 0
+abbrev pub page_in_order : Source → Bool → List Histogram → List ℕ → Reading → List ℕ
+page_in_order source all hists lines reading =
     page_head (source_text source)
-    ++ page_overview head reading
+    ++ page_overview lines
     ++ page_list hists
     ++ codes "<main>\n"
     ++ flat_map (section all) (enumerate_from 0 hists)
@@ -54,7 +58,16 @@ page_in_order source all hists head reading =
     ++ ending hists reading
     ++ codes "</footer>\n</body>\n</html>\n"
 
+-- the page of a reading with an overview of these lines; with all values of sparse histograms, or those that rank first
+abbrev pub IsPageWith : Source → Bool → Choice → List ℕ → Reading → List ℕ → Type 0
+IsPageWith source all choice lines reading page =
+    (hists : List Histogram) × AreShown choice hists reading × (page ≡ page_in_order source all hists lines reading)
+
 -- the page of an image; with all values of sparse histograms, or those that rank first
 abbrev pub IsPageOf : Source → Bool → Choice → SegmentHead → Reading → List ℕ → Type 0
-IsPageOf source all choice head reading page =
-    (hists : List Histogram) × AreShown choice hists reading × (page ≡ page_in_order source all hists head reading)
+IsPageOf source all choice head reading page = IsPageWith source all choice (overview true head reading) reading page
+
+-- the page of a sum of images: that of its reading, with the overview of a sum
+abbrev pub IsPageOfSum : Source → Bool → Choice → SumHead → Reading → List ℕ → Type 0
+IsPageOfSum source all choice head reading page =
+    IsPageWith source all choice (sum_overview true head reading.hists) reading page

@@ -1,13 +1,12 @@
--- What a page begins with: the file that it is of, the overview of its image, and the list of its histograms.
+-- What a page begins with: the files that it is of, an overview of them, and the list of its histograms.
 use Rattle.std.specs.Prelude.{true, nat_lt, if◌then◌else◌, ℕ, List, [], ◌∷◌, ◌++◌, codes}
 use Rattle.std.specs.Fmt.{decimal}
 use Rattle.std.specs.List.{flat_map, enumerate_from}
-use Rattle.segment_image.specs.declared.head.SegmentHead.{SegmentHead}
-use Rattle.bucket_ranges.specs.Reading.{Histogram, Reading}
+use Rattle.bucket_ranges.specs.Reading.{Histogram}
 use Rattle.reading_texts.specs.Exporting.{joined}
-use Rattle.reading_overviews.specs.Overview.{overview}
+use Rattle.reading_overviews.specs.Numbers.{number}
 use Rattle.reading_shows.specs.declared.source.Source.{Source}
-use Rattle.reading_shows.specs.declared.source.Source.TheVariants.{Input, File}
+use Rattle.reading_shows.specs.declared.source.Source.TheVariants.{Input, File, Several}
 use Rattle.reading_shows.specs.Escapes.{escaped, escaped_byte}
 use Rattle.reading_shows.specs.Listing.{ListLine, line_of}
 
@@ -15,14 +14,19 @@ use Rattle.reading_shows.specs.Listing.{ListLine, line_of}
 abbrev pub path_byte : ℕ → List ℕ
 path_byte byte = if nat_lt 127 byte then byte ∷ [] else escaped_byte byte
 
--- where an image comes from, as it stands in a page
+-- a path as it stands in a page
+abbrev pub path_text : List ℕ → List ℕ
+path_text path = flat_map path_byte path
+
+-- where an image, or a sum, comes from, as it stands in a page
 abbrev pub source_text : Source → List ℕ
 source_text Input = codes "standard input"
-source_text (File path) = flat_map path_byte path.now
+source_text (File path) = path_text path.now
+source_text (Several first more) = path_text first.now ++ codes " and " ++ number true more ++ codes " more"
 
--- the overview of an image
-abbrev pub page_overview : SegmentHead → Reading → List ℕ
-page_overview head reading = codes "<header>\n<p>" ++ overview true head reading ++ codes "</p>\n</header>\n"
+-- an overview with such lines, as it stands in a page
+abbrev pub page_overview : List ℕ → List ℕ
+page_overview lines = codes "<header>\n<p>" ++ lines ++ codes "</p>\n</header>\n"
 
 -- the row of a numbered histogram in the list: its name, which leads to it, and its numbers
 abbrev pub list_row : ℕ → ListLine → List ℕ

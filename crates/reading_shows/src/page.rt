@@ -1,10 +1,10 @@
-//! The web page of an image.
+//! The web page of an image, and of a sum of images.
 
 ghost use Rattle.std.specs.Prelude.{◌≡◌, ◌++◌, All, IfOk, OnOk, map};
 ghost use Rattle.std.specs.List.{flat_map, enumerate_from};
 ghost use Rattle.image_reader.specs.Views.{histogram_view, reading_view};
 ghost use Rattle.image_reader.specs.Readable.{IsReadable};
-ghost use Rattle.reading_shows.specs.Page.{table, title, section, IsPageOf};
+ghost use Rattle.reading_shows.specs.Page.{table, title, section, IsPageOf, IsPageOfSum, IsPageWith};
 ghost use Rattle.reading_texts.specs.Rows.{rows_of as rows_of_histogram};
 
 use crate::choice::{Choice, chosen};
@@ -19,6 +19,7 @@ use crate::sheet::put_head;
 use crate::source::{Source, source_text};
 use crate::style::{frame_of, shows_all_of};
 use image_reader::{HistReading, Reading};
+use reading_overviews::{SumHead, overview_text, sum_overview_text};
 use reading_texts::{HistRow, put_parts, rows_of};
 use segment_image::SegmentHead;
 use std::alloc::{AllocError, Global};
@@ -105,6 +106,33 @@ fn put_sections(
     Ok(())
 }
 
+// Composes the page of a reading, with an overview of these lines.
+fn page_with(
+    alloc: Global,
+    lines: &[u8],
+    reading: &Reading,
+    source: Source<'_>,
+    shows_all: bool,
+    choice: Choice<'_>,
+) -> Result<Vec<u8>, AllocError>
+    requires { All IsReadable (map histogram_view reading.now.hists.items) }
+    ensures { IfOk result (λ page. IsPageWith source.entry shows_all choice.entry lines.now (reading_view reading.now) page.items) }
+{
+    let hists = chosen(alloc, reading, choice)?;
+    let hists = hists.as_slice();
+    let mut text = Vec::new(alloc);
+    let named = source_text(alloc, source)?;
+    put_head(&mut text, named.as_slice())?;
+    put_page_overview(&mut text, lines)?;
+    put_page_list(alloc, &mut text, hists)?;
+    text.extend_from_slice(b"<main>\n")?;
+    put_sections(alloc, &mut text, shows_all, hists)?;
+    text.extend_from_slice(b"</main>\n<footer>")?;
+    put_ending(alloc, &mut text, hists, reading)?;
+    text.extend_from_slice(b"</footer>\n</body>\n</html>\n")?;
+    Ok(text)
+}
+
 /// Returns the web page of an image, byte for byte: HTML that needs nothing else. It names where the image comes from, and
 /// begins with the overview of `reading_overviews` and the list of [`list_text`](crate::list_text), whose names lead to
 /// the histograms. Then come the numbers and sentences of [`show_text`](crate::show_text), of the same histograms in the
@@ -121,17 +149,24 @@ pub fn page_text(
     requires { All IsReadable (map histogram_view reading.now.hists.items) }
     ensures { IfOk result (λ page. IsPageOf source.entry shows_all choice.entry head.now (reading_view reading.now) page.items) }
 {
-    let hists = chosen(alloc, reading, choice)?;
-    let hists = hists.as_slice();
-    let mut text = Vec::new(alloc);
-    let named = source_text(alloc, source)?;
-    put_head(&mut text, named.as_slice())?;
-    put_page_overview(&mut text, head, reading)?;
-    put_page_list(alloc, &mut text, hists)?;
-    text.extend_from_slice(b"<main>\n")?;
-    put_sections(alloc, &mut text, shows_all, hists)?;
-    text.extend_from_slice(b"</main>\n<footer>")?;
-    put_ending(alloc, &mut text, hists, reading)?;
-    text.extend_from_slice(b"</footer>\n</body>\n</html>\n")?;
-    Ok(text)
+    let lines = overview_text(alloc, true, head, reading)?;
+    page_with(alloc, lines.as_slice(), reading, source, shows_all, choice)
+}
+
+/// Returns the web page of a sum of images, byte for byte: that of [`page_text`], of the reading of the sum, with the overview
+/// of a sum (`reading_overviews::sum_overview_text`) in the place of that of an image. It names where the sum comes from: its
+/// input, or the first of several and how many more there are. The one error is that memory runs out.
+pub fn page_of_sum(
+    alloc: Global,
+    head: &SumHead,
+    reading: &Reading,
+    source: Source<'_>,
+    shows_all: bool,
+    choice: Choice<'_>,
+) -> Result<Vec<u8>, AllocError>
+    requires { All IsReadable (map histogram_view reading.now.hists.items) }
+    ensures { IfOk result (λ page. IsPageOfSum source.entry shows_all choice.entry head.now (reading_view reading.now) page.items) }
+{
+    let lines = sum_overview_text(alloc, true, head, reading)?;
+    page_with(alloc, lines.as_slice(), reading, source, shows_all, choice)
 }

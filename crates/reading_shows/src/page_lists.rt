@@ -3,29 +3,22 @@
 ghost use Rattle.std.specs.Prelude.{◌≡◌, ◌++◌, All, OnOk, map};
 ghost use Rattle.std.specs.List.{flat_map, enumerate_from};
 ghost use Rattle.image_reader.specs.Readable.{IsReadable};
-ghost use Rattle.image_reader.specs.Views.{histogram_view, reading_view};
+ghost use Rattle.image_reader.specs.Views.{histogram_view};
 ghost use Rattle.reading_shows.specs.ListViews.{entry_view};
 ghost use Rattle.reading_shows.specs.PageLists.{list_row, page_list, page_overview, row_of_numbered};
 
 use crate::escapes::escaped;
 use crate::listing::{ListEntry, entry_of};
-use image_reader::{HistReading, Reading};
-use reading_overviews::put_overview;
+use image_reader::HistReading;
 use reading_texts::put_parts;
-use segment_image::SegmentHead;
 use std::alloc::{AllocError, Global};
 
-// Puts the overview of an image.
-pub(crate) fn put_page_overview(
-    text: &mut Vec<u8>,
-    head: &SegmentHead,
-    reading: &Reading,
-) -> Result<(), AllocError>
-    requires { All IsReadable (map histogram_view reading.now.hists.items) }
-    ensures { OnOk result (text.new.items ≡ text.old.items ++ page_overview head.now (reading_view reading.now)) }
+// Puts an overview with such lines.
+pub(crate) fn put_page_overview(text: &mut Vec<u8>, lines: &[u8]) -> Result<(), AllocError>
+    ensures { OnOk result (text.new.items ≡ text.old.items ++ page_overview lines.now) }
 {
     text.extend_from_slice(b"<header>\n<p>")?;
-    put_overview(text, true, head, reading)?;
+    text.extend_from_slice(lines)?;
     text.extend_from_slice(b"</p>\n</header>\n")?;
     Ok(())
 }

@@ -1,19 +1,22 @@
-//! Where an image comes from.
+//! Where an image, or a sum of images, comes from.
 
-ghost use Rattle.std.specs.Prelude.{◌≡◌, ◌++◌, IfOk, OnOk};
-ghost use Rattle.std.specs.List.{flat_map};
-ghost use Rattle.reading_shows.specs.PageLists.{path_byte, source_text as source_text_of};
+ghost use Rattle.std.specs.Prelude.{◌≡◌, ◌++◌, true, codes, IfOk, OnOk};
+ghost use Rattle.reading_overviews.specs.Numbers.{number};
+ghost use Rattle.reading_shows.specs.PageLists.{path_byte, path_text, source_text as source_text_of};
 
 use crate::escapes::put_byte;
+use reading_overviews::put_number;
 use std::alloc::{AllocError, Global};
 
-/// Where an image comes from, which its page names.
+/// Where an image, or a sum of images, comes from, which its page names.
 #[derive(Clone, Copy, Debug)]
 pub enum Source<'a> {
     /// Standard input.
     Input,
     /// The file at this path.
     File(&'a str),
+    /// The first of several inputs, by its path, and how many more there are.
+    Several(&'a str, u64),
 }
 
 // Puts what stands for a byte of a path.
@@ -29,7 +32,7 @@ fn put_path_byte(text: &mut Vec<u8>, byte: u8) -> Result<(), AllocError>
 
 // A path as it stands in a page.
 fn escaped_path(alloc: Global, path: &[u8]) -> Result<Vec<u8>, AllocError>
-    ensures { IfOk result (λ text. text.items ≡ flat_map path_byte path.now) }
+    ensures { IfOk result (λ text. text.items ≡ path_text path.now) }
 {
     let mut text = Vec::new(alloc);
     for byte in path {
@@ -38,12 +41,24 @@ fn escaped_path(alloc: Global, path: &[u8]) -> Result<Vec<u8>, AllocError>
     Ok(text)
 }
 
-// Where an image comes from, as it stands in a page.
+// The first of several inputs, and how many more there are.
+fn several_text(alloc: Global, first: &[u8], more: u64) -> Result<Vec<u8>, AllocError>
+    ensures { IfOk result (λ text. text.items ≡ path_text first.now ++ codes " and " ++ number true more ++ codes " more") }
+{
+    let mut text = escaped_path(alloc, first)?;
+    text.extend_from_slice(b" and ")?;
+    put_number(&mut text, true, more)?;
+    text.extend_from_slice(b" more")?;
+    Ok(text)
+}
+
+// Where an image, or a sum, comes from, as it stands in a page.
 pub(crate) fn source_text(alloc: Global, source: Source<'_>) -> Result<Vec<u8>, AllocError>
     ensures { IfOk result (λ text. text.items ≡ source_text_of source.entry) }
 {
     match source {
         Source::Input => Vec::from_slice(alloc, b"standard input"),
         Source::File(path) => escaped_path(alloc, path.as_bytes()),
+        Source::Several(first, more) => several_text(alloc, first.as_bytes(), more),
     }
 }

@@ -63,7 +63,7 @@ numbered-names index (part ∷ rest) = ap (λ z. part.name ∷ z) (numbered-name
 
 -- ---- their names ascend
 
-less-name : (o : Ordering) (x y : HistSum) → slice_cmp nat_cmp x.name.items y.name.items ≡ o → hist_cmp x y ≡ Less → x.name.items ≢ y.name.items
+pub less-name : (o : Ordering) (x y : HistSum) → slice_cmp nat_cmp x.name.items y.name.items ≡ o → hist_cmp x y ≡ Less → x.name.items ≢ y.name.items
     → slice_cmp nat_cmp x.name.items y.name.items ≡ Less
 less-name Less x y is below apart = is
 less-name Equal x y is below apart = absurd (apart (lists-equal x.name.items y.name.items is))

@@ -23,3 +23,9 @@ pub mod HistsWalk
 pub mod HistsGrown
 pub mod Groups
 pub mod GroupNames
+pub mod SameSpecs
+pub mod SameParts
+pub mod Matched
+pub mod Alone
+pub mod WholeKeys
+pub mod WholeWords

@@ -65,7 +65,7 @@ eq-turned Less = refl
 eq-turned Equal = refl
 eq-turned Greater = refl
 
-eq-flips : (a b : List ℕ) → bytes_eq a b ≡ bytes_eq b a
+pub eq-flips : (a b : List ℕ) → bytes_eq a b ≡ bytes_eq b a
 eq-flips a b =
     sym (is_eq-slice_cmp a b) ∙ (ap is_eq (nat_list_cmp_total.antisymm a b) ∙ (eq-turned (slice_cmp nat_cmp b a) ∙ is_eq-slice_cmp b a))
 

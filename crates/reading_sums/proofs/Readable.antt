@@ -30,7 +30,7 @@ counted (Custom values) keys lawful buckets =
     counts-length keys ∙ (ap length buckets ∙ lows-length (Custom values) lawful (λ e. absurd (cc)))
 counted Sparse keys lawful buckets = tt
 
-counts-sum : (keys : List KeySum) → sum_by (λ (count : ℤ × ℕ). count.1) (counts_of keys) ≡ units_of keys
+pub counts-sum : (keys : List KeySum) → sum_by (λ (count : ℤ × ℕ). count.1) (counts_of keys) ≡ units_of keys
 counts-sum [] = refl
 counts-sum (key ∷ rest) =
     sum_by-cons (λ (count : ℤ × ℕ). count.1) (key.value, key.units) (counts_of rest)

@@ -71,7 +71,7 @@ same-heads Greater x y xs ys is first second same rest =
 same-heads Equal x y xs ys is first second same rest =
     let equal : x.value ≡ y.value = (Decides-int_eq x.value y.value).0 (ap is_eq is) in λ i. equal i ∷ rest equal i
 
-same-values : (xs ys : List KeySum) → IsStrictlySortedBy key_cmp xs → IsStrictlySortedBy key_cmp ys
+pub same-values : (xs ys : List KeySum) → IsStrictlySortedBy key_cmp xs → IsStrictlySortedBy key_cmp ys
     → ((v : ℤ) → has_key xs v ≡ has_key ys v) → values_of xs ≡ values_of ys
 unfolding IsStrictlySortedBy
 same-values [] [] first second same = refl

@@ -7,3 +7,4 @@ pub mod Notes
 pub mod Sums
 pub mod Shown
 pub mod Since
+pub mod Alone

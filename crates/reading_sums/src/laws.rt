@@ -1,10 +1,17 @@
 //! Laws of sums.
 
-ghost use Rattle.std.specs.Prelude.{◌++◌, ◌↔◌, ℕ, List};
+ghost use Rattle.std.specs.Prelude.{◌≡◌, ◌++◌, ◌↔◌, ℕ, List, [], nat_lt, Ok};
+ghost use Rattle.std.specs.List.{All};
 ghost use Rattle.std.specs.List.Sorted.{IsPermutation};
-ghost use Rattle.bucket_ranges.specs.Reading.{Reading};
+ghost use Rattle.segment_image.specs.Head.{header_of};
+ghost use Rattle.segment_image.specs.declared.head.SegmentHead.{SegmentHead};
+ghost use Rattle.bucket_ranges.specs.Reading.{Reading, IsReading};
 ghost use Rattle.reading_sums.specs.declared.sums.Sums.{Sums};
+ghost use Rattle.reading_sums.specs.Alone.{HasItsMarks, IsSumOfOne, ShowsInOrder};
+ghost use Rattle.reading_sums.specs.Shown.{shown_parts, other_parts};
 ghost use Rattle.reading_sums.specs.Sums.{IsSumOver, IsSumOfBoth, HaveSameSum};
+ghost use Rattle.reading_sums.specs.Views.{parts_of};
+ghost use Rattle.reading_sums.specs.Whole.{IsWholeReading};
 
 /// The order of the readings makes no difference: a sum of a list is a sum of each list that has the same numbered
 /// readings in another order.
@@ -22,4 +29,27 @@ pub fn order_is_nothing()
 pub fn parts_append()
     ensures together { (readings more : List (ℕ × Reading)) → (a b both : Sums) → IsSumOver readings a → IsSumOver more b → IsSumOver (readings ++ more) both ↔ IsSumOfBoth a b both }
     ensures one { (readings : List (ℕ × Reading)) → (a b : Sums) → IsSumOver readings a → IsSumOver readings b → HaveSameSum a b }
+{}
+
+/// A well-formed sum of one reading alone reads as that reading, whatever number that has: it shows exactly the histograms
+/// of the reading, each with the same name, spec, counts, marks, sum, mark of the sum and redundant count, in the order of
+/// their names, and with its index as reference [shown]. It leaves none out [left_out], is full or corrupt exactly if the
+/// reading is [full] [corrupt], and is of one image [images]. The reading is whole, and has a mark beside each count.
+///
+/// It does nothing: what it promises are laws of the definition.
+pub fn one_image_reads_the_same()
+    ensures shown { (number : ℕ) (reading : Reading) (sums : Sums) → IsSumOfOne number reading sums → ShowsInOrder reading.hists (shown_parts (parts_of sums)) }
+    ensures left_out { (number : ℕ) (reading : Reading) (sums : Sums) → IsSumOfOne number reading sums → other_parts (parts_of sums) ≡ [] }
+    ensures full { (number : ℕ) (reading : Reading) (sums : Sums) → IsSumOfOne number reading sums → nat_lt 0 sums.notes.full ≡ reading.full }
+    ensures corrupt { (number : ℕ) (reading : Reading) (sums : Sums) → IsSumOfOne number reading sums → nat_lt 0 sums.notes.corrupt ≡ reading.corrupt }
+    ensures images { (number : ℕ) (reading : Reading) (sums : Sums) → IsSumOfOne number reading sums → sums.notes.images ≡ 1 }
+{}
+
+/// What words with a lawful header read as is whole [whole], and has a mark beside each count of a histogram [marks]: so
+/// what `image_reader::read` returns is as `Sums::add` and `one_image_reads_the_same` ask.
+///
+/// It does nothing: what it promises are laws of the definition.
+pub fn words_are_whole()
+    ensures whole { (words : List ℕ) (head : SegmentHead) (reading : Reading) → header_of words ≡ Ok head → IsReading words head reading → IsWholeReading reading }
+    ensures marks { (words : List ℕ) (head : SegmentHead) (reading : Reading) → header_of words ≡ Ok head → IsReading words head reading → All HasItsMarks reading.hists }
 {}

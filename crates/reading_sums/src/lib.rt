@@ -21,10 +21,7 @@ mod sums;
 pub use fault::{MinusFault, SumsFault};
 pub use hist::HistSum;
 pub use key::KeySum;
-pub use laws::{order_is_nothing, parts_append};
+pub use laws::{one_image_reads_the_same, order_is_nothing, parts_append, words_are_whole};
 pub use notes::Notes;
 pub use shown::OtherSpec;
 pub use sums::Sums;
-
-#[cfg(test)]
-mod tests;

@@ -11,8 +11,6 @@ mod fault;
 mod following;
 mod patching;
 mod record;
-#[cfg(test)]
-mod tests;
 
 pub use composing::compose;
 pub use fault::LookFault;

@@ -8,6 +8,7 @@ pub mod Images
 pub mod Kept
 pub mod Opened
 pub mod Openers
+pub mod Owned
 pub mod Slices
 pub mod Sums
 pub mod Units

@@ -9,12 +9,11 @@
 mod dividing;
 mod fault;
 mod kind;
+mod summing;
 mod sums;
 
 pub use dividing::part_of_inputs;
 pub use fault::InputFault;
 pub use kind::{FRONT, InputKind, kind_of};
+pub use summing::{Left, Manner, Source, Summed, sum_of_inputs};
 pub use sums::{add_image, add_totals, append_next};
-
-#[cfg(test)]
-mod tests;

@@ -7,3 +7,4 @@ pub mod Fronts
 pub mod Wholes
 pub mod Texts
 mod Formed
+pub mod OneImage

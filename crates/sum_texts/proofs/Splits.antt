@@ -36,15 +36,14 @@ split_joined c first (next ∷ rest) all =
     same : (c : ℕ) → eqb c c ≡ true
     same c = grind (arith, nat_tests)
 
--- what a line says whose fields are these
-pub said : (line : List ℕ) (fields all texts : List (List ℕ)) → all ≡ slice_split (λ b. b == 44) line → fields ≡ all → fields ≡ texts → line ≡ line_bytes texts
-said line fields all texts cut same is = sym (join_with_byte-slice_split 44 line) ∙ ap (join_with_byte 44) (sym cut ∙ (sym same ∙ is))
+-- what a line says that is cut into these fields
+pub said : (line : List ℕ) (fields texts : List (List ℕ)) → fields ≡ slice_split (λ b. b == 44) line → fields ≡ texts → line ≡ line_bytes texts
+said line fields texts cut is = sym (join_with_byte-slice_split 44 line) ∙ ap (join_with_byte 44) (sym cut ∙ is)
 
--- the fields of a line that says these
-pub unsaid : (line : List ℕ) (fields all : List (List ℕ)) (first : List ℕ) (rest : List (List ℕ)) → AllByRecursion (Lacks 44) (first ∷ rest)
-    → all ≡ slice_split (λ b. b == 44) line → fields ≡ all → line ≡ line_bytes (first ∷ rest) → fields ≡ first ∷ rest
-unsaid line fields all first rest lacks cut same is =
-    same ∙ (cut ∙ (ap (slice_split (λ b. b == 44)) is ∙ split_joined 44 first rest lacks))
+-- the fields into which a line is cut that says these
+pub unsaid : (line : List ℕ) (fields : List (List ℕ)) (first : List ℕ) (rest : List (List ℕ)) → AllByRecursion (Lacks 44) (first ∷ rest)
+    → fields ≡ slice_split (λ b. b == 44) line → line ≡ line_bytes (first ∷ rest) → fields ≡ first ∷ rest
+unsaid line fields first rest lacks cut is = cut ∙ (ap (slice_split (λ b. b == 44)) is ∙ split_joined 44 first rest lacks)
 
 -- ---- what numbers and words lack
 

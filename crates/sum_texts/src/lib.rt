@@ -4,6 +4,7 @@
 mod ending;
 mod fault;
 mod fields;
+mod laws;
 mod lines;
 mod number;
 mod reading;
@@ -15,9 +16,7 @@ mod wrong;
 
 pub use ending::report_of;
 pub use fault::TotalsFault;
+pub use laws::one_image_writes_the_same;
 pub use reading_back::totals_of;
 pub use totals::Totals;
 pub use writing::totals_text;
-
-#[cfg(test)]
-mod tests;

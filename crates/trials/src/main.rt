@@ -3,13 +3,19 @@
 //!
 //! `trials record THREADS SEED ROUNDS [ENTRIES]`: each round is a new segment, in which each of THREADS threads makes some
 //! hundred calls by its own recorder, which SEED decides: samples and batches of all kinds of histograms, deltas and
-//! snapshots. The indexes of a recorder have at most ENTRIES entries, if that is given. Then all are joined, one more delta of each histogram is taken, and the segment is closed. A round prints
+//! snapshots, readings of the whole segment and looks at it. The indexes of a recorder have at most ENTRIES entries, if that is
+//! given. Then all are joined, one more delta of each histogram is taken, and the segment is closed. A round prints
 //!
 //!     round,NUMBER,VERSION
+//!     thread                                  before what each thread did
 //!     sample,NAME,VALUE,COUNT                 for each sample, those of a thread in their order
 //!     batch,NAME,SUM,VALUE,COUNT..            for each batch, those of a thread in their order
 //!     delta,NAME,SUM,KEY,UNITS..              for each delta
 //!     snapshot,NAME,SUM,REDUNDANT,KEY,UNITS.. for each snapshot
+//!     read,SAMPLES,BATCHES                    for each reading by a thread, of whose samples and batches so many came before
+//!     look,SAMPLES,BATCHES                    for each look of a thread, the same
+//!     fault,FAULT                             behind a look: why there is none, or what is bad or stops in its image
+//!     histogram,NAME,SUM,REDUNDANT,KEY,..     behind a reading or a look: what it has of each histogram
 //!     report                                  and after this line the report of the image
 //!
 //! `trials walk THREADS RECORDS ROUNDS`: each round is a new segment with RECORDS records, along which THREADS

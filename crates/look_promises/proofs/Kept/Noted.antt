@@ -12,8 +12,8 @@ use Rattle.segment_promises.specs.Reads.{noted_at_opening}
 use Rattle.segment_invariant.proofs.Frames.Spending.{spent_or_not}
 use Rattle.look_promises.specs.Images.{units_in_words}
 use Rattle.look_promises.specs.OneMoment.{IsCountedFirst, CountsFirst}
-use Rattle.look_promises.proofs.Calls.{counted_is}
-use Rattle.look_promises.proofs.OneMoment.{sum_below}
+use Rattle.look_promises.proofs.Amounts.Calls.{counted_is}
+use Rattle.look_promises.proofs.Amounts.OneMoment.{sum_below}
 
 -- a number is among a sum over a range
 pub at_least : (f : ℕ → ℕ) (m start i : ℕ) → start ≤ i → i < start + m → f i ≤ sum_by f (range_with_len start m)

@@ -1,39 +1,35 @@
 -- The records of a look are kept: lawful, each with its own counts block, and in one that is not the first of its name nothing is counted.
-use Rattle.segment_invariant.proofs.Prelude.Std.{◌≡◌, ◌≢◌, ℕ, ◌+◌, ◌^◌, ◌<◌, ◌≤◌, ◌==◌, ◌&&◌, Bool, true, false, if◌then◌else◌, ℤ, List, ◌∷◌, ◌++◌, length, length-append, drop, take-append-drop, append_assoc, inl, inr, refl, sym, ap, subst, ◌∙◌, arith, slice_index, Option, Some, None, none, All, eq-eqb, replicate, first_longer}
-use Rattle.segment_invariant.proofs.Prelude.Machine.{Dimensions, State, Spec, word_at, buckets_of, single_of, packed_bucket, units_packed, units_in}
-use Rattle.segment_invariant.proofs.Prelude.Invariant.{Anatomy, Record, Counts, Sample, Listed, histogram, counts, sample, words_of, form_at, HasRecord, HasCounts, HasSample, IsFirst, IsFirstOf, CountsNothing, IsLawfulRecord, IsCountsOf, Invariant}
+use Rattle.segment_invariant.proofs.Prelude.Std.{◌≡◌, ◌≢◌, ℕ, ◌+◌, ◌^◌, ◌<◌, ◌≤◌, ◌==◌, ◌&&◌, Bool, true, false, if◌then◌else◌, ℤ, List, ◌∷◌, ◌++◌, length, length-append, drop, take-append-drop, append_assoc, inl, inr, refl, sym, ap, subst, ◌∙◌, arith, slice_index, Option, Some, None, none, All, eq-eqb, replicate}
+use Rattle.segment_invariant.proofs.Prelude.Machine.{Spec, word_at, buckets_of, single_of, packed_bucket, units_packed, units_in}
+use Rattle.segment_invariant.proofs.Prelude.Invariant.{Anatomy, Record, Counts, Sample, Listed, histogram, counts, sample, words_of, form_at, HasRecord, HasCounts, HasSample, IsFirst, IsFirstOf, CountsNothing, IsLawfulRecord, IsCountsOf}
 use Rattle.bucket_ranges.specs.declared.spec.Spec.TheVariants as spec
 use Rattle.segment_machine.specs.declared.actor.Made.TheVariants as made
 use Rattle.segment_looks.specs.Looks.{counts_looked, counts_reference, is_frozen}
 use Rattle.std.specs.List.{slice_range}
-use Rattle.segment_invariant.specs.Seen.{IsRecordNamed, IsValued}
 use Rattle.segment_invariant.specs.Invariant.{IsLawfulSample, RecordsAreKept}
 use Rattle.segment_invariant.proofs.Blocks.Pieces.{one_stands}
 use Rattle.segment_invariant.proofs.Consistency.Keys.{packed_within}
-use Rattle.look_promises.specs.Runs.{RunsThrough, Moments, AreLoaded}
 use Rattle.look_promises.specs.Images.{looked_counts, total_looked, mark_looked}
-use Rattle.look_promises.proofs.Runs.{kept_at}
-use Rattle.look_promises.proofs.Shown.{ends_at}
-use Rattle.look_promises.proofs.Named.{one_within, two_within}
-use Rattle.look_promises.proofs.References.{named}
-use Rattle.look_promises.proofs.Between.{all_between}
-use Rattle.look_promises.proofs.Counted.{range_long, looked_long}
-use Rattle.look_promises.proofs.Totals.{range_word, packed_as, for_bucket}
-use Rattle.look_promises.proofs.Marks.{marks_bounded, packs_it}
-use Rattle.look_promises.proofs.Forms as forms
-use Rattle.look_promises.proofs.Unpacked.{marks_packed}
-use Rattle.look_promises.proofs.Samples.{samples_bounded}
+use Rattle.look_promises.proofs.Moments.Runs.{kept_at}
+use Rattle.look_promises.proofs.Moments.Firsts.{first_on, value_on}
+use Rattle.look_promises.proofs.Copies.ThreeCopies.{ThreeCopies, seen_in}
+use Rattle.look_promises.proofs.Moments.Listed.{ends_at}
+use Rattle.look_promises.proofs.Copies.Named.{one_within, two_within}
+use Rattle.look_promises.proofs.Copies.References.{named}
+use Rattle.look_promises.proofs.Copies.Between.{all_between}
+use Rattle.look_promises.proofs.Words.Counted.{range_long, looked_long}
+use Rattle.look_promises.proofs.Amounts.Totals.{range_word, packed_as, for_bucket}
+use Rattle.look_promises.proofs.Amounts.Marks.{marks_bounded, packs_it}
+use Rattle.look_promises.proofs.Amounts.Forms as forms
+use Rattle.look_promises.proofs.Amounts.Unpacked.{marks_packed}
+use Rattle.look_promises.proofs.Amounts.Samples.{samples_bounded}
 use Rattle.look_promises.proofs.Kept.Views.{view, nothing_later}
 use Rattle.look_promises.proofs.Kept.CountWords.{zeros, zeros_each, packed_mark, unused_mark}
-use Rattle.look_promises.proofs.Looked.Taken.{record_looked, records, IsTaken}
+use Rattle.look_promises.proofs.Looked.Taken.{record_looked, IsTaken}
 
-module _ (shape : Dimensions) (opened : Anatomy) (at : ℕ → State) (first last : ℕ) (moments : Moments) (one two three image : List ℕ)
-    (run : RunsThrough shape opened at) (loaded : AreLoaded shape at first last moments one two three) where
-  abbrev late : Invariant shape opened (at last)
-  late = kept_at shape opened at run last
-
-  abbrev followed : List ℕ
-  followed = records shape opened at first last moments one two three image run loaded
+module _ (copies : ThreeCopies) (image : List ℕ) where
+  open copies use {run, shape, at, last, moments, one, two, three, loaded}
+  open seen_in copies use {late, list, records as followed}
 
   late_two : late.anatomy.version ≡ 2
   late_two = late.same.0 ∙ run.version
@@ -45,7 +41,7 @@ module _ (shape : Dimensions) (opened : Anatomy) (at : ℕ → State) (first las
     n = buckets_of r.spec
 
     spot : (j : ℕ) → j < 15 → x + j < shape.size
-    spot j lt = let ends = ends_at shape opened at run last x (histogram r) has in omega (arith, ends, lt)
+    spot j lt = let ends = ends_at run last x (histogram r) has in omega (arith, ends, lt)
 
     abbrev place : ℕ
     place = counts_reference two three x
@@ -59,35 +55,29 @@ module _ (shape : Dimensions) (opened : Anatomy) (at : ℕ → State) (first las
     no_reference second third = either ((word_at two (x + 8) == 0) && is_frozen two x) (word_at two (x + 8)) (word_at three (x + 8)) second third
 
     -- what holds of each word that changes, at whatever moment, if it holds of 0 and of the record then
-    in_one : (P : ℕ → Type 0) (j : ℕ) → 8 ≤ j → j < 14 → P 0
-        → ((m : ℕ) (q : Record) → HasRecord (kept_at shape opened at run m).anatomy.pieces x q → q.spec ≡ r.spec → P (slice_index (words_of (histogram q)) j)) → P (word_at one (x + j))
-    in_one P j from below zero_has each =
-        let near = spot j (omega (arith, below)) in
-        elim (view shape opened at run (moments.one (x + j)) last x j (word_at one (x + j)) r (one_within shape opened at first last moments one two three run loaded (x + j) near).1
-        has from below (loaded.copy_one.each (x + j) near)) [
-          | inl nothing ↦ subst P (sym nothing) zero_has
-          | inr v ↦ subst P (sym v.is) (each (moments.one (x + j)) v.of v.stands (sym (ap (λ (z : Record). z.spec) v.goes.is)))
-        ]
+    abbrev Each : (ℕ → Type 0) → ℕ → Type 0
+    Each P j = (m : ℕ) (q : Record) → HasRecord (kept_at run m).anatomy.pieces x q → q.spec ≡ r.spec → P (slice_index (words_of (histogram q)) j)
 
-    in_two : (P : ℕ → Type 0) (j : ℕ) → 8 ≤ j → j < 14 → P 0
-        → ((m : ℕ) (q : Record) → HasRecord (kept_at shape opened at run m).anatomy.pieces x q → q.spec ≡ r.spec → P (slice_index (words_of (histogram q)) j)) → P (word_at two (x + j))
-    in_two P j from below zero_has each =
-        let near = spot j (omega (arith, below)) in
-        elim (view shape opened at run (moments.two (x + j)) last x j (word_at two (x + j)) r (two_within shape opened at first last moments one two three run loaded (x + j) near).1
-        has from below (loaded.copy_two.each (x + j) near)) [
-          | inl nothing ↦ subst P (sym nothing) zero_has
-          | inr v ↦ subst P (sym v.is) (each (moments.two (x + j)) v.of v.stands (sym (ap (λ (z : Record). z.spec) v.goes.is)))
-        ]
+    at_moment : (P : ℕ → Type 0) (j m word : ℕ) → 8 ≤ j → j < 14 → m ≤ last → word ≡ word_at (at m).words (x + j) → P 0 → Each P j → P word
+    at_moment P j m word from below down same zero_has each = elim (view run m last x j word r down has from below same) [
+      | inl nothing ↦ subst P (sym nothing) zero_has
+      | inr v ↦ subst P (sym v.is) (each m v.of v.stands (sym (ap (λ (z : Record). z.spec) v.goes.is)))
+    ]
 
-    in_three : (P : ℕ → Type 0) (j : ℕ) → 8 ≤ j → j < 14 → P 0
-        → ((m : ℕ) (q : Record) → HasRecord (kept_at shape opened at run m).anatomy.pieces x q → q.spec ≡ r.spec → P (slice_index (words_of (histogram q)) j)) → P (word_at three (x + j))
-    in_three P j from below zero_has each =
+    in_one : (P : ℕ → Type 0) (j : ℕ) → 8 ≤ j → j < 14 → P 0 → Each P j → P (word_at one (x + j))
+    in_one P j from below =
         let near = spot j (omega (arith, below)) in
-        elim (view shape opened at run (moments.three (x + j)) last x j (word_at three (x + j)) r (loaded.ordered.ends (x + j) near) has from below
-        (loaded.copy_three.each (x + j) near)) [
-          | inl nothing ↦ subst P (sym nothing) zero_has
-          | inr v ↦ subst P (sym v.is) (each (moments.three (x + j)) v.of v.stands (sym (ap (λ (z : Record). z.spec) v.goes.is)))
-        ]
+        at_moment P j (moments.one (x + j)) (word_at one (x + j)) from below (one_within copies (x + j) near).1 (loaded.copy_one.each (x + j) near)
+
+    in_two : (P : ℕ → Type 0) (j : ℕ) → 8 ≤ j → j < 14 → P 0 → Each P j → P (word_at two (x + j))
+    in_two P j from below =
+        let near = spot j (omega (arith, below)) in
+        at_moment P j (moments.two (x + j)) (word_at two (x + j)) from below (two_within copies (x + j) near).1 (loaded.copy_two.each (x + j) near)
+
+    in_three : (P : ℕ → Type 0) (j : ℕ) → 8 ≤ j → j < 14 → P 0 → Each P j → P (word_at three (x + j))
+    in_three P j from below =
+        let near = spot j (omega (arith, below)) in
+        at_moment P j (moments.three (x + j)) (word_at three (x + j)) from below (loaded.ordered.ends (x + j) near) (loaded.copy_three.each (x + j) near)
 
     -- of a sparse one these are 0
     abbrev IsNone : ℕ → Type 0
@@ -96,10 +86,10 @@ module _ (shape : Dimensions) (opened : Anatomy) (at : ℕ → State) (first las
     sparse_nothing : r.spec ≡ spec.Sparse → (place ≡ 0) × (word_at two (x + 9) ≡ 0) × (word_at one (x + 10) ≡ 0)
     sparse_nothing is = (
       no_reference
-          (in_two IsNone 8 (omega arith) (omega arith) refl (λ m q stands same. (((kept_at shape opened at run m).records.lawful x q stands).sparse (same ∙ is)).0))
-          (in_three IsNone 8 (omega arith) (omega arith) refl (λ m q stands same. (((kept_at shape opened at run m).records.lawful x q stands).sparse (same ∙ is)).0)),
-      in_two IsNone 9 (omega arith) (omega arith) refl (λ m q stands same. (((kept_at shape opened at run m).records.lawful x q stands).sparse (same ∙ is)).1),
-      in_one IsNone 10 (omega arith) (omega arith) refl (λ m q stands same. (((kept_at shape opened at run m).records.lawful x q stands).sparse (same ∙ is)).2),
+          (in_two IsNone 8 (omega arith) (omega arith) refl (λ m q stands same. (((kept_at run m).records.lawful x q stands).sparse (same ∙ is)).0))
+          (in_three IsNone 8 (omega arith) (omega arith) refl (λ m q stands same. (((kept_at run m).records.lawful x q stands).sparse (same ∙ is)).0)),
+      in_two IsNone 9 (omega arith) (omega arith) refl (λ m q stands same. (((kept_at run m).records.lawful x q stands).sparse (same ∙ is)).1),
+      in_one IsNone 10 (omega arith) (omega arith) refl (λ m q stands same. (((kept_at run m).records.lawful x q stands).sparse (same ∙ is)).2),
     )
 
     abbrev IsNarrow : ℕ → Type 0
@@ -108,7 +98,7 @@ module _ (shape : Dimensions) (opened : Anatomy) (at : ℕ → State) (first las
     pub lawful : (next : ℕ) → IsLawfulRecord 2 shape.page (record_looked one two three x next r)
     lawful next =
         let l = late.records.lawful x r has in
-        let formed = forms.both shape opened at first last moments one two three run loaded x r has in
+        let formed = forms.both copies x r has in
         record {
           sized = l.sized;
           least = l.least;
@@ -118,12 +108,12 @@ module _ (shape : Dimensions) (opened : Anatomy) (at : ℕ → State) (first las
           fields = l.fields;
           fits = l.fits;
           formed = formed.0;
-          unpacked = marks_packed shape opened at first last moments one two three run loaded x r has;
+          unpacked = marks_packed copies x r has;
           off = formed.1;
           sparse = sparse_nothing;
           narrow = (
-            in_two IsNarrow 11 (omega arith) (omega arith) (omega arith) (λ m q stands same. ((kept_at shape opened at run m).records.lawful x q stands).narrow.0),
-            in_one IsNarrow 12 (omega arith) (omega arith) (omega arith) (λ m q stands same. ((kept_at shape opened at run m).records.lawful x q stands).narrow.1),
+            in_two IsNarrow 11 (omega arith) (omega arith) (omega arith) (λ m q stands same. ((kept_at run m).records.lawful x q stands).narrow.0),
+            in_one IsNarrow 12 (omega arith) (omega arith) (omega arith) (λ m q stands same. ((kept_at run m).records.lawful x q stands).narrow.1),
           );
         }
 
@@ -132,11 +122,11 @@ module _ (shape : Dimensions) (opened : Anatomy) (at : ℕ → State) (first las
     packed none_there = by_packed (packed_bucket (single_of 2 n (word_at two (x + 9)))) refl
       where
         by_packed : (bucket : Option ℕ) → packed_bucket (single_of 2 n (word_at two (x + 9))) ≡ bucket → word_at one (x + 10) ≤ units_in (single_of 2 n (word_at two (x + 9)))
-        by_packed None is = let nothing = marks_packed shape opened at first last moments one two three run loaded x r has is in omega (arith, nothing)
+        by_packed None is = let nothing = marks_packed copies x r has is in omega (arith, nothing)
         by_packed (Some i) is =
             let form = single_of 2 n (word_at two (x + 9)) in
             let below = packed_within 2 n (word_at two (x + 9)) i is in
-            let most = (marks_bounded shape opened at first last moments one two three run loaded x i r has below).1 in
+            let most = (marks_bounded copies x i r has below).1 in
             let mark : mark_looked one two x place n i ≡ word_at one (x + 10) =
             ap (λ (b : Bool). if b then word_at one (x + 10) else (if place == 0 then 0 else word_at one (place + (4 + n + i)))) (packs_it form i is) in
             let total : total_looked two x place n i ≡ 0 + units_packed form i =
@@ -159,19 +149,19 @@ module _ (shape : Dimensions) (opened : Anatomy) (at : ℕ → State) (first las
         first_copy : (j : ℕ) → 8 ≤ j → j < 14 → word_at one (x + j) ≡ 0
         first_copy j from below =
             let near = spot j (omega (arith, below)) in
-            nothing_later shape opened at run (moments.one (x + j)) last x j (word_at one (x + j)) other r kind
-            (one_within shape opened at first last moments one two three run loaded (x + j) near).1 has its apart from below (loaded.copy_one.each (x + j) near)
+            nothing_later run (moments.one (x + j)) last x j (word_at one (x + j)) other r kind
+            (one_within copies (x + j) near).1 has its apart from below (loaded.copy_one.each (x + j) near)
 
         second : (j : ℕ) → 8 ≤ j → j < 14 → word_at two (x + j) ≡ 0
         second j from below =
             let near = spot j (omega (arith, below)) in
-            nothing_later shape opened at run (moments.two (x + j)) last x j (word_at two (x + j)) other r kind
-            (two_within shape opened at first last moments one two three run loaded (x + j) near).1 has its apart from below (loaded.copy_two.each (x + j) near)
+            nothing_later run (moments.two (x + j)) last x j (word_at two (x + j)) other r kind
+            (two_within copies (x + j) near).1 has its apart from below (loaded.copy_two.each (x + j) near)
 
         third : (j : ℕ) → 8 ≤ j → j < 14 → word_at three (x + j) ≡ 0
         third j from below =
             let near = spot j (omega (arith, below)) in
-            nothing_later shape opened at run (moments.three (x + j)) last x j (word_at three (x + j)) other r kind (loaded.ordered.ends (x + j) near) has its apart from below
+            nothing_later run (moments.three (x + j)) last x j (word_at three (x + j)) other r kind (loaded.ordered.ends (x + j) near) has its apart from below
             (loaded.copy_three.each (x + j) near)
 
     -- ---- its counts
@@ -182,7 +172,7 @@ module _ (shape : Dimensions) (opened : Anatomy) (at : ℕ → State) (first las
 
       long_block : p + (4 + (n + n)) ≤ shape.size
       long_block =
-          let ends = ends_at shape opened at run last p (counts c) stands in
+          let ends = ends_at run last p (counts c) stands in
           let units = of_it.units in
           let marks = of_it.marks in
           let inner = length-append c.units c.marks in
@@ -218,19 +208,19 @@ module _ (shape : Dimensions) (opened : Anatomy) (at : ℕ → State) (first las
             marks = marks;
             sized = omega (arith, units, marks, old_units, old_marks, size);
             packed = λ i is. mark_is i (packed_within 2 n (word_at two (x + 9)) i is)
-                ∙ packed_mark shape opened at first last moments one two three run loaded x r has some_counts c stands of_it i is;
+                ∙ packed_mark copies x r has some_counts c stands of_it i is;
             unused = λ on. (
               on_units (is_frozen two x) refl on,
               zeros_each (slice_range one (p + 4 + n) (p + 4 + n + n)) (λ i below.
                   let small : i < n = omega (arith, below, marks) in
-                  mark_is i small ∙ unused_mark shape opened at first last moments one two three run loaded x r has some_counts c stands of_it i small on),
+                  mark_is i small ∙ unused_mark copies x r has some_counts c stands of_it i small on),
             );
             mark = λ is. absurd (omega (arith, is));
           }
 
   -- ---- the anatomy
 
-  module _ (anatomy : Anatomy) (taken : IsTaken shape opened at first last moments one two three image run loaded anatomy) where
+  module _ (anatomy : Anatomy) (taken : IsTaken copies image anatomy) where
     abbrev behind : List Listed
     behind = drop (length followed) late.anatomy.records
 
@@ -238,8 +228,7 @@ module _ (shape : Dimensions) (opened : Anatomy) (at : ℕ → State) (first las
     all_records = sym (take-append-drop (length followed) late.anatomy.records) ∙ ap (λ (list : List Listed). list ++ behind) (sym taken.listed)
 
     first_of_all : (name : List ℕ) (kind : Spec) (other : ℕ) → IsFirst anatomy.records name kind other → IsFirst late.anatomy.records name kind other
-    first_of_all name kind other its = subst (λ (records : List Listed). IsFirst records name kind other) (sym all_records)
-        (first_longer (IsRecordNamed name) anatomy.records behind _ its)
+    first_of_all = first_on anatomy.records late.anatomy.records behind all_records
 
     its_lawful : (x : ℕ) (q : Record) → HasRecord anatomy.pieces x q → IsLawfulRecord anatomy.version shape.page q
     its_lawful x q has =
@@ -254,7 +243,7 @@ module _ (shape : Dimensions) (opened : Anatomy) (at : ℕ → State) (first las
         let r = a.of in
         let takes : q.counts ≡ counts_reference two three x = ap (λ (z : Record). z.counts) a.is in
         let looks : counts_reference two three x ≢ 0 = (λ nothing. some_there (takes ∙ nothing)) in
-        let its : counts_reference two three x ≡ r.counts = elim (named shape opened at first last moments one two three run loaded x r a.followed a.stands) [
+        let its : counts_reference two three x ≡ r.counts = elim (named copies x r a.followed a.stands) [
           | inl nothing ↦ absurd (looks nothing)
           | inr same ↦ same
         ] in
@@ -291,7 +280,7 @@ module _ (shape : Dimensions) (opened : Anatomy) (at : ℕ → State) (first las
         let a = taken.sample_from x t has in
         let l = late.records.valued x a.of a.stands in
         subst IsLawfulSample (sym a.is)
-        (record { sized = l.sized; valued = l.valued; taken = (samples_bounded shape opened at first last moments one two three run loaded x a.of a.stands).1 })
+        (record { sized = l.sized; valued = l.valued; taken = (samples_bounded copies x a.of a.stands).1 })
 
     its_sampled : (front rest : List Listed) (x of : ℕ) (value : ℤ) → anatomy.records ≡ front ++ record { reference = x; made = Some (made.Sample of value) } ∷ rest
         → (name : List ℕ) × IsFirst front name spec.Sparse of × ((s : Sample) → HasSample anatomy.pieces x s → s.name ≡ name)
@@ -313,15 +302,14 @@ module _ (shape : Dimensions) (opened : Anatomy) (at : ℕ → State) (first las
         → (t.units ≡ 0) × (t.mark ≡ 0)
     its_later_samples x other t has its apart =
         let a = taken.sample_from x t has in
-        let all : IsFirstOf late.anatomy.records t.of t.value other = subst (λ (records : List Listed). IsFirstOf records t.of t.value other) (sym all_records)
-        (first_longer (IsValued t.of t.value) anatomy.records behind _ its) in
+        let all : IsFirstOf late.anatomy.records t.of t.value other = value_on anatomy.records late.anatomy.records behind all_records t.of t.value other its in
         let mine : IsFirstOf late.anatomy.records a.of.of a.of.value other =
         subst (λ (z : Sample). IsFirstOf late.anatomy.records z.of z.value other) a.is all in
         let nothing = late.records.later_samples x other a.of a.stands mine apart in
         let none_units = nothing.0 in
         let none_marks = nothing.1 in
-        let units = (all_between shape opened at first last moments one two three run loaded x 6 (sample a.of) a.followed a.stands (inl refl)).1.1 in
-        let marks = (all_between shape opened at first last moments one two three run loaded x 7 (sample a.of) a.followed a.stands (inr refl)).0.1 in
+        let units = (all_between copies x 6 (sample a.of) a.followed a.stands (inl refl)).1.1 in
+        let marks = (all_between copies x 7 (sample a.of) a.followed a.stands (inr refl)).0.1 in
         let unit_is = ap (λ (z : Sample). z.units) a.is in
         let mark_is = ap (λ (z : Sample). z.mark) a.is in
         (omega (arith, unit_is, units, none_units), omega (arith, mark_is, marks, none_marks))

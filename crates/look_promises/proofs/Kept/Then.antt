@@ -1,16 +1,14 @@
 -- What a look reads as has at least what had been counted at each moment before the second copy; and just that, where its units are no more than
 -- its redundant count.
-use Rattle.segment_invariant.proofs.Prelude.Std.{◌≡◌, ℕ, ◌+◌, ◌-◌, ◌<◌, ◌≤◌, Bool, true, false, ◌&&◌, if◌then◌else◌, ℤ, List, ◌++◌, take, length, length-map, inl, inr, refl, sym, ap, subst, ◌∙◌, arith, slice_index, sum_by, int_eq, All, Contains, at_from, below_length, index_at, first_longer}
-use Rattle.segment_invariant.proofs.Prelude.Machine.{Dimensions, State, Spec, Entry, head_of, word_at, buckets_of, is_of, tally_units, tally_noted, all_counted, Histogram, Reading}
-use Rattle.segment_invariant.proofs.Prelude.Invariant.{Anatomy, Record, Listed, histogram, sample, key_of_bucket, HasKey, HasSample, IsFirst, IsFirstOf, Invariant}
+use Rattle.segment_invariant.proofs.Prelude.Std.{◌≡◌, ℕ, ◌+◌, ◌<◌, ◌≤◌, Bool, true, false, ◌&&◌, if◌then◌else◌, ℤ, List, ◌++◌, length, length-map, inl, inr, refl, sym, ap, subst, ◌∙◌, arith, sum_by, int_eq, All, Contains}
+use Rattle.segment_invariant.proofs.Prelude.Machine.{Spec, Entry, head_of, word_at, buckets_of, is_of, tally_units, tally_noted, all_counted, Histogram, Reading}
+use Rattle.segment_invariant.proofs.Prelude.Invariant.{Record, Listed, histogram, key_of_bucket, HasKey, HasSample, IsFirst, IsFirstOf, Invariant}
 use Rattle.std.proofs.Math.Decide.{dec_lt}
-use Rattle.std.proofs.Math.Seq.{take-append-add}
 use Rattle.std.proofs.lemmas.List.{length-take-le}
 use Rattle.bucket_ranges.specs.Reading.{IsReading}
 use Rattle.bucket_ranges.specs.declared.spec.Spec.TheVariants as spec
-use Rattle.segment_looks.specs.Looks.{IsLook, followed_records}
+use Rattle.segment_looks.specs.Looks.{IsLook}
 use Rattle.segment_invariant.specs.Invariant.{RecordsAreKept}
-use Rattle.segment_invariant.specs.Seen.{IsRecordNamed, IsValued}
 use Rattle.segment_invariant.proofs.Consistency.Firsts.{record_of_first}
 use Rattle.segment_invariant.proofs.Consistency.Sums.{noted_is}
 use Rattle.segment_invariant.proofs.Counting.Whole.{whole_noted}
@@ -20,18 +18,16 @@ use Rattle.segment_invariant.specs.Words.{WordsAreKept}
 use Rattle.segment_promises.specs.Reads.{ReadsNames, ReadsBlocks, noted_at_opening, units_read}
 use Rattle.segment_promises.proofs.Readings.Blocks.{words_read}
 use Rattle.segment_promises.proofs.Readings.Buckets.{units_of_key}
-use Rattle.list_lemmas.proofs.Maps.{contains_map}
-use Rattle.look_promises.specs.Runs.{RunsThrough, Moments, AreLoaded}
 use Rattle.look_promises.specs.OneMoment.{CountsFirst, units_at_opening, all_units_read, ReadingsNoteNoMore, ReadingsTellTheirMoment}
-use Rattle.look_promises.proofs.Runs.{kept_at, rises_at, chain_at}
-use Rattle.look_promises.proofs.Following.{head, followed}
-use Rattle.look_promises.proofs.Shown.{ends_at}
-use Rattle.look_promises.proofs.Named.{one_within}
-use Rattle.look_promises.proofs.Marks.{from_moment, loaded_from}
-use Rattle.look_promises.proofs.Calls as calls
-use Rattle.look_promises.proofs.Values as values
-use Rattle.look_promises.proofs.Looked.Taken.{IsTaken}
-use Rattle.look_promises.proofs.Looked.Anatomy.{anatomy, is_taken_so}
+use Rattle.look_promises.proofs.Moments.Runs.{kept_at, rises_at, chain_at}
+use Rattle.look_promises.proofs.Looked.Anatomy.{seen_of}
+use Rattle.look_promises.proofs.Copies.ThreeCopies.{ThreeCopies, three_copies, seen_in, hd_of}
+use Rattle.look_promises.proofs.Copies.Following.{followed}
+use Rattle.look_promises.proofs.Moments.Listed.{sample_place, ends_at}
+use Rattle.look_promises.proofs.Copies.Named.{one_within}
+use Rattle.look_promises.proofs.Amounts.Marks.{from_moment}
+use Rattle.look_promises.proofs.Amounts.Calls as calls
+use Rattle.look_promises.proofs.Amounts.Values as values
 use Rattle.look_promises.proofs.Looked.Bounds.{in_bounds}
 use Rattle.look_promises.proofs.Looked.Counting.{first_late, of_bucket, of_sample}
 use Rattle.look_promises.proofs.Looked.Reading.{kept}
@@ -39,62 +35,41 @@ use Rattle.look_promises.proofs.Kept.Records.{records_kept}
 use Rattle.look_promises.proofs.Kept.Views.{view}
 use Rattle.look_promises.proofs.Kept.Noted.{first_counted}
 use Rattle.look_promises.proofs.Kept.Certificate.{counts_at, opened_with}
-use Rattle.look_promises.proofs.Firsts.{first_then}
+use Rattle.look_promises.proofs.Moments.Firsts.{first_on, value_on, take_on, first_then}
 use Rattle.look_promises.proofs.Kept.Keys.{held, in_all, same_each}
 
-module _ (shape : Dimensions) (opened : Anatomy) (at : ℕ → State) (first last : ℕ) (moments : Moments) (one two three image : List ℕ)
-    (run : RunsThrough shape opened at) (loaded : AreLoaded shape at first last moments one two three)
-    (look : IsLook (head shape opened at first last moments one two three run loaded) one two three image) where
-  abbrev late : Invariant shape opened (at last)
-  late = kept_at shape opened at run last
-
-  abbrev records : List ℕ
-  records = followed_records (head shape opened at first last moments one two three run loaded) two
-
-  abbrev of_look : Anatomy
-  of_look = anatomy shape opened at first last moments one two three image run loaded look
-
-  has : IsTaken shape opened at first last moments one two three image run loaded of_look
-  has = is_taken_so shape opened at first last moments one two three image run loaded look
+module _ (copies : ThreeCopies) (image : List ℕ) (look : IsLook (hd_of copies) copies.one copies.two copies.three image) where
+  open copies use {run, shape, opened, at, last, moments, one, two, loaded}
+  open seen_in copies use {late, records}
+  open seen_of copies image look use {of_look, has}
 
   its_records : RecordsAreKept shape.page of_look
-  its_records = records_kept shape opened at first last moments one two three image run loaded of_look has
+  its_records = records_kept copies image of_look has
 
   -- ---- a moment before the second copy
 
   module _ (m : ℕ) (down : m ≤ last) (before : (j : ℕ) → j < shape.size → m ≤ moments.two j) where
     abbrev then_is : Invariant shape opened (at m)
-    then_is = kept_at shape opened at run m
+    then_is = kept_at run m
 
-    abbrev since : Moments
-    since = from_moment shape opened at first last moments one two three run loaded m
-
-    abbrev from_then : AreLoaded shape at m last since (at m).words two three
-    from_then = loaded_from shape opened at first last moments one two three run loaded m before
+    abbrev from_then : ThreeCopies
+    from_then = from_moment copies m before
 
     -- the records of then are a front of those of the look
     front_then : (more : List Listed) × (of_look.records ≡ then_is.anatomy.records ++ more)
     front_then =
-        let (behind, longer) = (rises_at shape opened at run m last down).records in
-        let (n, short, enough, is, each) = followed shape opened at m last since (at m).words two three run from_then in
+        let (behind, longer) = (rises_at run m last down).records in
+        let (n, short, enough, is, each) = followed from_then in
         let many = ap length is in
-        let long = length-take-le n (chain_at shape opened at run last) short in
+        let long = length-take-le n (chain_at run last) short in
         let begin = length-map then_is.anatomy.records (λ (l : Listed). l.reference) in
-        let k : ℕ = length records - length then_is.anatomy.records in
-        let all : length records ≡ length then_is.anatomy.records + k = omega (arith, many, long, enough, begin) in (
-          take k behind,
-          ap (take (length records)) longer ∙ (ap (λ (n : ℕ). take n (then_is.anatomy.records ++ behind)) all ∙ take-append-add then_is.anatomy.records behind k),
-        )
+        take_on then_is.anatomy.records late.anatomy.records behind (length records) longer (omega (arith, many, long, enough, begin))
 
     pub first_here : (name : List ℕ) (kind : Spec) (x : ℕ) → IsFirst then_is.anatomy.records name kind x → IsFirst of_look.records name kind x
-    first_here name kind x its =
-        let (more, all) = front_then in
-        subst (λ (list : List Listed). IsFirst list name kind x) (sym all) (first_longer (IsRecordNamed name) then_is.anatomy.records more _ its)
+    first_here = let (more, all) = front_then in first_on then_is.anatomy.records of_look.records more all
 
     value_here : (of : ℕ) (value : ℤ) (x : ℕ) → IsFirstOf then_is.anatomy.records of value x → IsFirstOf of_look.records of value x
-    value_here of value x its =
-        let (more, all) = front_then in
-        subst (λ (list : List Listed). IsFirstOf list of value x) (sym all) (first_longer (IsValued of value) then_is.anatomy.records more _ its)
+    value_here = let (more, all) = front_then in value_on then_is.anatomy.records of_look.records more all
 
     abbrev counted : List ℕ → ℤ → ℕ
     counted name key = tally_units (all_counted (at m).actors) name key
@@ -104,24 +79,21 @@ module _ (shape : Dimensions) (opened : Anatomy) (at : ℕ → State) (first las
 
     by_bucket : (name : List ℕ) (kind : Spec) (x i : ℕ) → IsFirst of_look.records name kind x → i < buckets_of kind → IsLeast name (key_of_bucket kind i)
     by_bucket name kind x i its below more =
-        let o = of_bucket shape opened at first last moments one two three image run loaded look its_records name kind x i its below in
+        let o = of_bucket copies image look its_records name kind x i its below in
         let holds = o.holds in
         let tally : counted o.r.name (key_of_bucket o.r.spec i) ≡ counted name (key_of_bucket kind i) = (λ j. counted (o.named j) (key_of_bucket (o.specified j) i)) in
-        let least = calls.some_counted shape opened at m last since (at m).words two three run from_then x i o.r o.stands o.its o.inside (omega (arith, tally, more)) in
+        let least = calls.some_counted from_then x i o.r o.stands o.its o.inside (omega (arith, tally, more)) in
         omega (arith, holds, least, tally)
 
     by_sample : (name : List ℕ) (x place : ℕ) (key : ℤ) → IsFirst of_look.records name spec.Sparse x → IsFirstOf of_look.records x key place → IsLeast name key
     by_sample name x place key its valued_first more =
-        let o = of_sample shape opened at first last moments one two three image run loaded look its_records name x place key its valued_first in
+        let o = of_sample copies image look its_records name x place key its valued_first in
         let holds = o.holds in
         let tally : counted o.s.name o.s.value ≡ counted name key = (λ j. counted (o.named j) (o.valued j)) in
-        let among = late.list.alone place (sample o.s) o.stands in
-        let there : Contains (chain_at shape opened at run last) place = contains_map (λ (l : Listed). l.reference) late.anatomy.records _ among in
-        let (k, here) = at_from (chain_at shape opened at run last) place there in
-        let is : slice_index (chain_at shape opened at run last) k ≡ place = index_at (chain_at shape opened at run last) k place 0 here in
+        let (k, within, is) = sample_place run last place o.s o.stands in
         let least : counted o.s.name o.s.value ≤ word_at two (place + 6) =
         subst (λ (x : ℕ). counted o.s.name o.s.value ≤ word_at two (x + 6)) is
-        (values.some_counted shape opened at m last since (at m).words two three run from_then k (below_length (chain_at shape opened at run last) k place here) o.s
+        (values.some_counted from_then k within o.s
         (subst (λ (x : ℕ). HasSample late.anatomy.pieces x o.s) (sym is) o.stands) (subst (IsFirstOf late.anatomy.records o.s.of o.s.value) (sym is) o.its)
         (omega (arith, tally, more))) in
         omega (arith, holds, least, tally)
@@ -152,8 +124,8 @@ module _ (shape : Dimensions) (opened : Anatomy) (at : ℕ → State) (first las
     m = moments.one (x + 13)
 
     abbrev whole_kept : WordsAreKept shape opened image
-    whole_kept = kept shape opened at first last moments one two three image run loaded look its_records
-        (in_bounds shape opened at first last moments one two three image run loaded look its_records)
+    whole_kept = kept copies image look its_records
+        (in_bounds copies image look its_records)
 
     reads : HasNoFault reading × ReadsNames of_look.records reading × ((h : Histogram) → Contains reading.hists h → ReadsBlocks of_look h)
     reads = words_read shape opened image reading whole_kept is
@@ -166,9 +138,9 @@ module _ (shape : Dimensions) (opened : Anatomy) (at : ℕ → State) (first las
         let (q, (stands, called, specified)) = record_of_first shape opened image whole_kept.laid h.name kind x its in
         let it = has.record_from x q stands in
         let r : Record = it.of in
-        let ends = ends_at shape opened at run last x (histogram r) it.stands in
+        let ends = ends_at run last x (histogram r) it.stands in
         let inside : x + 13 < shape.size = omega (arith, ends) in
-        let down : m ≤ last = (one_within shape opened at first last moments one two three run loaded (x + 13) inside).1 in
+        let down : m ≤ last = (one_within copies (x + 13) inside).1 in
         let noted : q.noted ≡ word_at one (x + 13) = ap (λ (z : Record). z.noted) it.is in
         let block = noted_is shape opened image whole_kept.laid h.name kind x q its stands called in
         let read = blocks.redundant in
@@ -176,19 +148,19 @@ module _ (shape : Dimensions) (opened : Anatomy) (at : ℕ → State) (first las
         let kinds : r.spec ≡ kind = ap (λ (z : Record). z.spec) (sym it.is) ∙ specified in
         let late_its : IsFirst late.anatomy.records r.name r.spec x =
         subst (λ (name : List ℕ). IsFirst late.anatomy.records name r.spec x) (sym named)
-        (subst (λ (kind : Spec). IsFirst late.anatomy.records h.name kind x) (sym kinds) (first_late shape opened at first last moments one two three image run loaded look h.name kind x its)) in (
+        (subst (λ (kind : Spec). IsFirst late.anatomy.records h.name kind x) (sym kinds) (first_late copies image look h.name kind x its)) in (
           inside,
-          elim (view shape opened at run m last x 13 (word_at one (x + 13)) r down it.stands (omega arith) (omega arith) (loaded.copy_one.each (x + 13) inside)) [
+          elim (view run m last x 13 (word_at one (x + 13)) r down it.stands (omega arith) (omega arith) (loaded.copy_one.each (x + 13) inside)) [
             | inl nothing ↦ omega (arith, nothing, noted, block, read)
             | inr v ↦
-                let then_is = kept_at shape opened at run m in
+                let then_is = kept_at run m in
                 let p = v.of in
                 let p_name : p.name ≡ r.name = sym (ap (λ (z : Record). z.name) v.goes.is) in
-                let p_first = first_then shape opened at run m last x down p r v.stands late_its p_name in
+                let p_first = first_then run m last x down p r v.stands late_its p_name in
                 let whole = whole_noted shape opened (at m) then_is p.name p.spec x p p_first v.stands refl in
                 let begun = then_is.first_noted p.name in
-                let counted_all = first_counted shape opened (at m) then_is (counts_at shape opened at run counts m) p.name in
-                let opens = opened_with shape opened at run counts m p.name in
+                let counted_all = first_counted shape opened (at m) then_is (counts_at run counts m) p.name in
+                let opens = opened_with run counts m p.name in
                 let mine : noted_at_opening opened p.name ≤ units_at_opening (at 0).actors p.name =
                 subst (λ (name : List ℕ). noted_at_opening opened name ≤ units_at_opening (at 0).actors name) (sym (p_name ∙ named)) opening in
                 let tally : tally_noted (all_counted (at m).actors) p.name ≡ tally_noted (all_counted (at m).actors) h.name =
@@ -217,7 +189,7 @@ module _ (shape : Dimensions) (opened : Anatomy) (at : ℕ → State) (first las
     below : (k : ℤ) → held (λ (e : Entry). e.key) weight entries k ≤ units_read h k
     below k =
         let (inside, noted) = noted_counted in
-        let down : m ≤ last = (one_within shape opened at first last moments one two three run loaded (x + 13) inside).1 in
+        let down : m ≤ last = (one_within copies (x + 13) inside).1 in
         let least = counted_least m down (λ j lt. loaded.ordered.second (x + 13) j inside lt) h.name k in
         let units = (reads.2 h there).units k in
         let tally = as_tally k in
@@ -238,8 +210,8 @@ module _ (shape : Dimensions) (opened : Anatomy) (at : ℕ → State) (first las
 
 pub readings_tell_their_moment : ReadingsTellTheirMoment
 readings_tell_their_moment shape opened at first last moments one two three image reading h key run counts loaded look is there opening few =
-    of_then shape opened at first last moments one two three image run loaded look counts reading is h there opening few key
+    of_then (three_copies shape opened at first last moments one two three run loaded) image look counts reading is h there opening few key
 
 pub readings_note_no_more : ReadingsNoteNoMore
 readings_note_no_more shape opened at first last moments one two three image reading h run counts loaded look is there opening =
-    notes_no_more shape opened at first last moments one two three image run loaded look counts reading is h there opening
+    notes_no_more (three_copies shape opened at first last moments one two three run loaded) image look counts reading is h there opening

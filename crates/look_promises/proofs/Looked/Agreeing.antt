@@ -7,7 +7,7 @@ use Rattle.segment_image.specs.declared.head.SegmentHead.{SegmentHead}
 use Rattle.segment_looks.specs.Patches.{Patch, patched_word}
 use Rattle.segment_looks.specs.Looks.{link, list_start, record_patches, records_patches}
 use Rattle.segment_looks.proofs.Patched.{patched_word-append}
-use Rattle.look_promises.proofs.Patches.{HaveNone, first_has, first_not, apart}
+use Rattle.look_promises.proofs.Words.Patches.{HaveNone, first_has, first_not, apart}
 
 -- put on words that have a word at an index, they leave it there
 abbrev pub Agree : List Patch → ℕ → ℕ → Type 0

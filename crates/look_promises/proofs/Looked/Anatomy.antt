@@ -1,82 +1,71 @@
 -- The anatomy of a look, whose blocks are those of the last moment that it takes, and that its words are shown by it.
 use Rattle.segment_invariant.proofs.Prelude.Std.{◌≡◌, ◌≢◌, ℕ, zero, suc, ◌+◌, ◌-◌, ◌<◌, ◌≤◌, ◌==◌, ◌&&◌, not, Bool, true, true≢false, List, [], ◌∷◌, ◌++◌, map, length, take, drop, replicate, length-replicate, take-append-drop, inl, inr, refl, sym, ap, subst, ◌∙◌, arith, slice_index, ◌%◌, none, some, some-injective, get_elem?, get_or-drop, Contains, and_from, and_parts, eqb-false, ne_eqb}
-use Rattle.segment_invariant.proofs.Prelude.Machine.{Dimensions, State, word_at, buckets_of, IsShown}
+use Rattle.segment_invariant.proofs.Prelude.Machine.{word_at, buckets_of, IsShown}
 use Rattle.segment_invariant.proofs.Prelude.Invariant.{Anatomy, layout_of, order_of, Body, Record, Counts, Sample, queue, plain, held, histogram, counts, sample, other, words_of, is_claimed, Piece, Listed, Stands, HasRecord, HasCounts, Invariant}
 use Rattle.std.proofs.Common.{div-add-mod'}
 use Rattle.std.proofs.lemmas.Bool.{not-true}
 use Rattle.std.proofs.lemmas.List.{drop-drop, ext_get_or, get_or-replicate, length-drop, length-take-le, take-map}
 use mathlib.Core.Option.{Option}
-use Rattle.segment_image.specs.declared.head.SegmentHead.{SegmentHead}
 use Rattle.alloc_core.specs.Layout.{spread, end_of, head_words, render}
 use Rattle.alloc_core.proofs.Layouts.{free_word}
-use Rattle.segment_looks.specs.Looks.{IsLook, counts_reference, followed_records}
+use Rattle.segment_looks.specs.Looks.{IsLook, counts_reference}
 use Rattle.segment_invariant.specs.Body.{block_of}
 use Rattle.segment_invariant.specs.Invariant.{ClaimedRight}
 use Rattle.segment_invariant.proofs.Blocks.Pieces.{one_stands, queue_piece}
 use Rattle.segment_promises.proofs.Adopting.Slices.{fields_run}
 use Rattle.segment_promises.proofs.Adopting.Cuts.{AreCut, cut}
-use Rattle.look_promises.specs.Runs.{RunsThrough, Moments, AreLoaded}
+use Rattle.segment_promises.proofs.Adopting.Headers.{queue_word}
 use Rattle.look_promises.specs.Images.{looked_counts}
-use Rattle.look_promises.proofs.Runs.{kept_at}
-use Rattle.look_promises.proofs.Headers.{of_state, queue_word}
-use Rattle.look_promises.proofs.Following.{head, whole, followed}
-use Rattle.look_promises.proofs.References.{named}
-use Rattle.look_promises.proofs.Starting.{header_word}
-use Rattle.look_promises.proofs.Cleared.{looks_end_in_zeros}
+use Rattle.look_promises.proofs.Moments.Runs.{kept_at}
+use Rattle.look_promises.proofs.Copies.ThreeCopies.{ThreeCopies, seen_in, hd_of}
+use Rattle.look_promises.proofs.Copies.Headers.{of_state}
+use Rattle.look_promises.proofs.Copies.Following.{followed}
+use Rattle.look_promises.proofs.Copies.References.{named}
+use Rattle.look_promises.proofs.Words.Starting.{header_word}
+use Rattle.look_promises.proofs.Words.Cleared.{cleared}
 use Rattle.look_promises.proofs.Looked.Taken.{ARecord, ASample, ACounts, IsTaken}
 use Rattle.look_promises.proofs.Looked.Blocks.{is_nobodys, is_followed, takes, taken, begins, body_at, followed_by_test, test_followed, owner_of, IsPlaced, Begins, begins_is, begins_placed, taken_begins, image_long, free_most, free_least, are_blocks}
 
-module _ (shape : Dimensions) (opened : Anatomy) (at : ℕ → State) (first last : ℕ) (moments : Moments) (one two three image : List ℕ)
-    (run : RunsThrough shape opened at) (loaded : AreLoaded shape at first last moments one two three)
-    (look : IsLook (head shape opened at first last moments one two three run loaded) one two three image) where
-  abbrev late : Invariant shape opened (at last)
-  late = kept_at shape opened at run last
-
-  abbrev list : List ℕ
-  list = whole shape opened at first last moments one two three run loaded
-
-  abbrev hd : SegmentHead
-  hd = head shape opened at first last moments one two three run loaded
-
-  abbrev records : List ℕ
-  records = followed_records hd two
+module _ (copies : ThreeCopies) (image : List ℕ) (look : IsLook (hd_of copies) copies.one copies.two copies.three image) where
+  open copies use {run, shape, opened, at, last, moments, one, two, three}
+  open seen_in copies use {late, list, hd, records}
 
   -- where its blocks begin, and what each is
   abbrev starts : ℕ → Bool
-  starts = begins shape opened at first last moments one two three image run loaded
+  starts = begins copies image
 
   abbrev body : ℕ → Body
-  body = body_at shape opened at first last moments one two three image run loaded
+  body = body_at copies image
 
   abbrev taken_as : ℕ → Body → Body
-  taken_as = taken shape opened at first last moments one two three image run loaded
+  taken_as = taken copies image
 
   abbrev is_taken : ℕ → Body → Bool
-  is_taken = takes shape opened at first last moments one two three image run loaded
+  is_taken = takes copies image
 
-  start_of : (x : ℕ) → starts x ≡ true → Begins shape opened at first last moments one two three image run loaded look x
-  start_of x there = begins_is shape opened at first last moments one two three image run loaded look x there
+  start_of : (x : ℕ) → starts x ≡ true → Begins copies image look x
+  start_of x there = begins_is copies image look x there
 
-  place_of : (x : ℕ) (b : Begins shape opened at first last moments one two three image run loaded look x) → IsPlaced shape opened at first last moments one two three image run loaded look x b.body
-  place_of x b = begins_placed shape opened at first last moments one two three image run loaded look x b
+  place_of : (x : ℕ) (b : Begins copies image look x) → IsPlaced copies image look x b.body
+  place_of x b = begins_placed copies image look x b
 
   from : (x : ℕ) → starts x ≡ true → 16 ≤ x
   from x there = (place_of x (start_of x there)).from
 
   least : 16 ≤ hd.free
-  least = free_least shape opened at first last moments one two three image run loaded look
+  least = free_least copies image look
 
   -- its blocks behind the queue block, and all else word by word
   pub pieces : List Piece
-  pieces = (cut image shape.page hd.free starts body (are_blocks shape opened at first last moments one two three image run loaded look) 16 least (λ b there. inr (from b there))).0
+  pieces = (cut image shape.page hd.free starts body (are_blocks copies image look) 16 least (λ b there. inr (from b there))).0
 
   pub are_cut : AreCut image shape.page hd.free starts body 16 pieces
   unfolding pieces
-  are_cut = (cut image shape.page hd.free starts body (are_blocks shape opened at first last moments one two three image run loaded look) 16 least (λ b there. inr (from b there))).1
+  are_cut = (cut image shape.page hd.free starts body (are_blocks copies image look) 16 least (λ b there. inr (from b there))).1
 
   -- when the flags were loaded
   abbrev flagged : Invariant shape opened (at (moments.three 6))
-  flagged = kept_at shape opened at run (moments.three 6)
+  flagged = kept_at run (moments.three 6)
 
   -- the anatomy
   abbrev pub anatomy : Anatomy
@@ -96,19 +85,19 @@ module _ (shape : Dimensions) (opened : Anatomy) (at : ℕ → State) (first las
   -- ---- its words are shown
 
   long : length image ≡ shape.size
-  long = image_long shape opened at first last moments one two three image run loaded look
+  long = image_long copies image look
 
   most : hd.free ≤ length image
-  most = free_most shape opened at first last moments one two three image run loaded look
+  most = free_most copies image look
 
   -- a word of the header is that of a kept state
   abbrev kept : (i : ℕ) → Invariant shape opened (at (moments.three i))
-  kept i = kept_at shape opened at run (moments.three i)
+  kept i = kept_at run (moments.three i)
 
   word : (i : ℕ) → i < 16 → i ≢ 8 → i ≢ 15 → word_at image i ≡ word_at (at (moments.three i)).words i
   word i below no_tail no_start =
-      header_word shape opened at first last moments one two three image run loaded look i below no_tail no_start
-      ∙ of_state shape opened at first last moments one two three run loaded i below
+      header_word copies image look i below no_tail no_start
+      ∙ of_state copies i below
 
   cookie_word : word_at image 0 ≡ 0x408305DC
   cookie_word = word 0 (omega arith) (λ e. cc e) (λ e. cc e) ∙ ap (λ (ws : List ℕ). word_at ws 0) (kept 0).shown.shows
@@ -140,7 +129,7 @@ module _ (shape : Dimensions) (opened : Anatomy) (at : ℕ → State) (first las
   queued : (j : ℕ) → j < 3 → word_at image (12 + j) ≡ slice_index (4 ∷ 1 ∷ 0 ∷ (kept (12 + j)).shown.sound.queue.0 ∷ []) j
   queued j below =
       word (12 + j) (omega (arith, below)) (λ e. omega (arith, e)) (λ e. omega (arith, e, below))
-      ∙ queue_word shape opened (at (moments.three (12 + j))) (kept (12 + j)) j (omega (arith, below))
+      ∙ queue_word shape (at (moments.three (12 + j))).words (layout_of (kept (12 + j)).anatomy) (kept (12 + j)).shown j (omega (arith, below))
 
   -- the words before the queue block
   head_is : take 12 image ≡ head_words shape (layout_of anatomy)
@@ -159,7 +148,7 @@ module _ (shape : Dimensions) (opened : Anatomy) (at : ℕ → State) (first las
       let left = length-drop hd.free image in
       let all = long in
       get_or-drop hd.free image i 0
-      ∙ (looks_end_in_zeros shape opened at first last moments one two three image run loaded look (hd.free + i) (omega arith) (omega (arith, below, left, all))
+      ∙ (cleared copies image look (hd.free + i) (omega arith) (omega (arith, below, left, all))
       ∙ sym (get_or-replicate (length image - hd.free) i 0 0 (omega (arith, below, left)))))
 
   -- and those from there on
@@ -244,15 +233,15 @@ module _ (shape : Dimensions) (opened : Anatomy) (at : ℕ → State) (first las
   -- and each that is taken is there
   pub there_as : (x : ℕ) (z : Body) → Stands late.anatomy.pieces x none z → is_taken x z ≡ true → Stands anatomy.pieces x none (taken_as x z)
   there_as x z stands passes =
-      let (starts_here, is) = taken_begins shape opened at first last moments one two three image run loaded look x none z stands passes in
+      let (starts_here, is) = taken_begins copies image look x none z stands passes in
       let (k, here) = are_cut.all x starts_here (from x starts_here) in
       (suc k, here ∙ ap (λ (b : Body). some (record { at = x; owner = none; body = b })) is)
 
   record_of : (x : ℕ) (q : Record) (owner : Option ℕ) (z : Body) → Stands late.anatomy.pieces x owner z → (is_nobodys owner && is_taken x z) ≡ true
-      → histogram q ≡ taken_as x z → ARecord shape opened at first last moments one two three image run loaded x q
+      → histogram q ≡ taken_as x z → ARecord copies image x q
   record_of x q (some id) z stands passes is = absurd (true≢false (sym passes))
   record_of x q none (histogram r) stands passes is =
-      record { of = r; stands = stands; followed = followed_by_test shape opened at first last moments one two three image run loaded x passes; is = cc is }
+      record { of = r; stands = stands; followed = followed_by_test copies image x passes; is = cc is }
   record_of x q none (sample s) stands passes is = absurd (cc is)
   record_of x q none (other size tag next payload) stands passes is = absurd (cc is)
   record_of x q none (counts c) stands passes is = absurd (cc is)
@@ -261,10 +250,10 @@ module _ (shape : Dimensions) (opened : Anatomy) (at : ℕ → State) (first las
   record_of x q none (held own) stands passes is = absurd (cc is)
 
   sample_of : (x : ℕ) (t : Sample) (owner : Option ℕ) (z : Body) → Stands late.anatomy.pieces x owner z → (is_nobodys owner && is_taken x z) ≡ true
-      → sample t ≡ taken_as x z → ASample shape opened at first last moments one two three image run loaded x t
+      → sample t ≡ taken_as x z → ASample copies image x t
   sample_of x t (some id) z stands passes is = absurd (true≢false (sym passes))
   sample_of x t none (sample s) stands passes is =
-      record { of = s; stands = stands; followed = followed_by_test shape opened at first last moments one two three image run loaded x passes; is = cc is }
+      record { of = s; stands = stands; followed = followed_by_test copies image x passes; is = cc is }
   sample_of x t none (histogram r) stands passes is = absurd (cc is)
   sample_of x t none (other size tag next payload) stands passes is = absurd (cc is)
   sample_of x t none (counts c) stands passes is = absurd (cc is)
@@ -273,13 +262,13 @@ module _ (shape : Dimensions) (opened : Anatomy) (at : ℕ → State) (first las
   sample_of x t none (held own) stands passes is = absurd (cc is)
 
   counts_of : (x : ℕ) (d : Counts) (owner : Option ℕ) (z : Body) → Stands late.anatomy.pieces x owner z → (is_nobodys owner && is_taken x z) ≡ true
-      → counts d ≡ taken_as x z → ACounts shape opened at first last moments one two three image run loaded x d
+      → counts d ≡ taken_as x z → ACounts copies image x d
   counts_of x d (some id) z stands passes is = absurd (true≢false (sym passes))
   counts_of x d none (counts c) stands passes is =
-      let (has, some_has) = and_parts (is_followed shape opened at first last moments one two three image run loaded c.of) (not (counts_reference two three c.of == 0)) passes in
-      let followed_there = followed_by_test shape opened at first last moments one two three image run loaded c.of has in
+      let (has, some_has) = and_parts (is_followed copies image c.of) (not (counts_reference two three c.of == 0)) passes in
+      let followed_there = followed_by_test copies image c.of has in
       let some_there : counts_reference two three c.of ≢ 0 = eqb-false (counts_reference two three c.of) 0 (not-true _ some_has) in
-      let owns = owner_of shape opened at first last moments one two three image run loaded x c stands followed_there some_there in
+      let owns = owner_of copies image x c stands followed_there some_there in
       let same : d ≡ looked_counts one two c.of x (buckets_of c.spec) c = cc is in
       record {
         x = c.of;
@@ -303,7 +292,7 @@ module _ (shape : Dimensions) (opened : Anatomy) (at : ℕ → State) (first las
   -- the records that it follows are so many of the list
   pub records_are : records ≡ take (length records) list
   records_are =
-      let (n, short, enough, is, each) = followed shape opened at first last moments one two three run loaded in
+      let (n, short, enough, is, each) = followed copies in
       let many = ap length is ∙ length-take-le n list short in
       is ∙ ap (λ (m : ℕ). take m list) (sym many)
 
@@ -317,7 +306,7 @@ module _ (shape : Dimensions) (opened : Anatomy) (at : ℕ → State) (first las
       let mine : c.of ≡ x = own.0 in
       let kinds : buckets_of c.spec ≡ buckets_of r.spec = own.1 in
       let passes : is_taken r.counts (counts c) ≡ true =
-      and_from _ _ (test_followed shape opened at first last moments one two three image run loaded c.of (subst (Contains records) (sym mine) there))
+      and_from _ _ (test_followed copies image c.of (subst (Contains records) (sym mine) there))
       (ap not (ne_eqb (counts_reference two three c.of) 0 (subst (λ (n : ℕ). counts_reference two three n ≢ 0) (sym mine) some_there))) in
       subst (λ (n : ℕ). HasCounts anatomy.pieces r.counts (looked_counts one two x r.counts n c)) kinds
       (subst (λ (n : ℕ). HasCounts anatomy.pieces r.counts (looked_counts one two n r.counts (buckets_of c.spec) c)) mine (there_as r.counts (counts c) stands passes))
@@ -325,7 +314,7 @@ module _ (shape : Dimensions) (opened : Anatomy) (at : ℕ → State) (first las
       owned : (x : ℕ) (r : Record) (c : Counts) → HasRecord late.anatomy.pieces x r → Contains records x → counts_reference two three x ≢ 0
           → HasCounts late.anatomy.pieces r.counts c → (c.of ≡ x) × (buckets_of c.spec ≡ buckets_of r.spec)
       owned x r c has there some_there stands =
-          let looked : counts_reference two three x ≡ r.counts = elim (named shape opened at first last moments one two three run loaded x r there has) [
+          let looked : counts_reference two three x ≡ r.counts = elim (named copies x r there has) [
             | inl nothing ↦ absurd (some_there nothing)
             | inr same ↦ same
           ] in
@@ -334,15 +323,23 @@ module _ (shape : Dimensions) (opened : Anatomy) (at : ℕ → State) (first las
           let is : e ≡ c = cc same in
           (ap (λ (z : Counts). z.of) (sym is) ∙ it.mine, ap (λ (z : Counts). buckets_of z.spec) (sym is) ∙ ap buckets_of it.same)
 
-  pub is_taken_so : IsTaken shape opened at first last moments one two three image run loaded anatomy
+  pub is_taken_so : IsTaken copies image anatomy
   is_taken_so = record {
     version = refl;
     listed = refl;
     order = order;
     record_from = λ x q stands. let o = is_of x (histogram q) refl stands in record_of x q o.owner o.block o.stands o.passes o.is;
-    record_there = λ x r stands there. there_as x (histogram r) stands (test_followed shape opened at first last moments one two three image run loaded x there);
+    record_there = λ x r stands there. there_as x (histogram r) stands (test_followed copies image x there);
     sample_from = λ x t stands. let o = is_of x (sample t) refl stands in sample_of x t o.owner o.block o.stands o.passes o.is;
-    sample_there = λ x s stands there. there_as x (sample s) stands (test_followed shape opened at first last moments one two three image run loaded x there);
+    sample_there = λ x s stands there. there_as x (sample s) stands (test_followed copies image x there);
     counts_from = λ x d stands. let o = is_of x (counts d) refl stands in counts_of x d o.owner o.block o.stands o.passes o.is;
     counts_there = counts_there;
   }
+
+-- what is seen of a look: its anatomy, and what that has
+pub record SeenOf (copies : ThreeCopies) (image : List ℕ) : Type 0 where
+  pub of_look : Anatomy
+  pub has : IsTaken copies image of_look
+
+abbrev pub seen_of : (copies : ThreeCopies) (image : List ℕ) (look : IsLook (hd_of copies) copies.one copies.two copies.three image) → SeenOf copies image
+seen_of copies image look = record { of_look = anatomy copies image look; has = is_taken_so copies image look }

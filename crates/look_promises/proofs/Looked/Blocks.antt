@@ -1,38 +1,36 @@
 -- The blocks of a look: those of the last moment that it takes, where they stood; and that its words have them.
 use Rattle.segment_invariant.proofs.Prelude.Std.{◌≡◌, ◌≢◌, ℕ, suc, ◌+◌, ◌<◌, ◌≤◌, ◌==◌, ◌&&◌, ◌||◌, not, Bool, true, false, true≢false, List, ◌++◌, length, length-append, take, drop, inl, inr, refl, sym, ap, subst, ◌∙◌, arith, slice_index, none, some, get_elem?, some-injective, get_or-drop, Contains, at_from, at_map, below_length, contains_at, index_at, cases_order, and_from, and_parts, eq-eqb, eqb-true, eqb-false, dite, ℕ_discrete}
-use Rattle.segment_invariant.proofs.Prelude.Machine.{Dimensions, State, word_at, buckets_of}
-use Rattle.segment_invariant.proofs.Prelude.Invariant.{Anatomy, Body, Record, Counts, queue, plain, held, histogram, counts, sample, other, words_of, is_claimed, Piece, Stands, HasRecord, HasCounts, Invariant}
+use Rattle.segment_invariant.proofs.Prelude.Machine.{word_at, buckets_of}
+use Rattle.segment_invariant.proofs.Prelude.Invariant.{Body, Record, Counts, queue, plain, held, histogram, counts, sample, other, words_of, is_claimed, Piece, Stands, HasRecord, HasCounts}
 use Rattle.std.specs.List.{list_any, slice_range}
 use Rattle.std.proofs.lemmas.Bool.{not-true}
 use Rattle.std.proofs.lemmas.List.{ext_get_or, get_or-take, length-drop, length-take-le}
 use Rattle.std.proofs.lemmas.List.Folds.{list_any-from_Any, Any-from_list_any}
 use mathlib.Core.Option.{Option}
-use Rattle.segment_image.specs.declared.head.SegmentHead.{SegmentHead}
 use Rattle.alloc_core.proofs.Layouts.{in_one_page}
-use Rattle.segment_looks.specs.Looks.{IsLook, counts_looked, counts_reference, followed_records, is_frozen, list_start}
+use Rattle.segment_looks.specs.Looks.{IsLook, counts_looked, counts_reference, is_frozen, list_start}
 use Rattle.segment_invariant.specs.Body.{block_of}
 use Rattle.segment_invariant.specs.Invariant.{IsCountsOf}
 use Rattle.segment_invariant.proofs.Blocks.Pieces.{one_stands, one_piece, not_empty, pieces_apart}
 use Rattle.segment_promises.proofs.Adopting.Cuts.{AreBlocks}
 use Rattle.segment_promises.proofs.Adopting.Opened.Blocks.{there_by_test, test_there}
-use Rattle.look_promises.specs.Runs.{RunsThrough, Moments, AreLoaded}
 use Rattle.look_promises.specs.Looks.{HasWords}
 use Rattle.look_promises.specs.Images.{looked_block, looked_counts}
-use Rattle.look_promises.proofs.Runs.{kept_at}
-use Rattle.look_promises.proofs.Following.{head, whole, first_last}
-use Rattle.look_promises.proofs.Following as following
-use Rattle.look_promises.proofs.Headers.{free_within, of_state}
-use Rattle.look_promises.proofs.Unchanged.{IsOfList, list_claimed, other_but}
-use Rattle.look_promises.proofs.Shown.{ends_at}
-use Rattle.look_promises.proofs.References.{named}
-use Rattle.look_promises.proofs.Grounds.{four_words}
-use Rattle.look_promises.proofs.Mounted.{record_below}
-use Rattle.look_promises.proofs.Records.{shown_long, next_shown}
-use Rattle.look_promises.proofs.Room.{block_below}
-use Rattle.look_promises.proofs.Counted.{stood, place_is, long_with, looked_long, range_long, shows_counts}
-use Rattle.look_promises.proofs.Images.{followed_is, shows_record}
+use Rattle.look_promises.proofs.Copies.ThreeCopies.{ThreeCopies, seen_in}
+use Rattle.look_promises.proofs.Copies.Following.{first_last}
+use Rattle.look_promises.proofs.Copies.Following as following
+use Rattle.look_promises.proofs.Copies.Headers.{free_within, of_state}
+use Rattle.look_promises.proofs.Moments.Unchanged.{IsOfList, list_claimed, other_but}
+use Rattle.look_promises.proofs.Moments.Listed.{ends_at}
+use Rattle.look_promises.proofs.Copies.References.{named}
+use Rattle.look_promises.proofs.Moments.Grounds.{four_words}
+use Rattle.look_promises.proofs.Words.Mounted.{record_below}
+use Rattle.look_promises.proofs.Words.Records.{shown_long, next_shown}
+use Rattle.look_promises.proofs.Moments.Room.{claimed_from, block_below}
+use Rattle.look_promises.proofs.Words.Counted.{stood, place_is, long_with, looked_long, range_long, shows_counts}
+use Rattle.look_promises.proofs.Words.Images.{followed_is, shows_record}
 use Rattle.look_promises.proofs.Looked.Chosen.{is_there, body_made, chosen_at, chosen_is, chosen_there, one_there}
-use Rattle.look_promises.proofs.Looked.Still.{not_next, still_stands, still_from, unlisted, still_shown}
+use Rattle.look_promises.proofs.Looked.Still.{not_next, still_stands, unlisted, still_shown}
 
 -- whether nobody has a block
 abbrev pub is_nobodys : Option ℕ → Bool
@@ -49,22 +47,9 @@ is_still (histogram r) = false
 is_still (counts c) = false
 is_still (sample s) = false
 
-module _ (shape : Dimensions) (opened : Anatomy) (at : ℕ → State) (first last : ℕ) (moments : Moments) (one two three image : List ℕ)
-    (run : RunsThrough shape opened at) (loaded : AreLoaded shape at first last moments one two three) where
-  abbrev pub early : Invariant shape opened (at first)
-  early = kept_at shape opened at run first
-
-  abbrev pub late : Invariant shape opened (at last)
-  late = kept_at shape opened at run last
-
-  abbrev pub list : List ℕ
-  list = whole shape opened at first last moments one two three run loaded
-
-  abbrev pub hd : SegmentHead
-  hd = head shape opened at first last moments one two three run loaded
-
-  abbrev pub records : List ℕ
-  records = followed_records hd two
+module _ (copies : ThreeCopies) (image : List ℕ) where
+  open copies use {run, shape, at, first, last, moments, one, two, three, loaded}
+  open seen_in copies use {early, late, list, hd, records}
 
   -- ---- which are taken
 
@@ -172,7 +157,7 @@ module _ (shape : Dimensions) (opened : Anatomy) (at : ℕ → State) (first las
   pub owner_of : (x : ℕ) (c : Counts) → HasCounts late.anatomy.pieces x c → Contains records c.of → counts_reference two three c.of ≢ 0 → HasOwner x c
   owner_of x c stands there some_there =
       let (r, has, names) = late.records.named x c stands in
-      let looked : counts_reference two three c.of ≡ r.counts = elim (named shape opened at first last moments one two three run loaded c.of r there has) [
+      let looked : counts_reference two three c.of ≡ r.counts = elim (named copies c.of r there has) [
         | inl nothing ↦ absurd (some_there nothing)
         | inr same ↦ same
       ] in
@@ -197,15 +182,15 @@ module _ (shape : Dimensions) (opened : Anatomy) (at : ℕ → State) (first las
     list_placed x body stands listed there =
         let (k, here) = at_from records x there in
         let below = below_length records k x here in
-        let (same, g) = followed_is shape opened at first last moments one two three image run loaded k below in
+        let (same, g) = followed_is copies image k below in
         let place : slice_index records k ≡ x = index_at records k x 0 here in
         let in_list : slice_index list k ≡ x = sym same ∙ place in
-        let from = (following.lies shape opened at run last k g.within).0 in
-        let ends = record_below shape opened at first last moments one two three run loaded k body g (subst (λ (n : ℕ). Stands late.anatomy.pieces n none body) (sym in_list) stands) in
+        let from = (following.lies run last k g.within).0 in
+        let ends = record_below copies k body g (subst (λ (n : ℕ). Stands late.anatomy.pieces n none body) (sym in_list) stands) in
         let next : ℕ = list_start (drop (suc k) records) in
         let has : HasWords image x (looked_block one two three x next body) =
         subst (λ (n : ℕ). HasWords image n (looked_block one two three n next body)) place
-        (shows_record shape opened at first last moments one two three image run loaded look k body below
+        (shows_record copies image look k body below
         (subst (λ (n : ℕ). Stands late.anatomy.pieces n none body) (sym place) stands)) in
         let four = four_words body listed in
         let looked_many = shown_long one two three x next body in
@@ -230,26 +215,26 @@ module _ (shape : Dimensions) (opened : Anatomy) (at : ℕ → State) (first las
         let names = owner.names in
         let (k, here) = at_from records c.of there in
         let below = below_length records k c.of here in
-        let (same, g) = followed_is shape opened at first last moments one two three image run loaded k below in
+        let (same, g) = followed_is copies image k below in
         let in_list : slice_index list k ≡ c.of = sym same ∙ index_at records k c.of 0 here in
         let has_here = subst (λ (n : ℕ). HasRecord late.anatomy.pieces n r) (sym in_list) has in
         let some_here = subst (λ (n : ℕ). counts_reference two three n ≢ 0) (sym in_list) some_there in
         let counts_here : HasCounts late.anatomy.pieces r.counts c = subst (λ (n : ℕ). HasCounts late.anatomy.pieces n c) (sym names) stands in
-        let is = place_is shape opened at first last moments one two three image run loaded k g r c has_here some_here counts_here in
-        let (d, now, goes, ends, from) = stood shape opened at first last moments one two three image run loaded k g r c has_here some_here counts_here 0 (omega arith) in
+        let is = place_is copies image k g r c has_here some_here counts_here in
+        let (d, now, goes, ends, from) = stood copies image k g r c has_here some_here counts_here 0 (omega arith) in
         let it = owner.own in
         let n : ℕ = buckets_of c.spec in
         let kinds : buckets_of r.spec ≡ n = ap buckets_of (sym it.same) in
         let units = it.units in
         let marks = it.marks in
-        let within_size = ends_at shape opened at run last x (counts c) stands in
+        let within_size = ends_at run last x (counts c) stands in
         let all = length-append (c.units ++ c.marks) c.rest in
         let both = length-append c.units c.marks in
         let two_long = loaded.copy_two.long in
         let one_long = loaded.copy_one.long in
         let us = looked_long (is_frozen two c.of) two (x + 4) n (omega (arith, within_size, all, both, units, marks, kinds, two_long)) in
         let ms = range_long one (x + 4 + n) n (omega (arith, within_size, all, both, units, marks, kinds, one_long)) in
-        let shown_here = shows_counts shape opened at first last moments one two three image run loaded look c.of r c there has some_there counts_here in
+        let shown_here = shows_counts copies image look c.of r c there has some_there counts_here in
         record {
           from = omega (arith, from, is, names);
           claimed = refl;
@@ -264,8 +249,8 @@ module _ (shape : Dimensions) (opened : Anatomy) (at : ℕ → State) (first las
     still_placed : (x size tag next : ℕ) (payload : List ℕ) → Stands late.anatomy.pieces x none (other size tag next payload) → ¬ (Contains records x) → WasStill x
         → IsPlaced x (other size tag next payload)
     still_placed x size tag next payload stands beside was =
-        let up = first_last shape opened at first last moments one two three run loaded in
-        let (later, now) = still_stands shape opened at run first last x was.size was.tag was.next was.payload up was.stands in
+        let up = first_last copies in
+        let (later, now) = still_stands run first last x was.size was.tag was.next was.payload up was.stands in
         let same : other was.size was.tag later was.payload ≡ other size tag next payload =
         (one_stands shape (at last).words late.anatomy late.shown x none none (other was.size was.tag later was.payload) (other size tag next payload) now stands).1 in
         let words_same : other was.size was.tag (word_at image (x + 3)) was.payload ≡ other size tag (word_at image (x + 3)) payload =
@@ -274,16 +259,16 @@ module _ (shape : Dimensions) (opened : Anatomy) (at : ℕ → State) (first las
         let on = loaded.ordered.begins 7 seven in
         let over = loaded.ordered.second 7 7 seven seven in
         let beyond = loaded.ordered.third 7 7 seven seven in
-        let ends = block_below shape opened at run first (moments.three 7) x (other was.size was.tag was.next was.payload) (omega (arith, on, over, beyond)) was.stands in
+        let ends = block_below run first (moments.three 7) x (other was.size was.tag was.next was.payload) (omega (arith, on, over, beyond)) was.stands in
         record {
-          from = still_from shape opened at run last x size tag next payload stands;
+          from = claimed_from run last x (other size tag next payload) refl stands;
           claimed = refl;
           long = refl;
           within = omega (arith, ends, many);
           shown = subst (HasWords image x) words_same (λ i inside. dite (ℕ_discrete i 3)
               (λ here. subst (λ (i : ℕ). word_at image (x + i) ≡ slice_index (words_of (other was.size was.tag (word_at image (x + 3)) was.payload)) i) (sym here) refl)
-              (λ ne. still_shown shape opened at first last moments one two three image run loaded x was.size was.tag was.next was.payload was.stands
-              (unlisted shape opened at first last moments one two three image run loaded x was.size was.tag was.next was.payload was.stands beside) i ne inside look
+              (λ ne. still_shown copies image x was.size was.tag was.next was.payload was.stands
+              (unlisted copies image x was.size was.tag was.next was.payload was.stands beside) i ne inside look
               ∙ sym (other_but was.size was.tag was.next (word_at image (x + 3)) was.payload i (not_next i ne))));
         }
       where
@@ -292,7 +277,7 @@ module _ (shape : Dimensions) (opened : Anatomy) (at : ℕ → State) (first las
         with_next body next = body
 
         seven : 7 < shape.size
-        seven = let size_of = following.many shape opened at first last moments one two three run loaded in omega (arith, size_of)
+        seven = let size_of = following.many copies in omega (arith, size_of)
 
     -- ---- any of these
 
@@ -356,15 +341,15 @@ module _ (shape : Dimensions) (opened : Anatomy) (at : ℕ → State) (first las
 
     pub free_most : hd.free ≤ length image
     free_most =
-        let (from, most) = free_within shape opened at first last moments one two three run loaded in
-        let is = of_state shape opened at first last moments one two three run loaded 7 (omega arith) in
+        let (from, most) = free_within copies in
+        let is = of_state copies 7 (omega arith) in
         let size = image_long in
         omega (arith, most, is, size)
 
     pub free_least : 16 ≤ hd.free
     free_least =
-        let (from, most) = free_within shape opened at first last moments one two three run loaded in
-        let is = of_state shape opened at first last moments one two three run loaded 7 (omega arith) in
+        let (from, most) = free_within copies in
+        let is = of_state copies 7 (omega arith) in
         omega (arith, from, is)
 
     -- how long a block is

@@ -1,47 +1,35 @@
 -- The numbers of a look are such as a segment can reach, where its records are kept.
 use Rattle.segment_invariant.proofs.Prelude.Std.{◌≡◌, ◌≢◌, ℕ, ◌+◌, ◌<◌, ◌==◌, Bool, true, false, List, length, inl, inr, refl, sym, ap, subst, ◌∙◌, arith, if◌then◌else◌, none, Contains, eqb-false, w64, cast_signed}
-use Rattle.segment_invariant.proofs.Prelude.Machine.{Dimensions, State, word_at, field_at, buckets_of, mark_of}
-use Rattle.segment_invariant.proofs.Prelude.Invariant.{Anatomy, Record, Counts, Sample, form_at, HasRecord, HasCounts, Invariant}
+use Rattle.segment_invariant.proofs.Prelude.Machine.{word_at, field_at, buckets_of, mark_of}
+use Rattle.segment_invariant.proofs.Prelude.Invariant.{Record, Counts, Sample, form_at, HasRecord, HasCounts}
 use Rattle.bucket_ranges.specs.Reading.{is_bad_sum, mark_at}
 use Rattle.bucket_ranges.specs.Single.{is_packed_bucket}
-use Rattle.segment_looks.specs.Looks.{IsLook, counts_reference, followed_records}
+use Rattle.segment_looks.specs.Looks.{IsLook, counts_reference}
 use Rattle.segment_invariant.specs.Invariant.{RecordsAreKept}
 use Rattle.segment_invariant.specs.Words.{AreLaid, AreBounded, AreInBounds}
 use Rattle.segment_invariant.proofs.Blocks.Pieces.{one_stands}
 use Rattle.segment_invariant.proofs.Consistency.Records.{record_word}
 use Rattle.segment_invariant.proofs.Consistency.Specs.{buckets_are, form_is}
 use Rattle.segment_invariant.proofs.Consistency.Totals.{mark_word}
-use Rattle.look_promises.specs.Runs.{RunsThrough, Moments, AreLoaded}
 use Rattle.look_promises.specs.Images.{mark_looked, looked_counts}
-use Rattle.look_promises.proofs.Runs.{kept_at}
-use Rattle.look_promises.proofs.Following.{head}
-use Rattle.look_promises.proofs.References.{named}
-use Rattle.look_promises.proofs.Marks.{marks_bounded}
-use Rattle.look_promises.proofs.Samples.{samples_bounded}
-use Rattle.look_promises.proofs.Sums.{have_sums}
+use Rattle.look_promises.proofs.Copies.ThreeCopies.{ThreeCopies, seen_in, hd_of}
+use Rattle.look_promises.proofs.Copies.References.{named}
+use Rattle.look_promises.proofs.Amounts.Marks.{marks_bounded}
+use Rattle.look_promises.proofs.Amounts.Samples.{samples_bounded}
+use Rattle.look_promises.proofs.Amounts.Sums.{have_sums}
 use Rattle.look_promises.proofs.Looked.Agreeing.{range_word}
-use Rattle.look_promises.proofs.Looked.Taken.{record_looked, IsTaken}
-use Rattle.look_promises.proofs.Looked.Anatomy.{anatomy, shown, is_taken_so}
+use Rattle.look_promises.proofs.Looked.Taken.{record_looked}
+use Rattle.look_promises.proofs.Looked.Anatomy.{seen_of, shown}
 use Rattle.look_promises.proofs.Looked.Counting.{laid, total_is}
 
-module _ (shape : Dimensions) (opened : Anatomy) (at : ℕ → State) (first last : ℕ) (moments : Moments) (one two three image : List ℕ)
-    (run : RunsThrough shape opened at) (loaded : AreLoaded shape at first last moments one two three)
-    (look : IsLook (head shape opened at first last moments one two three run loaded) one two three image) where
-  abbrev late : Invariant shape opened (at last)
-  late = kept_at shape opened at run last
-
-  abbrev records : List ℕ
-  records = followed_records (head shape opened at first last moments one two three run loaded) two
-
-  abbrev of_look : Anatomy
-  of_look = anatomy shape opened at first last moments one two three image run loaded look
-
-  has : IsTaken shape opened at first last moments one two three image run loaded of_look
-  has = is_taken_so shape opened at first last moments one two three image run loaded look
+module _ (copies : ThreeCopies) (image : List ℕ) (look : IsLook (hd_of copies) copies.one copies.two copies.three image) where
+  open copies use {shape, opened, one, two, three}
+  open seen_in copies use {late, records}
+  open seen_of copies image look use {of_look, has}
 
   module _ (kept : RecordsAreKept shape.page of_look) where
     abbrev laid_so : AreLaid shape opened image
-    laid_so = laid shape opened at first last moments one two three image run loaded look kept
+    laid_so = laid copies image look kept
 
     -- a mark by its words is the one that is looked
     mark_is : (x i : ℕ) (r : Record) → HasRecord late.anatomy.pieces x r → Contains records x → i < buckets_of r.spec
@@ -57,7 +45,7 @@ module _ (shape : Dimensions) (opened : Anatomy) (at : ℕ → State) (first las
         by_words =
             let this : Record = record_looked one two three x (word_at image (x + 3)) r in
             let stands_here = has.record_there x r stands there in
-            let shows = shown shape opened at first last moments one two three image run loaded look in
+            let shows = shown copies image look in
             let lawful = kept.lawful x this stands_here in
             let counts_ref = record_word shape image of_look shows x this 8 stands_here (omega arith) in
             let mark = record_word shape image of_look shows x this 10 stands_here (omega arith) in
@@ -69,7 +57,7 @@ module _ (shape : Dimensions) (opened : Anatomy) (at : ℕ → State) (first las
             → field_at image (counts_reference two three x) (4 + buckets_of r.spec + i) ≡ field_at one (counts_reference two three x) (4 + buckets_of r.spec + i)
         marked some_there =
             let n : ℕ = buckets_of r.spec in
-            let names : counts_reference two three x ≡ r.counts = elim (named shape opened at first last moments one two three run loaded x r there stands) [
+            let names : counts_reference two three x ≡ r.counts = elim (named copies x r there stands) [
               | inl nothing ↦ absurd (some_there nothing)
               | inr same ↦ same
             ] in
@@ -77,7 +65,7 @@ module _ (shape : Dimensions) (opened : Anatomy) (at : ℕ → State) (first las
             let d : Counts = looked_counts one two x r.counts n c in
             let here : HasCounts of_look.pieces r.counts d = has.counts_there x r c stands there some_there mounted in
             let (e, other_here, own) = kept.mounted x (record_looked one two three x (word_at image (x + 3)) r) (has.record_there x r stands there) some_there in
-            let same_block = one_stands shape image of_look (shown shape opened at first last moments one two three image run loaded look) r.counts none none _ _
+            let same_block = one_stands shape image of_look (shown copies image look) r.counts none none _ _
             (subst (λ (n : ℕ). HasCounts of_look.pieces n e) names other_here) here in
             let same : e ≡ d = cc same_block.1 in
             let units : length d.units ≡ n = ap (λ (z : Counts). length z.units) (sym same) ∙ own.units in
@@ -100,12 +88,12 @@ module _ (shape : Dimensions) (opened : Anatomy) (at : ℕ → State) (first las
     buckets_bounded : (x : ℕ) (r : Record) → HasRecord late.anatomy.pieces x r → Contains records x → AreBounded 2 image x (buckets_of r.spec)
     buckets_bounded x r stands there = record {
       total = λ i below.
-          let (most, marked) = marks_bounded shape opened at first last moments one two three run loaded x i r stands below in
-          let total = total_is shape opened at first last moments one two three image run loaded look kept x i r stands there below in
+          let (most, marked) = marks_bounded copies x i r stands below in
+          let total = total_is copies image look kept x i r stands there below in
           omega (arith, most, total);
       mark = λ i below.
-          let (most, marked) = marks_bounded shape opened at first last moments one two three run loaded x i r stands below in
-          let total = total_is shape opened at first last moments one two three image run loaded look kept x i r stands there below in
+          let (most, marked) = marks_bounded copies x i r stands below in
+          let total = total_is copies image look kept x i r stands there below in
           let mark = mark_is x i r stands there below in
           inl (omega (arith, marked, total, mark));
     }
@@ -117,11 +105,11 @@ module _ (shape : Dimensions) (opened : Anatomy) (at : ℕ → State) (first las
           subst (λ (n : ℕ). AreBounded 2 image x n) (ap (λ (z : Record). buckets_of z.spec) (sym it.is)) (buckets_bounded x it.of it.stands it.followed);
       samples = λ x t stands its.
           let it = has.sample_from x t stands in
-          let (most, marked) = samples_bounded shape opened at first last moments one two three run loaded x it.of it.stands in
+          let (most, marked) = samples_bounded copies x it.of it.stands in
           let units : t.units ≡ word_at two (x + 6) = ap (λ (z : Sample). z.units) it.is in
           omega (arith, most, units);
       sums = λ x q stands.
           let it = has.record_from x q stands in
           ap (λ (z : Record). is_bad_sum (cast_signed w64 z.sum) (cast_signed w64 z.sum_mark)) it.is
-          ∙ have_sums shape opened at first last moments one two three run loaded x it.of it.stands;
+          ∙ have_sums copies x it.of it.stands;
     }

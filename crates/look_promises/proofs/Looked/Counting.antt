@@ -1,16 +1,14 @@
 -- The units that a look holds of a name and a key: no fewer than those of the calls that had ended at its first moment, and no more than those of
 -- the calls that had begun at its last.
-use Rattle.segment_invariant.proofs.Prelude.Std.{◌≡◌, ◌≢◌, ℕ, ◌+◌, ◌-◌, ◌<◌, ◌≤◌, ◌==◌, ℤ, Bool, true, false, List, ◌++◌, take, drop, take-append-drop, length, inl, inr, refl, sym, ap, subst, ◌∙◌, arith, slice_index, if◌then◌else◌, none, Contains, flat_map, first_longer, eqb-false}
-use Rattle.segment_invariant.proofs.Prelude.Machine.{Dimensions, State, word_at, field_at, Spec, buckets_of, units_packed, all_counted, tally_units, total_of}
-use Rattle.segment_invariant.proofs.Prelude.Invariant.{Anatomy, Record, Counts, Sample, Listed, form_at, key_of_bucket, HasKey, HasRecord, HasCounts, HasSample, IsFirst, IsFirstOf, Invariant}
+use Rattle.segment_invariant.proofs.Prelude.Std.{◌≡◌, ◌≢◌, ℕ, ◌+◌, ◌<◌, ◌≤◌, ◌==◌, ℤ, Bool, true, false, List, ◌++◌, drop, take-append-drop, length, inl, inr, refl, sym, ap, subst, ◌∙◌, arith, slice_index, if◌then◌else◌, none, Contains, flat_map, eqb-false}
+use Rattle.segment_invariant.proofs.Prelude.Machine.{word_at, field_at, Spec, buckets_of, units_packed, all_counted, tally_units, total_of}
+use Rattle.segment_invariant.proofs.Prelude.Invariant.{Record, Counts, Sample, Listed, form_at, key_of_bucket, HasKey, HasRecord, HasCounts, HasSample, IsFirst, IsFirstOf}
 use Rattle.std.proofs.Math.Decide.{dec_lt}
-use Rattle.std.proofs.Math.Seq.{take-append-add}
 use Rattle.bucket_ranges.specs.declared.spec.Spec.TheVariants as spec
 use Rattle.bucket_ranges.specs.Reading.{count_at}
 use Rattle.segment_machine.specs.Actor.{log_of}
-use Rattle.segment_looks.specs.Looks.{IsLook, counts_looked, counts_reference, followed_records}
+use Rattle.segment_looks.specs.Looks.{IsLook, counts_looked, counts_reference}
 use Rattle.segment_invariant.specs.Invariant.{RecordsAreKept}
-use Rattle.segment_invariant.specs.Seen.{IsRecordNamed, IsValued}
 use Rattle.segment_invariant.specs.Words.{AreLaid}
 use Rattle.segment_invariant.proofs.Blocks.Pieces.{one_stands}
 use Rattle.segment_invariant.proofs.Lists.Tallies.{tally_at}
@@ -21,35 +19,23 @@ use Rattle.segment_promises.specs.Reads.{begun_of}
 use Rattle.segment_promises.proofs.Readings.Buckets.{units_of_key, no_units}
 use Rattle.segment_promises.proofs.Readings.Entries.{all_ended, all_begun}
 use Rattle.segment_promises.proofs.Readings.Samples.{first_held}
-use Rattle.look_promises.specs.Runs.{RunsThrough, Moments, AreLoaded}
 use Rattle.look_promises.specs.Images.{total_looked, looked_counts}
-use Rattle.look_promises.proofs.Runs.{kept_at, rises_at}
-use Rattle.look_promises.proofs.Following.{head, first_last}
-use Rattle.look_promises.proofs.References.{named}
-use Rattle.look_promises.proofs.Calls.{ended, counted_most}
-use Rattle.look_promises.proofs.Values.{values_held}
-use Rattle.look_promises.proofs.Looked.Taken.{record_looked, IsTaken}
-use Rattle.look_promises.proofs.Looked.Anatomy.{anatomy, shown, blocks, is_taken_so}
+use Rattle.look_promises.proofs.Moments.Runs.{rises_at}
+use Rattle.look_promises.proofs.Moments.Firsts.{first_on, value_on, take_on}
+use Rattle.look_promises.proofs.Copies.ThreeCopies.{ThreeCopies, seen_in, hd_of}
+use Rattle.look_promises.proofs.Copies.Following.{first_last}
+use Rattle.look_promises.proofs.Copies.References.{named}
+use Rattle.look_promises.proofs.Amounts.Calls.{ended, counted_most}
+use Rattle.look_promises.proofs.Amounts.Values.{values_held}
+use Rattle.look_promises.proofs.Looked.Taken.{record_looked}
+use Rattle.look_promises.proofs.Looked.Anatomy.{seen_of, shown, blocks}
 use Rattle.look_promises.proofs.Looked.Lists.{few, is_laid}
 use Rattle.look_promises.proofs.Looked.Opening.{are_passed_over}
 
-module _ (shape : Dimensions) (opened : Anatomy) (at : ℕ → State) (first last : ℕ) (moments : Moments) (one two three image : List ℕ)
-    (run : RunsThrough shape opened at) (loaded : AreLoaded shape at first last moments one two three)
-    (look : IsLook (head shape opened at first last moments one two three run loaded) one two three image) where
-  abbrev early : Invariant shape opened (at first)
-  early = kept_at shape opened at run first
-
-  abbrev late : Invariant shape opened (at last)
-  late = kept_at shape opened at run last
-
-  abbrev records : List ℕ
-  records = followed_records (head shape opened at first last moments one two three run loaded) two
-
-  abbrev pub of_look : Anatomy
-  of_look = anatomy shape opened at first last moments one two three image run loaded look
-
-  has : IsTaken shape opened at first last moments one two three image run loaded of_look
-  has = is_taken_so shape opened at first last moments one two three image run loaded look
+module _ (copies : ThreeCopies) (image : List ℕ) (look : IsLook (hd_of copies) copies.one copies.two copies.three image) where
+  open copies use {run, shape, opened, at, first, last, one, two, three}
+  open seen_in copies use {early, late, list, records}
+  open seen_of copies image look use {of_look, has}
 
   -- ---- its list lies between those of the two moments
 
@@ -58,33 +44,22 @@ module _ (shape : Dimensions) (opened : Anatomy) (at : ℕ → State) (first las
 
   pub behind_early : (more : List Listed) × (of_look.records ≡ early.anatomy.records ++ more)
   behind_early =
-      let (behind, longer) = (rises_at shape opened at run first last (first_last shape opened at first last moments one two three run loaded)).records in
-      let enough = (few shape opened at first last moments one two three image run loaded look).1 in
-      let m : ℕ = length records - length early.anatomy.records in
-      let many : length records ≡ length early.anatomy.records + m = omega (arith, enough) in (
-        take m behind,
-        ap (take (length records)) longer ∙ (ap (λ (n : ℕ). take n (early.anatomy.records ++ behind)) many ∙ take-append-add early.anatomy.records behind m),
-      )
+      let (behind, longer) = (rises_at run first last (first_last copies)).records in
+      take_on early.anatomy.records late.anatomy.records behind (length records) longer (few copies image look).1
 
   -- so what is first on it is first at the last moment
   pub first_late : (name : List ℕ) (kind : Spec) (x : ℕ) → IsFirst of_look.records name kind x → IsFirst late.anatomy.records name kind x
-  first_late name kind x its = subst (λ (list : List Listed). IsFirst list name kind x) (sym front_of_late)
-      (first_longer (IsRecordNamed name) of_look.records (drop (length records) late.anatomy.records) _ its)
+  first_late = first_on of_look.records late.anatomy.records (drop (length records) late.anatomy.records) front_of_late
 
   value_late : (of : ℕ) (value : ℤ) (x : ℕ) → IsFirstOf of_look.records of value x → IsFirstOf late.anatomy.records of value x
-  value_late of value x its = subst (λ (list : List Listed). IsFirstOf list of value x) (sym front_of_late)
-      (first_longer (IsValued of value) of_look.records (drop (length records) late.anatomy.records) _ its)
+  value_late = value_on of_look.records late.anatomy.records (drop (length records) late.anatomy.records) front_of_late
 
   -- and what was first at the first moment is first on it
   first_here : (name : List ℕ) (kind : Spec) (x : ℕ) → IsFirst early.anatomy.records name kind x → IsFirst of_look.records name kind x
-  first_here name kind x its =
-      let (more, all) = behind_early in
-      subst (λ (list : List Listed). IsFirst list name kind x) (sym all) (first_longer (IsRecordNamed name) early.anatomy.records more _ its)
+  first_here = let (more, all) = behind_early in first_on early.anatomy.records of_look.records more all
 
   value_here : (of : ℕ) (value : ℤ) (x : ℕ) → IsFirstOf early.anatomy.records of value x → IsFirstOf of_look.records of value x
-  value_here of value x its =
-      let (more, all) = behind_early in
-      subst (λ (list : List Listed). IsFirstOf list of value x) (sym all) (first_longer (IsValued of value) early.anatomy.records more _ its)
+  value_here = let (more, all) = behind_early in value_on early.anatomy.records of_look.records more all
 
   key_here : (name : List ℕ) (key : ℤ) → HasKey early.anatomy.records name key → HasKey of_look.records name key
   key_here name key (kind, x, its, inl bucketed) = (kind, x, first_here name kind x its, inl bucketed)
@@ -96,13 +71,13 @@ module _ (shape : Dimensions) (opened : Anatomy) (at : ℕ → State) (first las
     abbrev pub laid : AreLaid shape opened image
     laid = record {
       anatomy = of_look;
-      shown = shown shape opened at first last moments one two three image run loaded look;
+      shown = shown copies image look;
       same = sym run.version;
       versions = inr refl;
-      blocks = blocks shape opened at first last moments one two three image run loaded look;
-      list = is_laid shape opened at first last moments one two three image run loaded look;
+      blocks = blocks copies image look;
+      list = is_laid copies image look;
       records = kept;
-      passed_over = are_passed_over shape opened at first last moments one two three image run loaded look;
+      passed_over = are_passed_over copies image look;
     }
 
     -- a total by its words is the one that is looked
@@ -119,7 +94,7 @@ module _ (shape : Dimensions) (opened : Anatomy) (at : ℕ → State) (first las
         counted : counts_reference two three x ≢ 0
             → field_at image (counts_reference two three x) (4 + i) ≡ slice_index (counts_looked two x (counts_reference two three x + 4) (buckets_of r.spec)) i
         counted some_there =
-            let names : counts_reference two three x ≡ r.counts = elim (named shape opened at first last moments one two three run loaded x r there stands) [
+            let names : counts_reference two three x ≡ r.counts = elim (named copies x r there stands) [
               | inl nothing ↦ absurd (some_there nothing)
               | inr same ↦ same
             ] in
@@ -127,7 +102,7 @@ module _ (shape : Dimensions) (opened : Anatomy) (at : ℕ → State) (first las
             let d : Counts = looked_counts one two x r.counts (buckets_of r.spec) c in
             let here : HasCounts of_look.pieces r.counts d = has.counts_there x r c stands there some_there mounted in
             let (e, other_here, own) = kept.mounted x (record_looked one two three x (word_at image (x + 3)) r) (has.record_there x r stands there) some_there in
-            let same_block = one_stands shape image of_look (shown shape opened at first last moments one two three image run loaded look) r.counts none none _ _
+            let same_block = one_stands shape image of_look (shown copies image look) r.counts none none _ _
             (subst (λ (n : ℕ). HasCounts of_look.pieces n e) names other_here) here in
             let same : e ≡ d = cc same_block.1 in
             let long : length d.units ≡ buckets_of r.spec = ap (λ (z : Counts). length z.units) (sym same) ∙ own.units in
@@ -224,8 +199,8 @@ module _ (shape : Dimensions) (opened : Anatomy) (at : ℕ → State) (first las
     by_bucket name kind x i its below =
         let o = of_bucket name kind x i its below in
         let holds = o.holds in
-        let least = ended shape opened at first last moments one two three run loaded x i o.r o.stands o.its o.inside in
-        let most = counted_most shape opened at first last moments one two three run loaded x i o.r o.stands o.its o.inside in
+        let least = ended copies x i o.r o.stands o.its o.inside in
+        let most = counted_most copies x i o.r o.stands o.its o.inside in
         let tally_least : tally_units (flat_map log_of (at first).actors) o.r.name (key_of_bucket o.r.spec i) ≡ tally_units (flat_map log_of (at first).actors) name (key_of_bucket kind i) =
         (λ j. tally_units (flat_map log_of (at first).actors) (o.named j) (key_of_bucket (o.specified j) i)) in
         let tally_most : tally_units (all_counted (at last).actors) o.r.name (key_of_bucket o.r.spec i) ≡ tally_units (all_counted (at last).actors) name (key_of_bucket kind i) =
@@ -236,7 +211,7 @@ module _ (shape : Dimensions) (opened : Anatomy) (at : ℕ → State) (first las
     by_sample name x place key its valued_first =
         let o = of_sample name x place key its valued_first in
         let holds = o.holds in
-        let (least, most) = values_held shape opened at first last moments one two three run loaded place o.s o.stands o.its in
+        let (least, most) = values_held copies place o.s o.stands o.its in
         let tally_least : tally_units (flat_map log_of (at first).actors) o.s.name o.s.value ≡ tally_units (flat_map log_of (at first).actors) name key =
         (λ j. tally_units (flat_map log_of (at first).actors) (o.named j) (o.valued j)) in
         let tally_most : tally_units (all_counted (at last).actors) o.s.name o.s.value ≡ tally_units (all_counted (at last).actors) name key =

@@ -1,33 +1,31 @@
 -- The list of a look: its nexts lead along the records that it follows. These begin with those of the opening, and each stands as what was
 -- given to its maker.
 use Rattle.segment_invariant.proofs.Prelude.Std.{◌≡◌, ◌≢◌, ℕ, zero, suc, ◌+◌, ◌-◌, ◌<◌, ◌≤◌, ◌&&◌, ◌||◌, Bool, true, true≢false, List, [], ◌∷◌, ◌++◌, take, drop, take-append-drop, length, length-append, length-map, refl, sym, ap, subst, ◌∙◌, arith, slice_index, Some, None, none, some, get_elem?, Contains, Contains-append_left, All, all_at, at_from, at_map, below_length, index_at, contains_at}
-use Rattle.segment_invariant.proofs.Prelude.Machine.{Dimensions, State, word_at, IsLinked, stops, IsStop}
-use Rattle.segment_invariant.proofs.Prelude.Invariant.{Anatomy, order_of, Body, Record, Sample, queue, plain, held, histogram, counts, sample, other, Listed, Stands, StandsAs, Invariant}
+use Rattle.segment_invariant.proofs.Prelude.Machine.{word_at, IsLinked, stops, IsStop}
+use Rattle.segment_invariant.proofs.Prelude.Invariant.{order_of, Body, Record, Sample, queue, plain, held, histogram, counts, sample, other, Listed, Stands, StandsAs}
 use Rattle.std.specs.Prelude as std
 use Rattle.std.proofs.Math.Seq.{take-append-add}
 use Rattle.std.proofs.lemmas.List.{length-take-le}
 use mathlib.Core.Option.{Option}
-use Rattle.segment_image.specs.declared.head.SegmentHead.{SegmentHead}
 use Rattle.list_lemmas.proofs.Elements.{all_from}
 use Rattle.segment_machine.specs.declared.actor.Made.{Made}
 use Rattle.segment_machine.specs.declared.actor.Made.TheVariants as made
-use Rattle.segment_looks.specs.Looks.{IsLook, followed_records, list_start}
+use Rattle.segment_looks.specs.Looks.{IsLook, list_start}
 use Rattle.segment_invariant.specs.Invariant.{IsOnList}
 use Rattle.segment_invariant.specs.Words.{ListIsLaid}
 use Rattle.segment_invariant.proofs.Frames.LaidOut.{laid_out, linked_given}
 use Rattle.segment_invariant.proofs.Frames.PassedOver.{in_opening}
-use Rattle.look_promises.specs.Runs.{RunsThrough, Moments, AreLoaded}
-use Rattle.look_promises.proofs.Runs.{kept_at}
-use Rattle.look_promises.proofs.Following.{head, whole, followed}
-use Rattle.look_promises.proofs.Shown.{listed_at}
-use Rattle.look_promises.proofs.Starting.{tail_word, start_word}
-use Rattle.look_promises.proofs.Grounds.{four_words}
-use Rattle.look_promises.proofs.Apart.{one_record}
-use Rattle.look_promises.proofs.Records.{shown_long, next_shown}
-use Rattle.look_promises.proofs.Images.{followed_is, shows_record}
-use Rattle.look_promises.proofs.Looked.Taken.{record_looked, sample_looked, IsTaken}
+use Rattle.look_promises.proofs.Copies.ThreeCopies.{ThreeCopies, seen_in, hd_of}
+use Rattle.look_promises.proofs.Copies.Following.{followed}
+use Rattle.look_promises.proofs.Moments.Listed.{listed_at}
+use Rattle.look_promises.proofs.Words.Starting.{tail_word, start_word}
+use Rattle.look_promises.proofs.Moments.Grounds.{four_words}
+use Rattle.look_promises.proofs.Words.Apart.{one_record}
+use Rattle.look_promises.proofs.Words.Records.{shown_long, next_shown}
+use Rattle.look_promises.proofs.Words.Images.{followed_is, shows_record}
+use Rattle.look_promises.proofs.Looked.Taken.{record_looked, sample_looked}
 use Rattle.look_promises.proofs.Looked.Blocks.{is_nobodys, was_still, takes, taken, test_followed}
-use Rattle.look_promises.proofs.Looked.Anatomy.{anatomy, is_of, there_as, is_taken_so}
+use Rattle.look_promises.proofs.Looked.Anatomy.{seen_of, is_of, there_as}
 
 -- what comes behind so many records, or the queue block
 start_behind : (l : List ℕ) (n : ℕ) → n ≤ length l → list_start (drop n l) ≡ slice_index (l ++ 12 ∷ []) n
@@ -47,52 +45,33 @@ at_take (suc n) (y ∷ ys) (suc j) x below there = at_take n ys j x (omega (arit
 pub front_has : {X : Type 0} (n : ℕ) (xs : List X) (x : X) → Contains (take n xs) x → Contains xs x
 front_has n xs x there = subst (λ (l : List _). Contains l x) (take-append-drop n xs) (Contains-append_left (take n xs) (drop n xs) x there)
 
-module _ (shape : Dimensions) (opened : Anatomy) (at : ℕ → State) (first last : ℕ) (moments : Moments) (one two three image : List ℕ)
-    (run : RunsThrough shape opened at) (loaded : AreLoaded shape at first last moments one two three)
-    (look : IsLook (head shape opened at first last moments one two three run loaded) one two three image) where
-  abbrev early : Invariant shape opened (at first)
-  early = kept_at shape opened at run first
-
-  abbrev late : Invariant shape opened (at last)
-  late = kept_at shape opened at run last
-
-  abbrev list : List ℕ
-  list = whole shape opened at first last moments one two three run loaded
-
-  abbrev hd : SegmentHead
-  hd = head shape opened at first last moments one two three run loaded
-
-  abbrev records : List ℕ
-  records = followed_records hd two
-
-  abbrev of_look : Anatomy
-  of_look = anatomy shape opened at first last moments one two three image run loaded look
-
-  has : IsTaken shape opened at first last moments one two three image run loaded of_look
-  has = is_taken_so shape opened at first last moments one two three image run loaded look
+module _ (copies : ThreeCopies) (image : List ℕ) (look : IsLook (hd_of copies) copies.one copies.two copies.three image) where
+  open copies use {run, shape, opened, at, last, one, two, three}
+  open seen_in copies use {early, late, list, records}
+  open seen_of copies image look use {of_look, has}
 
   -- ---- its nexts
 
   along : (i : ℕ) → i ≤ length records → word_at image (slice_index (stops records) i + 3) ≡ slice_index (records ++ 12 ∷ []) i
-  along zero le = start_word shape opened at first last moments one two three image run loaded look ∙ start_behind records 0 le
+  along zero le = start_word copies image look ∙ start_behind records 0 le
   along (suc k) le =
-      let (same, g) = followed_is shape opened at first last moments one two three image run loaded k (omega (arith, le)) in
-      let (body, stands, of_list) = listed_at shape opened at run last k g.within in
+      let (same, g) = followed_is copies image k (omega (arith, le)) in
+      let (body, stands, of_list) = listed_at run last k g.within in
       let next : ℕ = list_start (drop (suc k) records) in
       let many = shown_long one two three (slice_index records k) next body in
       let four = four_words body of_list in
-      shows_record shape opened at first last moments one two three image run loaded look k body (omega (arith, le))
+      shows_record copies image look k body (omega (arith, le))
       (subst (λ (n : ℕ). Stands late.anatomy.pieces n none body) (sym same) stands) 3 (omega (arith, many, four))
       ∙ (next_shown one two three (slice_index records k) next body of_list ∙ start_behind records (suc k) le)
 
   stop_is : (i : ℕ) → i ≤ length records → slice_index (stops records) i ≡ slice_index (stops list) i
   stop_is zero le = refl
-  stop_is (suc k) le = (followed_is shape opened at first last moments one two three image run loaded k (omega (arith, le))).0
+  stop_is (suc k) le = (followed_is copies image k (omega (arith, le))).0
 
   -- it follows no more records than there are, and all of the first moment
   pub few : (length records ≤ length list) × (length early.anatomy.records ≤ length records)
   few =
-      let (n, short, enough, is, each) = followed shape opened at first last moments one two three run loaded in
+      let (n, short, enough, is, each) = followed copies in
       let many = ap length is in
       let long = length-take-le n list short in
       let begin = length-map early.anatomy.records (λ (l : Listed). l.reference) in
@@ -129,8 +108,8 @@ module _ (shape : Dimensions) (opened : Anatomy) (at : ℕ → State) (first las
       let on : get_elem? list j ≡ some l.reference = at_map (λ (l : Listed). l.reference) late.anatomy.records j l at_j in
       let (k, at_k) = at_from records l.reference there in
       let below = below_length records k l.reference at_k in
-      let (same, g) = followed_is shape opened at first last moments one two three image run loaded k below in
-      let equal : j ≡ k = one_record shape opened at first last moments one two three run loaded j k (below_length list j l.reference on) g.within
+      let (same, g) = followed_is copies image k below in
+      let equal : j ≡ k = one_record copies j k (below_length list j l.reference on) g.within
       (index_at list j l.reference 0 on ∙ (sym (index_at records k l.reference 0 at_k) ∙ same)) in
       contains_at of_look.records j l (at_take (length records) late.anatomy.records j l (omega (arith, equal, below)) at_j)
 
@@ -144,9 +123,9 @@ module _ (shape : Dimensions) (opened : Anatomy) (at : ℕ → State) (first las
     tag,
     word_at image (l.reference + 3),
     payload,
-    there_as shape opened at first last moments one two three image run loaded look l.reference (other size tag next payload) stands
-        (ap (λ (b : Bool). b || was_still shape opened at first last moments one two three image run loaded l.reference)
-        (test_followed shape opened at first last moments one two three image run loaded l.reference there)),
+    there_as copies image look l.reference (other size tag next payload) stands
+        (ap (λ (b : Bool). b || was_still copies image l.reference)
+        (test_followed copies image l.reference there)),
     third,
     least,
   )
@@ -162,8 +141,8 @@ module _ (shape : Dimensions) (opened : Anatomy) (at : ℕ → State) (first las
   -- ---- and there are no others
 
   other_alone : (x size tag next : ℕ) (payload : List ℕ) (owner : Option ℕ) (z : Body) → Stands late.anatomy.pieces x owner z
-      → (is_nobodys owner && takes shape opened at first last moments one two three image run loaded x z) ≡ true
-      → other size tag next payload ≡ taken shape opened at first last moments one two three image run loaded x z
+      → (is_nobodys owner && takes copies image x z) ≡ true
+      → other size tag next payload ≡ taken copies image x z
       → tag ≢ 2 → Contains of_look.records (record { reference = x; made = None })
   other_alone x size tag next payload (some id) z stands passes is differs = absurd (true≢false (sym passes))
   other_alone x size tag next payload none (other s t n words) stands passes is differs =
@@ -193,7 +172,7 @@ module _ (shape : Dimensions) (opened : Anatomy) (at : ℕ → State) (first las
       subst (Contains of_look.records) (ap (λ (z : Sample). record { reference = x; made = Some (made.Sample z.of z.value) }) (sym it.is))
       (in_front l (late.list.alone x (sample of) it.stands) it.followed)
   alone x (other size tag next payload) stands = λ differs.
-      let o = is_of shape opened at first last moments one two three image run loaded look x (other size tag next payload) refl stands in
+      let o = is_of copies image look x (other size tag next payload) refl stands in
       other_alone x size tag next payload o.owner o.block o.stands o.passes o.is differs
   alone x (counts c) stands = tt
   alone x (queue next) stands = tt
@@ -207,5 +186,5 @@ module _ (shape : Dimensions) (opened : Anatomy) (at : ℕ → State) (first las
     standing = standing;
     alone = alone;
     tail = subst (λ (refs : List ℕ). IsStop refs (word_at image 8)) (sym has.order)
-        (length records, omega arith, sym (tail_word shape opened at first last moments one two three image run loaded look));
+        (length records, omega arith, sym (tail_word copies image look));
   }

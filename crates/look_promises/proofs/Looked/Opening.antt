@@ -1,24 +1,24 @@
 -- What the opening has stays in a look: the blocks in which nobody counts, and each word that never changes.
 use Rattle.segment_invariant.proofs.Prelude.Std.{◌≡◌, ◌≢◌, ◌⊎◌, ℕ, ◌+◌, ◌<◌, ◌≤◌, ◌&&◌, ◌||◌, Bool, true, false, List, length, inl, inr, refl, sym, ap, subst, ◌∙◌, arith, slice_index, if◌then◌else◌, ne_eqb, Some, none, some, get_elem?, Contains, at_from, at_map, below_length, index_at}
-use Rattle.segment_invariant.proofs.Prelude.Machine.{Dimensions, State, Sighting, word_at}
-use Rattle.segment_invariant.proofs.Prelude.Invariant.{Anatomy, Body, Record, Sample, queue, plain, held, histogram, counts, sample, other, words_of, Listed, Stands, HasRecord, WasFixed, Invariant}
+use Rattle.segment_invariant.proofs.Prelude.Machine.{Sighting, word_at}
+use Rattle.segment_invariant.proofs.Prelude.Invariant.{Body, Record, Sample, queue, plain, held, histogram, counts, sample, other, words_of, Listed, Stands, HasRecord, WasFixed}
 use Rattle.std.proofs.lemmas.List.{get_or-take, length-take-le}
 use Rattle.std.proofs.lemmas.List.Elements.{Contains-get_or}
 use Rattle.segment_machine.specs.declared.actor.Made.TheVariants as made
-use Rattle.segment_looks.specs.Looks.{IsLook, counts_reference, followed_records, is_frozen}
+use Rattle.segment_looks.specs.Looks.{IsLook, counts_reference, is_frozen}
 use Rattle.segment_invariant.specs.Seen.{HasStill, IsFixedIn}
 use Rattle.segment_invariant.specs.Rises.{RecordGoes}
 use Rattle.segment_invariant.specs.Invariant.{ArePassedOver}
 use Rattle.segment_invariant.proofs.Blocks.Pieces.{piece_word}
-use Rattle.look_promises.specs.Runs.{RunsThrough, Moments, AreLoaded}
-use Rattle.look_promises.proofs.Runs.{kept_at, rises_at, chain_at}
-use Rattle.look_promises.proofs.Following.{head, whole, followed, first_last}
-use Rattle.look_promises.proofs.Unchanged.{other_but, record_but, sample_but}
-use Rattle.look_promises.proofs.Shown.{same_place, ends_at}
-use Rattle.look_promises.proofs.Looked.Taken.{record_looked, sample_looked, IsTaken}
+use Rattle.look_promises.proofs.Moments.Runs.{kept_at, rises_at, chain_at}
+use Rattle.look_promises.proofs.Copies.ThreeCopies.{ThreeCopies, seen_in, hd_of}
+use Rattle.look_promises.proofs.Copies.Following.{followed, first_last}
+use Rattle.look_promises.proofs.Moments.Unchanged.{other_but, record_but, sample_but}
+use Rattle.look_promises.proofs.Moments.Listed.{same_place, ends_at}
+use Rattle.look_promises.proofs.Looked.Taken.{record_looked, sample_looked}
 use Rattle.look_promises.proofs.Looked.Still.{still_stands}
 use Rattle.look_promises.proofs.Looked.Blocks.{is_followed, was_still, test_still}
-use Rattle.look_promises.proofs.Looked.Anatomy.{anatomy, there_as, is_taken_so}
+use Rattle.look_promises.proofs.Looked.Anatomy.{seen_of, there_as}
 
 -- a word that never changes of a histogram's record is the same whatever has changed of it, where its counts reference is
 fixed_record : (r q : Record) (i : ℕ) → (i < 3) ⊎ ((4 ≤ i) × (i < 8)) ⊎ (14 ≤ i) ⊎ ((i ≡ 8) × (q.counts ≡ r.counts))
@@ -31,43 +31,27 @@ fixed_record r q i (inr (inr (inr (eight, same)))) =
     let now : Record = record r { next = q.next; counts = q.counts; single = q.single; mark = q.mark; sum = q.sum; sum_mark = q.sum_mark; noted = q.noted } in
     ap (slice_index (words_of (histogram now))) eight ∙ (same ∙ ap (slice_index (words_of (histogram r))) (sym eight))
 
-module _ (shape : Dimensions) (opened : Anatomy) (at : ℕ → State) (first last : ℕ) (moments : Moments) (one two three image : List ℕ)
-    (run : RunsThrough shape opened at) (loaded : AreLoaded shape at first last moments one two three)
-    (look : IsLook (head shape opened at first last moments one two three run loaded) one two three image) where
-  abbrev early : Invariant shape opened (at first)
-  early = kept_at shape opened at run first
-
-  abbrev late : Invariant shape opened (at last)
-  late = kept_at shape opened at run last
-
-  abbrev list : List ℕ
-  list = whole shape opened at first last moments one two three run loaded
-
-  abbrev records : List ℕ
-  records = followed_records (head shape opened at first last moments one two three run loaded) two
-
-  abbrev of_look : Anatomy
-  of_look = anatomy shape opened at first last moments one two three image run loaded look
-
-  has : IsTaken shape opened at first last moments one two three image run loaded of_look
-  has = is_taken_so shape opened at first last moments one two three image run loaded look
+module _ (copies : ThreeCopies) (image : List ℕ) (look : IsLook (hd_of copies) copies.one copies.two copies.three image) where
+  open copies use {run, shape, opened, at, first, last, moments, one, two, three, loaded}
+  open seen_in copies use {early, late, list, records}
+  open seen_of copies image look use {of_look, has}
 
   up : first ≤ last
-  up = first_last shape opened at first last moments one two three run loaded
+  up = first_last copies
 
   -- a record that was on the list at the first moment is followed
   pub is_there : (l : Listed) → Contains early.anatomy.records l → Contains records l.reference
   is_there l among =
-      let (n, short, enough, all, each) = followed shape opened at first last moments one two three run loaded in
+      let (n, short, enough, all, each) = followed copies in
       let (j, there) = at_from early.anatomy.records l among in
-      let on : get_elem? (chain_at shape opened at run first) j ≡ some l.reference = at_map (λ (l : Listed). l.reference) early.anatomy.records j l there in
-      let lt = below_length (chain_at shape opened at run first) j l.reference on in
-      let still_place = (same_place shape opened at run first last j up lt).1 in
+      let on : get_elem? (chain_at run first) j ≡ some l.reference = at_map (λ (l : Listed). l.reference) early.anatomy.records j l there in
+      let lt = below_length (chain_at run first) j l.reference on in
+      let still_place = (same_place run first last j up lt).1 in
       let below_n : j < n = omega (arith, lt, enough) in
       let all_long = ap length all in
       let long = length-take-le n list short in
       let found : slice_index records j ≡ l.reference =
-      ap (λ (l : List ℕ). slice_index l j) all ∙ (get_or-take n list j 0 below_n ∙ (still_place ∙ index_at (chain_at shape opened at run first) j l.reference 0 on)) in
+      ap (λ (l : List ℕ). slice_index l j) all ∙ (get_or-take n list j 0 below_n ∙ (still_place ∙ index_at (chain_at run first) j l.reference 0 on)) in
       subst (Contains records) found (Contains-get_or records j 0 (omega (arith, below_n, all_long, long)))
 
   -- ---- blocks in which nobody counts
@@ -75,12 +59,12 @@ module _ (shape : Dimensions) (opened : Anatomy) (at : ℕ → State) (first las
   still_there : (x size tag next : ℕ) (payload : List ℕ) → Stands early.anatomy.pieces x none (other size tag next payload)
       → Stands of_look.pieces x none (other size tag (word_at image (x + 3)) payload)
   still_there x size tag next payload stands =
-      let (later, now) = still_stands shape opened at run first last x size tag next payload up stands in
-      there_as shape opened at first last moments one two three image run loaded look x (other size tag later payload) now
-      (either (is_followed shape opened at first last moments one two three image run loaded x) (test_still shape opened at first last moments one two three image run loaded x size tag next payload stands))
+      let (later, now) = still_stands run first last x size tag next payload up stands in
+      there_as copies image look x (other size tag later payload) now
+      (either (is_followed copies image x) (test_still copies image x size tag next payload stands))
     where
-      either : (b : Bool) → was_still shape opened at first last moments one two three image run loaded x ≡ true
-          → (b || was_still shape opened at first last moments one two three image run loaded x) ≡ true
+      either : (b : Bool) → was_still copies image x ≡ true
+          → (b || was_still copies image x) ≡ true
       either true is = refl
       either false is = is
 
@@ -99,24 +83,24 @@ module _ (shape : Dimensions) (opened : Anatomy) (at : ℕ → State) (first las
     -- at a later moment
     pub record Later (n : ℕ) : Type 0 where
       pub of : Record
-      pub stands : HasRecord (kept_at shape opened at run n).anatomy.pieces x of
+      pub stands : HasRecord (kept_at run n).anatomy.pieces x of
       pub goes : RecordGoes early.anatomy.version r of
 
     later : (n : ℕ) → first ≤ n → Later n
     later n le =
-        let (body, now, (s, is, goes)) = (rises_at shape opened at run first n le).goes x (histogram r) refl stood in
-        record { of = s; stands = subst (Stands (kept_at shape opened at run n).anatomy.pieces x none) is now; goes = goes }
+        let (body, now, (s, is, goes)) = (rises_at run first n le).goes x (histogram r) refl stood in
+        record { of = s; stands = subst (Stands (kept_at run n).anatomy.pieces x none) is now; goes = goes }
 
     -- once it names counts the look has this reference
     names : r.counts ≢ 0 → counts_reference two three x ≡ r.counts
     names some_there =
         let l = later last up in
-        let ends = ends_at shape opened at run last x (histogram l.of) l.stands in
+        let ends = ends_at run last x (histogram l.of) l.stands in
         let spot : x + 8 < shape.size = omega (arith, ends) in
         let begin = loaded.ordered.begins (x + 8) spot in
         let on = loaded.ordered.second (x + 8) (x + 8) spot spot in
         let then_it = later (moments.two (x + 8)) (omega (arith, begin, on)) in
-        let kept = kept_at shape opened at run (moments.two (x + 8)) in
+        let kept = kept_at run (moments.two (x + 8)) in
         let word : word_at two (x + 8) ≡ r.counts =
         loaded.copy_two.each (x + 8) spot
         ∙ (piece_word shape (at (moments.two (x + 8))).words kept.anatomy kept.shown then_it.stands.0 (record { at = x; owner = none; body = histogram then_it.of }) 8 then_it.stands.1 (omega arith)
@@ -156,7 +140,7 @@ module _ (shape : Dimensions) (opened : Anatomy) (at : ℕ → State) (first las
   sample_fixed : (x i : ℕ) (t : Sample) (s : Sighting) → Stands early.anatomy.pieces x none (sample t) → s.at ≡ x + i → IsFixedIn (sample t) i
       → slice_index (words_of (sample t)) i ≡ s.word → WasFixed of_look.pieces s
   sample_fixed x i t s stands place fixed word =
-      let (body, now, (u, is, goes)) = (rises_at shape opened at run first last up).goes x (sample t) refl stands in
+      let (body, now, (u, is, goes)) = (rises_at run first last up).goes x (sample t) refl stands in
       let late_stands = subst (Stands late.anatomy.pieces x none) is now in
       let there = is_there (record { reference = x; made = Some (made.Sample t.of t.value) }) (early.list.alone x (sample t) stands) in
       let shown : Sample = sample_looked one two x (word_at image (x + 3)) t in

@@ -1,6 +1,6 @@
 -- What a look reads as, where its records are kept and its numbers are in bounds.
 use Rattle.segment_invariant.proofs.Prelude.Std.{◌≡◌, ◌≢◌, ℕ, ◌<◌, ◌≤◌, ℤ, List, inl, inr, refl, sym, ap, subst, arith, Ok, Contains}
-use Rattle.segment_invariant.proofs.Prelude.Machine.{Dimensions, State, head_of, Spec, buckets_of, total_of, mark_of, Histogram, Reading}
+use Rattle.segment_invariant.proofs.Prelude.Machine.{Dimensions, head_of, Spec, buckets_of, total_of, mark_of, Histogram, Reading}
 use Rattle.segment_invariant.proofs.Prelude.Invariant.{Anatomy, layout_of, key_of_bucket, HasKey, IsFirst, IsFirstOf, Invariant}
 use Rattle.std.proofs.Math.Decide.{dec_lt}
 use Rattle.bucket_ranges.specs.Reading.{IsReading}
@@ -18,12 +18,10 @@ use Rattle.segment_promises.specs.Reads.{ReadsNames, ReadsBlocks}
 use Rattle.segment_promises.proofs.Readings.Blocks.{words_read}
 use Rattle.segment_promises.proofs.Readings.Buckets.{units_of_key, marks_of_key, no_marks}
 use Rattle.segment_promises.proofs.Readings.Samples.{first_held}
-use Rattle.look_promises.specs.Runs.{RunsThrough, Moments, AreLoaded}
 use Rattle.look_promises.specs.Reading.{ReadsBetween, CountsBetween}
-use Rattle.look_promises.proofs.Runs.{kept_at}
-use Rattle.look_promises.proofs.Following.{head}
-use Rattle.look_promises.proofs.Looked.Headers.{header_shown}
-use Rattle.look_promises.proofs.Looked.Anatomy.{anatomy, shown}
+use Rattle.look_promises.proofs.Copies.ThreeCopies.{ThreeCopies, seen_in, hd_of}
+use Rattle.segment_promises.proofs.Adopting.Headers.{header_shown}
+use Rattle.look_promises.proofs.Looked.Anatomy.{seen_of, shown}
 use Rattle.look_promises.proofs.Looked.Counting.{laid, front_of_late, behind_early, units_ended, units_begun}
 
 -- ---- marks of words that are kept
@@ -86,25 +84,18 @@ module _ (shape : Dimensions) (opened : Anatomy) (words : List ℕ) (kept : Word
 
 -- ---- a look
 
-module _ (shape : Dimensions) (opened : Anatomy) (at : ℕ → State) (first last : ℕ) (moments : Moments) (one two three image : List ℕ)
-    (run : RunsThrough shape opened at) (loaded : AreLoaded shape at first last moments one two three)
-    (look : IsLook (head shape opened at first last moments one two three run loaded) one two three image) where
-  abbrev early : Invariant shape opened (at first)
-  early = kept_at shape opened at run first
-
-  abbrev late : Invariant shape opened (at last)
-  late = kept_at shape opened at run last
-
-  abbrev pub of_look : Anatomy
-  of_look = anatomy shape opened at first last moments one two three image run loaded look
+module _ (copies : ThreeCopies) (image : List ℕ) (look : IsLook (hd_of copies) copies.one copies.two copies.three image) where
+  open copies use {shape, opened, at, first, last}
+  open seen_in copies use {early, late}
+  open seen_of copies image look use {of_look}
 
   module _ (records : RecordsAreKept shape.page of_look) (bounds : AreInBounds image of_look) where
     -- all holds of its words that the invariant says of words alone
     abbrev pub kept : WordsAreKept shape opened image
-    kept = record { laid = laid shape opened at first last moments one two three image run loaded look records; bounds = bounds }
+    kept = record { laid = laid copies image look records; bounds = bounds }
 
     header : header_of image ≡ Ok (head_of image)
-    header = header_shown shape image (layout_of of_look) (shown shape opened at first last moments one two three image run loaded look) (inr refl)
+    header = header_shown shape image (layout_of of_look) (shown copies image look) (inr refl)
 
     module _ (reading : Reading) (is : IsReading image (head_of image) reading) where
       reads : HasNoFault reading × ReadsNames of_look.records reading
@@ -114,8 +105,8 @@ module _ (shape : Dimensions) (opened : Anatomy) (at : ℕ → State) (first las
       between : ReadsBetween early.anatomy.records late.anatomy.records reading
       between = record {
         records = of_look.records;
-        all = behind_early shape opened at first last moments one two three image run loaded look;
-        none = (_, front_of_late shape opened at first last moments one two three image run loaded look);
+        all = behind_early copies image look;
+        none = (_, front_of_late copies image look);
         reads = reads.1;
       }
 
@@ -125,9 +116,9 @@ module _ (shape : Dimensions) (opened : Anatomy) (at : ℕ → State) (first las
           let (kind, its, same) = reads.1.given h there in
           record {
             ended = λ key. let units = blocks.units key in
-                let least = units_ended shape opened at first last moments one two three image run loaded look records h.name key in omega (arith, units, least);
+                let least = units_ended copies image look records h.name key in omega (arith, units, least);
             begun = λ key. let units = blocks.units key in
-                let most = units_begun shape opened at first last moments one two three image run loaded look records h.name key kind h.reference its in
+                let most = units_begun copies image look records h.name key kind h.reference its in
                 omega (arith, units, most);
             marks = λ key. let units = blocks.units key in
                 let marks = blocks.marks key in

@@ -1,35 +1,34 @@
 -- The blocks of the first moment of which nothing changes but their nexts, and which are not on the list: a look has them as they were.
 -- Where one is the counts block of a record that is passed over, the patches of that record have the same words.
 use Rattle.segment_invariant.proofs.Prelude.Std.{◌≡◌, ◌≢◌, ◌⊎◌, ℕ, ◌+◌, ◌-◌, ◌<◌, ◌≤◌, ◌==◌, ◌&&◌, Bool, true, false, List, [], ◌∷◌, ◌++◌, length, length-append, replicate, inl, inr, refl, sym, ap, subst, ◌∙◌, arith, slice_index, if◌then◌else◌, nat_le, eq-eqb, eqb-true, None, none, dite, ℕ_discrete, Contains, All, at_from, below_length, index_at}
-use Rattle.segment_invariant.proofs.Prelude.Machine.{Dimensions, State, word_at, is_off, buckets_of}
-use Rattle.segment_invariant.proofs.Prelude.Invariant.{Anatomy, Body, Record, Counts, Piece, extent_of, histogram, counts, other, words_of, record_words, Listed, Stands, Invariant}
+use Rattle.segment_invariant.proofs.Prelude.Machine.{word_at, is_off, buckets_of}
+use Rattle.segment_invariant.proofs.Prelude.Invariant.{Body, Record, Counts, histogram, counts, other, words_of, record_words, Listed, Stands}
 use Rattle.std.specs.List.{slice_range}
 use Rattle.std.proofs.Math.Decide.{dec_lt}
 use Rattle.std.proofs.lemmas.List.{get_or-replicate, get_or-take, length-take-le}
 use Rattle.std.proofs.lemmas.List.Elements.{Contains-get_or}
-use Rattle.segment_image.specs.declared.head.SegmentHead.{SegmentHead}
 use Rattle.segment_looks.specs.Patches.{Patch}
-use Rattle.segment_looks.specs.Looks.{IsLook, counts_looked, counts_patches, counts_reference, followed_records, has_room, histogram_patches, histogram_words, is_frozen, link, record_patches, sample_patches}
+use Rattle.segment_looks.specs.Looks.{IsLook, counts_looked, counts_patches, counts_reference, has_room, histogram_patches, histogram_words, is_frozen, link, record_patches, sample_patches}
 use Rattle.segment_invariant.specs.Body.{counts_words}
 use Rattle.segment_invariant.specs.Words.{AreLaid}
-use Rattle.segment_invariant.proofs.Blocks.Pieces.{piece_word, piece_from, first_piece, some_first, one_piece, one_stands}
+use Rattle.segment_invariant.proofs.Blocks.Pieces.{piece_word, one_stands}
 use Rattle.segment_invariant.proofs.Consistency.Firsts.{record_on_list}
 use Rattle.segment_invariant.proofs.Frames.LaidOut.{laid_out}
 use Rattle.segment_invariant.proofs.Frames.PassedOver.{PassedOver}
-use Rattle.look_promises.specs.Runs.{RunsThrough, Moments, AreLoaded}
-use Rattle.look_promises.proofs.Runs.{kept_at, rises_at}
-use Rattle.look_promises.proofs.Walks.{Gives}
-use Rattle.look_promises.proofs.Following.{head, whole, many, followed, first_last}
-use Rattle.look_promises.proofs.Unchanged.{IsOfList, other_but}
-use Rattle.look_promises.proofs.Shown.{listed_at, same_place, ends_at}
-use Rattle.look_promises.proofs.References.{looked}
-use Rattle.look_promises.proofs.Patches.{IsApart, linked_none, record_none, apart}
-use Rattle.look_promises.proofs.Grounds.{buckets_said, from_opening, other_listed, still_word, HasHistogram}
-use Rattle.look_promises.proofs.Named.{counts_block, fifteen, its_histogram, two_within}
-use Rattle.look_promises.proofs.Apart.{lies, one_block}
-use Rattle.look_promises.proofs.Room.{block_below}
-use Rattle.look_promises.proofs.Counted.{unit_word, looked_long, range_long}
-use Rattle.look_promises.proofs.Images.{followed_is, list_word}
+use Rattle.look_promises.proofs.Moments.Runs.{Run, kept_at, rises_at}
+use Rattle.look_promises.proofs.Copies.ThreeCopies.{ThreeCopies, seen_in}
+use Rattle.look_promises.proofs.Copies.Walks.{Gives}
+use Rattle.look_promises.proofs.Copies.Following.{many, followed, first_last}
+use Rattle.look_promises.proofs.Moments.Unchanged.{IsOfList, other_but}
+use Rattle.look_promises.proofs.Moments.Listed.{listed_at, same_place, ends_at}
+use Rattle.look_promises.proofs.Copies.References.{looked}
+use Rattle.look_promises.proofs.Words.Patches.{IsApart, linked_none, record_none, apart}
+use Rattle.look_promises.proofs.Moments.Grounds.{buckets_said, from_opening, other_listed, still_word, HasHistogram}
+use Rattle.look_promises.proofs.Copies.Named.{counts_block, fifteen, its_histogram, two_within}
+use Rattle.look_promises.proofs.Words.Apart.{lies, one_block}
+use Rattle.look_promises.proofs.Moments.Room.{claimed_from, block_below}
+use Rattle.look_promises.proofs.Words.Counted.{unit_word, looked_long, range_long}
+use Rattle.look_promises.proofs.Words.Images.{followed_is, list_word}
 use Rattle.look_promises.proofs.Looked.Agreeing.{Agree, agree_none, agree_beside, agree_inside, agree_if, agree_unless, agree_all, range_word}
 
 -- a word of a block of which nothing changes but its next
@@ -38,62 +37,36 @@ not_next i ne = elim (dec_lt i 3) [ yes low ↦ inl low | no high ↦ inr (omega
 
 -- ---- at each moment
 
-module _ (shape : Dimensions) (opened : Anatomy) (at : ℕ → State) (run : RunsThrough shape opened at) where
+module _ (run : Run) where
+  open run use {shape, at}
+
   -- such a block stands at each later moment
-  pub still_stands : (m n x size tag next : ℕ) (payload : List ℕ) → m ≤ n → Stands (kept_at shape opened at run m).anatomy.pieces x none (other size tag next payload)
-      → (later : ℕ) × Stands (kept_at shape opened at run n).anatomy.pieces x none (other size tag later payload)
+  pub still_stands : (m n x size tag next : ℕ) (payload : List ℕ) → m ≤ n → Stands (kept_at run m).anatomy.pieces x none (other size tag next payload)
+      → (later : ℕ) × Stands (kept_at run n).anatomy.pieces x none (other size tag later payload)
   still_stands m n x size tag next payload le stands =
-      let (body, now, (later, is)) = (rises_at shape opened at run m n le).goes x (other size tag next payload) refl stands in
-      (later, subst (Stands (kept_at shape opened at run n).anatomy.pieces x none) is now)
+      let (body, now, (later, is)) = (rises_at run m n le).goes x (other size tag next payload) refl stands in
+      (later, subst (Stands (kept_at run n).anatomy.pieces x none) is now)
 
   -- with the same words, but for its next
-  pub still_at : (m n x i size tag next : ℕ) (payload : List ℕ) → m ≤ n → Stands (kept_at shape opened at run m).anatomy.pieces x none (other size tag next payload)
+  pub still_at : (m n x i size tag next : ℕ) (payload : List ℕ) → m ≤ n → Stands (kept_at run m).anatomy.pieces x none (other size tag next payload)
       → i ≢ 3 → i < length (words_of (other size tag next payload))
       → (x + i < shape.size) × (word_at (at n).words (x + i) ≡ slice_index (words_of (other size tag next payload)) i)
   still_at m n x i size tag next payload le stands ne inside =
-      let kept = kept_at shape opened at run n in
+      let kept = kept_at run n in
       let (later, (k, there)) = still_stands m n x size tag next payload le stands in
-      let ends = ends_at shape opened at run n x (other size tag later payload) (k, there) in
+      let ends = ends_at run n x (other size tag later payload) (k, there) in
       let word = piece_word shape (at n).words kept.anatomy kept.shown k (record { at = x; owner = none; body = other size tag later payload }) i there (omega (arith, inside)) in
       (omega (arith, ends, inside), word ∙ sym (other_but size tag later next payload i (not_next i ne)))
 
-  -- it lies behind the header
-  pub still_from : (m x size tag next : ℕ) (payload : List ℕ) → Stands (kept_at shape opened at run m).anatomy.pieces x none (other size tag next payload) → 16 ≤ x
-  still_from m x size tag next payload (k, there) =
-      let kept = kept_at shape opened at run m in
-      let piece : Piece = record { at = x; owner = none; body = other size tag next payload } in
-      let five = (kept.blocks k piece there refl).1 in
-      elim (piece_from shape (at m).words kept.anatomy kept.shown k piece there) [
-        | inr behind ↦ behind
-        | inl first ↦
-            let (q, here) = some_first shape (at m).words kept.anatomy kept.shown in
-            let (twelve, nobody, four) = first_piece shape (at m).words kept.anatomy kept.shown q here in
-            let same = ap extent_of (one_piece shape (at m).words kept.anatomy kept.shown k 0 piece q there here (first ∙ sym twelve)).1 in
-            absurd (omega (arith, five, four, same))
-      ]
-
-module _ (shape : Dimensions) (opened : Anatomy) (at : ℕ → State) (first last : ℕ) (moments : Moments) (one two three image : List ℕ)
-    (run : RunsThrough shape opened at) (loaded : AreLoaded shape at first last moments one two three) where
-  abbrev early : Invariant shape opened (at first)
-  early = kept_at shape opened at run first
-
-  abbrev late : Invariant shape opened (at last)
-  late = kept_at shape opened at run last
+module _ (copies : ThreeCopies) (image : List ℕ) where
+  open copies use {run, shape, opened, at, first, last, moments, one, two, three, loaded}
+  open seen_in copies use {early, late, list, hd, records}
 
   abbrev laid : AreLaid shape opened (at last).words
   laid = laid_out shape opened (at last) late
 
-  abbrev list : List ℕ
-  list = whole shape opened at first last moments one two three run loaded
-
-  abbrev hd : SegmentHead
-  hd = head shape opened at first last moments one two three run loaded
-
-  abbrev records : List ℕ
-  records = followed_records hd two
-
   up : first ≤ last
-  up = first_last shape opened at first last moments one two three run loaded
+  up = first_last copies
 
   module _ (x size tag next : ℕ) (payload : List ℕ) (stood : Stands early.anatomy.pieces x none (other size tag next payload)) where
     abbrev block : Body
@@ -105,12 +78,12 @@ module _ (shape : Dimensions) (opened : Anatomy) (at : ℕ → State) (first las
         let (k, here) = at_from list x there in
         let below = below_length list k x here in
         let place : slice_index list k ≡ x = index_at list k x 0 here in
-        let (later, stands) = still_stands shape opened at run first last x size tag next payload up stood in
-        let (nothing, tagged) = other_listed shape opened at run last k size tag later payload below
+        let (later, stands) = still_stands run first last x size tag next payload up stood in
+        let (nothing, tagged) = other_listed run last k size tag later payload below
         (subst (λ (n : ℕ). Stands late.anatomy.pieces n none (other size tag later payload)) (sym place) stands) in
-        let (j, lt, is) = from_opening shape opened at run last first x (subst (λ (n : ℕ). Contains opened.records (record { reference = n; made = None })) place nothing) in
-        let (n, short, enough, all, each) = followed shape opened at first last moments one two three run loaded in
-        let still_place = (same_place shape opened at run first last j up lt).1 in
+        let (j, lt, is) = from_opening run last first x (subst (λ (n : ℕ). Contains opened.records (record { reference = n; made = None })) place nothing) in
+        let (n, short, enough, all, each) = followed copies in
+        let still_place = (same_place run first last j up lt).1 in
         let below_n : j < n = omega (arith, lt, enough) in
         let all_long = ap length all in
         let long = length-take-le n list short in
@@ -123,18 +96,18 @@ module _ (shape : Dimensions) (opened : Anatomy) (at : ℕ → State) (first las
 
       -- the copies have its words
       spot : x + i < shape.size
-      spot = (still_at shape opened at run first last x i size tag next payload up stood ne inside).0
+      spot = (still_at run first last x i size tag next payload up stood ne inside).0
 
       in_one : word_at one (x + i) ≡ v
       in_one = loaded.copy_one.each (x + i) spot
-          ∙ (still_at shape opened at run first (moments.one (x + i)) x i size tag next payload (loaded.ordered.begins (x + i) spot) stood ne inside).1
+          ∙ (still_at run first (moments.one (x + i)) x i size tag next payload (loaded.ordered.begins (x + i) spot) stood ne inside).1
 
       in_two : word_at two (x + i) ≡ v
       in_two =
           let from = loaded.ordered.begins (x + i) spot in
           let on = loaded.ordered.second (x + i) (x + i) spot spot in
           loaded.copy_two.each (x + i) spot
-          ∙ (still_at shape opened at run first (moments.two (x + i)) x i size tag next payload (omega (arith, from, on)) stood ne inside).1
+          ∙ (still_at run first (moments.two (x + i)) x i size tag next payload (omega (arith, from, on)) stood ne inside).1
 
       in_three : word_at three (x + i) ≡ v
       in_three =
@@ -142,7 +115,7 @@ module _ (shape : Dimensions) (opened : Anatomy) (at : ℕ → State) (first las
           let on = loaded.ordered.second (x + i) (x + i) spot spot in
           let over = loaded.ordered.third (x + i) (x + i) spot spot in
           loaded.copy_three.each (x + i) spot
-          ∙ (still_at shape opened at run first (moments.three (x + i)) x i size tag next payload (omega (arith, from, on, over)) stood ne inside).1
+          ∙ (still_at run first (moments.three (x + i)) x i size tag next payload (omega (arith, from, on, over)) stood ne inside).1
 
       -- ---- beside a record that is followed
 
@@ -157,27 +130,27 @@ module _ (shape : Dimensions) (opened : Anatomy) (at : ℕ → State) (first las
         buckets = word_at three (y + 7)
 
         abbrev its : (body : Body) × Stands late.anatomy.pieces y none body × IsOfList body
-        its = listed_at shape opened at run last j g.within
+        its = listed_at run last j g.within
 
         abbrev at_last : (later : ℕ) × Stands late.anatomy.pieces x none (other size tag later payload)
-        at_last = still_stands shape opened at run first last x size tag next payload up stood
+        at_last = still_stands run first last x size tag next payload up stood
 
         -- its block is another
         block_apart : (m : ℕ) → m < length (words_of its.0) → y + m ≢ x + i
         block_apart m within same =
             let (later, stands) = at_last in
-            let place = (one_block shape opened at first last moments one two three run loaded y x m i its.0 (other size tag later payload) its.1 stands within (omega (arith, inside)) same).0 in
+            let place = (one_block copies y x m i its.0 (other size tag later payload) its.1 stands within (omega (arith, inside)) same).0 in
             beside (subst (Contains list) place (Contains-get_or list j 0 g.within))
 
         -- where it takes no counts there, none of its patches has the word
         all_apart : (word_at three (y + 2) ≡ 1 → named ≢ x) → IsApart hd one two three (x + i) y
         all_apart differs = (
           _,
-          lies shape opened at first last moments one two three run loaded j g (x + i) block_apart
+          lies copies j g (x + i) block_apart
               (λ one_is names m from few same.
-              let (counted, stands, long, owned) = counts_block shape opened at first last moments one two three run loaded j g one_is names in
+              let (counted, stands, long, owned) = counts_block copies j g one_is names in
               let (later, here) = at_last in
-              differs one_is (one_block shape opened at first last moments one two three run loaded named x m i counted (other size tag later payload) stands here
+              differs one_is (one_block copies named x m i counted (other size tag later payload) stands here
               (omega (arith, few, long)) (omega (arith, inside)) same).0),
         )
 
@@ -201,8 +174,8 @@ module _ (shape : Dimensions) (opened : Anatomy) (at : ℕ → State) (first las
           pub unused : is_frozen two y ≡ false → All (λ n. n ≡ 0) c.units
 
         module _ (is : named ≡ x) (one_is : word_at three (y + 2) ≡ 1) where
-          abbrev h : HasHistogram shape opened at run last y
-          h = its_histogram shape opened at first last moments one two three run loaded j g one_is
+          abbrev h : HasHistogram run last y
+          h = its_histogram copies j g one_is
 
           type_at_last : word_at (at last).words (y + 2) ≡ 1
           type_at_last =
@@ -211,11 +184,11 @@ module _ (shape : Dimensions) (opened : Anatomy) (at : ℕ → State) (first las
               ∙ ap (λ (ws : List ℕ). slice_index ws 2) h.same
 
           some_there : named ≢ 0
-          some_there nothing = let from = still_from shape opened at run first x size tag next payload stood in omega (arith, from, is, nothing)
+          some_there nothing = let from = claimed_from run first x (other size tag next payload) refl stood in omega (arith, from, is, nothing)
 
           -- no histogram's record names it
           no_histogram : (r : Record) → Stands late.anatomy.pieces y none (histogram r) → ⊥
-          no_histogram r has = elim (looked shape opened at first last moments one two three run loaded j g.within r has) [
+          no_histogram r has = elim (looked copies j g.within r has) [
             | inl nothing ↦ some_there nothing
             | inr same ↦
                 let (c, stands, it) = late.records.mounted y r has (λ none_there. some_there (same ∙ none_there)) in
@@ -230,16 +203,16 @@ module _ (shape : Dimensions) (opened : Anatomy) (at : ℕ → State) (first las
             passed_word m t le from below =
                 let (s, g_tag, n, words, stands, same) = over.0.stands in
                 let long = ap length same in
-                let ends = ends_at shape opened at run last y (other s g_tag n words) stands in (
+                let ends = ends_at run last y (other s g_tag n words) stands in (
                   omega (arith, ends, long, below),
-                  still_word shape opened at run last m y t s g_tag n words le over.2.0 stands (inr from) (omega (arith, long, below))
+                  still_word run last m y t s g_tag n words le over.2.0 stands (inr from) (omega (arith, long, below))
                       ∙ ap (λ (ws : List ℕ). slice_index ws t) (sym same),
                 )
 
             two_word : (t : ℕ) → 4 ≤ t → t < 15 → word_at two (y + t) ≡ slice_index (record_words r) t
             two_word t from below =
                 let there = (passed_word last t (omega arith) from below).0 in
-                loaded.copy_two.each (y + t) there ∙ (passed_word (moments.two (y + t)) t (two_within shape opened at first last moments one two three run loaded (y + t) there).1 from below).1
+                loaded.copy_two.each (y + t) there ∙ (passed_word (moments.two (y + t)) t (two_within copies (y + t) there).1 from below).1
 
             three_word : (t : ℕ) → 4 ≤ t → t < 15 → word_at three (y + t) ≡ slice_index (record_words r) t
             three_word t from below =
@@ -298,7 +271,7 @@ module _ (shape : Dimensions) (opened : Anatomy) (at : ℕ → State) (first las
           fits =
               let o = its_own in
               let (later, stands) = at_last in
-              let ends = ends_at shape opened at run last x (other size tag later payload) stands in
+              let ends = ends_at run last x (other size tag later payload) stands in
               let holds = o.holds in
               let n = o.many in
               omega (arith, ends, holds, n, is)
@@ -353,7 +326,7 @@ module _ (shape : Dimensions) (opened : Anatomy) (at : ℕ → State) (first las
               (record { from = y + 8; words = histogram_words one two three y } ∷ counts_patches one two y named buckets) (x + i) v
               (agree_beside (record { from = y + 8; words = histogram_words one two three y }) (counts_patches one two y named buckets) (x + i) v
               (apart (y + 8) 6 (x + i) (λ m below same.
-              let long = fifteen shape opened at first last moments one two three run loaded j g one_is its.0 its.1 in
+              let long = fifteen copies j g one_is its.0 its.1 in
               block_apart (8 + m) (omega (arith, below, long)) (omega (arith, same))))
               (agree_unless (named == 0) (units_patch ∷ marks_patch ∷ []) (x + i) v counts_agree)))
 
@@ -368,7 +341,7 @@ module _ (shape : Dimensions) (opened : Anatomy) (at : ℕ → State) (first las
                 let one_is = eqb-true (word_at three (y + 2)) 1 passes in
                 agree_beside (link y behind) (record_patches hd one two three y) (x + i) v
                 (apart (y + 3) 1 (x + i) (λ m below same.
-                let long = fifteen shape opened at first last moments one two three run loaded j g one_is its.0 its.1 in
+                let long = fifteen copies j g one_is its.0 its.1 in
                 block_apart (3 + m) (omega (arith, below, long)) (omega (arith, same))))
                 (record_agrees is one_is)
             by_type is false passes = agree_apart behind (all_apart (λ one_is. absurd (cc (sym passes ∙ eq-eqb (word_at three (y + 2)) 1 one_is))))
@@ -376,17 +349,17 @@ module _ (shape : Dimensions) (opened : Anatomy) (at : ℕ → State) (first las
       -- so the look has its word
       pub still_shown : IsLook hd one two three image → word_at image (x + i) ≡ v
       still_shown look =
-          let from = still_from shape opened at run first x size tag next payload stood in
+          let from = claimed_from run first x (other size tag next payload) refl stood in
           let on = loaded.ordered.begins 7 seven in
           let over = loaded.ordered.second 7 7 seven seven in
           let beyond = loaded.ordered.third 7 7 seven seven in
-          let ends = block_below shape opened at run first (moments.three 7) x block (omega (arith, on, over, beyond)) stood in
-          list_word shape opened at first last moments one two three image run loaded look (x + i) (omega (arith, from)) (omega (arith, ends, inside))
+          let ends = block_below run first (moments.three 7) x block (omega (arith, on, over, beyond)) stood in
+          list_word copies image look (x + i) (omega (arith, from)) (omega (arith, ends, inside))
           ∙ agree_all hd one two three (x + i) v records
           (λ j behind lt.
-          let (same, g) = followed_is shape opened at first last moments one two three image run loaded j lt in
+          let (same, g) = followed_is copies image j lt in
           subst (λ (y : ℕ). Agree (link y behind ∷ record_patches hd one two three y) (x + i) v) (sym same) (agrees j g behind))
           (word_at three (x + i)) in_three
         where
           seven : 7 < shape.size
-          seven = let size_of = many shape opened at first last moments one two three run loaded in omega (arith, size_of)
+          seven = let size_of = many copies in omega (arith, size_of)

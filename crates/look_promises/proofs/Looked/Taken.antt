@@ -1,13 +1,11 @@
 -- What the anatomy of a look has: the records that it follows, and the counts that it takes of them, each as it is at the last moment but for what
 -- of it changes, which comes from the copies.
 use Rattle.segment_invariant.proofs.Prelude.Std.{◌≡◌, ◌≢◌, ℕ, ◌+◌, List, take, length, Contains}
-use Rattle.segment_invariant.proofs.Prelude.Machine.{Dimensions, State, word_at, buckets_of}
-use Rattle.segment_invariant.proofs.Prelude.Invariant.{Anatomy, order_of, Record, Counts, Sample, HasRecord, HasCounts, HasSample, Invariant}
-use Rattle.segment_looks.specs.Looks.{counts_reference, followed_records}
-use Rattle.look_promises.specs.Runs.{RunsThrough, Moments, AreLoaded}
+use Rattle.segment_invariant.proofs.Prelude.Machine.{word_at, buckets_of}
+use Rattle.segment_invariant.proofs.Prelude.Invariant.{Anatomy, order_of, Record, Counts, Sample, HasRecord, HasCounts, HasSample}
+use Rattle.segment_looks.specs.Looks.{counts_reference}
 use Rattle.look_promises.specs.Images.{looked_counts}
-use Rattle.look_promises.proofs.Runs.{kept_at}
-use Rattle.look_promises.proofs.Following.{head}
+use Rattle.look_promises.proofs.Copies.ThreeCopies.{ThreeCopies, seen_in}
 
 -- a record as a look has it, with a next
 abbrev pub record_looked : List ℕ → List ℕ → List ℕ → ℕ → ℕ → Record → Record
@@ -25,14 +23,9 @@ record_looked one two three at next r = record r {
 abbrev pub sample_looked : List ℕ → List ℕ → ℕ → ℕ → Sample → Sample
 sample_looked one two at next s = record s { next = next; units = word_at two (at + 6); mark = word_at one (at + 7) }
 
-module _ (shape : Dimensions) (opened : Anatomy) (at : ℕ → State) (first last : ℕ) (moments : Moments) (one two three image : List ℕ)
-    (run : RunsThrough shape opened at) (loaded : AreLoaded shape at first last moments one two three) where
-  abbrev late : Invariant shape opened (at last)
-  late = kept_at shape opened at run last
-
-  -- the records that it follows
-  abbrev pub records : List ℕ
-  records = followed_records (head shape opened at first last moments one two three run loaded) two
+module _ (copies : ThreeCopies) (image : List ℕ) where
+  open copies use {one, two, three}
+  open seen_in copies use {late, records}
 
   -- a record of the look is one that it follows
   pub record ARecord (x : ℕ) (q : Record) : Type 0 where

@@ -1,15 +1,15 @@
 -- What the histograms that are read of a look have used is no more than all units: it is no more than what was spent on them at the last
 -- moment, or is held.
 use Rattle.segment_invariant.proofs.Prelude.Std.{◌≡◌, ℕ, ◌+◌, ◌*◌, ◌/◌, ◌<◌, ◌≤◌, ℤ, pos, ◌-ℤ◌, +ℤ_idr, unsigned_abs, max, List, length, sum_by, if◌then◌else◌, inl, inr, refl, sym, ap, subst, ◌∙◌, arith, slice_index, w64, cast_signed, none, Contains, sum_at_least}
-use Rattle.segment_invariant.proofs.Prelude.Machine.{Dimensions, State, word_at, head_of, name_of, Histogram, Reading, Entry, is_of, cost_of, all_counted}
-use Rattle.segment_invariant.proofs.Prelude.Invariant.{Anatomy, Body, Piece, Record, histogram, Stands, HasRecord, summed_cost, noted_held, Invariant}
+use Rattle.segment_invariant.proofs.Prelude.Machine.{word_at, head_of, name_of, Histogram, Reading, Entry, is_of, cost_of, all_counted}
+use Rattle.segment_invariant.proofs.Prelude.Invariant.{Body, Piece, Record, histogram, words_of, Stands, HasRecord, summed_cost, noted_held}
 use Rattle.std.proofs.Math.Decide.{dec_lt}
 use Rattle.std.proofs.lemmas.List.Sums.{sum_by-le-sum_by}
 use Rattle.bucket_ranges.specs.Reading.{IsReading}
 use Rattle.image_rules.specs.Adoption.{units_for, used_by, used_of}
 use Rattle.segment_machine.specs.Actor.{all_costs}
-use Rattle.segment_looks.specs.Looks.{IsLook, followed_records}
-use Rattle.segment_invariant.specs.Invariant.{RecordsAreKept, summed_costs}
+use Rattle.segment_looks.specs.Looks.{IsLook}
+use Rattle.segment_invariant.specs.Invariant.{RecordsAreKept, IsSumOf, summed_costs}
 use Rattle.segment_invariant.specs.Words.{AreInBounds, WordsAreKept}
 use Rattle.segment_invariant.proofs.Blocks.Pieces.{piece_word}
 use Rattle.segment_invariant.proofs.Consistency.Firsts.{record_of_first}
@@ -23,14 +23,14 @@ use Rattle.segment_promises.proofs.Readings.Blocks.{words_read}
 use Rattle.segment_promises.proofs.Readings.Names.{read_first}
 use Rattle.segment_promises.proofs.Adopting.Sums.{covered}
 use Rattle.segment_promises.proofs.Adopting.Units.{under_key, spent_spread, sum_below}
-use Rattle.look_promises.specs.Runs.{RunsThrough, Moments, AreLoaded}
-use Rattle.look_promises.proofs.Runs.{kept_at, chain_at, reached}
-use Rattle.look_promises.proofs.Following.{head, whole, place_of}
-use Rattle.look_promises.proofs.Shown.{ends_at}
-use Rattle.look_promises.proofs.Starts.{not_yet}
-use Rattle.look_promises.proofs.Between.{between}
-use Rattle.look_promises.proofs.Room.{record_was, word_was}
-use Rattle.look_promises.proofs.Looked.Anatomy.{anatomy, shown, is_taken_so}
+use Rattle.look_promises.proofs.Moments.Runs.{Run, kept_at, chain_at, reached}
+use Rattle.look_promises.proofs.Copies.ThreeCopies.{ThreeCopies, seen_in, hd_of}
+use Rattle.look_promises.proofs.Copies.Following.{place_of}
+use Rattle.look_promises.proofs.Moments.Listed.{ends_at}
+use Rattle.look_promises.proofs.Making.Starts.{not_yet}
+use Rattle.look_promises.proofs.Copies.Between.{between}
+use Rattle.look_promises.proofs.Moments.Room.{record_was, word_was}
+use Rattle.look_promises.proofs.Looked.Anatomy.{seen_of, shown, is_taken_so}
 use Rattle.look_promises.proofs.Looked.Counting.{units_counted}
 use Rattle.look_promises.proofs.Looked.Reading.{kept}
 
@@ -40,18 +40,19 @@ rounded size units most = omega (arith, most)
 
 -- ---- sums that are loaded
 
-module _ (shape : Dimensions) (opened : Anatomy) (at : ℕ → State) (run : RunsThrough shape opened at) (last k : ℕ)
-    (below : k < length (chain_at shape opened at run last)) (r : Record)
-    (has : HasRecord (kept_at shape opened at run last).anatomy.pieces (slice_index (chain_at shape opened at run last) k) r) where
+module _ (run : Run) (last k : ℕ) (below : k < length (chain_at run last))
+    (r : Record) (has : HasRecord (kept_at run last).anatomy.pieces (slice_index (chain_at run last) k) r) where
+  open run use {shape, opened, at}
+
   abbrev h : ℕ
-  h = slice_index (chain_at shape opened at run last) k
+  h = slice_index (chain_at run last) k
 
   -- what its name has cost at a moment, in what sums have grown by
   abbrev pub costs : ℕ → ℕ
   costs t = summed_costs r.name (at t).actors
 
   pub costs_rise : (s t : ℕ) → s ≤ t → costs s ≤ costs t
-  costs_rise s t le = (states_rise shape opened (at s) (at t) (kept_at shape opened at run s) (reached shape opened at run s t le)).2.costs r.name
+  costs_rise s t le = (states_rise shape opened (at s) (at t) (kept_at run s) (reached run s t le)).2.costs r.name
 
   -- a sum, or its mark, is no more than that; i is its word
   abbrev IsNear : ℕ → ℕ → Type 0
@@ -60,46 +61,40 @@ module _ (shape : Dimensions) (opened : Anatomy) (at : ℕ → State) (run : Run
   nothing_near : (t i : ℕ) → word_at (at t).words (h + i) ≡ 0 → IsNear t i
   nothing_near t i nothing = subst (λ (n : ℕ). unsigned_abs (cast_signed w64 n) ≤ 2147483648 * costs t) (sym nothing) (omega arith)
 
-  pub sum_near : (t : ℕ) → t ≤ last → IsNear t 11
-  sum_near t le = elim (dec_lt k (length (chain_at shape opened at run t))) [
+  word_near : (t i : ℕ) → t ≤ last → 8 ≤ i → i ≤ 13 → ((q : Record) → IsSumOf (at t).actors h q (cast_signed w64 (slice_index (words_of (histogram q)) i))) → IsNear t i
+  word_near t i le from most is_sum = elim (dec_lt k (length (chain_at run t))) [
     | yes there ↦
-        let was = record_was shape opened at run t last k le r has there in
-        let word : word_at (at t).words (h + 11) ≡ was.of.sum = word_was shape opened at run t last k le r has there 11 (omega arith) in
+        let was = record_was run t last k le r has there in
+        let value : ℤ = cast_signed w64 (slice_index (words_of (histogram was.of)) i) in
+        let word = word_was run t last k le r has there i (omega (arith, most)) in
         let name : r.name ≡ was.of.name = ap (λ (z : Record). z.name) was.goes.is in
-        let near = (kept_at shape opened at run t).sums h was.of (cast_signed w64 was.of.sum) (pos 0) was.stands (inr (inl refl)) (inl refl) in
-        subst (λ (name : List ℕ). unsigned_abs (cast_signed w64 (word_at (at t).words (h + 11))) ≤ 2147483648 * summed_costs name (at t).actors) (sym name)
+        let near = (kept_at run t).sums h was.of value (pos 0) was.stands (is_sum was.of) (inl refl) in
+        subst (λ (name : List ℕ). unsigned_abs (cast_signed w64 (word_at (at t).words (h + i))) ≤ 2147483648 * summed_costs name (at t).actors) (sym name)
         (subst (λ (n : ℕ). unsigned_abs (cast_signed w64 n) ≤ 2147483648 * summed_costs was.of.name (at t).actors) (sym word)
-        (subst (λ (z : ℤ). unsigned_abs z ≤ 2147483648 * summed_costs was.of.name (at t).actors) (+ℤ_idr (cast_signed w64 was.of.sum)) near))
-    | no far ↦ nothing_near t 11 (not_yet shape opened at run t last k 11 le (histogram r) below (omega (arith, far)) has (omega arith, omega arith))
+        (subst (λ (z : ℤ). unsigned_abs z ≤ 2147483648 * summed_costs was.of.name (at t).actors) (+ℤ_idr value) near))
+    | no far ↦ nothing_near t i (not_yet run t last k i le (histogram r) below (omega (arith, far)) has (from, most))
   ]
 
+  pub sum_near : (t : ℕ) → t ≤ last → IsNear t 11
+  sum_near t le = word_near t 11 le (omega arith) (omega arith) (λ q. inr (inl refl))
+
   pub mark_near : (t : ℕ) → t ≤ last → IsNear t 12
-  mark_near t le = elim (dec_lt k (length (chain_at shape opened at run t))) [
-    | yes there ↦
-        let was = record_was shape opened at run t last k le r has there in
-        let word : word_at (at t).words (h + 12) ≡ was.of.sum_mark = word_was shape opened at run t last k le r has there 12 (omega arith) in
-        let name : r.name ≡ was.of.name = ap (λ (z : Record). z.name) was.goes.is in
-        let near = (kept_at shape opened at run t).sums h was.of (cast_signed w64 was.of.sum_mark) (pos 0) was.stands (inr (inr (inl refl))) (inl refl) in
-        subst (λ (name : List ℕ). unsigned_abs (cast_signed w64 (word_at (at t).words (h + 12))) ≤ 2147483648 * summed_costs name (at t).actors) (sym name)
-        (subst (λ (n : ℕ). unsigned_abs (cast_signed w64 n) ≤ 2147483648 * summed_costs was.of.name (at t).actors) (sym word)
-        (subst (λ (z : ℤ). unsigned_abs z ≤ 2147483648 * summed_costs was.of.name (at t).actors) (+ℤ_idr (cast_signed w64 was.of.sum_mark)) near))
-    | no far ↦ nothing_near t 12 (not_yet shape opened at run t last k 12 le (histogram r) below (omega (arith, far)) has (omega arith, omega arith))
-  ]
+  mark_near t le = word_near t 12 le (omega arith) (omega arith) (λ q. inr (inr (inl refl)))
 
   -- nor is their difference
   pub difference_near : (m n : ℕ) → m ≤ n → n ≤ last
       → unsigned_abs (cast_signed w64 (word_at (at n).words (h + 11)) -ℤ cast_signed w64 (word_at (at m).words (h + 12))) ≤ 2147483648 * costs n
-  difference_near m n order le = elim (dec_lt k (length (chain_at shape opened at run m))) [
+  difference_near m n order le = elim (dec_lt k (length (chain_at run m))) [
     | yes there ↦
         let early : m ≤ last = omega (arith, order, le) in
-        let was = record_was shape opened at run m last k early r has there in
-        let before = kept_at shape opened at run m in
-        let (next, rises, sums) = states_rise shape opened (at m) (at n) before (reached shape opened at run m n order) in
+        let was = record_was run m last k early r has there in
+        let before = kept_at run m in
+        let (next, rises, sums) = states_rise shape opened (at m) (at n) before (reached run m n order) in
         let (body, stands, (s, is, goes)) = rises.goes h (histogram was.of) refl was.stands in
         let now : HasRecord next.anatomy.pieces h s = subst (λ (b : Body). Stands next.anatomy.pieces h none b) is stands in
         let sum_word : word_at (at n).words (h + 11) ≡ s.sum =
         piece_word shape (at n).words next.anatomy next.shown now.0 (record { at = h; owner = none; body = histogram s }) 11 now.1 (omega arith) in
-        let mark_word : word_at (at m).words (h + 12) ≡ was.of.sum_mark = word_was shape opened at run m last k early r has there 12 (omega arith) in
+        let mark_word : word_at (at m).words (h + 12) ≡ was.of.sum_mark = word_was run m last k early r has there 12 (omega arith) in
         let name : r.name ≡ was.of.name = ap (λ (z : Record). z.name) was.goes.is in
         let way = distance_through (cast_signed w64 s.sum) (cast_signed w64 was.of.sum) (cast_signed w64 was.of.sum_mark) in
         let moved = sums.sums h was.of s was.stands now in
@@ -109,27 +104,17 @@ module _ (shape : Dimensions) (opened : Anatomy) (at : ℕ → State) (run : Run
         (subst (λ (p : ℕ × ℕ). unsigned_abs (cast_signed w64 p.0 -ℤ cast_signed w64 p.1) ≤ 2147483648 * summed_costs was.of.name (at n).actors) (λ i. (sym sum_word i, sym mark_word i)) most)
     | no far ↦
         let early : m ≤ last = omega (arith, order, le) in
-        let nothing = not_yet shape opened at run m last k 12 early (histogram r) below (omega (arith, far)) has (omega arith, omega arith) in
+        let nothing = not_yet run m last k 12 early (histogram r) below (omega (arith, far)) has (omega arith, omega arith) in
         subst (λ (n' : ℕ). unsigned_abs (cast_signed w64 (word_at (at n).words (h + 11)) -ℤ cast_signed w64 n') ≤ 2147483648 * costs n) (sym nothing)
         (subst (λ (z : ℤ). unsigned_abs z ≤ 2147483648 * costs n) (sym (+ℤ_idr (cast_signed w64 (word_at (at n).words (h + 11))))) (sum_near n le))
   ]
 
 -- ---- a look
 
-module _ (shape : Dimensions) (opened : Anatomy) (at : ℕ → State) (first last : ℕ) (moments : Moments) (one two three image : List ℕ)
-    (run : RunsThrough shape opened at) (loaded : AreLoaded shape at first last moments one two three)
-    (look : IsLook (head shape opened at first last moments one two three run loaded) one two three image) where
-  abbrev late : Invariant shape opened (at last)
-  late = kept_at shape opened at run last
-
-  abbrev list : List ℕ
-  list = whole shape opened at first last moments one two three run loaded
-
-  abbrev records : List ℕ
-  records = followed_records (head shape opened at first last moments one two three run loaded) two
-
-  abbrev of_look : Anatomy
-  of_look = anatomy shape opened at first last moments one two three image run loaded look
+module _ (copies : ThreeCopies) (image : List ℕ) (look : IsLook (hd_of copies) copies.one copies.two copies.three image) where
+  open copies use {run, shape, opened, at, last, moments, one, two, loaded}
+  open seen_in copies use {late, list}
+  open seen_of copies image look use {of_look}
 
   abbrev spent_on : List ℕ → ℕ
   spent_on name = all_costs (at last).actors name
@@ -143,7 +128,7 @@ module _ (shape : Dimensions) (opened : Anatomy) (at : ℕ → State) (first las
     x = slice_index list k
 
     spot : (i : ℕ) → i < 15 → x + i < shape.size
-    spot i lt = let ends = ends_at shape opened at run last x (histogram r) has in omega (arith, ends, lt)
+    spot i lt = let ends = ends_at run last x (histogram r) has in omega (arith, ends, lt)
 
     mark_moment : ℕ
     mark_moment = moments.one (x + 12)
@@ -165,11 +150,11 @@ module _ (shape : Dimensions) (opened : Anatomy) (at : ℕ → State) (first las
         let most = costs_most r.name in
         let n : ℕ = moments.two (x + 11) in
         let m : ℕ = moments.one (x + 12) in
-        let sum = sum_near shape opened at run last k below r has n le in
-        let mark = mark_near shape opened at run last k below r has m early in
-        let difference = difference_near shape opened at run last k below r has m n order le in
-        let rise = costs_rise shape opened at run last k below r has n last le in
-        let rise_mark = costs_rise shape opened at run last k below r has m last early in
+        let sum = sum_near run last k below r has n le in
+        let mark = mark_near run last k below r has m early in
+        let difference = difference_near run last k below r has m n order le in
+        let rise = costs_rise run last k below r has n last le in
+        let rise_mark = costs_rise run last k below r has m last early in
         let sum_is : unsigned_abs (cast_signed w64 (word_at (at n).words (x + 11))) ≤ 2147483648 * spent_on r.name = omega (arith, sum, rise, most) in
         let mark_is : unsigned_abs (cast_signed w64 (word_at (at m).words (x + 12))) ≤ 2147483648 * spent_on r.name = omega (arith, mark, rise_mark, most) in
         let difference_is : unsigned_abs (cast_signed w64 (word_at (at n).words (x + 11)) -ℤ cast_signed w64 (word_at (at m).words (x + 12))) ≤ 2147483648 * spent_on r.name =
@@ -184,7 +169,7 @@ module _ (shape : Dimensions) (opened : Anatomy) (at : ℕ → State) (first las
 
     pub noted_spent : word_at one (x + 13) ≤ spent_on r.name
     noted_spent =
-        let up = (between shape opened at first last moments one two three run loaded k 13 (histogram r) below has (inr refl)).0.1 in
+        let up = (between copies k 13 (histogram r) below has (inr refl)).0.1 in
         let mine = of_mine r.name r.name r.noted refl in
         let least = sum_at_least (λ (p : Piece). noted_held r.name p.body) late.anatomy.pieces has.0 (record { at = x; owner = none; body = histogram r }) has.1 in
         let balance = late.balanced.noted r.name in
@@ -194,7 +179,7 @@ module _ (shape : Dimensions) (opened : Anatomy) (at : ℕ → State) (first las
 
   module _ (kept_records : RecordsAreKept shape.page of_look) (bounds : AreInBounds image of_look) (reading : Reading) (is : IsReading image (head_of image) reading) where
     abbrev words_kept : WordsAreKept shape opened image
-    words_kept = kept shape opened at first last moments one two three image run loaded look kept_records bounds
+    words_kept = kept copies image look kept_records bounds
 
     module _ (h : Histogram) (there : Contains reading.hists h) where
       counts_spent : sum_by (λ count. count.1) h.counts ≤ spent_on h.name
@@ -207,7 +192,7 @@ module _ (shape : Dimensions) (opened : Anatomy) (at : ℕ → State) (first las
           let most = covered (λ (count : ℤ × ℕ). count.0) (λ (count : ℤ × ℕ). count.1) (λ (e : Entry). e.key) of_name h.counts entries
           (λ key.
           let read = blocks.units key in
-          let counted = units_counted shape opened at first last moments one two three image run loaded look kept_records h.name key kind h.reference its in
+          let counted = units_counted copies image look kept_records h.name key kind h.reference its in
           let under = under_key h.name entries key in
           omega (arith, read, counted, under)) in
           let spent = counted_covered shape opened (at last) late h.name in
@@ -217,9 +202,9 @@ module _ (shape : Dimensions) (opened : Anatomy) (at : ℕ → State) (first las
       used_spent =
           let (kind, x, made, its, same) = read_first shape opened image words_kept reading is h there in
           let (q, (stands, called, specified)) = record_of_first shape opened image words_kept.laid (name_of image x) kind x its in
-          let it = (is_taken_so shape opened at first last moments one two three image run loaded look).record_from x q stands in
+          let it = (is_taken_so copies image look).record_from x q stands in
           let r : Record = it.of in
-          let shows = shown shape opened at first last moments one two three image run loaded look in
+          let shows = shown copies image look in
           let sum_is : cast_signed w64 (word_at two (x + 11)) ≡ h.sum =
           sym (ap (cast_signed w64) (record_word shape image of_look shows x q 11 stands (omega arith) ∙ ap (λ (z : Record). z.sum) it.is)) ∙ ap (λ (h : Histogram). h.sum) made in
           let mark_is : cast_signed w64 (word_at one (x + 12)) ≡ h.sum_mark =
@@ -227,7 +212,7 @@ module _ (shape : Dimensions) (opened : Anatomy) (at : ℕ → State) (first las
           let noted_is : word_at one (x + 13) ≡ h.redundant =
           sym (record_word shape image of_look shows x q 13 stands (omega arith) ∙ ap (λ (z : Record). z.noted) it.is) ∙ ap (λ (h : Histogram). h.redundant) made in
           let name : r.name ≡ h.name = ap (λ (z : Record). z.name) (sym it.is) ∙ (called ∙ ap (λ (h : Histogram). h.name) made) in
-          let (k, below, place) = place_of shape opened at first last moments one two three run loaded x it.followed in
+          let (k, below, place) = place_of copies x it.followed in
           let has = subst (λ (n : ℕ). HasRecord late.anatomy.pieces n r) (sym place) it.stands in
           let (sum, mark, difference) = sums_spent k below r has in
           let noted = noted_spent k below r has in

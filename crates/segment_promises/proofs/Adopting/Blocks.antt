@@ -1,17 +1,18 @@
--- The records on the list of a kept state, and the counts blocks that they name, are apart.
+-- Of words that are laid out: the records on their list, and the counts blocks that these name, are apart.
 use Rattle.segment_invariant.proofs.Prelude.Std.{◌≡◌, ◌≢◌, ℕ, suc, ◌<◌, Bool, true, false, List, [], ◌∷◌, flat_map, Contains, inl, inr, ⊎_elim, refl, sym, ap, ◌∙◌, subst, arith, not, ◌&&◌, ◌==◌, if◌then◌else◌, eqb-true, cases_order, Contains-append_cases, some, none, some-injective, get_elem?, none_in, one_in, contains_at, below_length, index_at}
-use Rattle.segment_invariant.proofs.Prelude.Machine.{Dimensions, field_at, is_of_type, State}
-use Rattle.segment_invariant.proofs.Prelude.Invariant.{is_claimed, Piece, extent_of, Anatomy, order_of, Invariant}
+use Rattle.segment_invariant.proofs.Prelude.Machine.{Dimensions, field_at, is_of_type}
+use Rattle.segment_invariant.proofs.Prelude.Invariant.{is_claimed, Piece, extent_of, Anatomy, order_of}
 use Rattle.std.specs.Cmp.{first_so, second_so}
 use Rattle.alloc_core.specs.Laws.{Apart}
 use Rattle.list_core.proofs.Chains.{one_place}
+use Rattle.segment_invariant.specs.Words.{AreLaid}
 use Rattle.segment_invariant.proofs.Blocks.Pieces.{pieces_apart}
 use Rattle.segment_invariant.proofs.Consistency.Blocks.{claimed_piece}
-use Rattle.segment_invariant.proofs.Consistency.Held.{own_counts, counts_named}
 use Rattle.segment_invariant.proofs.Consistency.Records.{listed_there}
 use Rattle.segment_invariant.proofs.Walking.Walks.{listed_stands}
 use Rattle.segment_promises.specs.Adoption.{named_counts, blocks_of, run_at}
 use Rattle.segment_promises.proofs.Adopting.Distinct.{IsOnce, once_none, once_more, once_both, once_rows, among_rows}
+use Rattle.segment_promises.proofs.Adopting.Owned.{own_counts, counts_named}
 
 -- what a record names is its counts reference, where it is one of a histogram and names some
 pub named_is : (words : List ℕ) (at place : ℕ) → Contains (named_counts words at) place
@@ -38,10 +39,7 @@ named_once words at = by_test (is_of_type words 1 at && not (field_at words at 8
     by_test true = once_more (field_at words at 8) [] (none_in (field_at words at 8)) once_none
     by_test false = once_none
 
-module _ (shape : Dimensions) (opened : Anatomy) (state : State) (kept : Invariant shape opened state) where
-  abbrev words : List ℕ
-  words = state.words
-
+module _ (shape : Dimensions) (opened : Anatomy) (words : List ℕ) (kept : AreLaid shape opened words) where
   abbrev order : List ℕ
   order = order_of kept.anatomy
 
@@ -59,7 +57,7 @@ module _ (shape : Dimensions) (opened : Anatomy) (state : State) (kept : Invaria
   counts_claimed : (at place : ℕ) → Contains order at → Contains (named_counts words at) place → IsClaimedAt place × (¬ (Contains order place))
   counts_claimed at place there names =
       let (one, some_there, is) = named_is words at place names in
-      let ((body, (k, here), claimed), unlisted) = counts_named shape opened state kept at there one some_there in (
+      let ((body, (k, here), claimed), unlisted) = counts_named shape opened words kept at there one some_there in (
         (k, record { at = field_at words at 8; owner = none; body = body }, here, claimed, sym is),
         subst (λ (at : ℕ). ¬ (Contains order at)) (sym is) unlisted,
       )
@@ -77,7 +75,7 @@ module _ (shape : Dimensions) (opened : Anatomy) (state : State) (kept : Invaria
       (λ i j a b place here there mine also.
       let (one, some_there, is) = named_is words a place mine in
       let (other, as_well, same) = named_is words b place also in
-      let equal = own_counts shape opened state kept a b (contains_at order i a here) (contains_at order j b there) one other some_there (sym is ∙ same) in
+      let equal = own_counts shape opened words kept a b (contains_at order i a here) (contains_at order j b there) one other some_there (sym is ∙ same) in
       order_once i j a here (there ∙ ap some (sym equal))))
       (λ place listed named.
       let (i, at, here, names) = among_rows (named_counts words) order place named in

@@ -4,7 +4,11 @@ ghost use Rattle.std.specs.Prelude.{◌<◌, IfOk};
 ghost use Rattle.live_segment.specs.Holders.{SharesSegment};
 ghost use Rattle.live_segment.specs.RecorderState.{Knows};
 
-use live_segment::{CustomValues, Delta, Hist, Recorder, Refusal, Snapshot, Spec};
+use live_reading::{LiveReading, reading};
+use live_segment::{
+    CustomValues, Delta, Hist, LookFault, Recorder, Refusal, Segment, Snapshot, Spec,
+};
+use segment_image::Image;
 use std::alloc::Global;
 
 /// How many calls a thread makes.
@@ -38,7 +42,24 @@ pub(crate) struct Batch {
     pub(crate) sum: i64,
 }
 
-/// What a thread did: its recorder, its samples and batches, and what its deltas and snapshots returned.
+/// What a thread read of the whole segment, and how many samples and batches of its own had been accepted before.
+#[derive(Drop)]
+pub(crate) struct Read {
+    pub(crate) samples: usize,
+    pub(crate) batches: usize,
+    pub(crate) reading: LiveReading,
+}
+
+/// A look that a thread took at the segment, and how many samples and batches of its own had been accepted before.
+#[derive(Drop)]
+pub(crate) struct Look {
+    pub(crate) samples: usize,
+    pub(crate) batches: usize,
+    pub(crate) image: Result<Image, LookFault>,
+}
+
+/// What a thread did: its recorder, its samples and batches, what its deltas and snapshots returned, what it read of the
+/// segment, and its looks.
 #[derive(Drop)]
 pub(crate) struct Done<'a> {
     pub(crate) recorder: Recorder<'a>,
@@ -46,6 +67,8 @@ pub(crate) struct Done<'a> {
     pub(crate) batches: Vec<Batch>,
     pub(crate) deltas: Vec<(&'static str, Delta)>,
     pub(crate) snapshots: Vec<(&'static str, Snapshot)>,
+    pub(crate) reads: Vec<Read>,
+    pub(crate) looks: Vec<Look>,
 }
 
 // Numbers in no order (a linear congruence).
@@ -93,6 +116,7 @@ fn put<T: Drop>(list: &mut Vec<T>, item: T) -> Result<(), Refusal> {
 #[derive(Drop)]
 struct Caller<'a> {
     alloc: Global,
+    segment: &'a Segment,
     done: Done<'a>,
     histograms: Vec<(&'static str, Hist)>,
     numbers: Numbers,
@@ -185,6 +209,38 @@ impl<'a> Caller<'a> {
         put(&mut self.done.snapshots, (name, snapshot))
     }
 
+    fn read(&mut self) -> Result<(), Refusal>
+        ensures { SharesSegment self.old.done.recorder self.new.done.recorder }
+    {
+        let samples = self.done.samples.len();
+        let batches = self.done.batches.len();
+        let reading = reading(self.alloc, &mut self.done.recorder)?;
+        put(
+            &mut self.done.reads,
+            Read {
+                samples,
+                batches,
+                reading,
+            },
+        )
+    }
+
+    fn look_at_all(&mut self) -> Result<(), Refusal>
+        ensures { SharesSegment self.old.done.recorder self.new.done.recorder }
+    {
+        let samples = self.done.samples.len();
+        let batches = self.done.batches.len();
+        let image = self.segment.look(self.alloc);
+        put(
+            &mut self.done.looks,
+            Look {
+                samples,
+                batches,
+                image,
+            },
+        )
+    }
+
     // The next call.
     fn call(&mut self) -> Result<(), Refusal>
         ensures { SharesSegment self.old.done.recorder self.new.done.recorder }
@@ -201,6 +257,8 @@ impl<'a> Caller<'a> {
             0 => self.take(name, histogram),
             1 => self.look(name, histogram),
             2..=4 => self.batch(name, histogram),
+            5 => self.read(),
+            6 => self.look_at_all(),
             _ => self.add(name, histogram),
         }
     }
@@ -209,6 +267,7 @@ impl<'a> Caller<'a> {
 /// Makes the calls of a thread, as a seed decides.
 pub(crate) fn run<'a>(
     alloc: Global,
+    segment: &'a Segment,
     mut recorder: Recorder<'a>,
     seed: u32,
 ) -> Result<Done<'a>, Refusal>
@@ -217,12 +276,15 @@ pub(crate) fn run<'a>(
     let histograms = meet_all(alloc, &mut recorder, seed as usize % NAMES.len())?;
     let mut worker = Caller {
         alloc,
+        segment,
         done: Done {
             recorder,
             samples: Vec::new(alloc),
             batches: Vec::new(alloc),
             deltas: Vec::new(alloc),
             snapshots: Vec::new(alloc),
+            reads: Vec::new(alloc),
+            looks: Vec::new(alloc),
         },
         histograms,
         numbers: Numbers { state: seed },

@@ -4,7 +4,9 @@ ghost use Rattle.std.specs.Prelude.{◌≡◌, ◌<◌, ℕ, length, slice_index
 ghost use Rattle.live_segment.specs.Holders.{IsMadeWith, RecordsInto, SharesSegment};
 
 use crate::threads::calls::{Done, NAMES, UNITS, run, spec_of};
-use crate::threads::lines::{show_batch, show_delta, show_sample, show_snapshot};
+use crate::threads::lines::{
+    show_batch, show_delta, show_look, show_read, show_sample, show_snapshot,
+};
 use anyhow::Result;
 use live_segment::{Opener, Recorder, Refusal, Segment};
 use reading_shows::{Form, write_text};
@@ -17,9 +19,10 @@ const SIZE: u64 = 16_384;
 
 const PAGE: u64 = 1024;
 
-// A recorder, and the seed of its thread.
+// The segment, a recorder of it, and the seed of the recorder's thread.
 #[derive(Drop)]
 pub(crate) struct Job<'a> {
+    pub(crate) segment: &'a Segment,
     pub(crate) recorder: Recorder<'a>,
     pub(crate) seed: u32,
 }
@@ -58,7 +61,11 @@ fn prepare<'a>(
     for thread in 0..threads {
         let recorder = recorder_for(segment, opener, limit)?;
         let seed = seed.wrapping_mul(256).wrapping_add(u32::from(thread));
-        jobs.push(Job { recorder, seed })?;
+        jobs.push(Job {
+            segment,
+            recorder,
+            seed,
+        })?;
     }
     Ok(jobs)
 }
@@ -76,13 +83,18 @@ fn run_all<'a, R: Threads + Sync>(
         rt,
         jobs,
         &|job| {
-            let Job { recorder, seed } = job;
-            run(alloc, recorder, seed)
+            let Job {
+                segment,
+                recorder,
+                seed,
+            } = job;
+            run(alloc, segment, recorder, seed)
         },
     )
 }
 
-fn show_done(rt: &impl Print, done: &Done) -> io::Result<()> {
+fn show_done(rt: &(impl Print + AllocGlobal), done: &Done) -> io::Result<()> {
+    println!(rt; "thread")?;
     for sample in done.samples.iter() {
         show_sample(rt, *sample)?;
     }
@@ -95,12 +107,18 @@ fn show_done(rt: &impl Print, done: &Done) -> io::Result<()> {
     for (name, snapshot) in done.snapshots.iter() {
         show_snapshot(rt, name, snapshot)?;
     }
+    for read in done.reads.iter() {
+        show_read(rt, read)?;
+    }
+    for look in done.looks.iter() {
+        show_look(rt, look)?;
+    }
     Ok(())
 }
 
 // Prints what each thread did, and joins its recorder.
 fn show_all(
-    rt: &impl Print,
+    rt: &(impl Print + AllocGlobal),
     segment: &Segment,
     opener: &mut Opener,
     all: Vec<Result<Done, Refusal>>,

@@ -1,4 +1,4 @@
-use Rattle.look_promises.proofs.Others.{copies_keep_others}
+use Rattle.look_promises.proofs.Copies.Others.{copies_keep_others}
 use Rattle.look_promises.proofs.laws.copies_keep_others.Goals as goal
 
 pub returns : goal.returns

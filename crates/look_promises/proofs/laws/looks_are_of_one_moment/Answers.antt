@@ -1,4 +1,4 @@
-use Rattle.look_promises.proofs.OneMoment.{looks_are_of_one_moment}
+use Rattle.look_promises.proofs.Amounts.OneMoment.{looks_are_of_one_moment}
 use Rattle.look_promises.proofs.laws.looks_are_of_one_moment.Goals as goal
 
 pub returns : goal.returns

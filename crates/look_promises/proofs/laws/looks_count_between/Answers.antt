@@ -1,4 +1,4 @@
-use Rattle.look_promises.proofs.Between.{looks_count_between}
+use Rattle.look_promises.proofs.Copies.Between.{looks_count_between}
 use Rattle.look_promises.proofs.laws.looks_count_between.Goals as goal
 
 pub returns : goal.returns

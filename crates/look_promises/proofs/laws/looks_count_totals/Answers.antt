@@ -1,4 +1,4 @@
-use Rattle.look_promises.proofs.Totals.{looks_count_totals}
+use Rattle.look_promises.proofs.Amounts.Totals.{looks_count_totals}
 use Rattle.look_promises.proofs.laws.looks_count_totals.Goals as goal
 
 pub returns : goal.returns

@@ -1,4 +1,4 @@
-use Rattle.look_promises.proofs.Cleared.{looks_end_in_zeros}
+use Rattle.look_promises.proofs.Words.Cleared.{looks_end_in_zeros}
 use Rattle.look_promises.proofs.laws.looks_end_in_zeros.Goals as goal
 
 pub returns : goal.returns

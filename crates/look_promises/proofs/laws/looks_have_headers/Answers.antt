@@ -1,4 +1,4 @@
-use Rattle.look_promises.proofs.Headers.{looks_have_headers}
+use Rattle.look_promises.proofs.Copies.Headers.{looks_have_headers}
 use Rattle.look_promises.proofs.laws.looks_have_headers.Goals as goal
 
 pub returns : goal.returns

@@ -1,4 +1,4 @@
-use Rattle.look_promises.proofs.Sums.{looks_have_sums}
+use Rattle.look_promises.proofs.Amounts.Sums.{looks_have_sums}
 use Rattle.look_promises.proofs.laws.looks_have_sums.Goals as goal
 
 pub returns : goal.returns

@@ -1,4 +1,4 @@
-use Rattle.look_promises.proofs.Unpacked.{looks_mark_packed}
+use Rattle.look_promises.proofs.Amounts.Unpacked.{looks_mark_packed}
 use Rattle.look_promises.proofs.laws.looks_mark_packed.Goals as goal
 
 pub returns : goal.returns

@@ -1,4 +1,4 @@
-use Rattle.look_promises.proofs.References.{looks_name_counts}
+use Rattle.look_promises.proofs.Copies.References.{looks_name_counts}
 use Rattle.look_promises.proofs.laws.looks_name_counts.Goals as goal
 
 pub returns : goal.returns

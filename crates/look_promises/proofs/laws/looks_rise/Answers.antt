@@ -1,4 +1,4 @@
-use Rattle.look_promises.proofs.Rising.{looks_rise}
+use Rattle.look_promises.proofs.Amounts.Rising.{looks_rise}
 use Rattle.look_promises.proofs.laws.looks_rise.Goals as goal
 
 pub returns : goal.returns

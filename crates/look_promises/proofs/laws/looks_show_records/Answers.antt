@@ -1,4 +1,4 @@
-use Rattle.look_promises.proofs.Images.{looks_show_records}
+use Rattle.look_promises.proofs.Words.Images.{looks_show_records}
 use Rattle.look_promises.proofs.laws.looks_show_records.Goals as goal
 
 pub returns : goal.returns

@@ -1,4 +1,4 @@
-use Rattle.std.proofs.Common.{ap, arith}
+use Rattle.std.proofs.Common.{◌∙◌, ap, arith}
 use Rattle.std.proofs.lemmas.Option.{IfSome_then}
 use Rattle.sum_texts.specs.Lines.{end_fields}
 use Rattle.sum_texts.specs.Runs.{bytes_of}
@@ -7,11 +7,7 @@ use Rattle.sum_texts.proofs.LineLacks.{lacks_end}
 use Rattle.sum_texts.proofs.lines.end_at.Goals as goal
 
 pub returns-clause-found : goal.returns-clause-found
-returns-clause-found c =
-    IfSome_then c.end_in.result c.end_in.ensures.found (λ parts found.
-    said c.args.line.now (bytes_of c.deref.result.now) (bytes_of c.in_ok-fields.fields.items) (end_fields parts) c.in_ok-fields.ensures (ap bytes_of c.deref.ensures.value) found)
+returns-clause-found c = IfSome_then c.end_in.result c.end_in.ensures.found (λ parts. said c.args.line.now _ (end_fields parts) (ap bytes_of c.deref.ensures.value ∙ c.in_ok-fields.ensures))
 
 pub returns-clause-only : goal.returns-clause-only
-returns-clause-only c parts fits is =
-    c.end_in.ensures.only parts fits
-    (unsaid c.args.line.now (bytes_of c.deref.result.now) (bytes_of c.in_ok-fields.fields.items) _ _ (lacks_end 44 parts (omega arith) fits) c.in_ok-fields.ensures (ap bytes_of c.deref.ensures.value) is)
+returns-clause-only c parts fits is = c.end_in.ensures.only parts fits (unsaid c.args.line.now _ _ _ (lacks_end 44 parts (omega arith) fits) (ap bytes_of c.deref.ensures.value ∙ c.in_ok-fields.ensures) is)

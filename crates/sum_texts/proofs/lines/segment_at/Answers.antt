@@ -1,4 +1,4 @@
-use Rattle.std.proofs.Common.{ap, arith}
+use Rattle.std.proofs.Common.{◌∙◌, ap, arith}
 use Rattle.std.proofs.lemmas.Option.{IfSome_then}
 use Rattle.sum_texts.specs.Lines.{segment_fields}
 use Rattle.sum_texts.specs.Runs.{bytes_of}
@@ -7,11 +7,7 @@ use Rattle.sum_texts.proofs.LineLacks.{lacks_segment}
 use Rattle.sum_texts.proofs.lines.segment_at.Goals as goal
 
 pub returns-clause-found : goal.returns-clause-found
-returns-clause-found c =
-    IfSome_then c.segment_in.result c.segment_in.ensures.found (λ segment found.
-    said c.args.line.now (bytes_of c.deref.result.now) (bytes_of c.in_ok-fields.fields.items) (segment_fields segment) c.in_ok-fields.ensures (ap bytes_of c.deref.ensures.value) found)
+returns-clause-found c = IfSome_then c.segment_in.result c.segment_in.ensures.found (λ segment. said c.args.line.now _ (segment_fields segment) (ap bytes_of c.deref.ensures.value ∙ c.in_ok-fields.ensures))
 
 pub returns-clause-only : goal.returns-clause-only
-returns-clause-only c segment fits is =
-    c.segment_in.ensures.only segment fits
-    (unsaid c.args.line.now (bytes_of c.deref.result.now) (bytes_of c.in_ok-fields.fields.items) _ _ (lacks_segment 44 segment (omega arith) fits) c.in_ok-fields.ensures (ap bytes_of c.deref.ensures.value) is)
+returns-clause-only c segment fits is = c.segment_in.ensures.only segment fits (unsaid c.args.line.now _ _ _ (lacks_segment 44 segment (omega arith) fits) (ap bytes_of c.deref.ensures.value ∙ c.in_ok-fields.ensures) is)

@@ -1,0 +1,639 @@
+#define _GNU_SOURCE /* O_NOFOLLOW and the like */
+
+#include <dirent.h>
+#include <errno.h>
+#include <fcntl.h>
+#include <inttypes.h>
+#include <pthread.h>
+#include <stdio.h>
+#include <stdlib.h>
+#include <string.h>
+#include <sys/file.h>
+#include <sys/stat.h>
+#include <unistd.h>
+
+#include "povundiri_folder_parts.h"
+
+/* How often the texts of a folder begin again, and how many segments are folded at once. */
+enum { MOST_TIMES = 16, MOST_FOLDED = 256 };
+
+/* ---- What is open in this process ---- */
+
+/* Held while a descriptor is opened or closed, and while the process forks. */
+static pthread_mutex_t mutex = PTHREAD_MUTEX_INITIALIZER;
+static struct povundiri_held *all;
+static pthread_once_t once = PTHREAD_ONCE_INIT;
+static bool is_watched;
+
+static void before_fork(void) { pthread_mutex_lock(&mutex); }
+
+static void in_parent(void) { pthread_mutex_unlock(&mutex); }
+
+static void in_child(void) {
+    struct povundiri_held *held;
+    for (held = all; held != NULL; held = held->next) close(held->descriptor);
+    all = NULL;
+    pthread_mutex_unlock(&mutex);
+}
+
+static void watch(void) { is_watched = povundiri_fork_generation() != 0 && pthread_atfork(before_fork, in_parent, in_child) == 0; }
+
+bool povundiri_folder_watch(void) {
+    pthread_once(&once, watch);
+    return is_watched;
+}
+
+int povundiri_parts_open(struct povundiri_held *held, const char *path, int flags) {
+    int fault;
+    do {
+        pthread_mutex_lock(&mutex);
+        held->descriptor = open(path, flags | O_CLOEXEC | O_NOCTTY | O_NONBLOCK | O_NOFOLLOW, 0600);
+        fault = held->descriptor < 0 ? errno : 0;
+        if (fault == 0) {
+            held->next = all;
+            all = held;
+        }
+        pthread_mutex_unlock(&mutex);
+    } while (fault == EINTR);
+    return fault;
+}
+
+/* In a child that was forked meanwhile it is not there any more. */
+void povundiri_parts_close(struct povundiri_held *held) {
+    struct povundiri_held **link;
+    pthread_mutex_lock(&mutex);
+    for (link = &all; *link != NULL && *link != held;) link = &(*link)->next;
+    if (*link == held) {
+        *link = held->next;
+        close(held->descriptor);
+    }
+    pthread_mutex_unlock(&mutex);
+}
+
+static int lock(int descriptor) {
+    while (flock(descriptor, LOCK_EX | LOCK_NB) != 0) {
+        if (errno != EINTR) return errno == EWOULDBLOCK ? EBUSY : errno;
+    }
+    return 0;
+}
+
+/* Opens a regular file and takes its lock: EBUSY if somebody has it; ENOENT if the path leads to another file by now, or to none. */
+int povundiri_parts_open_locked(struct povundiri_held *held, const char *path, struct stat *about) {
+    struct stat named;
+    int fault = povundiri_parts_open(held, path, O_RDONLY);
+    if (fault != 0) return fault;
+    fault = lock(held->descriptor);
+    if (fault == 0 && fstat(held->descriptor, about) != 0) fault = errno;
+    if (fault == 0 && fstatat(AT_FDCWD, path, &named, AT_SYMLINK_NOFOLLOW) != 0) fault = errno;
+    if (fault == 0 && (named.st_dev != about->st_dev || named.st_ino != about->st_ino)) fault = ENOENT;
+    if (fault == 0 && !S_ISREG(about->st_mode)) fault = EINVAL;
+    if (fault != 0) povundiri_parts_close(held);
+    return fault;
+}
+
+/* ---- Bytes ---- */
+
+static int read_all(int descriptor, char *to, size_t bytes, size_t *got) {
+    *got = 0;
+    while (*got < bytes) {
+        const ssize_t more = pread(descriptor, to + *got, bytes - *got, (off_t)*got);
+        if (more < 0 && errno != EINTR) return errno;
+        if (more == 0) break;
+        if (more > 0) *got += (size_t)more;
+    }
+    return 0;
+}
+
+static int write_all(int descriptor, const char *from, size_t bytes) {
+    size_t done = 0;
+    while (done < bytes) {
+        const ssize_t more = write(descriptor, from + done, bytes - done);
+        if (more < 0 && errno != EINTR) return errno;
+        if (more > 0) done += (size_t)more;
+    }
+    return 0;
+}
+
+static int sync_descriptor(int descriptor) {
+    while (fsync(descriptor) != 0) {
+        if (errno != EINTR) return errno;
+    }
+    return 0;
+}
+
+static int sync_folder(const char *folder) {
+    struct povundiri_held held;
+    int fault = povundiri_parts_open(&held, folder, O_RDONLY | O_DIRECTORY);
+    if (fault != 0) return fault;
+    fault = sync_descriptor(held.descriptor);
+    povundiri_parts_close(&held);
+    return fault;
+}
+
+/* ---- Names ---- */
+
+int povundiri_parts_join(char *path, const char *folder, const char *name) {
+    const int length = snprintf(path, POVUNDIRI_PATH_BYTES, "%s/%s", folder, name);
+    return length < 0 || length >= POVUNDIRI_PATH_BYTES ? ENAMETOOLONG : 0;
+}
+
+static void name_of(char *name, uint64_t number, const char *kind) { snprintf(name, LONGEST_NAME, "%010" PRIu64 ".%s", number, kind); }
+
+int povundiri_parts_path(char *path, const char *folder, uint64_t number, const char *kind) {
+    char name[LONGEST_NAME];
+    name_of(name, number, kind);
+    return povundiri_parts_join(path, folder, name);
+}
+
+/* The number of a file of this kind, as it is spelled; 0 if it is none. */
+static uint64_t number_of(const char *name, const char *kind) {
+    char spelled[LONGEST_NAME];
+    char *end;
+    uint64_t number;
+    if (name[0] < '0' || name[0] > '9') return 0;
+    errno = 0;
+    number = strtoull(name, &end, 10);
+    if (errno != 0 || number == 0 || *end != '.') return 0;
+    name_of(spelled, number, kind);
+    return strcmp(spelled, name) == 0 ? number : 0;
+}
+
+/* ---- What stands in a folder ---- */
+
+int povundiri_parts_each(const char *folder, povundiri_each_name *call, void *context) {
+    struct povundiri_held held;
+    const struct dirent *entry;
+    DIR *names;
+    int fault = povundiri_parts_open(&held, folder, O_RDONLY | O_DIRECTORY), copy;
+    if (fault != 0) return fault;
+    /* The stream has a descriptor of its own, without a lock. */
+    copy = fcntl(held.descriptor, F_DUPFD_CLOEXEC, 0);
+    names = copy < 0 ? NULL : fdopendir(copy);
+    if (names == NULL) {
+        fault = errno;
+        if (copy >= 0) close(copy);
+        povundiri_parts_close(&held);
+        return fault;
+    }
+    do {
+        errno = 0;
+        entry = readdir(names);
+        if (entry == NULL) {
+            fault = errno;
+        } else if (strcmp(entry->d_name, ".") != 0 && strcmp(entry->d_name, "..") != 0) {
+            fault = call(context, entry->d_name);
+        }
+    } while (entry != NULL && fault == 0);
+    closedir(names);
+    povundiri_parts_close(&held);
+    return fault;
+}
+
+static int list_name(void *context, const char *name) {
+    struct povundiri_listing *listing = (struct povundiri_listing *)context;
+    const uint64_t number = number_of(name, "seg"), damaged = number_of(name, "damaged");
+    listing->is_empty = false;
+    if (strcmp(name, "recording") == 0) listing->is_marked = true;
+    if (number > listing->last) listing->last = number;
+    if (damaged > listing->last) listing->last = damaged;
+    if (number == 0) return 0;
+    if (listing->count == listing->room) {
+        const size_t room = listing->room == 0 ? 64 : 2 * listing->room;
+        uint64_t *const numbers = (uint64_t *)realloc(listing->numbers, room * sizeof *numbers);
+        if (numbers == NULL) return ENOMEM;
+        listing->numbers = numbers;
+        listing->room = room;
+    }
+    listing->numbers[listing->count] = number;
+    listing->count += 1;
+    return 0;
+}
+
+static int ascending(const void *one, const void *other) {
+    const uint64_t a = *(const uint64_t *)one, b = *(const uint64_t *)other;
+    return (a > b) - (a < b);
+}
+
+/* `numbers` are for free(), also after a fault. */
+int povundiri_parts_list(const char *folder, struct povundiri_listing *listing) {
+    const struct povundiri_listing none = {NULL, 0, 0, 0, false, true};
+    int fault;
+    *listing = none;
+    fault = povundiri_parts_each(folder, list_name, listing);
+    if (listing->count > 1) qsort(listing->numbers, listing->count, sizeof *listing->numbers, ascending);
+    return fault;
+}
+
+int povundiri_folder_count(const char *folder, uint64_t *segments) {
+    struct povundiri_listing listing;
+    int fault, state;
+    if (folder == NULL || segments == NULL) return EINVAL;
+    if (!povundiri_folder_watch()) return ENOMEM;
+    pthread_setcancelstate(PTHREAD_CANCEL_DISABLE, &state);
+    fault = povundiri_parts_list(folder, &listing);
+    pthread_setcancelstate(state, NULL);
+    *segments = listing.count;
+    free(listing.numbers);
+    return fault;
+}
+
+/* ---- Totals ---- */
+
+void povundiri_parts_free(struct povundiri_totals_file *totals) {
+    free(totals->text);
+    free(totals->of);
+}
+
+/* Reads a file whole, and a zero behind it. It is for free(). */
+static int read_file(const char *path, char **bytes, size_t *length) {
+    struct povundiri_held held;
+    struct stat about;
+    int fault = povundiri_parts_open(&held, path, O_RDONLY);
+    *bytes = NULL;
+    *length = 0;
+    if (fault != 0) return fault;
+    if (fstat(held.descriptor, &about) != 0) fault = errno;
+    if (fault == 0 && !S_ISREG(about.st_mode)) fault = EINVAL;
+    if (fault == 0) {
+        *bytes = (char *)malloc((size_t)about.st_size + 1);
+        fault = *bytes == NULL ? ENOMEM : read_all(held.descriptor, *bytes, (size_t)about.st_size, length);
+    }
+    if (fault == 0) (*bytes)[*length] = 0;
+    povundiri_parts_close(&held);
+    return fault;
+}
+
+/* The lines `of` and `fold` of a text that povundiri_sums_add_totals has taken: so they are as they have to be. */
+static int parse_totals(struct povundiri_totals_file *totals) {
+    const char *line = totals->text;
+    size_t room = 0;
+    for (; line != NULL && *line != 0; line = strchr(line, '\n'), line = line == NULL ? NULL : line + 1) {
+        char *end;
+        if (strncmp(line, "fold,", 5) == 0) totals->serial = strtoull(line + 5, NULL, 10);
+        if (strncmp(line, "of,", 3) != 0) continue;
+        if (totals->count == room) {
+            struct povundiri_named *of;
+            room = room == 0 ? 64 : 2 * room;
+            of = (struct povundiri_named *)realloc(totals->of, room * sizeof *of);
+            if (of == NULL) return ENOMEM;
+            totals->of = of;
+        }
+        totals->of[totals->count].number = strtoull(line + 3, &end, 10);
+        totals->of[totals->count].id = *end == ',' ? strtoull(end + 1, NULL, 10) : 0;
+        totals->count += 1;
+    }
+    return 0;
+}
+
+/* No file is a totals without text. */
+int povundiri_parts_totals(const char *folder, struct povundiri_totals_file *totals) {
+    const struct povundiri_totals_file none = {NULL, 0, NULL, 0, 0};
+    char path[POVUNDIRI_PATH_BYTES];
+    int fault = povundiri_parts_join(path, folder, "totals");
+    *totals = none;
+    if (fault == 0) fault = read_file(path, &totals->text, &totals->length);
+    if (fault == ENOENT) return 0;
+    return fault == 0 ? parse_totals(totals) : fault;
+}
+
+bool povundiri_parts_names(const struct povundiri_totals_file *totals, uint64_t number, uint64_t id) {
+    size_t i;
+    for (i = 0; i < totals->count; i += 1) {
+        if (totals->of[i].number == number && totals->of[i].id == id) return true;
+    }
+    return false;
+}
+
+/* The sum of the totals, in an empty handle. */
+static uint32_t begin_sums(const struct povundiri_totals_file *totals, struct povundiri_handle *sums) {
+    uint32_t status = povundiri_sums_new(sums);
+    if (status == POVUNDIRI_DONE && totals->text != NULL) status = povundiri_sums_add_totals(sums, totals->text, totals->length, NULL);
+    return status;
+}
+
+/* ---- Images ---- */
+
+/* Reads the image of a final segment. `bytes` are for free(), also after a fault. */
+int povundiri_parts_image(int descriptor, off_t length, struct povundiri_image *image) {
+    size_t got = 0, there;
+    int fault;
+    image->bytes = NULL;
+    image->words = NULL;
+    image->count = 0;
+    if (length > MOST_BYTES) return EFBIG;
+    image->bytes = (uint64_t *)calloc((size_t)length / WORD + 1 + HEADER_WORDS, WORD);
+    if (image->bytes == NULL) return ENOMEM;
+    fault = read_all(descriptor, (char *)image->bytes, (size_t)length, &got);
+    image->words = image->bytes + 1;
+    there = got < WORD ? 0 : got / WORD - 1;
+    image->count = image->words[SIZE_AT] != 0 && image->words[SIZE_AT] < there ? (size_t)image->words[SIZE_AT] : there;
+    return fault;
+}
+
+bool povundiri_parts_is_fault(uint32_t status) { return status >= POVUNDIRI_IMAGE_TOO_SHORT && status <= POVUNDIRI_IMAGE_BAD_QUEUE; }
+
+/* ---- The sum of a folder ---- */
+
+/* Adds a look at a segment, if the totals do not name it. */
+static uint32_t add_look(const char *path, uint64_t number, const struct povundiri_totals_file *totals, struct povundiri_handle *sums,
+                         uint64_t *left, int *fault) {
+    uint64_t *words = NULL;
+    size_t length = 0;
+    uint32_t status = povundiri_file_look(path, &words, &length, fault);
+    if (povundiri_parts_is_fault(status) || status == POVUNDIRI_ADOPT_OLD_VERSION) {
+        *left += 1;
+        return POVUNDIRI_DONE;
+    }
+    if (status == POVUNDIRI_DONE && !povundiri_parts_names(totals, number, words[ID_AT])) {
+        status = povundiri_sums_add(sums, number, words, length);
+    }
+    free(words);
+    return status;
+}
+
+static uint32_t add_looks(const char *folder, const struct povundiri_listing *listing, const struct povundiri_totals_file *totals,
+                          struct povundiri_handle *sums, uint64_t *left, int *fault) {
+    uint32_t status = POVUNDIRI_DONE;
+    char path[POVUNDIRI_PATH_BYTES];
+    size_t i;
+    *left = 0;
+    for (i = 0; i < listing->count && status == POVUNDIRI_DONE; i += 1) {
+        *fault = povundiri_parts_path(path, folder, listing->numbers[i], "seg");
+        status = *fault != 0 ? (uint32_t)POVUNDIRI_SYSTEM : add_look(path, listing->numbers[i], totals, sums, left, fault);
+    }
+    return status;
+}
+
+/* Whether a fold has ended since these totals were read. */
+static int look_for_fold(const char *folder, const struct povundiri_totals_file *totals, bool *has_ended) {
+    struct povundiri_totals_file now;
+    const int fault = povundiri_parts_totals(folder, &now);
+    *has_ended = fault == 0 && (now.serial != totals->serial || (now.text == NULL) != (totals->text == NULL));
+    povundiri_parts_free(&now);
+    return fault;
+}
+
+/* Once; `again` if a fold ended meanwhile: then nothing is in the handle. */
+static uint32_t sums_once(const char *folder, struct povundiri_handle *sums, uint64_t *left, int *fault, bool *again) {
+    struct povundiri_totals_file totals;
+    struct povundiri_listing listing = {NULL, 0, 0, 0, false, true};
+    uint32_t status = POVUNDIRI_SYSTEM;
+    *again = false;
+    *fault = povundiri_parts_totals(folder, &totals);
+    if (*fault == 0) *fault = povundiri_parts_list(folder, &listing);
+    if (*fault == 0 && !listing.is_marked) *fault = EINVAL;
+    if (*fault == 0) status = begin_sums(&totals, sums);
+    if (status == POVUNDIRI_DONE) status = add_looks(folder, &listing, &totals, sums, left, fault);
+    if (status == POVUNDIRI_SYSTEM && *fault == ENOENT && listing.is_marked) *again = true;
+    if (status == POVUNDIRI_DONE) {
+        *fault = look_for_fold(folder, &totals, again);
+        if (*fault != 0) status = POVUNDIRI_SYSTEM;
+    }
+    if (status != POVUNDIRI_DONE || *again) povundiri_sums_drop(sums);
+    free(listing.numbers);
+    povundiri_parts_free(&totals);
+    return status == POVUNDIRI_SYSTEM && *fault == ENOMEM ? (uint32_t)POVUNDIRI_NO_MEMORY : status;
+}
+
+uint32_t povundiri_folder_sums(const char *folder, struct povundiri_handle *sums, uint64_t *left, int *fault) {
+    uint64_t own = 0;
+    uint32_t status = POVUNDIRI_BUSY;
+    bool again = true;
+    int times, state;
+    if (folder == NULL || sums == NULL || fault == NULL) return POVUNDIRI_NULL;
+    if (sums->full) return POVUNDIRI_NOT_EMPTY;
+    *fault = 0;
+    if (!povundiri_folder_watch()) return POVUNDIRI_NO_MEMORY;
+    pthread_setcancelstate(PTHREAD_CANCEL_DISABLE, &state);
+    for (times = 0; times < MOST_TIMES && again; times += 1) {
+        status = sums_once(folder, sums, left != NULL ? left : &own, fault, &again);
+    }
+    pthread_setcancelstate(state, NULL);
+    if (again) status = POVUNDIRI_BUSY;
+    if (status != POVUNDIRI_SYSTEM) *fault = 0;
+    return status;
+}
+
+/* ---- Folding ---- */
+
+/* A segment whose lock is held, since it is final. */
+struct final {
+    struct povundiri_held held;
+    struct povundiri_named named;
+};
+
+/* What is known of a fold. */
+struct fold {
+    const char *folder;
+    struct povundiri_totals_file totals; /* of the segments that they name at last only such as still stand, and the greatest */
+    struct povundiri_listing listing;
+    struct povundiri_handle sums;
+    struct final *finals; /* that are added */
+    size_t count;
+};
+
+/* Removes a file that the totals name, under its lock. False if it still stands. */
+static bool is_removed(const char *folder, const struct povundiri_named *named) {
+    struct povundiri_held held;
+    struct stat about;
+    struct povundiri_image image;
+    char path[POVUNDIRI_PATH_BYTES];
+    bool removed;
+    int fault = povundiri_parts_path(path, folder, named->number, "seg");
+    if (fault == 0) fault = povundiri_parts_open_locked(&held, path, &about);
+    if (fault == ENOENT) return true;
+    if (fault != 0) return false;
+    /* Another segment of that number stays: it is not in the totals. */
+    removed = povundiri_parts_image(held.descriptor, about.st_size, &image) == 0 && (image.words[ID_AT] != named->id || unlink(path) == 0);
+    free(image.bytes);
+    povundiri_parts_close(&held);
+    return removed;
+}
+
+/* Removes what the totals name already. They need not name it any more then, but for the greatest number. */
+static int remove_named(struct fold *fold) {
+    struct povundiri_totals_file *const totals = &fold->totals;
+    size_t i, kept = 0;
+    uint64_t greatest = 0;
+    if (totals->count == 0) return 0;
+    for (i = 0; i < totals->count; i += 1) {
+        if (totals->of[i].number > greatest) greatest = totals->of[i].number;
+    }
+    for (i = 0; i < totals->count; i += 1) {
+        const struct povundiri_named named = totals->of[i];
+        const bool removed = is_removed(fold->folder, &named);
+        if (removed && named.number != greatest) continue;
+        totals->of[kept] = named;
+        kept += 1;
+    }
+    totals->count = kept;
+    return sync_folder(fold->folder);
+}
+
+/* Adds a segment, if it is final and the totals do not name it, and keeps its lock. */
+static uint32_t add_final(struct fold *fold, uint64_t number, int *fault) {
+    struct final *const final = &fold->finals[fold->count];
+    struct povundiri_image image = {NULL, NULL, 0};
+    struct stat about;
+    char path[POVUNDIRI_PATH_BYTES];
+    uint32_t status = POVUNDIRI_DONE;
+    *fault = povundiri_parts_path(path, fold->folder, number, "seg");
+    if (*fault == 0) *fault = povundiri_parts_open_locked(&final->held, path, &about);
+    if (*fault == EBUSY || *fault == ENOENT || *fault == EINVAL || *fault == EACCES || *fault == ELOOP) {
+        *fault = 0;
+        return POVUNDIRI_DONE;
+    }
+    if (*fault != 0) return POVUNDIRI_SYSTEM;
+    *fault = povundiri_parts_image(final->held.descriptor, about.st_size, &image);
+    final->named.number = number;
+    final->named.id = image.bytes != NULL ? image.words[ID_AT] : 0;
+    if (*fault != 0) {
+        status = POVUNDIRI_SYSTEM;
+    } else if (!povundiri_parts_names(&fold->totals, number, final->named.id)) {
+        status = povundiri_sums_add(&fold->sums, number, image.words, image.count);
+        if (status == POVUNDIRI_DONE) fold->count += 1;
+    }
+    if (fold->count == 0 || &fold->finals[fold->count - 1] != final) povundiri_parts_close(&final->held);
+    free(image.bytes);
+    return povundiri_parts_is_fault(status) || status == POVUNDIRI_TOO_MANY ? (uint32_t)POVUNDIRI_DONE : status;
+}
+
+static uint32_t add_finals(struct fold *fold, int *fault) {
+    uint32_t status = POVUNDIRI_DONE;
+    size_t i;
+    for (i = 0; i < fold->listing.count && fold->count < MOST_FOLDED && status == POVUNDIRI_DONE; i += 1) {
+        status = add_final(fold, fold->listing.numbers[i], fault);
+    }
+    return status;
+}
+
+/* The text of the new totals: that of the sum, and before its last line the segments that are in it, and the serial. For free(). */
+static uint32_t text_of(struct fold *fold, char **text, size_t *length) {
+    enum { LONGEST_LINE = 64 };
+    const size_t lines = fold->totals.count + fold->count + 1;
+    size_t needed = 0, at, end, i;
+    char last[LONGEST_LINE] = "";
+    uint32_t status = povundiri_sums_totals(&fold->sums, NULL, 0, &needed);
+    if (status != POVUNDIRI_SHORT) return status;
+    *text = (char *)malloc(needed + lines * LONGEST_LINE);
+    if (*text == NULL) return POVUNDIRI_NO_MEMORY;
+    status = povundiri_sums_totals(&fold->sums, *text, needed, &needed);
+    if (status != POVUNDIRI_DONE) return status;
+    for (end = needed - 1; end > 0 && (*text)[end - 1] != '\n';) end -= 1;
+    if (needed - end >= sizeof last) return POVUNDIRI_BAD_TOTALS;
+    memcpy(last, *text + end, needed - end);
+    at = end;
+    for (i = 0; i < fold->totals.count + fold->count; i += 1) {
+        const struct povundiri_named *const named =
+            i < fold->totals.count ? &fold->totals.of[i] : &fold->finals[i - fold->totals.count].named;
+        at += (size_t)snprintf(*text + at, LONGEST_LINE, "of,%" PRIu64 ",%" PRIu64 "\n", named->number, named->id);
+    }
+    at += (size_t)snprintf(*text + at, LONGEST_LINE, "fold,%" PRIu64 "\n", fold->totals.serial + 1);
+    memcpy(*text + at, last, needed - end);
+    *length = at + (needed - end);
+    return POVUNDIRI_DONE;
+}
+
+/* Writes a file beside its place, syncs it, and gives it its place. Only whoever has the lock of folds comes here. */
+static int put_totals(const char *folder, const char *text, size_t length) {
+    struct povundiri_held held;
+    char path[POVUNDIRI_PATH_BYTES], place[POVUNDIRI_PATH_BYTES];
+    int fault = povundiri_parts_join(path, folder, "totals.new");
+    if (fault == 0) fault = povundiri_parts_join(place, folder, "totals");
+    if (fault == 0) fault = povundiri_parts_open(&held, path, O_WRONLY | O_CREAT | O_TRUNC);
+    if (fault != 0) return fault;
+    fault = write_all(held.descriptor, text, length);
+    if (fault == 0) fault = sync_descriptor(held.descriptor);
+    povundiri_parts_close(&held);
+    if (fault == 0 && rename(path, place) != 0) fault = errno;
+    if (fault != 0) {
+        unlink(path);
+        return fault;
+    }
+    return sync_folder(folder);
+}
+
+/* The totals are in their place: what is in them is removed. */
+static void remove_finals(const struct fold *fold) {
+    char path[POVUNDIRI_PATH_BYTES];
+    size_t i;
+    for (i = 0; i < fold->count; i += 1) {
+        if (povundiri_parts_path(path, fold->folder, fold->finals[i].named.number, "seg") == 0) unlink(path);
+    }
+}
+
+/* Under the lock of folds. */
+static uint32_t fold_locked(struct fold *fold, int *fault) {
+    uint32_t status = POVUNDIRI_SYSTEM;
+    char *text = NULL;
+    size_t length = 0;
+    *fault = povundiri_parts_totals(fold->folder, &fold->totals);
+    if (*fault == 0) status = begin_sums(&fold->totals, &fold->sums);
+    if (status != POVUNDIRI_DONE) return status;
+    *fault = remove_named(fold);
+    if (*fault == 0) *fault = povundiri_parts_list(fold->folder, &fold->listing);
+    status = *fault == 0 ? add_finals(fold, fault) : (uint32_t)POVUNDIRI_SYSTEM;
+    if (status != POVUNDIRI_DONE || fold->count == 0) return status;
+    status = text_of(fold, &text, &length);
+    if (status == POVUNDIRI_DONE) {
+        *fault = put_totals(fold->folder, text, length);
+        if (*fault != 0) status = POVUNDIRI_SYSTEM;
+    }
+    free(text);
+    if (status == POVUNDIRI_DONE) remove_finals(fold);
+    return status;
+}
+
+static uint32_t fold_once(const char *folder, uint64_t *folded, int *fault) {
+    struct fold fold = {folder, {NULL, 0, NULL, 0, 0}, {NULL, 0, 0, 0, false, true}, {false, NULL}, NULL, 0};
+    uint32_t status;
+    size_t i;
+    fold.finals = (struct final *)calloc(MOST_FOLDED, sizeof *fold.finals);
+    status = fold.finals == NULL ? (uint32_t)POVUNDIRI_NO_MEMORY : fold_locked(&fold, fault);
+    *folded = status == POVUNDIRI_DONE ? fold.count : 0;
+    for (i = 0; i < fold.count; i += 1) povundiri_parts_close(&fold.finals[i].held);
+    free(fold.finals);
+    free(fold.listing.numbers);
+    povundiri_parts_free(&fold.totals);
+    if (fold.sums.full) povundiri_sums_drop(&fold.sums);
+    return status == POVUNDIRI_SYSTEM && *fault == ENOMEM ? (uint32_t)POVUNDIRI_NO_MEMORY : status;
+}
+
+static uint32_t fold_all(const char *folder, uint64_t *folded, int *fault) {
+    struct povundiri_held held;
+    struct povundiri_listing listing;
+    char path[POVUNDIRI_PATH_BYTES];
+    uint64_t more = MOST_FOLDED;
+    uint32_t status = POVUNDIRI_SYSTEM;
+    *fault = povundiri_parts_list(folder, &listing);
+    free(listing.numbers);
+    if (*fault == 0 && !listing.is_marked) *fault = EINVAL;
+    if (*fault == 0) *fault = povundiri_parts_join(path, folder, "fold.lock");
+    if (*fault == 0) *fault = povundiri_parts_open(&held, path, O_RDWR | O_CREAT);
+    if (*fault != 0) return status;
+    *fault = lock(held.descriptor);
+    if (*fault == 0) {
+        do {
+            status = fold_once(folder, &more, fault);
+            *folded += more;
+        } while (status == POVUNDIRI_DONE && more == MOST_FOLDED);
+    }
+    povundiri_parts_close(&held);
+    return *fault == EBUSY ? (uint32_t)POVUNDIRI_BUSY : status;
+}
+
+uint32_t povundiri_folder_fold(const char *folder, uint64_t *folded, int *fault) {
+    uint64_t own = 0;
+    uint32_t status;
+    int state;
+    if (folder == NULL || fault == NULL) return POVUNDIRI_NULL;
+    *fault = 0;
+    if (!povundiri_folder_watch()) return POVUNDIRI_NO_MEMORY;
+    if (folded == NULL) folded = &own;
+    *folded = 0;
+    pthread_setcancelstate(PTHREAD_CANCEL_DISABLE, &state);
+    status = fold_all(folder, folded, fault);
+    pthread_setcancelstate(state, NULL);
+    if (status != POVUNDIRI_SYSTEM) *fault = 0;
+    return status;
+}

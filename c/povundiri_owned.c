@@ -1,0 +1,215 @@
+#define _GNU_SOURCE /* renameat2 */
+
+#include <errno.h>
+#include <fcntl.h>
+#include <inttypes.h>
+#include <stdio.h>
+#include <stdlib.h>
+#include <string.h>
+#include <unistd.h>
+
+#include "povundiri_folder_parts.h"
+
+/* ---- Entering a folder ---- */
+
+/* Marks an empty folder as a recording's. EEXIST if it is another one. */
+static int mark(const char *folder) {
+    struct povundiri_listing listing;
+    struct povundiri_held held;
+    char path[POVUNDIRI_PATH_BYTES];
+    int fault = povundiri_parts_list(folder, &listing);
+    free(listing.numbers);
+    if (fault != 0 || listing.is_marked) return fault;
+    fault = povundiri_parts_join(path, folder, "recording");
+    if (fault != 0) return fault;
+    if (!listing.is_empty) {
+        /* Another process may have marked it, and begun, after the list was read. */
+        struct stat about;
+        return fstatat(AT_FDCWD, path, &about, AT_SYMLINK_NOFOLLOW) == 0 ? 0 : EEXIST;
+    }
+    fault = povundiri_parts_open(&held, path, O_WRONLY | O_CREAT);
+    if (fault == 0) povundiri_parts_close(&held);
+    return fault;
+}
+
+/* Removes a spare that nobody holds: whoever made it was killed. */
+static int sweep_name(void *context, const char *name) {
+    struct povundiri_held held;
+    struct stat about;
+    char path[POVUNDIRI_PATH_BYTES];
+    if (strncmp(name, "spare-", 6) != 0 || povundiri_parts_join(path, (const char *)context, name) != 0) return 0;
+    if (povundiri_parts_open_locked(&held, path, &about) != 0) return 0;
+    unlink(path);
+    povundiri_parts_close(&held);
+    return 0;
+}
+
+int povundiri_folder_enter(const char *folder, char **absolute) {
+    char place[POVUNDIRI_PATH_BYTES];
+    int fault;
+    *absolute = NULL;
+    if (!povundiri_folder_watch()) return ENOMEM;
+    if (mkdir(folder, 0700) != 0 && errno != EEXIST) return errno;
+    *absolute = realpath(folder, NULL);
+    if (*absolute == NULL) return errno;
+    fault = strlen(*absolute) + LONGEST_NAME < sizeof place ? mark(*absolute) : ENAMETOOLONG;
+    if (fault == 0) povundiri_parts_each(*absolute, sweep_name, *absolute);
+    if (fault != 0) {
+        free(*absolute);
+        *absolute = NULL;
+    }
+    return fault;
+}
+
+/* ---- Segments of this process ---- */
+
+static struct povundiri_owned *new_owned(void) { return (struct povundiri_owned *)calloc(1, sizeof(struct povundiri_owned)); }
+
+void povundiri_folder_release(struct povundiri_owned *owned) {
+    if (owned == NULL) return;
+    if (owned->number == 0 && povundiri_file_is_open(&owned->file)) unlink(owned->path);
+    if (owned->segment.full) povundiri_drop(&owned->segment);
+    povundiri_file_close(&owned->file);
+    free(owned);
+}
+
+/* Whether nothing was begun in it. */
+static bool is_unmade(const struct povundiri_image *image) {
+    size_t i;
+    for (i = 0; i < image->count + (image->count < HEADER_WORDS ? HEADER_WORDS : 0); i += 1) {
+        if (image->words[i] != 0) return false;
+    }
+    return true;
+}
+
+/* Never over another file. */
+static int set_aside(const char *folder, const char *path, uint64_t number, char *name) {
+    int fault = povundiri_parts_path(name, folder, number, "damaged");
+    if (fault == 0 && renameat2(AT_FDCWD, path, AT_FDCWD, name, RENAME_NOREPLACE) != 0) {
+        fault = errno == EINVAL || errno == ENOSYS ? (link(path, name) == 0 && unlink(path) == 0 ? 0 : errno) : errno;
+    }
+    if (fault != 0) name[0] = 0;
+    return fault;
+}
+
+/* Whether the newest may be opened as a segment of this shape: it is final, and has it, or nothing was begun there. One whose header has a
+ * fault gets another name. */
+static bool may_adopt(const char *folder, uint64_t number, const char *path, struct povundiri_shape shape, struct povundiri_found *found) {
+    struct povundiri_held held;
+    struct stat about;
+    struct povundiri_image image;
+    bool may = false;
+    if (povundiri_parts_open_locked(&held, path, &about) != 0) return false;
+    if (povundiri_parts_image(held.descriptor, about.st_size, &image) == 0) {
+        const uint32_t status = povundiri_report_bounded(image.words, image.count, NULL, 0, NULL, 0);
+        if (is_unmade(&image)) {
+            may = true;
+        } else if (povundiri_parts_is_fault(status)) {
+            found->refused = status;
+            set_aside(folder, path, number, found->set_aside);
+        } else {
+            may = image.words[SIZE_AT] == shape.size && image.words[PAGE_AT] == shape.page && image.words[VERSION_AT] == shape.version;
+        }
+    }
+    free(image.bytes);
+    povundiri_parts_close(&held);
+    return may;
+}
+
+/* Whether the totals have what is in a segment: whoever folded it was killed before it removed it. Its lock is held, so no fold adds it
+ * meanwhile. */
+static bool is_folded(const char *folder, const struct povundiri_owned *owned, uint64_t id) {
+    struct povundiri_totals_file totals;
+    const bool is = povundiri_parts_totals(folder, &totals) != 0 || povundiri_parts_names(&totals, owned->number, id);
+    povundiri_parts_free(&totals);
+    return is;
+}
+
+uint32_t povundiri_folder_adopt(const char *folder, struct povundiri_shape shape, struct povundiri_found *found, int *fault) {
+    struct povundiri_listing listing;
+    struct povundiri_opened opened;
+    struct povundiri_owned *owned;
+    uint64_t number = 0;
+    uint32_t status;
+    memset(found, 0, sizeof *found);
+    *fault = povundiri_parts_list(folder, &listing);
+    if (*fault == 0 && listing.count > 0) number = listing.numbers[listing.count - 1];
+    free(listing.numbers);
+    if (*fault != 0) return POVUNDIRI_SYSTEM;
+    owned = number == 0 ? NULL : new_owned();
+    if (owned == NULL) return number == 0 ? POVUNDIRI_DONE : POVUNDIRI_NO_MEMORY;
+    owned->number = number;
+    if (povundiri_parts_path(owned->path, folder, number, "seg") != 0 || !may_adopt(folder, number, owned->path, shape, found)) {
+        free(owned);
+        return POVUNDIRI_DONE;
+    }
+    status = povundiri_open(owned->path, shape, POVUNDIRI_ADOPT_OR_FAIL, NULL, &owned->file, &owned->segment, &opened);
+    if (status == POVUNDIRI_DONE && !opened.spent && !is_folded(folder, owned, opened.shape.id)) {
+        found->adopted = owned;
+        return status;
+    }
+    /* It stays under its name, and is read like any other. */
+    found->refused = status;
+    povundiri_folder_release(owned);
+    return POVUNDIRI_DONE;
+}
+
+uint32_t povundiri_folder_spare(const char *folder, struct povundiri_shape shape, uint64_t random, struct povundiri_owned **spare,
+                                int *fault) {
+    struct povundiri_owned *const owned = new_owned();
+    struct povundiri_opened opened;
+    char name[LONGEST_NAME];
+    uint32_t status;
+    *spare = NULL;
+    *fault = 0;
+    if (owned == NULL) return POVUNDIRI_NO_MEMORY;
+    snprintf(name, sizeof name, "spare-%ld-%016" PRIx64, (long)getpid(), random);
+    *fault = povundiri_parts_join(owned->path, folder, name);
+    status = *fault != 0 ? (uint32_t)POVUNDIRI_SYSTEM
+                         : povundiri_open(owned->path, shape, POVUNDIRI_ADOPT_OR_FAIL, NULL, &owned->file, &owned->segment, &opened);
+    if (status == POVUNDIRI_DONE) {
+        *spare = owned;
+        return status;
+    }
+    if (status == POVUNDIRI_SYSTEM && *fault == 0) {
+        *fault = opened.fault;
+        /* It was made, and is empty. */
+        unlink(owned->path);
+    }
+    free(owned);
+    return status;
+}
+
+/* The number that comes behind all that stand, and all that the totals name. */
+static int next_number(const char *folder, uint64_t *number) {
+    struct povundiri_listing listing;
+    struct povundiri_totals_file totals;
+    size_t i;
+    int fault = povundiri_parts_list(folder, &listing);
+    free(listing.numbers);
+    if (fault != 0) return fault;
+    fault = povundiri_parts_totals(folder, &totals);
+    for (i = 0; i < totals.count; i += 1) {
+        if (totals.of[i].number > listing.last) listing.last = totals.of[i].number;
+    }
+    povundiri_parts_free(&totals);
+    *number = listing.last + 1;
+    return fault;
+}
+
+int povundiri_folder_commit(const char *folder, struct povundiri_owned *spare) {
+    char path[POVUNDIRI_PATH_BYTES];
+    uint64_t number = 0;
+    int fault = next_number(folder, &number);
+    if (fault != 0) return fault;
+    do {
+        fault = povundiri_parts_path(path, folder, number, "seg");
+        if (fault == 0 && link(spare->path, path) != 0) fault = errno;
+        if (fault == EEXIST) number += 1;
+    } while (fault == EEXIST);
+    if (fault != 0) return fault;
+    unlink(spare->path);
+    spare->number = number;
+    memcpy(spare->path, path, sizeof path);
+    return 0;
+}

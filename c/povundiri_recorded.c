@@ -1,0 +1,108 @@
+/* What a recording's folder has, as texts, with what this process has missed behind them. */
+
+#include <inttypes.h>
+#include <stdio.h>
+#include <stdlib.h>
+#include <string.h>
+
+#include "povundiri_recording.h"
+
+static const char *const REASONS[POVUNDIRI_MISSED_REASONS] = {"too_large", "other_spec", "no_space", "rolling",
+                                                              "forked",    "ended",      "no_memory"};
+
+uint32_t povundiri_recording_sums(struct povundiri_recording *recording, struct povundiri_handle *sums, uint64_t *left, int *fault) {
+    return recording == NULL ? (uint32_t)POVUNDIRI_NULL : povundiri_folder_sums(povundiri_recording_folder(recording), sums, left, fault);
+}
+
+uint32_t povundiri_recording_fold(struct povundiri_recording *recording, uint64_t *folded, int *fault) {
+    return recording == NULL ? (uint32_t)POVUNDIRI_NULL : povundiri_folder_fold(povundiri_recording_folder(recording), folded, fault);
+}
+
+/* Which text, and what is asked of it. */
+struct asked {
+    enum { REPORT, EXPORT, SHOW } what;
+    const char *prefix;
+    uint16_t width;
+};
+
+static uint32_t text_call(struct povundiri_handle *sums, const struct asked *asked, char *text, size_t room, size_t *needed) {
+    if (asked->what == EXPORT) return povundiri_sums_export(sums, asked->prefix, text, room, needed);
+    if (asked->what == SHOW) return povundiri_sums_show(sums, asked->width, text, room, needed);
+    return povundiri_sums_report(sums, text, room, needed);
+}
+
+/* What is written behind the text of the sum, into room for it; the bytes of it. */
+static size_t write_behind(const struct povundiri_recording *recording, const struct asked *asked, uint64_t left, char *text, size_t room) {
+    const char *const prefix = asked->prefix != NULL ? asked->prefix : "povundiri";
+    size_t at = 0, i;
+#define PUT(...) at += (size_t)snprintf(room > at ? text + at : NULL, room > at ? room - at : 0, __VA_ARGS__)
+    if (asked->what == REPORT && left > 0) PUT("!left,%" PRIu64 "\n", left);
+    if (asked->what == EXPORT) {
+        PUT("# HELP %s_missed_total Units that were not counted, by reason.\n", prefix);
+        PUT("# TYPE %s_missed_total counter\n", prefix);
+    }
+    for (i = 0; i < POVUNDIRI_MISSED_REASONS; i += 1) {
+        const uint64_t missed = povundiri_recording_missed(recording, (enum povundiri_missed)i);
+        if (asked->what == EXPORT) PUT("%s_missed_total{reason=\"%s\"} %" PRIu64 "\n", prefix, REASONS[i], missed);
+        if (asked->what == REPORT && missed > 0) PUT("!missed,%s,%" PRIu64 "\n", REASONS[i], missed);
+        if (asked->what == SHOW && missed > 0) PUT("missed, %s: %" PRIu64 "\n", REASONS[i], missed);
+    }
+#undef PUT
+    return at;
+}
+
+/* The text, for free(), with a zero behind it. */
+static uint32_t text_of(const struct povundiri_recording *recording, struct povundiri_handle *sums, const struct asked *asked,
+                        uint64_t left, char **text, size_t *length) {
+    enum { MOST_BEHIND = 4096 };
+    const size_t behind = MOST_BEHIND + (asked->prefix != NULL ? 16 * strlen(asked->prefix) : 0);
+    size_t needed = 0;
+    uint32_t status = text_call(sums, asked, NULL, 0, &needed);
+    if (status != POVUNDIRI_SHORT && status != POVUNDIRI_DONE) return status;
+    *text = (char *)malloc(needed + behind + 1);
+    if (*text == NULL) return POVUNDIRI_NO_MEMORY;
+    status = text_call(sums, asked, *text, needed, &needed);
+    if (status == POVUNDIRI_DONE) {
+        *length = needed + write_behind(recording, asked, left, *text + needed, behind);
+        (*text)[*length] = 0;
+    } else {
+        free(*text);
+        *text = NULL;
+    }
+    return status;
+}
+
+static uint32_t text(struct povundiri_recording *recording, const struct asked *asked, char **text_at, size_t *length, int *fault) {
+    struct povundiri_handle sums = {false, NULL};
+    uint64_t left = 0;
+    uint32_t status;
+    if (recording == NULL || text_at == NULL || length == NULL || fault == NULL) return POVUNDIRI_NULL;
+    *text_at = NULL;
+    *length = 0;
+    status = povundiri_folder_sums(povundiri_recording_folder(recording), &sums, &left, fault);
+    if (status == POVUNDIRI_DONE) status = text_of(recording, &sums, asked, left, text_at, length);
+    if (sums.full) povundiri_sums_drop(&sums);
+    return status;
+}
+
+uint32_t povundiri_recording_report(struct povundiri_recording *recording, char **text_at, size_t *length, int *fault) {
+    const struct asked asked = {REPORT, NULL, 0};
+    return text(recording, &asked, text_at, length, fault);
+}
+
+uint32_t povundiri_recording_show(struct povundiri_recording *recording, uint16_t width, char **text_at, size_t *length, int *fault) {
+    const struct asked asked = {SHOW, NULL, width};
+    return text(recording, &asked, text_at, length, fault);
+}
+
+/* It folds first, where there are many segments; whether that is done makes no difference to the text. */
+uint32_t povundiri_recording_export(struct povundiri_recording *recording, const char *prefix, char **text_at, size_t *length, int *fault) {
+    const struct asked asked = {EXPORT, prefix, 0};
+    uint64_t segments = 0, folded = 0;
+    int of_fold = 0;
+    if (recording != NULL && povundiri_folder_count(povundiri_recording_folder(recording), &segments) == 0 &&
+        segments >= povundiri_recording_fold_at(recording)) {
+        (void)!povundiri_folder_fold(povundiri_recording_folder(recording), &folded, &of_fold);
+    }
+    return text(recording, &asked, text_at, length, fault);
+}

@@ -1,0 +1,736 @@
+#define _GNU_SOURCE /* getrandom */
+
+#include "povundiri_recording.h"
+
+#include <errno.h>
+#include <pthread.h>
+#include <stdlib.h>
+#include <string.h>
+#include <sys/random.h>
+#include <time.h>
+#include <unistd.h>
+
+/* How many threads have a recorder of their own in a segment; further ones share one. A segment has at most 256. */
+enum { MOST_RECORDERS = 250 };
+
+/* How many units a thread borrows at once; how often a sample is tried again in a new segment. */
+enum { LEASE = 1 << 20, MOST_TRIES = 8 };
+
+/* The state of a thread is on lines of the cache of its own. */
+enum { LINE = 64 };
+
+static const uint64_t SECOND = 1000000000, USUAL_APART = 1000000, USUAL_BYTES = 1 << 20, USUAL_FOLD_AT = 64;
+
+/* The turn of a thread that has no recorder, and that of a recording that has no segment. No segment has either. */
+static const uint64_t NO_RECORDER = UINT64_MAX, NO_SEGMENT = 0;
+
+/* In place of the number of a histogram that was not asked for in this segment. */
+static const size_t NOT_ASKED = SIZE_MAX;
+
+/* What a thread has of a recording; or what the threads above the most share. */
+struct local {
+    uint64_t turn; /* that of the segment which its recorder is of */
+    struct povundiri_handle recorder;
+    size_t *hists; /* by metric */
+    size_t known;
+    struct povundiri_owned *owned;
+    struct povundiri_recording *recording;
+};
+
+/* What a thread has of all. */
+struct table {
+    struct local **locals; /* by the recording's place; some are null */
+    size_t count;
+};
+
+struct metric {
+    char *name;
+    size_t length;
+    struct povundiri_spec spec;
+    uint32_t *values;
+    size_t count;
+    bool is_too_large; /* a segment without any other has no room for it: then none is begun for it */
+};
+
+enum state { RECORDS, HAS_ENDED, IS_FORKED };
+
+struct povundiri_recording {
+    /* The number of the present segment, counted from 1 on in this process. Only this is read without the mutex. */
+    uint64_t turn;
+    size_t place;
+    uint64_t missed[POVUNDIRI_MISSED_REASONS];
+
+    /* Set once. */
+    struct povundiri_recording *next;
+    char *folder;
+    struct povundiri_shape shape;
+    struct povundiri_recording_options options;
+
+    pthread_mutex_t mutex; /* for all that follows */
+    enum state state;
+    struct povundiri_owned *current, *spare, *old;
+    struct local shared;
+    struct metric **metrics;
+    size_t count;
+    uint64_t turns;    /* how many segments there were */
+    uint64_t began_at; /* when the present one was begun, in nanoseconds; 0: at the start */
+    uint64_t again_at; /* when a segment may be made again, after that was refused */
+    bool is_preparing; /* some thread makes a spare */
+};
+
+/* The recordings, and how many there were. They are never freed. The mutex is taken before any recording's. */
+static pthread_mutex_t list_mutex = PTHREAD_MUTEX_INITIALIZER;
+static struct povundiri_recording *recordings;
+static size_t places;
+
+static pthread_once_t once = PTHREAD_ONCE_INIT;
+static pthread_key_t key;
+static bool is_ready;
+
+/* The state of this thread, found by one load also in a shared object. A thread that has ended its state shares a recorder from then on. */
+#define OWN static __thread __attribute__((tls_model("initial-exec")))
+OWN struct table *own;
+OWN bool is_ending;
+#undef OWN
+
+/* ---- Time and chance ---- */
+
+static uint64_t now(void) {
+    struct timespec time;
+    clock_gettime(CLOCK_MONOTONIC, &time);
+    return (uint64_t)time.tv_sec * SECOND + (uint64_t)time.tv_nsec;
+}
+
+/* A number for an id, or for a name. */
+static uint64_t random_of(const struct povundiri_recording *recording) {
+    static uint64_t last;
+    uint64_t number = 0;
+    if (recording->options.random != NULL) return recording->options.random(recording->options.context);
+    if (getrandom(&number, sizeof number, GRND_NONBLOCK) == (ssize_t)sizeof number) return number;
+    /* Early at the start of the machine there is no chance yet. */
+    return (now() * 0x9E3779B97F4A7C15U) ^ ((uint64_t)getpid() << 32) ^ __atomic_add_fetch(&last, 1, __ATOMIC_RELAXED);
+}
+
+/* The shape of segments in so many bytes, as povundiri::shape_for has it. */
+static struct povundiri_shape shape_for(uint64_t bytes) {
+    const uint64_t words = bytes / 8, pages = words / 4096 + (words % 4096 != 0), page = pages == 0 ? 0 : words / pages / 16 * 16;
+    const struct povundiri_shape shape = {words > 1048576 ? words : pages * page, page, 0, 0, 2};
+    return shape;
+}
+
+static void miss(struct povundiri_recording *recording, enum povundiri_missed reason, uint32_t count) {
+    __atomic_fetch_add(&recording->missed[reason], count, __ATOMIC_RELAXED);
+}
+
+/* ---- Segments: the mutex is held ---- */
+
+static void set_turn(struct povundiri_recording *recording, uint64_t turn) { __atomic_store_n(&recording->turn, turn, __ATOMIC_RELAXED); }
+
+/* Gives up an old segment that has no recorder of this process any more: so it is final. */
+static void let_go(struct povundiri_recording *recording, struct povundiri_owned *owned) {
+    struct povundiri_owned **link = &recording->old;
+    if (owned == recording->current || owned->recorders > 0) return;
+    while (*link != owned) link = &(*link)->next;
+    *link = owned->next;
+    povundiri_folder_release(owned);
+}
+
+static void clear(struct local *local) {
+    size_t i;
+    local->turn = NO_RECORDER;
+    local->owned = NULL;
+    for (i = 0; i < local->known; i += 1) local->hists[i] = NOT_ASKED;
+}
+
+/* Gives back its recorder, if it has one. */
+static void give_back(struct povundiri_recording *recording, struct local *local) {
+    struct povundiri_owned *const owned = local->owned;
+    if (owned == NULL) return;
+    if (povundiri_join(&owned->segment, &local->recorder) != POVUNDIRI_DONE) povundiri_drop(&local->recorder);
+    owned->recorders -= 1;
+    clear(local);
+    let_go(recording, owned);
+}
+
+/* The present segment is an old one from now on. The recorder that is shared leaves it: nobody else would have it do so. */
+static void retire(struct povundiri_recording *recording) {
+    struct povundiri_owned *const owned = recording->current;
+    recording->current = NULL;
+    set_turn(recording, NO_SEGMENT);
+    if (owned == NULL) return;
+    owned->next = recording->old;
+    recording->old = owned;
+    if (recording->shared.owned == owned) {
+        give_back(recording, &recording->shared);
+    } else {
+        let_go(recording, owned);
+    }
+}
+
+static void make_current(struct povundiri_recording *recording, struct povundiri_owned *owned) {
+    recording->current = owned;
+    recording->turns += 1;
+    set_turn(recording, recording->turns);
+}
+
+/* Makes a spare, and after it was refused not before a second has passed. */
+static struct povundiri_owned *new_spare(const struct povundiri_recording *recording, int *fault) {
+    struct povundiri_shape shape = recording->shape;
+    struct povundiri_owned *spare = NULL;
+    uint32_t status;
+    shape.id = random_of(recording);
+    status = povundiri_folder_spare(recording->folder, shape, random_of(recording), &spare, fault);
+    if (status != POVUNDIRI_DONE && *fault == 0) *fault = ENOMEM;
+    return spare;
+}
+
+/* Begins the next segment. The system's fault, or 0. */
+static int begin_next(struct povundiri_recording *recording) {
+    struct povundiri_owned *next = recording->spare;
+    int fault = 0;
+    if (now() < recording->again_at) return EAGAIN;
+    recording->spare = NULL;
+    if (next == NULL) next = new_spare(recording, &fault);
+    if (next != NULL) fault = povundiri_folder_commit(recording->folder, next);
+    if (fault != 0) {
+        povundiri_folder_release(next);
+        recording->again_at = now() + SECOND;
+        return fault;
+    }
+    retire(recording);
+    make_current(recording, next);
+    recording->began_at = now();
+    return 0;
+}
+
+/* ---- Recorders: the mutex is held ---- */
+
+/* How many units are lent where so many are needed: at least these, if the segment has them. */
+static uint32_t lease_of(uint32_t left, uint64_t needed) {
+    uint64_t lease = left / 2 < LEASE ? left / 2 : LEASE;
+    if (lease < needed) lease = needed;
+    return lease < left ? (uint32_t)lease : left;
+}
+
+static uint32_t join_in(struct povundiri_recording *recording, struct local *local, uint32_t count) {
+    struct povundiri_owned *const current = recording->current;
+    uint32_t left = 0, status;
+    give_back(recording, local);
+    status = povundiri_units(&current->segment, &left);
+    if (status == POVUNDIRI_DONE) status = povundiri_recorder(&current->segment, lease_of(left, count), &local->recorder);
+    if (status != POVUNDIRI_DONE) return status;
+    current->recorders += 1;
+    local->owned = current;
+    local->turn = recording->turn;
+    return status;
+}
+
+/* What this thread has of a recording, which may have no recorder; null if there is no memory, or if the thread ends. */
+static struct local *own_local(struct povundiri_recording *recording) {
+    struct local *local;
+    if (is_ending) return NULL;
+    if (own == NULL) {
+        struct table *const table = (struct table *)calloc(1, sizeof *table);
+        if (table == NULL) return NULL;
+        if (pthread_setspecific(key, table) != 0) {
+            free(table);
+            return NULL;
+        }
+        own = table;
+    }
+    if (own->count <= recording->place) {
+        const size_t count = recording->place + 1;
+        struct local **const locals = (struct local **)realloc(own->locals, count * sizeof *locals);
+        if (locals == NULL) return NULL;
+        memset(locals + own->count, 0, (count - own->count) * sizeof *locals);
+        own->locals = locals;
+        own->count = count;
+    }
+    local = own->locals[recording->place];
+    if (local == NULL) {
+        void *at = NULL;
+        if (posix_memalign(&at, LINE, (sizeof *local + LINE - 1) / LINE * LINE) != 0) return NULL;
+        local = (struct local *)at;
+        memset(local, 0, sizeof *local);
+        local->recording = recording;
+        clear(local);
+        own->locals[recording->place] = local;
+    }
+    return local;
+}
+
+/* What to count with in the present segment: this thread's own recorder, or the shared one. */
+static uint32_t local_in(struct povundiri_recording *recording, uint32_t count, struct local **local) {
+    *local = own_local(recording);
+    if (*local != NULL && (*local)->turn == recording->turn) return POVUNDIRI_DONE;
+    if (*local != NULL && recording->current->recorders < MOST_RECORDERS) {
+        const uint32_t status = join_in(recording, *local, count);
+        if (status != POVUNDIRI_REFUSED_TOO_MANY) return status;
+    }
+    if (*local != NULL) give_back(recording, *local);
+    *local = &recording->shared;
+    return (*local)->turn == recording->turn ? (uint32_t)POVUNDIRI_DONE : join_in(recording, *local, count);
+}
+
+/* ---- Counting: the mutex is held ---- */
+
+/* Finds the histogram of a metric in the present segment, once for a recorder. */
+static uint32_t find(struct povundiri_recording *recording, struct local *local, size_t metric) {
+    const struct metric *const asked = recording->metrics[metric];
+    if (metric >= local->known) {
+        const size_t count = recording->count;
+        size_t *const hists = (size_t *)realloc(local->hists, count * sizeof *hists);
+        size_t i;
+        if (hists == NULL) return POVUNDIRI_NO_MEMORY;
+        for (i = local->known; i < count; i += 1) hists[i] = NOT_ASKED;
+        local->hists = hists;
+        local->known = count;
+    }
+    if (local->hists[metric] != NOT_ASKED) return POVUNDIRI_DONE;
+    return povundiri_hist(&local->recorder, asked->name, asked->length, asked->spec, asked->values, asked->count, &local->hists[metric]);
+}
+
+/* Lends a recorder what a sample needs. False if the segment has too few. */
+static bool lend(struct povundiri_recording *recording, struct local *local, uint32_t count) {
+    uint32_t has = 0, left = 0;
+    if (povundiri_units(&local->recorder, &has) != POVUNDIRI_DONE) return false;
+    if (povundiri_units(&recording->current->segment, &left) != POVUNDIRI_DONE) return false;
+    if ((uint64_t)count > (uint64_t)has + left) return false;
+    return povundiri_lend(&recording->current->segment, &local->recorder, lease_of(left, count > has ? count - has : 1)) == POVUNDIRI_DONE;
+}
+
+static uint32_t count_in(struct povundiri_recording *recording, struct local *local, size_t metric, int32_t value, uint32_t count) {
+    uint32_t status = find(recording, local, metric);
+    if (status != POVUNDIRI_DONE) return status;
+    status = povundiri_add(&local->recorder, local->hists[metric], value, count);
+    if (status != POVUNDIRI_REFUSED_NO_UNITS || !lend(recording, local, count)) return status;
+    return povundiri_add(&local->recorder, local->hists[metric], value, count);
+}
+
+/* Whether a later segment may count what this one has refused. */
+static bool is_spent(uint32_t status) {
+    return status == POVUNDIRI_REFUSED_FULL || status == POVUNDIRI_REFUSED_NO_UNITS || status == POVUNDIRI_REFUSED_CORRUPT;
+}
+
+static enum povundiri_missed reason_of(uint32_t status) {
+    switch (status) {
+        case POVUNDIRI_REFUSED_TOO_LARGE:
+            return POVUNDIRI_MISSED_TOO_LARGE;
+        case POVUNDIRI_REFUSED_OTHER_SPEC:
+            return POVUNDIRI_MISSED_OTHER_SPEC;
+        default:
+            return POVUNDIRI_MISSED_NO_MEMORY;
+    }
+}
+
+/* Why the next segment is not begun, or that it was. */
+enum rolled { BEGUN, TOO_SOON, REFUSED };
+
+static enum rolled roll(struct povundiri_recording *recording) {
+    if (recording->began_at != 0 && now() - recording->began_at < recording->options.apart) return TOO_SOON;
+    return begin_next(recording) == 0 ? BEGUN : REFUSED;
+}
+
+/* Counts a sample in the present segment, or in one that is begun for it; or misses it. */
+static bool count_or_miss(struct povundiri_recording *recording, size_t metric, int32_t value, uint32_t count) {
+    struct local *local = NULL;
+    uint32_t status = POVUNDIRI_DONE;
+    int tries;
+    for (tries = 0; tries < MOST_TRIES; tries += 1) {
+        enum rolled rolled;
+        if (recording->current == NULL && begin_next(recording) != 0) {
+            miss(recording, POVUNDIRI_MISSED_NO_SPACE, count);
+            return false;
+        }
+        status = local_in(recording, count, &local);
+        if (status == POVUNDIRI_DONE) status = count_in(recording, local, metric, value, count);
+        if (status == POVUNDIRI_DONE) return true;
+        if (!is_spent(status)) {
+            miss(recording, reason_of(status), count);
+            return false;
+        }
+        if (status == POVUNDIRI_REFUSED_FULL && recording->metrics[metric]->is_too_large) {
+            miss(recording, POVUNDIRI_MISSED_TOO_LARGE, count);
+            return false;
+        }
+        rolled = roll(recording);
+        if (rolled != BEGUN) {
+            miss(recording, rolled == TOO_SOON ? POVUNDIRI_MISSED_ROLLING : POVUNDIRI_MISSED_NO_SPACE, count);
+            return false;
+        }
+    }
+    miss(recording, POVUNDIRI_MISSED_ROLLING, count);
+    return false;
+}
+
+/* ---- Spares: no mutex is held ---- */
+
+/* Makes the next spare, if there is none and nobody else makes it. */
+static void prepare(struct povundiri_recording *recording) {
+    struct povundiri_owned *spare;
+    bool is_mine;
+    int fault = 0;
+    pthread_mutex_lock(&recording->mutex);
+    is_mine = recording->state == RECORDS && recording->spare == NULL && !recording->is_preparing && now() >= recording->again_at;
+    if (is_mine) recording->is_preparing = true;
+    pthread_mutex_unlock(&recording->mutex);
+    if (!is_mine) return;
+    spare = new_spare(recording, &fault);
+    pthread_mutex_lock(&recording->mutex);
+    recording->is_preparing = false;
+    if (spare == NULL) recording->again_at = now() + SECOND;
+    if (spare != NULL && recording->state == RECORDS && recording->spare == NULL) {
+        recording->spare = spare;
+        spare = NULL;
+    }
+    pthread_mutex_unlock(&recording->mutex);
+    povundiri_folder_release(spare);
+}
+
+/* ---- Threads and forks ---- */
+
+/* Gives back what the thread has. Later samples of it, as of other destructors, go to the recorder that is shared. */
+static void thread_ends(void *at) {
+    struct table *const table = (struct table *)at;
+    const int kept = errno;
+    size_t i;
+    is_ending = true;
+    own = NULL;
+    for (i = 0; i < table->count; i += 1) {
+        struct local *const local = table->locals[i];
+        if (local == NULL) continue;
+        pthread_mutex_lock(&local->recording->mutex);
+        if (local->recording->state != IS_FORKED) give_back(local->recording, local);
+        pthread_mutex_unlock(&local->recording->mutex);
+        free(local->hists);
+        free(local);
+    }
+    free(table->locals);
+    free(table);
+    errno = kept;
+}
+
+static void before_fork(void) {
+    struct povundiri_recording *each;
+    pthread_mutex_lock(&list_mutex);
+    for (each = recordings; each != NULL; each = each->next) pthread_mutex_lock(&each->mutex);
+}
+
+static void in_parent(void) {
+    struct povundiri_recording *each;
+    for (each = recordings; each != NULL; each = each->next) pthread_mutex_unlock(&each->mutex);
+    pthread_mutex_unlock(&list_mutex);
+}
+
+/* The child has one thread, and nothing of the segments: their memory is not mapped. */
+static void in_child(void) {
+    struct povundiri_recording *each;
+    size_t i;
+    for (each = recordings; each != NULL; each = each->next) {
+        pthread_mutex_init(&each->mutex, NULL);
+        each->state = IS_FORKED;
+        each->current = each->spare = each->old = NULL;
+        each->is_preparing = false;
+        set_turn(each, NO_SEGMENT);
+        memset(each->missed, 0, sizeof each->missed);
+        each->shared.owned = NULL;
+        clear(&each->shared);
+    }
+    for (i = 0; own != NULL && i < own->count; i += 1) {
+        if (own->locals[i] != NULL) clear(own->locals[i]);
+    }
+    pthread_mutex_init(&list_mutex, NULL);
+}
+
+/* The handlers of the files come first, so that before a fork theirs are called last: a recording's mutex is taken before theirs. */
+static void make_ready(void) {
+    if (!povundiri_folder_watch() || pthread_key_create(&key, thread_ends) != 0) return;
+    is_ready = pthread_atfork(before_fork, in_parent, in_child) == 0;
+}
+
+/* ---- Samples ---- */
+
+static void leave(struct povundiri_recording *recording) {
+    if (own != NULL && recording->place < own->count && own->locals[recording->place] != NULL) {
+        give_back(recording, own->locals[recording->place]);
+    }
+}
+
+/* What the usual sample is not: the mutex is taken. */
+static bool add_slowly(struct povundiri_recording *recording, size_t metric, int32_t value, uint32_t count) {
+    bool counted = false, wants_spare = false;
+    pthread_mutex_lock(&recording->mutex);
+    if (recording->state == RECORDS && metric < recording->count) {
+        counted = count == 0 || count_or_miss(recording, metric, value, count);
+        wants_spare = recording->spare == NULL;
+    } else if (recording->state != RECORDS) {
+        if (recording->state == HAS_ENDED) leave(recording);
+        miss(recording, recording->state == IS_FORKED ? POVUNDIRI_MISSED_FORKED : POVUNDIRI_MISSED_ENDED, count);
+    }
+    pthread_mutex_unlock(&recording->mutex);
+    if (wants_spare) prepare(recording);
+    return counted;
+}
+
+bool povundiri_recording_add(struct povundiri_recording *recording, size_t metric, int32_t value, uint32_t count) {
+    const struct table *const table = own;
+    int kept, state;
+    bool counted;
+    if (recording == NULL) return false;
+    if (table != NULL && recording->place < table->count) {
+        struct local *const local = table->locals[recording->place];
+        if (local != NULL && local->turn == __atomic_load_n(&recording->turn, __ATOMIC_RELAXED) && metric < local->known &&
+            local->hists[metric] != NOT_ASKED && povundiri_add(&local->recorder, local->hists[metric], value, count) == POVUNDIRI_DONE) {
+            return true;
+        }
+    }
+    kept = errno;
+    pthread_setcancelstate(PTHREAD_CANCEL_DISABLE, &state);
+    counted = add_slowly(recording, metric, value, count);
+    pthread_setcancelstate(state, NULL);
+    errno = kept;
+    return counted;
+}
+
+void povundiri_recording_leave(struct povundiri_recording *recording) {
+    int state;
+    if (recording == NULL) return;
+    pthread_setcancelstate(PTHREAD_CANCEL_DISABLE, &state);
+    pthread_mutex_lock(&recording->mutex);
+    if (recording->state != IS_FORKED) leave(recording);
+    pthread_mutex_unlock(&recording->mutex);
+    pthread_setcancelstate(state, NULL);
+}
+
+uint64_t povundiri_recording_missed(const struct povundiri_recording *recording, enum povundiri_missed reason) {
+    if (recording == NULL || (unsigned)reason >= POVUNDIRI_MISSED_REASONS) return 0;
+    return __atomic_load_n(&recording->missed[reason], __ATOMIC_RELAXED);
+}
+
+/* ---- Metrics ---- */
+
+static bool is_same_spec(const struct metric *metric, struct povundiri_spec spec, const uint32_t *values, size_t count) {
+    const bool has_bounds = spec.kind == POVUNDIRI_LINEAR || spec.kind == POVUNDIRI_SCALE;
+    if (metric->spec.kind != spec.kind) return false;
+    if (spec.kind == POVUNDIRI_CUSTOM) {
+        return metric->count == count && (count == 0 || memcmp(metric->values, values, count * sizeof *values) == 0);
+    }
+    return !has_bounds ||
+           (metric->spec.minimum == spec.minimum && metric->spec.maximum == spec.maximum && metric->spec.buckets == spec.buckets);
+}
+
+/* Puts a metric behind the others. */
+static uint32_t new_metric(struct povundiri_recording *recording, const char *name, size_t length, struct povundiri_spec spec,
+                           const uint32_t *values, size_t count) {
+    struct metric **const metrics = (struct metric **)realloc(recording->metrics, (recording->count + 1) * sizeof *metrics);
+    struct metric *const metric = (struct metric *)calloc(1, sizeof *metric);
+    if (metrics != NULL) recording->metrics = metrics;
+    if (metric != NULL) {
+        metric->name = (char *)malloc(length + 1);
+        metric->values = (uint32_t *)malloc((count + 1) * sizeof *values);
+    }
+    if (metrics == NULL || metric == NULL || metric->name == NULL || metric->values == NULL) {
+        if (metric != NULL) free(metric->name);
+        if (metric != NULL) free(metric->values);
+        free(metric);
+        return POVUNDIRI_NO_MEMORY;
+    }
+    if (length > 0) memcpy(metric->name, name, length);
+    if (count > 0) memcpy(metric->values, values, count * sizeof *values);
+    metric->length = length;
+    metric->spec = spec;
+    metric->count = count;
+    metrics[recording->count] = metric;
+    recording->count += 1;
+    return POVUNDIRI_DONE;
+}
+
+/* Takes back the last one, since no segment may have such a histogram. */
+static void forget_metric(struct povundiri_recording *recording) {
+    struct metric *const metric = recording->metrics[recording->count - 1];
+    recording->count -= 1;
+    free(metric->name);
+    free(metric->values);
+    free(metric);
+}
+
+/* What the present segment says of the metric, where there is one. One that is full may say nothing. */
+static uint32_t ask(struct povundiri_recording *recording, size_t metric) {
+    struct local *local = NULL;
+    uint32_t status;
+    if (recording->metrics[metric]->is_too_large) return POVUNDIRI_REFUSED_TOO_LARGE;
+    if (recording->state != RECORDS || recording->current == NULL) return POVUNDIRI_DONE;
+    status = local_in(recording, 0, &local);
+    if (status == POVUNDIRI_DONE) status = find(recording, local, metric);
+    return is_spent(status) ? (uint32_t)POVUNDIRI_DONE : status;
+}
+
+static bool is_told(uint32_t status) {
+    return status == POVUNDIRI_DONE || status == POVUNDIRI_REFUSED_OTHER_SPEC || status == POVUNDIRI_REFUSED_TOO_LARGE;
+}
+
+/* Whether a name and a spec are such as a histogram may have, and whether it is too large, with samples in two buckets: a segment in the
+ * heap says so, that is such as those of the recording. */
+static uint32_t judge(const struct povundiri_recording *recording, struct metric *metric) {
+    struct povundiri_handle segment = {false, NULL}, recorder = {false, NULL};
+    size_t hist = 0;
+    uint32_t status = povundiri_create(recording->shape, &segment);
+    if (status == POVUNDIRI_DONE) status = povundiri_recorder(&segment, 2, &recorder);
+    if (status == POVUNDIRI_DONE) {
+        status = povundiri_hist(&recorder, metric->name, metric->length, metric->spec, metric->values, metric->count, &hist);
+    }
+    if (status == POVUNDIRI_DONE) status = povundiri_add(&recorder, hist, 0, 1);
+    if (status == POVUNDIRI_DONE) status = povundiri_add(&recorder, hist, INT32_MAX, 1);
+    if (recorder.full) povundiri_drop(&recorder);
+    if (segment.full) povundiri_drop(&segment);
+    metric->is_too_large = status == POVUNDIRI_REFUSED_FULL || status == POVUNDIRI_REFUSED_TOO_LARGE;
+    return metric->is_too_large ? (uint32_t)POVUNDIRI_DONE : status;
+}
+
+static uint32_t hist_of(struct povundiri_recording *recording, const char *name, size_t length, struct povundiri_spec spec,
+                        const uint32_t *values, size_t count, size_t *metric) {
+    uint32_t status;
+    size_t i;
+    for (i = 0; i < recording->count; i += 1) {
+        const struct metric *const other = recording->metrics[i];
+        if (other->length == length && memcmp(other->name, name, length) == 0 && is_same_spec(other, spec, values, count)) {
+            *metric = i;
+            return ask(recording, i);
+        }
+    }
+    status = new_metric(recording, name, length, spec, values, count);
+    if (status != POVUNDIRI_DONE) return status;
+    status = judge(recording, recording->metrics[recording->count - 1]);
+    if (status == POVUNDIRI_DONE) status = ask(recording, recording->count - 1);
+    if (is_told(status)) {
+        *metric = recording->count - 1;
+    } else {
+        forget_metric(recording);
+    }
+    return status;
+}
+
+uint32_t povundiri_recording_hist(struct povundiri_recording *recording, const char *name, size_t name_length, struct povundiri_spec spec,
+                                  const uint32_t *values, size_t values_length, size_t *metric) {
+    const size_t count = spec.kind == POVUNDIRI_CUSTOM ? values_length : 0;
+    uint32_t status;
+    int state;
+    if (recording == NULL || metric == NULL || !povundiri_is_array(name, name_length) || !povundiri_is_array(values, values_length)) {
+        return POVUNDIRI_NULL;
+    }
+    pthread_setcancelstate(PTHREAD_CANCEL_DISABLE, &state);
+    pthread_mutex_lock(&recording->mutex);
+    status = hist_of(recording, name, name_length, spec, values, count, metric);
+    pthread_mutex_unlock(&recording->mutex);
+    pthread_setcancelstate(state, NULL);
+    return status;
+}
+
+uint32_t povundiri_recording_scale(struct povundiri_recording *recording, const char *name, uint32_t minimum, uint32_t maximum,
+                                   uint32_t bits, size_t *metric) {
+    const struct povundiri_spec spec = {POVUNDIRI_SCALE, minimum, maximum, bits};
+    return name == NULL ? (uint32_t)POVUNDIRI_NULL : povundiri_recording_hist(recording, name, strlen(name), spec, NULL, 0, metric);
+}
+
+/* ---- For povundiri_recorded.c alone ---- */
+
+const char *povundiri_recording_folder(const struct povundiri_recording *recording) { return recording->folder; }
+
+uint64_t povundiri_recording_fold_at(const struct povundiri_recording *recording) { return recording->options.fold_at; }
+
+/* ---- Beginning and end ---- */
+
+static struct povundiri_recording *new_recording(const struct povundiri_recording_options *options) {
+    struct povundiri_recording *const recording = (struct povundiri_recording *)calloc(1, sizeof *recording);
+    if (recording == NULL) return NULL;
+    if (options != NULL) recording->options = *options;
+    if (recording->options.bytes == 0) recording->options.bytes = USUAL_BYTES;
+    if (recording->options.fold_at == 0) recording->options.fold_at = USUAL_FOLD_AT;
+    if (recording->options.apart == 0) recording->options.apart = USUAL_APART;
+    recording->shape = shape_for(recording->options.bytes);
+    recording->turn = NO_SEGMENT;
+    recording->shared.recording = recording;
+    clear(&recording->shared);
+    pthread_mutex_init(&recording->mutex, NULL);
+    return recording;
+}
+
+/* Whether segments of this shape may be made. */
+static uint32_t check_shape(struct povundiri_shape shape) {
+    struct povundiri_handle segment = {false, NULL};
+    const uint32_t status = povundiri_create(shape, &segment);
+    return status == POVUNDIRI_DONE ? povundiri_drop(&segment) : status;
+}
+
+/* The first segment: the newest of the folder, or a new one; or none, and it is tried again. */
+static void begin_first(struct povundiri_recording *recording, struct povundiri_began *began) {
+    struct povundiri_shape shape = recording->shape;
+    struct povundiri_found found;
+    shape.id = random_of(recording);
+    if (povundiri_folder_adopt(recording->folder, shape, &found, &began->fault) == POVUNDIRI_DONE && found.adopted != NULL) {
+        make_current(recording, found.adopted);
+        began->adopted = true;
+    } else {
+        began->fault = begin_next(recording);
+        recording->began_at = 0;
+    }
+    began->refused = found.refused;
+    memcpy(began->set_aside, found.set_aside, sizeof found.set_aside);
+    if (recording->current != NULL) began->number = recording->current->number;
+}
+
+static uint32_t open_recording(const char *folder, struct povundiri_recording *recording, struct povundiri_began *began) {
+    const uint32_t status = check_shape(recording->shape);
+    if (status != POVUNDIRI_DONE) return status;
+    began->fault = povundiri_folder_enter(folder, &recording->folder);
+    if (began->fault != 0) return began->fault == ENOMEM ? POVUNDIRI_NO_MEMORY : POVUNDIRI_SYSTEM;
+    begin_first(recording, began);
+    pthread_mutex_lock(&list_mutex);
+    recording->place = places;
+    places += 1;
+    recording->next = recordings;
+    recordings = recording;
+    pthread_mutex_unlock(&list_mutex);
+    return POVUNDIRI_DONE;
+}
+
+uint32_t povundiri_recording_open(const char *folder, const struct povundiri_recording_options *options,
+                                  struct povundiri_recording **recording, struct povundiri_began *began) {
+    struct povundiri_recording *made;
+    uint32_t status;
+    int state;
+    if (folder == NULL || recording == NULL || began == NULL) return POVUNDIRI_NULL;
+    memset(began, 0, sizeof *began);
+    if (*recording != NULL) return POVUNDIRI_NOT_EMPTY;
+    pthread_once(&once, make_ready);
+    made = is_ready ? new_recording(options) : NULL;
+    if (made == NULL) return POVUNDIRI_NO_MEMORY;
+    pthread_setcancelstate(PTHREAD_CANCEL_DISABLE, &state);
+    status = open_recording(folder, made, began);
+    if (status == POVUNDIRI_DONE) prepare(made);
+    pthread_setcancelstate(state, NULL);
+    if (status == POVUNDIRI_DONE) {
+        *recording = made;
+    } else {
+        pthread_mutex_destroy(&made->mutex);
+        free(made->folder);
+        free(made);
+    }
+    return status;
+}
+
+void povundiri_recording_end(struct povundiri_recording *recording) {
+    int state;
+    if (recording == NULL) return;
+    pthread_setcancelstate(PTHREAD_CANCEL_DISABLE, &state);
+    pthread_mutex_lock(&recording->mutex);
+    if (recording->state == RECORDS) {
+        recording->state = HAS_ENDED;
+        leave(recording);
+        povundiri_folder_release(recording->spare);
+        recording->spare = NULL;
+        retire(recording);
+    }
+    pthread_mutex_unlock(&recording->mutex);
+    pthread_setcancelstate(state, NULL);
+}

@@ -1,0 +1,195 @@
+// A recording that never ends, for C++17 and later: over povundiri_recording.h, which says what it does.
+//
+//     povundiri::Recording recording("metrics");                       // a folder
+//     const auto latency = recording.scale("request_us", 1, 10'000'000, 5);
+//     latency.add(elapsed_us);                                         // any thread; never throws; no lock in the usual sample
+//     std::string text = recording.prometheus();                       // at any time
+//
+// 'add' and 'missed' throw nothing. 'try_' calls return a Status, or the system's fault. All others throw as those of povundiri.hpp do.
+#ifndef POVUNDIRI_RECORDING_HPP
+#define POVUNDIRI_RECORDING_HPP
+
+#include "povundiri.hpp"
+#include "povundiri_recording.h"
+
+namespace povundiri {
+
+using RecordingOptions = povundiri_recording_options;
+
+enum class Missed {
+    TooLarge = POVUNDIRI_MISSED_TOO_LARGE,
+    OtherSpec = POVUNDIRI_MISSED_OTHER_SPEC,
+    NoSpace = POVUNDIRI_MISSED_NO_SPACE,
+    Rolling = POVUNDIRI_MISSED_ROLLING,
+    Forked = POVUNDIRI_MISSED_FORKED,
+    Ended = POVUNDIRI_MISSED_ENDED,
+    NoMemory = POVUNDIRI_MISSED_NO_MEMORY
+};
+
+// A histogram of a recording, for any thread, also after the recording has ended. One that no recording returned counts nothing.
+class Metric {
+public:
+    constexpr Metric() noexcept = default;
+
+    // Counts a sample: 'count' units of a value. False if it was missed.
+    bool add(Value value, std::uint32_t count = 1) const noexcept {
+        return povundiri_recording_add(recording_, number_, value.get(), count);
+    }
+
+    // Done; or why samples are missed for now: RefusedOtherSpec, RefusedTooLarge (povundiri_recording_hist).
+    Status told() const noexcept { return told_; }
+
+private:
+    friend class Recording;
+
+    povundiri_recording* recording_ = nullptr;
+    std::size_t number_ = 0;
+    Status told_ = Status::Empty;
+};
+
+class Recording {
+public:
+    Recording() noexcept = default;
+    explicit Recording(const char* folder, const RecordingOptions& options = {}) {
+        const std::error_code fault = try_open(folder, *this, options);
+        if (fault) raise(fault, std::string("recording \"").append(folder != nullptr ? folder : "").append("\""));
+    }
+    Recording(Recording&& other) noexcept
+        : recording_(std::exchange(other.recording_, nullptr)), began_(std::exchange(other.began_, povundiri_began{})) {}
+    Recording& operator=(Recording&& other) noexcept {
+        if (this != &other) {
+            end();
+            recording_ = std::exchange(other.recording_, nullptr);
+            began_ = std::exchange(other.began_, povundiri_began{});
+        }
+        return *this;
+    }
+    ~Recording() { end(); }
+
+    // 'recording' is empty: NotEmpty else.
+    [[nodiscard]] static std::error_code try_open(const char* folder, Recording& recording, const RecordingOptions& options = {}) noexcept {
+        const std::uint32_t status = povundiri_recording_open(folder, &options, &recording.recording_, &recording.began_);
+        if (status == POVUNDIRI_SYSTEM) return {recording.began_.fault, std::generic_category()};
+        return static_cast<Status>(status);
+    }
+
+    explicit operator bool() const noexcept { return recording_ != nullptr; }
+
+    // How it began: which segment, and what was set aside.
+    const povundiri_began& began() const noexcept { return began_; }
+
+    // Ends it: later samples are missed, as Ended.
+    void end() noexcept { povundiri_recording_end(std::exchange(recording_, nullptr)); }
+
+    // Gives back what this thread has: for one that will be idle for long.
+    void leave() noexcept { povundiri_recording_leave(recording_); }
+
+    // The histogram of a name. What no segment may have is thrown; what this segment has otherwise is told by the metric.
+    [[nodiscard]] Status try_hist(std::string_view name, povundiri_spec spec, Span<const std::uint32_t> values, Metric& metric) noexcept {
+        std::size_t number = 0;
+        const auto status = static_cast<Status>(
+            povundiri_recording_hist(recording_, name.data(), name.size(), spec, values.data(), values.size(), &number));
+        if (!is_made(status)) return status;
+        metric.recording_ = recording_;
+        metric.number_ = number;
+        metric.told_ = status;
+        return status;
+    }
+    Metric linear(std::string_view name, std::uint32_t minimum, std::uint32_t maximum, std::uint32_t buckets) {
+        return made(name, {POVUNDIRI_LINEAR, minimum, maximum, buckets}, {});
+    }
+    Metric boolean(std::string_view name) { return made(name, {POVUNDIRI_BOOLEAN, 0, 0, 0}, {}); }
+    Metric custom(std::string_view name, Span<const std::uint32_t> values) { return made(name, {POVUNDIRI_CUSTOM, 0, 0, 0}, values); }
+    Metric scale(std::string_view name, std::uint32_t minimum, std::uint32_t maximum, std::uint32_t bits) {
+        return made(name, {POVUNDIRI_SCALE, minimum, maximum, bits}, {});
+    }
+    Metric enumeration(std::string_view name, std::uint32_t n) { return linear(name, 1, n, n + 1); }
+    Metric sparse(std::string_view name) { return made(name, {POVUNDIRI_SPARSE, 0, 0, 0}, {}); }
+
+    // How many units this process has missed.
+    std::uint64_t missed(Missed reason) const noexcept {
+        return povundiri_recording_missed(recording_, static_cast<povundiri_missed>(reason));
+    }
+    std::uint64_t missed() const noexcept {
+        std::uint64_t all = 0;
+        for (int reason = 0; reason < POVUNDIRI_MISSED_REASONS; ++reason) all += missed(static_cast<Missed>(reason));
+        return all;
+    }
+
+    // What the folder has: its report as CSV, its metrics for Prometheus, its text for people, its sum.
+    std::string report() {
+        return text("report",
+                    [this](char** at, std::size_t* size, int* fault) { return povundiri_recording_report(recording_, at, size, fault); });
+    }
+    std::string prometheus(const char* prefix = nullptr) {
+        return text("prometheus", [this, prefix](char** at, std::size_t* size, int* fault) {
+            return povundiri_recording_export(recording_, prefix, at, size, fault);
+        });
+    }
+    [[nodiscard]] std::error_code try_prometheus(std::string& text, const char* prefix = nullptr) {
+        return try_text(text, [this, prefix](char** at, std::size_t* size, int* fault) {
+            return povundiri_recording_export(recording_, prefix, at, size, fault);
+        });
+    }
+    std::string show(std::uint16_t width = 0) {
+        return text("show", [this, width](char** at, std::size_t* size, int* fault) {
+            return povundiri_recording_show(recording_, width, at, size, fault);
+        });
+    }
+
+    // Adds the final segments of the folder to its totals (povundiri_folder_fold). How many.
+    std::uint64_t fold() {
+        std::uint64_t folded = 0;
+        const std::error_code fault = try_fold(folded);
+        if (fault) raise(fault, "fold");
+        return folded;
+    }
+    [[nodiscard]] std::error_code try_fold(std::uint64_t& folded) noexcept {
+        int fault = 0;
+        const std::uint32_t status = povundiri_recording_fold(recording_, &folded, &fault);
+        return code(status, fault);
+    }
+
+private:
+    static bool is_made(Status status) noexcept {
+        return status == Status::Done || status == Status::RefusedOtherSpec || status == Status::RefusedTooLarge;
+    }
+
+    static std::error_code code(std::uint32_t status, int fault) noexcept {
+        if (status == POVUNDIRI_SYSTEM) return {fault, std::generic_category()};
+        return static_cast<Status>(status);
+    }
+
+    Metric made(std::string_view name, povundiri_spec spec, Span<const std::uint32_t> values) {
+        Metric metric;
+        const Status status = try_hist(name, spec, values, metric);
+        if (!is_made(status)) detail::need(status, "hist", name);
+        return metric;
+    }
+
+    template <typename Call>
+    static std::error_code try_text(std::string& text, const Call& call) {
+        char* at = nullptr;
+        std::size_t size = 0;
+        int fault = 0;
+        const std::uint32_t status = call(&at, &size, &fault);
+        const std::unique_ptr<char, void (*)(void*)> owned(at, std::free);
+        if (status == POVUNDIRI_DONE) text.assign(at, size);
+        return code(status, fault);
+    }
+
+    template <typename Call>
+    static std::string text(const char* what, const Call& call) {
+        std::string text;
+        const std::error_code fault = try_text(text, call);
+        if (fault) raise(fault, what);
+        return text;
+    }
+
+    povundiri_recording* recording_ = nullptr;
+    povundiri_began began_{};
+};
+
+}  // namespace povundiri
+
+#endif

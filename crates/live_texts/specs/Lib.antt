@@ -1,0 +1,3 @@
+pub use Rattle.image_reader.specs.Views
+pub use Rattle.image_reader.specs.Readable
+pub mod Live

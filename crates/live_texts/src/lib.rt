@@ -1,0 +1,11 @@
+//! The texts of what a running segment counts, seen from inside: its report, its metrics, and what people read.
+//!
+//! Each is the text of the reading that has these histograms and nothing else: no mark, no flag, no bad record
+//! (`specs/Live.antt`). That reading stays in here: nothing can be merged of it, since what deltas took is not known.
+#![tactic(auto)]
+
+mod made;
+mod readable;
+mod texts;
+
+pub use texts::{export, list, report, show, show_since};

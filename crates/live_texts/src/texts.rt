@@ -1,0 +1,120 @@
+//! The texts.
+
+ghost use Rattle.std.specs.Prelude.{◌≡◌, map, All, IfOk, MatchOption};
+ghost use Rattle.image_reader.specs.Readable.{IsReadable};
+ghost use Rattle.image_reader.specs.Views.{histogram_view, reading_view};
+ghost use Rattle.reading_texts.specs.Exporting.{IsExportOf};
+ghost use Rattle.reading_texts.specs.Labels.{label_view};
+ghost use Rattle.reading_texts.specs.Text.{IsTextOf};
+ghost use Rattle.reading_shows.specs.Listing.{IsListOf};
+ghost use Rattle.reading_shows.specs.Showing.{IsShowOf, IsShowSince};
+ghost use Rattle.live_texts.specs.Live.{AreReadable, reading_of as reading_of_live};
+
+use crate::made::reading_of;
+use crate::readable::are_readable;
+use image_reader::Reading;
+use live_reading::LiveReading;
+use reading_shows::{Choice, ListStyle, Style, list_text, show_since_text, show_text};
+use reading_texts::{Label, export_text, report_text};
+use std::alloc::{AllocError, Global};
+
+// The reading that has these histograms, or none where one is one that no segment can have.
+fn checked(alloc: Global, live: &LiveReading) -> Result<Option<Reading>, AllocError>
+    ensures { IfOk result (λ found. MatchOption found (AreReadable live.now → ⊥) (λ reading. (reading_view reading ≡ reading_of_live live.now) × All IsReadable (map histogram_view reading.hists.items))) }
+{
+    let reading = reading_of(alloc, live)?;
+    let are = are_readable(alloc, reading.hists.as_slice())?;
+    Ok(if are { Some(reading) } else { None })
+}
+
+/// Returns the report of a live reading as CSV, as `reading_texts::report_text` does of an image.
+///
+/// Where each histogram is one that a segment can have, the text is exactly that of the reading that has these names, specs,
+/// counts, sums and redundant counts, and no mark, no flag and no bad record; `None` comes only where one is not: its spec is not
+/// valid, it does not have one count for each bucket, or its units do not fit 64 bits. The one error is that memory runs out.
+pub fn report(alloc: Global, live: &LiveReading) -> Result<Option<Vec<u8>>, AllocError>
+    ensures { IfOk result (λ found. MatchOption found (AreReadable live.now → ⊥) (λ text. AreReadable live.now × IsTextOf (reading_of_live live.now) text.items)) }
+{
+    let Some(reading) = checked(alloc, live)? else {
+        return Ok(None);
+    };
+    Ok(Some(report_text(alloc, &reading)?))
+}
+
+/// Returns the metrics of a live reading in the Prometheus text format, as `reading_texts::export_text` does of an image:
+/// their names begin with `prefix`, which is one where `reading_texts::is_prefix` says so, and all lines have these labels, which
+/// they may have where `reading_texts::are_line_labels` says so.
+///
+/// The text is exactly that of the reading that [`report`] names, and `None` comes only where it does there. The one error is that memory
+/// runs out.
+pub fn export(
+    alloc: Global,
+    live: &LiveReading,
+    prefix: &[u8],
+    line_labels: &[Label<'_>],
+) -> Result<Option<Vec<u8>>, AllocError>
+    ensures { IfOk result (λ found. MatchOption found (AreReadable live.now → ⊥) (λ text. AreReadable live.now × IsExportOf prefix.now (map label_view line_labels.now) (reading_of_live live.now) text.items)) }
+{
+    let Some(reading) = checked(alloc, live)? else {
+        return Ok(None);
+    };
+    Ok(Some(export_text(alloc, &reading, prefix, line_labels)?))
+}
+
+/// Returns the text of a live reading for people, as `reading_shows::show_text` does of an image.
+///
+/// The text is exactly that of the reading that [`report`] names, and `None` comes only where it does there. The one error is that memory
+/// runs out.
+pub fn show(
+    alloc: Global,
+    live: &LiveReading,
+    style: Style,
+    choice: Choice<'_>,
+) -> Result<Option<Vec<u8>>, AllocError>
+    ensures { IfOk result (λ found. MatchOption found (AreReadable live.now → ⊥) (λ text. AreReadable live.now × IsShowOf style choice.entry (reading_of_live live.now) text.items)) }
+{
+    let Some(reading) = checked(alloc, live)? else {
+        return Ok(None);
+    };
+    Ok(Some(show_text(alloc, &reading, style, choice)?))
+}
+
+/// Returns the same text, which tells too what came since an earlier live reading, as `reading_shows::show_since_text` does of
+/// images.
+///
+/// The text is exactly that of the readings that [`report`] names of the two, and `None` comes only where it does there; nothing is
+/// asked of the earlier one. The one error is that memory runs out.
+pub fn show_since(
+    alloc: Global,
+    live: &LiveReading,
+    earlier: &LiveReading,
+    style: Style,
+    choice: Choice<'_>,
+) -> Result<Option<Vec<u8>>, AllocError>
+    ensures { IfOk result (λ found. MatchOption found (AreReadable live.now → ⊥) (λ text. AreReadable live.now × IsShowSince style choice.entry (reading_of_live earlier.now) (reading_of_live live.now) text.items)) }
+{
+    let Some(reading) = checked(alloc, live)? else {
+        return Ok(None);
+    };
+    let earlier = reading_of(alloc, earlier)?;
+    let text = show_since_text(alloc, &reading, &earlier, style, choice)?;
+    Ok(Some(text))
+}
+
+/// Returns a line for each of the chosen histograms of a live reading, as `reading_shows::list_text` does of an image.
+///
+/// The text is exactly that of the reading that [`report`] names, and `None` comes only where it does there. The one error is that memory
+/// runs out.
+pub fn list(
+    alloc: Global,
+    live: &LiveReading,
+    style: ListStyle,
+    choice: Choice<'_>,
+) -> Result<Option<Vec<u8>>, AllocError>
+    ensures { IfOk result (λ found. MatchOption found (AreReadable live.now → ⊥) (λ text. AreReadable live.now × IsListOf style choice.entry (reading_of_live live.now) text.items)) }
+{
+    let Some(reading) = checked(alloc, live)? else {
+        return Ok(None);
+    };
+    Ok(Some(list_text(alloc, &reading, style, choice)?))
+}

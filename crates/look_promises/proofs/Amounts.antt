@@ -1,0 +1,11 @@
+pub mod Totals
+pub mod Marks
+pub mod Forms
+pub mod Unpacked
+pub mod Samples
+pub mod Sums
+pub mod Calls
+pub mod Values
+pub mod OneMoment
+pub mod Behind
+pub mod Rising

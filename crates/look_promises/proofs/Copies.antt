@@ -1,0 +1,10 @@
+pub mod ThreeCopies
+pub mod Headers
+pub mod Walks
+pub mod Following
+pub mod Shown
+pub mod Others
+pub mod References
+pub mod Named
+pub mod Between
+pub mod Units

@@ -1,0 +1,10 @@
+pub mod Hands
+pub mod Carried
+pub mod Linking
+pub mod Unlinked
+pub mod Payloads
+pub mod Blank
+pub mod Starts
+pub mod Earlier
+pub mod Mounting
+pub mod Unmounted

@@ -1,5 +1,0 @@
-use Rattle.std.proofs.Common.{length}
-use Rattle.persist_commands.proofs.beside.+run_from.Given as goal
-
-abbrev pub decreases-run_from : goal.decreases-run_from
-decreases-run_from g l = length l.jobs.items

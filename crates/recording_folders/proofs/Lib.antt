@@ -1,0 +1,5 @@
+pub mod Padded
+pub mod Counting
+pub mod Sound
+pub mod NameKinds
+pub mod FoldMay

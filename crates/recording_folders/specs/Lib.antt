@@ -1,0 +1,5 @@
+pub mod Names
+pub mod Segments
+pub mod Folder
+pub mod Folding
+pub mod Written

@@ -1,0 +1,76 @@
+//! Which files of a recording's folder there are.
+
+ghost use Rattle.std.specs.Prelude.{◌≡◌, ◌⊎◌, IfOk};
+ghost use Rattle.recording_folders.specs.declared.kind.FileKind as file_kind;
+ghost use Rattle.recording_folders.specs.declared.kind.FileKind.TheVariants.{Other};
+ghost use Rattle.recording_folders.specs.Names.{IsNameOf, HasNoNumber};
+
+use crate::name::{DAMAGED, SEGMENT, number_in};
+use std::alloc::{AllocError, Global};
+
+/// Which file of a recording's folder a name is for.
+#[derive(Clone, Copy, Debug, PartialEq, Eq)]
+pub enum FileKind {
+    /// The segment of a number.
+    Segment(u64),
+    /// What was the segment of a number, and whose header has a fault.
+    Damaged(u64),
+    /// A segment that is not in use yet.
+    Spare,
+    /// The totals.
+    Totals,
+    /// Totals that are being written.
+    NewTotals,
+    /// The file whose lock a fold has.
+    FoldLock,
+    /// The file that says what the folder is.
+    Mark,
+    /// Any other.
+    Other,
+}
+
+// The names that have no number, and what the others begin with.
+const TOTALS: &[u8] = b"totals";
+
+const NEW_TOTALS: &[u8] = b"totals.new";
+
+const FOLD_LOCK: &[u8] = b"fold.lock";
+
+const MARK: &[u8] = b"recording";
+
+const SPARE: &[u8] = b"spare-";
+
+// The kind of a name without a number.
+fn kind_without_number(name: &[u8]) -> FileKind
+    ensures found { (result ≡ Other) ⊎ (HasNoNumber result × IsNameOf name.now result) }
+    ensures only { (kind : file_kind.FileKind) → HasNoNumber kind → IsNameOf name.now kind → result ≡ kind }
+{
+    if name == TOTALS {
+        FileKind::Totals
+    } else if name == NEW_TOTALS {
+        FileKind::NewTotals
+    } else if name == FOLD_LOCK {
+        FileKind::FoldLock
+    } else if name == MARK {
+        FileKind::Mark
+    } else if name.starts_with(SPARE) {
+        FileKind::Spare
+    } else {
+        FileKind::Other
+    }
+}
+
+/// Returns the kind of a file by its name: where it is not `Other`, the name is one of that kind [found]. And each name of
+/// a kind has that one, so the kind of the name of a number is the number [only]. It fails for want of memory alone.
+pub fn kind_of(alloc: Global, name: &[u8]) -> Result<FileKind, AllocError>
+    ensures found { IfOk result (λ kind. (kind ≡ Other) ⊎ IsNameOf name.now kind) }
+    ensures only { (kind : file_kind.FileKind) → IsNameOf name.now kind → IfOk result (λ found. found ≡ kind) }
+{
+    if let Some(number) = number_in(alloc, name, SEGMENT)? {
+        return Ok(FileKind::Segment(number));
+    }
+    if let Some(number) = number_in(alloc, name, DAMAGED)? {
+        return Ok(FileKind::Damaged(number));
+    }
+    Ok(kind_without_number(name))
+}

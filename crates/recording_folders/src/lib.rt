@@ -1,0 +1,21 @@
+//! The rules of a recording's folder: its names, which segments a reading counts, and what a fold writes.
+//!
+//! [`kind_of`] tells what a file is by its name. A reading counts each segment of its listing that [`is_named`] does not find in the totals,
+//! and [`stands`] says whether it may be used. [`fold_of`] says what a fold writes beside the sum.
+#![tactic(auto)]
+
+mod folding;
+mod kind;
+mod laws;
+mod name;
+mod named;
+mod reading;
+mod totals;
+
+pub use folding::{Fold, fold_of};
+pub use kind::{FileKind, kind_of};
+pub use laws::{a_folder_stays_sound, a_new_folder_is_sound, names_differ};
+pub use name::{damaged_name, segment_name};
+pub use named::is_named;
+pub use reading::stands;
+pub use totals::{folded_totals, serial_of};

@@ -1,0 +1,80 @@
+//! The names of numbers.
+
+ghost use Rattle.std.specs.Prelude.{◌≡◌, ◌<◌, ◌^◌, ℕ, Some, IfOk, IfSome};
+ghost use Rattle.recording_folders.specs.Names as names;
+ghost use Rattle.recording_folders.specs.Names.{IsNumber, numbered as name_with, padded};
+
+use itoa::Buffer;
+use std::alloc::{AllocError, Global};
+
+/// What the name of a segment ends with.
+pub(crate) const SEGMENT: &[u8] = b".seg";
+
+/// What the name of a file ends with whose header has a fault.
+pub(crate) const DAMAGED: &[u8] = b".damaged";
+
+// How many digits a name has at least.
+const DIGITS: usize = 10;
+
+// The name of a number, with an ending.
+fn numbered(alloc: Global, number: u64, ending: &[u8]) -> Result<Vec<u8>, AllocError>
+    ensures { IfOk result (λ name. name.items ≡ name_with number ending.now) }
+{
+    let mut buffer = Buffer::new();
+    let digits = buffer.format(number).as_bytes();
+    let mut name = Vec::new(alloc);
+    for _ in digits.len()..DIGITS {
+        name.push(b'0')?;
+    }
+    name.extend_from_slice(digits)?;
+    name.extend_from_slice(ending)?;
+    Ok(name)
+}
+
+/// Returns the name of the segment of a number. It fails for want of memory alone.
+pub fn segment_name(alloc: Global, number: u64) -> Result<Vec<u8>, AllocError>
+    ensures { IfOk result (λ name. name.items ≡ names.segment_name number) }
+{
+    numbered(alloc, number, SEGMENT)
+}
+
+/// Returns the name that the file of a number gets whose header has a fault. It fails for want of memory alone.
+pub fn damaged_name(alloc: Global, number: u64) -> Result<Vec<u8>, AllocError>
+    ensures { IfOk result (λ name. name.items ≡ names.damaged_name number) }
+{
+    numbered(alloc, number, DAMAGED)
+}
+
+// The number that digits write, with zeros in front or without.
+fn parsed(digits: &[u8]) -> Option<u64>
+    ensures { (number : ℕ) → number < 2 ^ 64 → digits.now ≡ padded number → result ≡ Some number }
+{
+    let text = str::from_utf8(digits).ok()?;
+    text.parse::<u64>().ok()
+}
+
+/// Returns the number whose name with an ending this is, if it is that of one.
+pub(crate) fn number_in(
+    alloc: Global,
+    name: &[u8],
+    ending: &[u8],
+) -> Result<Option<u64>, AllocError>
+    ensures found { IfOk result (λ found. IfSome found (λ number. IsNumber number × (name.now ≡ name_with number ending.now))) }
+    ensures only { (number : ℕ) → IsNumber number → name.now ≡ name_with number ending.now → IfOk result (λ found. found ≡ Some number) }
+{
+    if name.len() < ending.len() {
+        return Ok(None);
+    }
+    let Some(number) = parsed(&name[..name.len() - ending.len()]) else {
+        return Ok(None);
+    };
+    if number == 0 {
+        return Ok(None);
+    }
+    let spelled = numbered(alloc, number, ending)?;
+    if spelled.as_slice() == name {
+        Ok(Some(number))
+    } else {
+        Ok(None)
+    }
+}

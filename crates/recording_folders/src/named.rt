@@ -1,0 +1,12 @@
+//! Segments that totals name.
+
+ghost use Rattle.std.specs.Prelude.{◌≡◌};
+ghost use Rattle.recording_folders.specs.Segments as segments;
+
+/// Returns whether names have a segment of this number and this id. A reading of a folder leaves out those that its totals
+/// name, and counts each other one of its listing.
+pub fn is_named(names: &[(u64, u64)], number: u64, id: u64) -> bool
+    ensures { result ≡ segments.is_named names.now (number, id) }
+{
+    names.iter().any(|name| number == name.0 && id == name.1)
+}

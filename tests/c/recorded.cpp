@@ -1,0 +1,501 @@
+// Recordings in one process and its children: 'recorded FOLDER [threads]'. Each group works in a folder of its own below that. With
+// 'threads' only those are run that have threads and no children: for the thread sanitizer. It is linked with -Wl,--wrap=posix_fallocate.
+#include <sys/resource.h>
+#include <sys/stat.h>
+#include <sys/wait.h>
+#include <unistd.h>
+
+#include <atomic>
+#include <cerrno>
+#include <condition_variable>
+#include <csignal>
+#include <cstdlib>
+#include <functional>
+#include <mutex>
+#include <string>
+#include <thread>
+#include <vector>
+
+#include "checks.hpp"
+#include "povundiri_recording.hpp"
+
+namespace {
+
+std::atomic<bool> device_is_full{false};
+
+}  // namespace
+
+extern "C" int __real_posix_fallocate(int descriptor, off_t from, off_t length);
+extern "C" int __wrap_posix_fallocate(int descriptor, off_t from, off_t length) {
+    return device_is_full ? ENOSPC : __real_posix_fallocate(descriptor, from, length);
+}
+
+namespace {
+
+using povundiri::Metric;
+using povundiri::Missed;
+using povundiri::Recording;
+using povundiri::RecordingOptions;
+using povundiri::Status;
+
+std::string home;
+
+std::string folder(const char* name) { return home + "/" + name; }
+
+// So small that a few histograms fill one, and as fast as it goes.
+RecordingOptions small() {
+    RecordingOptions options{};
+    options.bytes = 16'384;
+    options.apart = 1;
+    return options;
+}
+
+bool opens(const std::string& path, Recording& recording, const RecordingOptions& options = {}) {
+    return !Recording::try_open(path.c_str(), recording, options);
+}
+
+// The units of a histogram in a report; -1 if it has none.
+long long units_in(const std::string& report, const std::string& name) {
+    const std::string begins = "\n" + name + ",total,", text = "\n" + report;
+    const std::size_t at = text.find(begins);
+    return at == std::string::npos ? -1 : std::stoll(text.substr(at + begins.size()));
+}
+
+// The same of a folder, for readers beside folds; -2 if too many of these have ended meanwhile.
+long long units_beside(const std::string& path, const std::string& name) {
+    povundiri_handle sums = {};
+    int fault = 0;
+    std::size_t needed = 0;
+    const std::uint32_t status = povundiri_folder_sums(path.c_str(), &sums, nullptr, &fault);
+    if (status == POVUNDIRI_BUSY) return -2;
+    ANSWERS(DONE, status);
+    ANSWERS(SHORT, povundiri_sums_report(&sums, nullptr, 0, &needed));
+    std::string report(needed, ' ');
+    ANSWERS(DONE, povundiri_sums_report(&sums, report.data(), needed, nullptr));
+    povundiri_sums_drop(&sums);
+    return units_in(report, name);
+}
+
+Metric metric_of(Recording& recording, const char* name, povundiri_spec spec = {POVUNDIRI_BOOLEAN, 0, 0, 0}) {
+    Metric metric;
+    DONE(recording.try_hist(name, spec, {}, metric));
+    return metric;
+}
+
+void metrics() {
+    Recording recording;
+    Metric metric, none;
+    HOLDS(opens(folder("metrics"), recording));
+    HOLDS(recording.began().number == 1 && !recording.began().adopted && recording.began().fault == 0);
+    std::size_t one = 9, other = 9, scale = 9;
+    const povundiri_spec boolean = {POVUNDIRI_BOOLEAN, 1, 2, 3}, again = {POVUNDIRI_BOOLEAN, 0, 0, 0};
+    povundiri_recording* own = nullptr;
+    povundiri_began began;
+    ANSWERS(NULL, povundiri_recording_open(nullptr, nullptr, &own, &began));
+    HOLDS(povundiri_recording_open(folder("metrics").c_str(), nullptr, &own, &began) == 0 && began.number == 2);
+    ANSWERS(NOT_EMPTY, povundiri_recording_open(folder("metrics").c_str(), nullptr, &own, &began));
+    HOLDS(povundiri_recording_hist(own, "b", 1, boolean, nullptr, 0, &one) == 0);
+    HOLDS(povundiri_recording_hist(own, "b and more", 1, again, nullptr, 0, &other) == 0);
+    HOLDS(povundiri_recording_scale(own, "s", 1, 1000, 2, &scale) == 0);
+    HOLDS(one == 0 && other == 0 && scale == 1);
+    ANSWERS(NULL, povundiri_recording_scale(own, nullptr, 1, 1000, 2, &scale));
+    ANSWERS(NULL, povundiri_recording_hist(nullptr, "b", 1, boolean, nullptr, 0, &one));
+    HOLDS(!povundiri_recording_add(own, 2, 1, 1) && !povundiri_recording_add(nullptr, 0, 1, 1) && povundiri_recording_add(own, 0, 1, 0));
+    povundiri_recording_end(own);
+    RETURNS(RefusedBadName, recording.try_hist("", again, {}, metric));
+    RETURNS(BadKind, recording.try_hist("k", {9, 0, 0, 0}, {}, metric));
+    RETURNS(SpecBadMin, recording.try_hist("k", {POVUNDIRI_LINEAR, 0, 10, 3}, {}, metric));
+    HOLDS(!metric.add(1) && !none.add(1) && none.told() == Status::Empty && recording.missed() == 0);
+    metric = metric_of(recording, "b");
+    HOLDS(metric.add(true) && metric.add(1, 4));
+    HOLDS(units_in(recording.report(), "b") == 5);
+    HOLDS(recording.prometheus("my").find("\nmy_missed_total{reason=\"rolling\"} 0\n") != std::string::npos);
+    HOLDS(!recording.show().empty());
+}
+
+// A folder that is not a recording's is not touched.
+void folders() {
+    Recording recording;
+    const std::string other = folder("other"), file = other + "/file";
+    HOLDS(mkdir(other.c_str(), 0700) == 0);
+    HOLDS(std::fclose(std::fopen(file.c_str(), "w")) == 0);
+    HOLDS(Recording::try_open(other.c_str(), recording) == std::errc::file_exists);
+    HOLDS(Recording::try_open(file.c_str(), recording) == std::errc::not_a_directory);
+    HOLDS(Recording::try_open(folder("none/below").c_str(), recording) == std::errc::no_such_file_or_directory);
+    RecordingOptions options{};
+    options.bytes = 8;
+    HOLDS(Recording::try_open(folder("shape").c_str(), recording, options) == Status::OpenBadShape);
+    HOLDS(!recording);
+    povundiri_handle sums = {};
+    int fault = 0;
+    ANSWERS(SYSTEM, povundiri_folder_sums(other.c_str(), &sums, nullptr, &fault));
+    HOLDS(fault == EINVAL && !sums.full);
+    ANSWERS(SYSTEM, povundiri_folder_fold(other.c_str(), nullptr, &fault));
+    HOLDS(fault == EINVAL);
+    HOLDS(std::remove(file.c_str()) == 0 && opens(other, recording));
+}
+
+// What was recorded is there again, and the segment is continued.
+void again() {
+    for (int turn = 1; turn <= 3; ++turn) {
+        Recording recording;
+        HOLDS(opens(folder("again"), recording));
+        HOLDS(recording.began().number == 1 && recording.began().adopted == (turn > 1));
+        HOLDS(metric_of(recording, "b").add(1, 7));
+        HOLDS(units_in(recording.report(), "b") == 7 * turn);
+    }
+    // Another shape: a new segment. Both are in the report.
+    Recording recording;
+    HOLDS(opens(folder("again"), recording, small()));
+    HOLDS(recording.began().number == 2 && metric_of(recording, "b").add(1, 7));
+    HOLDS(units_in(recording.report(), "b") == 28);
+    HOLDS(recording.fold() == 1 && units_in(recording.report(), "b") == 28);
+}
+
+// The counts of one do not fit in a page, and those of the other not behind its record.
+void too_large() {
+    Recording recording;
+    RecordingOptions options = small();
+    options.bytes = 8'192;
+    HOLDS(opens(folder("large"), recording, options));
+    const Metric boolean = metric_of(recording, "b");
+    std::uint64_t counted = 0, missed = 0;
+    for (const std::uint32_t buckets : {900, 500}) {
+        Metric metric;
+        RETURNS(RefusedTooLarge, recording.try_hist(std::to_string(buckets), {POVUNDIRI_LINEAR, 1, 100'000, buckets}, {}, metric));
+        for (int i = 0; i < 50; ++i) {
+            (metric.add(1 + 2000 * i, 3) ? counted : missed) += 3;
+            HOLDS(boolean.add(1));
+        }
+    }
+    HOLDS(missed >= 150 && counted + missed == 300 && recording.missed(Missed::TooLarge) == missed && recording.missed() == missed);
+    HOLDS(units_in(recording.report(), "b") == 100);
+    // No more than a few segments were begun for it.
+    std::uint64_t segments = 0;
+    HOLDS(povundiri_folder_count(folder("large").c_str(), &segments) == 0 && segments < 10);
+}
+
+void other_spec() {
+    const povundiri_spec sparse = {POVUNDIRI_SPARSE, 0, 0, 0};
+    Recording recording;
+    HOLDS(opens(folder("spec"), recording) && metric_of(recording, "b").add(1));
+    recording.end();
+    HOLDS(opens(folder("spec"), recording) && recording.began().adopted);
+    Metric metric;
+    RETURNS(RefusedOtherSpec, recording.try_hist("b", sparse, {}, metric));
+    HOLDS(metric.told() == Status::RefusedOtherSpec && !metric.add(5, 2) && recording.missed(Missed::OtherSpec) == 2);
+    HOLDS(recording.report().find("\n!missed,other_spec,2\n") != std::string::npos);
+}
+
+void ended() {
+    Recording recording;
+    HOLDS(opens(folder("ended"), recording));
+    const Metric metric = metric_of(recording, "b");
+    povundiri_recording* own = nullptr;
+    povundiri_began began;
+    std::size_t number = 9;
+    HOLDS(metric.add(1));
+    HOLDS(povundiri_recording_open(folder("ended").c_str(), nullptr, &own, &began) == 0 && began.number == 2);
+    HOLDS(povundiri_recording_hist(own, "b", 1, {POVUNDIRI_BOOLEAN, 0, 0, 0}, nullptr, 0, &number) == 0);
+    HOLDS(povundiri_recording_add(own, number, 1, 2));
+    povundiri_recording_end(own);
+    povundiri_recording_end(own);
+    HOLDS(!povundiri_recording_add(own, number, 1, 3) && povundiri_recording_missed(own, POVUNDIRI_MISSED_ENDED) == 3);
+    HOLDS(units_in(recording.report(), "b") == 3);
+    // The other's segment is final: a fold takes it, and not this one's.
+    HOLDS(recording.fold() == 1 && metric.add(1) && units_in(recording.report(), "b") == 4);
+}
+
+// A gate that threads wait at, until all have come and it is opened.
+class Gate {
+   public:
+    void wait() {
+        std::unique_lock<std::mutex> turn(mutex_);
+        ++waiting_;
+        changed_.notify_all();
+        changed_.wait(turn, [this] { return is_open_; });
+    }
+    void open_for(int threads) {
+        std::unique_lock<std::mutex> turn(mutex_);
+        changed_.wait(turn, [this, threads] { return waiting_ == threads; });
+        is_open_ = true;
+        changed_.notify_all();
+    }
+
+   private:
+    std::mutex mutex_;
+    std::condition_variable changed_;
+    int waiting_ = 0;
+    bool is_open_ = false;
+};
+
+// Above 250 threads at once, further ones share a recorder.
+void many_threads() {
+    constexpr int kThreads = 1000, kSamples = 50;
+    constexpr std::uint32_t kMost = 4'000'000'000;
+    Recording recording;
+    HOLDS(opens(folder("threads"), recording));
+    const Metric metric = metric_of(recording, "b");
+    std::atomic<int> counted{0};
+    Gate gate;
+    std::vector<std::thread> threads;
+    for (int i = 0; i < kThreads; ++i) {
+        threads.emplace_back([&] {
+            counted += metric.add(1);
+            gate.wait();
+            for (int sample = 1; sample < kSamples; ++sample) counted += metric.add(sample % 2);
+        });
+    }
+    gate.open_for(kThreads);
+    for (std::thread& thread : threads) thread.join();
+    HOLDS(counted == kThreads * kSamples && recording.missed() == 0);
+    HOLDS(units_in(recording.report(), "b") == kThreads * kSamples);
+    // None of them holds the first segment any more, when another is begun.
+    std::uint64_t segments = 0;
+    HOLDS(metric.add(1, kMost) && metric.add(1, kMost) && recording.fold() == 1);
+    HOLDS(povundiri_folder_count(folder("threads").c_str(), &segments) == 0 && segments == 1);
+    HOLDS(units_in(recording.report(), "b") == kThreads * kSamples + 2LL * kMost);
+}
+
+// Threads that come and go beside rolls, folds and readers: nothing is missed, no reader sees a number fall.
+void beside() {
+    constexpr int kThreads = 4, kLives = 20, kSamples = 300;
+    Recording recording;
+    HOLDS(opens(folder("beside"), recording, small()));
+    const Metric sparse = metric_of(recording, "s", {POVUNDIRI_SPARSE, 0, 0, 0});
+    std::atomic<long long> counted{0};
+    std::atomic<int> folded{0}, fallen{0}, missing{0};
+    std::atomic<bool> ends{false};
+    std::vector<std::thread> threads, others;
+    others.emplace_back([&] {
+        long long last = 0;
+        do {
+            const long long ended = counted, units = units_beside(folder("beside"), "s");
+            if (units == -2) continue;
+            fallen += units < last ? 1 : 0;
+            missing += units < ended ? 1 : 0;
+            last = units == -1 ? 0 : units;
+        } while (!ends);
+    });
+    others.emplace_back([&] {
+        do {
+            std::uint64_t more = 0;
+            HOLDS(!recording.try_fold(more));
+            folded += static_cast<int>(more);
+            std::this_thread::sleep_for(std::chrono::milliseconds(2));
+        } while (!ends);
+    });
+    for (int i = 0; i < kThreads; ++i) {
+        threads.emplace_back([&, i] {
+            for (int life = 0; life < kLives; ++life) {
+                std::thread([&, i, life] {
+                    for (int sample = 0; sample < kSamples; ++sample) counted += sparse.add(i + 7 * life + sample, 1) ? 1 : 0;
+                }).join();
+            }
+        });
+    }
+    for (std::thread& thread : threads) thread.join();
+    ends = true;
+    for (std::thread& thread : others) thread.join();
+    HOLDS(counted == kThreads * kLives * kSamples && recording.missed() == 0);
+    folded += static_cast<int>(recording.fold());
+    HOLDS(fallen == 0 && missing == 0 && folded > 0);
+    HOLDS(units_in(recording.report(), "s") == counted);
+}
+
+// What a month has: more units than a segment, by many segments that are folded. The sums are exact.
+void month() {
+    constexpr int kSamples = 4000;
+    constexpr std::uint32_t kCount = 2'500'000, kMost = 3'000'000'000;
+    Recording recording;
+    RecordingOptions options = small();
+    options.bytes = 4'096;
+    HOLDS(opens(folder("month"), recording, options));
+    const Metric boolean = metric_of(recording, "b"), sparse = metric_of(recording, "s", {POVUNDIRI_SPARSE, 0, 0, 0});
+    std::uint64_t folded = 0;
+    for (int sample = 0; sample < kSamples; ++sample) {
+        HOLDS(sparse.add(sample, kCount));
+        if (sample % 1000 == 0) HOLDS(boolean.add(1, kMost));
+        if (sample % 200 == 0) folded += recording.fold();
+    }
+    HOLDS(folded > 20 && recording.missed() == 0);
+    HOLDS(units_in(recording.report(), "s") == 10'000'000'000 && units_in(recording.report(), "b") == 12'000'000'000);
+    recording.fold();
+    HOLDS(units_in(recording.report(), "s") == 10'000'000'000 && units_in(recording.report(), "b") == 12'000'000'000);
+}
+
+// A thread that is idle holds the segment that it has recorded into, until it leaves.
+void idle() {
+    Recording recording;
+    HOLDS(opens(folder("idle"), recording, small()));
+    const Metric metric = metric_of(recording, "b"), sparse = metric_of(recording, "s", {POVUNDIRI_SPARSE, 0, 0, 0});
+    std::atomic<int> stage{0};
+    std::thread thread([&] {
+        HOLDS(metric.add(1));
+        stage = 1;
+        while (stage != 2) std::this_thread::yield();
+        recording.leave();
+        stage = 3;
+        while (stage != 4) std::this_thread::yield();
+        HOLDS(metric.add(1));
+    });
+    while (stage != 1) std::this_thread::yield();
+    int added = 0;
+    for (; added < 20'000; ++added) HOLDS(sparse.add(added));
+    HOLDS(recording.missed() == 0);
+    const std::uint64_t folded = recording.fold();
+    HOLDS(folded > 3);
+    stage = 2;
+    while (stage != 3) std::this_thread::yield();
+    HOLDS(recording.fold() == 1);
+    stage = 4;
+    thread.join();
+    HOLDS(units_in(recording.report(), "b") == 2 && units_in(recording.report(), "s") == added);
+}
+
+// Whether a child says so, by its status.
+bool in_child(const std::function<bool()>& says) {
+    const pid_t child = fork();
+    if (child == 0) _exit(says() ? 0 : 1);
+    int status = 0;
+    return child > 0 && waitpid(child, &status, 0) == child && WIFEXITED(status) && WEXITSTATUS(status) == 0;
+}
+
+void forks() {
+    Recording recording;
+    HOLDS(opens(folder("forks"), recording));
+    const Metric metric = metric_of(recording, "b");
+    std::atomic<bool> ends{false};
+    std::atomic<long long> counted{0};
+    std::vector<std::thread> threads;
+    for (int i = 0; i < 3; ++i) {
+        threads.emplace_back([&] {
+            while (!ends) counted += metric.add(1);
+        });
+    }
+    HOLDS(metric.add(1));
+    for (int i = 0; i < 20; ++i) {
+        HOLDS(in_child([&] {
+            if (metric.add(1, 5) || recording.missed(Missed::Forked) != 5 || recording.missed() != 5) return false;
+            Recording own;
+            if (!opens(folder("forks"), own)) return false;
+            Metric mine;
+            if (own.try_hist("c", {POVUNDIRI_BOOLEAN, 0, 0, 0}, {}, mine) != Status::Done || !mine.add(1, 2)) return false;
+            own.end();
+            return !metric.add(1);
+        }));
+    }
+    ends = true;
+    for (std::thread& thread : threads) thread.join();
+    HOLDS(units_in(recording.report(), "b") == counted + 1 && units_in(recording.report(), "c") == 40);
+    HOLDS(recording.missed() == 0);
+}
+
+// Where no segment can be made, what is missed is counted, and once one can be, recording begins.
+void no_space() {
+    HOLDS(in_child([] {
+        struct rlimit limit;
+        if (getrlimit(RLIMIT_FSIZE, &limit) != 0) return false;
+        const rlim_t was = limit.rlim_cur;
+        limit.rlim_cur = 1000;
+        std::signal(SIGXFSZ, SIG_IGN);
+        if (setrlimit(RLIMIT_FSIZE, &limit) != 0) return false;
+        Recording recording;
+        if (!opens(folder("space"), recording) || recording.began().fault != EFBIG || recording.began().number != 0) return false;
+        Metric metric;
+        if (recording.try_hist("b", {POVUNDIRI_BOOLEAN, 0, 0, 0}, {}, metric) != Status::Done) return false;
+        for (int i = 0; i < 100; ++i) {
+            if (metric.add(1, 3)) return false;
+        }
+        if (recording.missed(Missed::NoSpace) != 300 || recording.missed() != 300) return false;
+        limit.rlim_cur = was;
+        if (setrlimit(RLIMIT_FSIZE, &limit) != 0) return false;
+        std::this_thread::sleep_for(std::chrono::milliseconds(1100));
+        return metric.add(1, 2) && units_in(recording.report(), "b") == 2;
+    }));
+}
+
+// The same where the device is full while it records, and has room again.
+void full_disk() {
+    Recording recording;
+    HOLDS(opens(folder("disk"), recording, small()));
+    const Metric sparse = metric_of(recording, "s", {POVUNDIRI_SPARSE, 0, 0, 0});
+    long long counted = 0, missed = 0;
+    device_is_full = true;
+    for (int value = 0; value < 3000; ++value) (sparse.add(value, 3) ? counted : missed) += 3;
+    HOLDS(counted > 0 && missed > 0 && recording.missed(Missed::NoSpace) == static_cast<std::uint64_t>(missed));
+    HOLDS(recording.missed() == recording.missed(Missed::NoSpace) && units_in(recording.report(), "s") == counted);
+    device_is_full = false;
+    std::this_thread::sleep_for(std::chrono::milliseconds(1100));
+    HOLDS(sparse.add(-1, 5) && units_in(recording.report(), "s") == counted + 5);
+    HOLDS(recording.missed() == static_cast<std::uint64_t>(missed));
+}
+
+// A recording's folder in which this user may make no file.
+void unwritable() {
+    const std::string path = folder("closed"), mark = path + "/recording";
+    HOLDS(mkdir(path.c_str(), 0755) == 0 && std::fclose(std::fopen(mark.c_str(), "w")) == 0 && chmod(path.c_str(), 0555) == 0);
+    HOLDS(in_child([&] {
+        if (geteuid() == 0 && (setgid(65534) != 0 || setuid(65534) != 0)) return false;
+        Recording recording;
+        if (!opens(path, recording) || recording.began().fault != EACCES || recording.began().number != 0) return false;
+        Metric metric;
+        if (recording.try_hist("b", {POVUNDIRI_BOOLEAN, 0, 0, 0}, {}, metric) != Status::Done) return false;
+        for (int i = 0; i < 100; ++i) {
+            if (metric.add(1, 3)) return false;
+        }
+        if (recording.missed(Missed::NoSpace) != 300 || recording.missed() != 300) return false;
+        std::uint64_t folded = 0;
+        return recording.report().find("!missed,no_space,300\n") != std::string::npos &&
+               recording.try_fold(folded) == std::errc::permission_denied;
+    }));
+    HOLDS(chmod(path.c_str(), 0755) == 0);
+}
+
+// A program that ends while threads record, with a recording that is never destroyed, loses nothing.
+void exits() {
+    HOLDS(in_child([] {
+        static Recording recording;
+        if (!opens(folder("exits"), recording, small())) return false;
+        static Metric metric;
+        if (recording.try_hist("s", {POVUNDIRI_SPARSE, 0, 0, 0}, {}, metric) != Status::Done) return false;
+        for (int i = 0; i < 4; ++i) {
+            std::thread([] {
+                for (int value = 0;; ++value) metric.add(value % 1000);
+            }).detach();
+        }
+        std::this_thread::sleep_for(std::chrono::milliseconds(100));
+        std::exit(0);
+    }));
+    Recording recording;
+    HOLDS(opens(folder("exits"), recording, small()));
+    HOLDS(units_in(recording.report(), "s") > 0 && recording.report().find("!bad") == std::string::npos);
+}
+
+int run(bool only_threads) {
+    int failed = group("threads beside rolls and folds", beside);
+    failed += group("many threads", many_threads);
+    failed += group("an idle thread", idle);
+    if (only_threads) return failed;
+    failed += group("metrics", metrics);
+    failed += group("folders", folders);
+    failed += group("again", again);
+    failed += group("a histogram that is too large", too_large);
+    failed += group("another spec", other_spec);
+    failed += group("ended", ended);
+    failed += group("a month", month);
+    failed += group("forks", forks);
+    failed += group("a limit of the files' length", no_space);
+    failed += group("a full disk", full_disk);
+    failed += group("an unwritable folder", unwritable);
+    failed += group("exits", exits);
+    return failed;
+}
+
+}  // namespace
+
+int main(int count, char** words) {
+    if (count != 2 && count != 3) return 2;
+    home = words[1];
+    return run(count == 3) != 0;
+}

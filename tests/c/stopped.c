@@ -1,0 +1,107 @@
+/* Linked into a program with the words of `wraps` (tests/parts/recordings.py): its calls to the system that others can see come here first.
+ * Where the environment has STOP_AT, a number from 1 on, the process kills itself before that one of these calls. Where
+ * it has STOP_TELLS, the process says at its end how many there were. */
+#define _GNU_SOURCE
+
+#include <fcntl.h>
+#include <signal.h>
+#include <stdarg.h>
+#include <stdio.h>
+#include <stdlib.h>
+#include <sys/mman.h>
+#include <sys/types.h>
+#include <unistd.h>
+
+int __real_open(const char *path, int flags, ...);
+int __real_close(int descriptor);
+int __real_flock(int descriptor, int how);
+int __real_fsync(int descriptor);
+int __real_ftruncate(int descriptor, off_t length);
+int __real_link(const char *from, const char *to);
+void *__real_mmap(void *at, size_t length, int protection, int flags, int descriptor, off_t offset);
+int __real_posix_fallocate(int descriptor, off_t from, off_t length);
+ssize_t __real_pread(int descriptor, void *to, size_t bytes, off_t at);
+int __real_rename(const char *from, const char *to);
+int __real_unlink(const char *path);
+ssize_t __real_write(int descriptor, const void *from, size_t bytes);
+
+static long number_of(const char *name) {
+    const char *const text = getenv(name);
+    return text == NULL ? 0 : atol(text);
+}
+
+static long calls;
+
+static void step(void) {
+    if (__atomic_add_fetch(&calls, 1, __ATOMIC_RELAXED) == number_of("STOP_AT")) kill(getpid(), SIGKILL);
+}
+
+static __attribute__((destructor)) void tell(void) {
+    if (getenv("STOP_TELLS") != NULL) fprintf(stderr, "%ld calls\n", __atomic_load_n(&calls, __ATOMIC_RELAXED));
+}
+
+int __wrap_open(const char *path, int flags, ...) {
+    va_list more;
+    int mode = 0;
+    va_start(more, flags);
+    if ((flags & O_CREAT) != 0) mode = va_arg(more, int);
+    va_end(more);
+    step();
+    return __real_open(path, flags, mode);
+}
+
+int __wrap_close(int descriptor) {
+    step();
+    return __real_close(descriptor);
+}
+
+int __wrap_flock(int descriptor, int how) {
+    step();
+    return __real_flock(descriptor, how);
+}
+
+int __wrap_fsync(int descriptor) {
+    step();
+    return __real_fsync(descriptor);
+}
+
+int __wrap_ftruncate(int descriptor, off_t length) {
+    step();
+    return __real_ftruncate(descriptor, length);
+}
+
+int __wrap_link(const char *from, const char *to) {
+    step();
+    return __real_link(from, to);
+}
+
+void *__wrap_mmap(void *at, size_t length, int protection, int flags, int descriptor, off_t offset) {
+    step();
+    return __real_mmap(at, length, protection, flags, descriptor, offset);
+}
+
+int __wrap_posix_fallocate(int descriptor, off_t from, off_t length) {
+    step();
+    return __real_posix_fallocate(descriptor, from, length);
+}
+
+ssize_t __wrap_pread(int descriptor, void *to, size_t bytes, off_t at) {
+    step();
+    return __real_pread(descriptor, to, bytes, at);
+}
+
+int __wrap_rename(const char *from, const char *to) {
+    step();
+    return __real_rename(from, to);
+}
+
+int __wrap_unlink(const char *path) {
+    step();
+    return __real_unlink(path);
+}
+
+/* Half of the bytes come first, so that a text is cut off. */
+ssize_t __wrap_write(int descriptor, const void *from, size_t bytes) {
+    step();
+    return __real_write(descriptor, from, bytes > 1 ? bytes / 2 : bytes);
+}

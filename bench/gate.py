@@ -35,6 +35,7 @@ TICKS = 100
 GIBIBYTE = 2**30
 
 MARKS = ROOT / "tests" / "support" / "marks.py"
+LANES = ROOT / "tests" / "support" / "lanes.py"
 WIDTH = 120
 MOST_EDITS = 10
 
@@ -179,6 +180,7 @@ def main(words: Sequence[str]) -> int:
     with tempfile.NamedTemporaryFile() as sums:
         subprocess.run([sys.executable, MARKS, "note", sums.name], check=True)
         before = processor_minutes()
+        os.environ.setdefault("RT_JOBS", subprocess.check_output([sys.executable, LANES], text=True).strip())
         failed = watched(["rt", "ci", *words], costs)
         proved, in_lines = taken(start, before), sum(sum(ones.values()) for ones in costs.seconds.values()) / 60
         rest = processor_minutes() - before - in_lines
@@ -189,7 +191,8 @@ def main(words: Sequence[str]) -> int:
             failed = subprocess.run(["tests/run"], cwd=ROOT).returncode
             tests = f"`tests/run` took {taken(start, before)}"
     today = datetime.date.today()
-    head = f"{today.day} {today:%B %Y}, {machine()}: `rt ci` took {proved}; {rest:.1f} minutes are in no line. {tests}."
+    ran = f"`rt ci` took {proved}, {os.environ['RT_JOBS']} checks at a time; {rest:.1f} minutes are in no line"
+    head = f"{today.day} {today:%B %Y}, {machine()}: {ran}. {tests}."
     dearest = ", ".join(f"`{edit}` {seconds:.0f}" for seconds, edit in sorted(costs.edits(), reverse=True)[:MOST_EDITS])
     print("\n" + "\n".join([*textwrap.wrap(head, WIDTH, break_on_hyphens=False), "", *table(costs)]))
     print("\n" + textwrap.fill(f"The dearest edits, in seconds: {dearest or 'none'}.", WIDTH, break_on_hyphens=False))

@@ -1,0 +1,33 @@
+"""How many checks the gate runs side by side.
+
+    lanes.py
+
+Prints the number for `rt ci`, which reads it from RT_JOBS: one a processor, as many as memory holds. By itself `rt ci`
+plans on up to three times the memory that a check takes here, and then leaves processors idle.
+"""
+
+from __future__ import annotations
+
+import os
+import pathlib
+
+# No check of a crate has been seen to take more; `bench/gate.py` tells.
+BYTES_FOR_A_CHECK = 5 * 10**9
+
+
+def free_bytes() -> int:
+    """The memory that is free, as the system sees it."""
+    for line in pathlib.Path("/proc/meminfo").read_text(encoding="utf-8").splitlines():
+        name, _, rest = line.partition(":")
+        if name == "MemAvailable":
+            return int(rest.split()[0]) * 1024
+    return 0
+
+
+def lanes() -> int:
+    """One a processor that this process may run on, as many as memory holds, and at least one."""
+    return max(1, min(len(os.sched_getaffinity(0)), free_bytes() // BYTES_FOR_A_CHECK))
+
+
+if __name__ == "__main__":
+    print(lanes())

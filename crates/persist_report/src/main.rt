@@ -22,6 +22,7 @@ mod output;
 mod part;
 mod peeked;
 mod place;
+mod progress;
 mod repeating;
 mod request;
 mod run;

@@ -16,9 +16,7 @@ use crate::files::open_out;
 use crate::inputs::{Inputs, Named, names_of, put_input};
 use crate::noted::Stream;
 use crate::request::no_page;
-use crate::summing::{
-    Left, Reading, Summed, add_from, origin_of, path_of, sum_of_names, tell_left,
-};
+use crate::summing::{Reading, add_from, origin_of, path_of, sum_of_names, tell_left};
 use fault_texts::{Origin, Source};
 use image_reader::Reading as ImageReading;
 use persist_report_core::{CliFault, write_and_flush};
@@ -30,8 +28,10 @@ use std::fs::File;
 use std::io::Read;
 use std::random::RandomSource;
 use std::rt::Files;
+use std::sync::Wait;
+use std::thread::Threads;
 use std::time::Clock;
-use sum_commands::{InputFault, InputKind};
+use sum_commands::{InputFault, InputKind, Left, Summed};
 use sum_texts::{Totals, report_of, totals_text};
 
 /// The text that is written: in a form, or with a family for each histogram.
@@ -110,10 +110,11 @@ fn minus_failure<R: AllocGlobal>(context: &Context<'_, R>, fault: MinusFault) ->
 }
 
 // The sum less that of an earlier file or folder, each of whose inputs has to be read.
-fn less_earlier<R: Files<File = File> + Input + AllocGlobal>(
+fn less_earlier<R: Files<File = File> + Clock + Input + Eprint + AllocGlobal + Threads + Wait>(
     context: &Context<'_, R>,
     sums: Sums,
     earlier: &str,
+    workers: usize,
 ) -> Result<Sums, Failure>
     ensures { IfErr result UsageIsMistake }
 {
@@ -125,6 +126,7 @@ fn less_earlier<R: Files<File = File> + Input + AllocGlobal>(
         Reading {
             is_live: false,
             is_strict: true,
+            workers,
         },
     )?;
     first_failure(context, &names, before.left)?;
@@ -240,7 +242,7 @@ fn make_composed<R: AllocGlobal>(
 }
 
 // The text of the sum of inputs by their names.
-fn compose<R: Files<File = File> + Input + Eprint + AllocGlobal>(
+fn compose<R: Files<File = File> + Clock + Input + Eprint + AllocGlobal + Threads + Wait>(
     context: &Context<'_, R>,
     inputs: &Inputs<'_>,
     names: &[Named],
@@ -252,11 +254,13 @@ fn compose<R: Files<File = File> + Input + Eprint + AllocGlobal>(
     let how = Reading {
         is_live: context.is_live,
         is_strict: inputs.is_strict,
+        workers: inputs.workers(),
     };
     let Summed {
         sums,
         left,
         is_damaged,
+        ..
     } = sum_of_names(context, names, how)?;
     let count = left.len() as u64;
     if inputs.is_strict {
@@ -265,7 +269,7 @@ fn compose<R: Files<File = File> + Input + Eprint + AllocGlobal>(
         tell_left(context.rt, names, &left);
     }
     let sums = match inputs.earlier {
-        Some(earlier) => less_earlier(context, sums, earlier)?,
+        Some(earlier) => less_earlier(context, sums, earlier, how.workers)?,
         None => sums,
     };
     make_composed(context, text, inputs.has_totals, sums, is_damaged, count)
@@ -302,7 +306,15 @@ fn write_composed<R: Files<File = File> + Clock + Print + RandomSource + AllocGl
 /// Writes a text of the sum of inputs: to the file `to`, or to standard output if there is none. Inputs that cannot be read are
 /// told and left out, or the first ends it. `Usage` comes only for a mistake on the command line.
 pub fn write_sum<
-    R: Files<File = File> + Clock + Input + Print + Eprint + RandomSource + AllocGlobal,
+    R: Files<File = File>
+        + Clock
+        + Input
+        + Print
+        + Eprint
+        + RandomSource
+        + AllocGlobal
+        + Threads
+        + Wait,
 >(
     context: &Context<'_, R>,
     inputs: &Inputs<'_>,

@@ -131,9 +131,10 @@ def listed(
         shown += ["--also", path]
     yield f"{title}, show --also", difference(wanted_of(text, left), answer(program, shown))
     strict = fault(f'{left[0][1]}: "{left[0][0]}"', 3) if left else wanted
-    for words in ([], *(["--workers", str(workers)] for workers in WORKERS)):
-        came = answer(program, ["report", *paths, "--strict", *words])
-        yield f"{title}, --strict {' '.join(words)}", difference(strict, came)
+    yield f"{title}, --strict", difference(strict, answer(program, ["report", *paths, "--strict"]))
+    for workers in WORKERS:
+        came = answer(program, ["report", *paths, "--strict", "--workers", str(workers)])
+        yield f"{title}, --strict, {workers} workers", difference(strict, came)
 
 
 def trees(program: pathlib.Path, top: pathlib.Path, seed: int | str) -> Iterator[Case]:
@@ -332,9 +333,10 @@ def looked(program: pathlib.Path, top: pathlib.Path, crash: bytes) -> Iterator[C
     two, _ = plain_sums.sum_of([(1, crash), (2, crash)])
     written = top / "crash.tot"
     written.write_bytes(plain_sums.totals_text(plain_sums.sum_of([(1, crash)])[0]))
-    for words in ([], ["--workers", "4"]):
-        came = answer(program, ["report", CRASH, written, "--live", *words])
-        yield f"an image and totals, --live {words}", difference(Answer(plain_sums.report_of(two, 0)), came)
+    for workers in ("1", "4"):
+        came = answer(program, ["report", CRASH, written, "--live", "--workers", workers])
+        title = f"an image and totals, --live, {workers} workers"
+        yield title, difference(Answer(plain_sums.report_of(two, 0)), came)
     old = answer(program, ["report", CRASH, EXAMPLE, "--live"])
     one, _ = plain_sums.sum_of([(1, crash)])
     wanted = Answer(plain_sums.report_of(one, 1), told([(EXAMPLE, "Adopt OldVersion")]), 3)
@@ -453,13 +455,14 @@ def told_meanwhile(program: pathlib.Path, top: pathlib.Path) -> Iterator[Case]:
 
 def usage(program: pathlib.Path, top: pathlib.Path) -> Iterator[Case]:
     """What cannot go together is a usage fault, and nothing is written."""
+    two: list[Word] = ["report", CRASH, CRASH]
     commands: list[list[Word]] = [
         ["report", "-", "-"],
         ["report", "-", "--files-from", "-"],
         ["report", CRASH, "--files-from", "-", "--minus", "-"],
         ["report", "-", "--minus", "-"],
         ["report", "--totals", "--rows", CRASH],
-        *(["report", "--workers", count, CRASH, CRASH] for count in ("0", "17", "-1", "", "two", "4294967297")),
+        *[[*two, "--workers", count] for count in ("0", "17", "-1", "", "two", "4294967297")],
         ["report", CRASH, "--workers"],
         ["show", CRASH, "--workers", "1", "--workers", "2"],
         ["info", CRASH, "--workers", "1"],

@@ -468,7 +468,7 @@ def usage(program: pathlib.Path, top: pathlib.Path) -> Iterator[Case]:
         ["info", CRASH, "--workers", "1"],
         ["export", "--totals", CRASH],
         ["show", "--totals", CRASH],
-        ["show", CRASH, "--also", EXAMPLE, "--html"],
+        ["show", CRASH, "--also", EXAMPLE, "--html", "--log"],
         ["info", CRASH, EXAMPLE],
         ["report", CRASH, "--strict", "--strict"],
         ["report", CRASH, "--files-from", "a", "--files-from", "b"],

@@ -30,6 +30,7 @@ mod scales;
 mod scaling;
 mod sizing;
 mod sizing_request;
+mod sources;
 mod sum_writing;
 mod summing;
 mod terminal;

@@ -15,15 +15,18 @@ use crate::families::clash_failure;
 use crate::files::open_out;
 use crate::inputs::{Inputs, Named, names_of, put_input};
 use crate::noted::Stream;
-use crate::request::no_page;
+use crate::request::no_overview;
+use crate::sources::source_of_sum;
 use crate::summing::{Reading, add_from, origin_of, path_of, sum_of_names, tell_left};
 use fault_texts::{Origin, Source};
 use image_reader::Reading as ImageReading;
 use persist_report_core::{CliFault, write_and_flush};
-use reading_shows::{Form, first_missing, list_text, show_since_text, show_text};
+use reading_shows::{
+    Form, SumHead, first_missing, list_text, page_of_sum, show_since_text, show_text,
+};
 use reading_sums::{MinusFault, Sums};
 use reading_texts::{FamilyFault, Label, export_text, families_text, table_text};
-use std::alloc::Global;
+use std::alloc::{AllocError, Global};
 use std::fs::File;
 use std::io::Read;
 use std::random::RandomSource;
@@ -153,7 +156,22 @@ fn families_of<R: AllocGlobal>(
     }
 }
 
-// The text of a sum in a form, of which so many inputs are left out. A page and an overview are of one image alone.
+// What the page of a sum says of its inputs, of which so many are left out.
+fn head_of(alloc: Global, sums: &Sums, left: u64) -> Result<SumHead, AllocError> {
+    let notes = sums.notes();
+    let others = sums.others(alloc)?;
+    Ok(SumHead {
+        images: notes.images,
+        left,
+        full: notes.full,
+        corrupt: notes.corrupt,
+        stopped: notes.stopped,
+        bad: notes.bad,
+        others: others.len() as u64,
+    })
+}
+
+// The text of a sum in a form, of which so many inputs are left out. An overview is of one image alone.
 fn form_text<R: AllocGlobal>(
     context: &Context<'_, R>,
     form: Form<'_>,
@@ -177,7 +195,15 @@ fn form_text<R: AllocGlobal>(
             earlier,
         } => show_since_text(alloc, reading, earlier, style, choice),
         Form::List { style, choice } => list_text(alloc, reading, style, choice),
-        Form::Page { .. } | Form::Info { .. } => return Err(Failure::Usage(no_page(alloc)?)),
+        Form::Page {
+            source,
+            shows_all,
+            choice,
+        } => {
+            let head = head_of(alloc, sums, left)?;
+            page_of_sum(alloc, &head, reading, source, shows_all, choice)
+        }
+        Form::Info { .. } => return Err(Failure::Usage(no_overview(alloc)?)),
     };
     Ok(text?)
 }
@@ -239,6 +265,24 @@ fn make_composed<R: AllocGlobal>(
         Text::Families { prefix, labels } => families_of(context, &reading, prefix, labels)?,
     };
     Ok(Composed { text, wrong })
+}
+
+// The same text; a page names where the sum comes from.
+fn text_of_inputs<'a>(text: Text<'a>, inputs: &Inputs<'a>, names: &'a [Named]) -> Text<'a> {
+    match text {
+        Text::Form(
+            Form::Page {
+                source: _,
+                shows_all,
+                choice,
+            },
+        ) => Text::Form(Form::Page {
+            source: source_of_sum(inputs, names),
+            shows_all,
+            choice,
+        }),
+        other => other,
+    }
 }
 
 // The text of the sum of inputs by their names.
@@ -306,6 +350,7 @@ fn write_composed<R: Files<File = File> + Clock + Print + RandomSource + AllocGl
 /// Writes a text of the sum of inputs: to the file `to`, or to standard output if there is none. Inputs that cannot be read are
 /// told and left out, or the first ends it. `Usage` comes only for a mistake on the command line.
 pub fn write_sum<
+    'a,
     R: Files<File = File>
         + Clock
         + Input
@@ -317,13 +362,14 @@ pub fn write_sum<
         + Wait,
 >(
     context: &Context<'_, R>,
-    inputs: &Inputs<'_>,
-    text: Text<'_>,
+    inputs: &Inputs<'a>,
+    text: Text<'a>,
     to: Option<&str>,
 ) -> Result<(), Failure>
     ensures { IfErr result UsageIsMistake }
 {
     let names = names_of(context, inputs)?;
+    let text = text_of_inputs(text, inputs, &names);
     let composed = compose(context, inputs, &names, text)?;
     write_composed(context, composed, to)
 }

@@ -55,7 +55,7 @@ MISTAKES: list[list[Word]] = [
     ["reports"],
     ["--workers"],
     ["info", EXAMPLE, EXAMPLE],
-    ["report", "--workers", "2"],
+    ["report", "--workers", "0"],
     ["export", "--totals"],
     ["export", "--prefix"],
     ["export", "--prefix", "a", "--prefix", "b"],

@@ -47,7 +47,7 @@ SENTENCES: dict[tuple[str, ...], list[str]] = {
     ],
 }
 # Options that `-h` of a command leaves out.
-OF_SUMS = ["--files-from", "--minus", "--strict"]
+OF_SUMS = ["--files-from", "--minus", "--workers", "--strict"]
 ONLY_LONG: dict[tuple[str, ...], list[str]] = {
     ("report",): ["--at", *OF_SUMS],
     ("show",): ["--also", "--at", *OF_SUMS],

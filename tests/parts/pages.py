@@ -42,9 +42,11 @@ USAGES = [
 ]
 
 
-def complaint(data: bytes, page: bytes, source: str = "standard input", **options: Any) -> str | None:
+def complaint(
+    data: bytes, page: bytes, source: str = "standard input", overview: Iterable[str] | None = None, **options: Any
+) -> str | None:
     """Where a page is not well formed, or does not say where the image comes from and what the plain renderers say of
-    it, in its order; None if all is well."""
+    it, in its order; None if all is well. These are the lines of its overview, or else those of `info`."""
     read, wrong = page_text.read(page)
     if wrong is not None:
         return wrong
@@ -53,9 +55,8 @@ def complaint(data: bytes, page: bytes, source: str = "standard input", **option
     shown = [words for words in page_text.words_of(text.split("\n")) if words != HEADS]
     listed = {name: option for name, option in options.items() if name != "shows_all"}
     rows = plain_overview.list_rows(data, listed.get("names", ()), listed.get("part"), True)
-    wanted = page_text.words_of([
-        source, *plain_overview.info_lines(data, is_human=True), *map(" ".join, rows), *map(" ".join, shown),
-    ])
+    lines = plain_overview.info_lines(data, is_human=True) if overview is None else overview
+    wanted = page_text.words_of([source, *lines, *map(" ".join, rows), *map(" ".join, shown)])
     for number, words in enumerate(wanted):
         came = read.lines[number] if number < len(read.lines) else "no more"
         if came != words:

@@ -1,5 +1,6 @@
 """Sums of many inputs, beside a plain sum (plain_sums.py): folders of forged images, lists of files, totals that are
-read again, and what came since an earlier sum; each text."""
+read again, and what came since an earlier sum; each text, by any number of workers. On a terminal a line tells how far
+a sum is."""
 
 from __future__ import annotations
 
@@ -7,15 +8,25 @@ import argparse
 import os
 import pathlib
 import random
+import re
+import resource
 import tempfile
+import threading
+import time
 from collections.abc import Iterator, Sequence
 
+from parts import explained as explaining
 from support import forge, layout, plain_damage, plain_export, plain_reader, plain_show, plain_sums
 from support.program import EXAMPLE, ROOT, Answer, Case, Word, answer, content, difference, explained, fault
 
 PROGRAM = "persist_report"
 FOLDERS = 100
 MOST_IMAGES = 12
+WORKERS = (1, 2, 3, 7, 16)
+# More files than are open at once, and as few as a program may open.
+MANY, FEW_OPEN = 900, 24
+# What goes to the start of a line and erases it, and so many seconds after which a line tells how far a sum is.
+ERASE, PATIENCE = b"\r\x1b[K", 2
 CRASH = ROOT / "examples" / "crash.img"
 STOOD = b"what stood there before"
 MAPPED = 0.1
@@ -42,7 +53,8 @@ def texts_of(whole: plain_sums.Sum, left: int) -> list[tuple[list[str], bytes]]:
 
 def told(left: Sequence[tuple[object, str]]) -> bytes:
     """The lines of inputs that are left out."""
-    return "".join(f'persist_report: {why}: "{name}"\n' for name, why in left).encode()
+    lines = (f"{why}: " + ("standard input" if name == "-" else f'"{name}"') for name, why in left)
+    return "".join(f"persist_report: {line}\n" for line in lines).encode()
 
 
 def wanted_of(output: bytes, left: Sequence[tuple[object, str]]) -> Answer:
@@ -76,7 +88,7 @@ def filled(folder: pathlib.Path, chance: random.Random) -> list[tuple[pathlib.Pa
 
 
 def folders(program: pathlib.Path, top: pathlib.Path, seed: int | str) -> Iterator[Case]:
-    """Folders of forged images and totals: each text."""
+    """Folders of forged images and totals: each text, by any number of workers."""
     for number in range(FOLDERS):
         chance = random.Random(f"sums {seed} {number}")
         folder = top / f"folder {number}"
@@ -86,6 +98,9 @@ def folders(program: pathlib.Path, top: pathlib.Path, seed: int | str) -> Iterat
             title = f"folder {number} of seed {seed}, {' '.join(words)}"
             wanted = wanted_of(text, left)
             yield title, difference(wanted, answer(program, [words[0], folder, *words[1:]]))
+            workers = str(chance.choice(WORKERS))
+            came = answer(program, [words[0], folder, *words[1:], "--workers", workers])
+            yield f"{title}, {workers} workers", difference(wanted, came)
         yield from listed(program, folder, files, f"folder {number} of seed {seed}")
 
 
@@ -102,6 +117,9 @@ def listed(
     names = folder / "in it" / "names"
     names.write_bytes(lines)
     yield f"{title}, files", difference(wanted, answer(program, ["report", *paths]))
+    for workers in WORKERS:
+        came = answer(program, ["report", *paths, "--workers", str(workers)])
+        yield f"{title}, files, {workers} workers", difference(wanted, came)
     yield f"{title}, a list", difference(wanted, answer(program, ["report", "--files-from", names]))
     came = answer(program, ["report", "--files-from", "-"], lines)
     yield f"{title}, a list of standard input", difference(wanted, came)
@@ -112,11 +130,11 @@ def listed(
     for path in paths[1:]:
         shown += ["--also", path]
     yield f"{title}, show --also", difference(wanted_of(text, left), answer(program, shown))
-    if left:
-        refused = fault(f'{left[0][1]}: "{left[0][0]}"', 3)
-        yield f"{title}, --strict", difference(refused, answer(program, ["report", *paths, "--strict"]))
-    else:
-        yield f"{title}, --strict", difference(wanted, answer(program, ["report", *paths, "--strict"]))
+    strict = fault(f'{left[0][1]}: "{left[0][0]}"', 3) if left else wanted
+    yield f"{title}, --strict", difference(strict, answer(program, ["report", *paths, "--strict"]))
+    for workers in WORKERS:
+        came = answer(program, ["report", *paths, "--strict", "--workers", str(workers)])
+        yield f"{title}, --strict, {workers} workers", difference(strict, came)
 
 
 def trees(program: pathlib.Path, top: pathlib.Path, seed: int | str) -> Iterator[Case]:
@@ -173,6 +191,7 @@ def earlier(program: pathlib.Path, top: pathlib.Path, seed: int | str) -> Iterat
     tried = set()
     for number in range(FOLDERS):
         chance = random.Random(f"earlier {seed} {number}")
+        by = ["--workers", str(WORKERS[number % len(WORKERS)])]
         old = [lawful_of(chance) for _ in range(chance.randint(1, 3))]
         new = [grown(data, chance) if chance.random() < 0.8 else lawful_of(chance) for data in old]
         folder, before = top / f"new {number}", top / f"old {number}"
@@ -190,18 +209,71 @@ def earlier(program: pathlib.Path, top: pathlib.Path, seed: int | str) -> Iterat
             tried.add(str(less).split()[0])
             refused = Answer(b"", told(left) + fault(str(less), 3).error, 3)
             for other in (before, totals):
-                came = answer(program, ["report", folder, "--minus", other])
-                yield f"{number} of seed {seed}, {less}", difference(refused, came)
+                came = answer(program, ["report", folder, "--minus", other, *by])
+                yield f"{number} of seed {seed}, {less}, {by}", difference(refused, came)
             continue
         tried.add("since")
         for words, text in texts_of(since, len(left)):
             for other in (before, totals):
-                came = answer(program, [words[0], folder, *words[1:], "--minus", other])
-                yield f"{number} of seed {seed}, {' '.join(words)} --minus", difference(wanted_of(text, left), came)
+                came = answer(program, [words[0], folder, *words[1:], "--minus", other, *by])
+                title = f"{number} of seed {seed}, {' '.join(words)} --minus, {by}"
+                yield title, difference(wanted_of(text, left), came)
     yield "each answer of --minus", None if tried >= {"since", "Fell", "OtherSpec"} else f"tried were {tried}"
     gone = top / "gone"
     came = answer(program, ["report", CRASH, "--minus", gone])
     yield "--minus of no file", difference(fault(f'Read: "{gone}"', 4), came)
+
+
+def few_open() -> None:
+    """Lets a program open few files alone."""
+    resource.setrlimit(resource.RLIMIT_NOFILE, (FEW_OPEN, FEW_OPEN))
+
+
+def sum_of_named(inputs: Sequence[tuple[object, bytes | None]]) -> tuple[Answer, Answer]:
+    """The report of the sum of inputs, of which those without bytes are missing; and what comes with `--strict`."""
+    whole, left = plain_sums.Sum(), []
+    for name, data in inputs:
+        try:
+            if data is None:
+                raise plain_sums.Wrong(UNREAD)
+            whole = plain_sums.added(whole, plain_sums.of_input(data))
+        except plain_sums.Wrong as wrong:
+            left.append((name, str(wrong)))
+    report = wanted_of(plain_sums.report_of(whole, len(left)), left)
+    if not left:
+        return report, report
+    name, why = left[0]
+    return report, Answer(b"", told([(name, why)]), 4 if why == UNREAD else 3)
+
+
+def many(program: pathlib.Path, top: pathlib.Path, seed: int | str) -> Iterator[Case]:
+    """More files than are open at once, some forged and some missing, by any number of workers."""
+    chance = random.Random(f"many {seed}")
+    lawful = [lawful_of(chance) for _ in range(40)]
+    totals = plain_sums.totals_text(plain_sums.sum_of(enumerate(lawful[:2]))[0])
+    pool = [*lawful, *(image_of(chance) for _ in range(4)), b"no image at all\n", totals]
+    inputs: list[tuple[object, bytes | None]] = []
+    for number in range(MANY):
+        path, data = top / f"{number:04}", chance.choice(pool)
+        is_there = number in (0, MANY - 1) or chance.random() < 0.97
+        inputs.append((path, data if is_there else None))
+        if is_there:
+            path.write_bytes(data)
+    names = top / "names"
+    for place in (None, 0, chance.randrange(MANY), MANY - 1):
+        named, data = list(inputs), b""
+        if place is not None:
+            data = lawful[0]
+            named[place] = ("-", data)
+        report, strict = sum_of_named(named)
+        names.write_bytes("".join(f"{name}\n" for name, _ in named).encode())
+        for workers in WORKERS:
+            words: list[Word] = ["report", "--files-from", names, "--workers", str(workers)]
+            title = f"{MANY} files of seed {seed}, standard input at {place}, {workers} workers"
+            yield title, difference(report, answer(program, words, data))
+            yield f"{title}, --strict", difference(strict, answer(program, [*words, "--strict"], data))
+            came = answer(program, words, data, preexec_fn=few_open)
+            yield f"{title}, few files open", difference(report, came)
 
 
 def files(program: pathlib.Path, top: pathlib.Path) -> Iterator[Case]:
@@ -213,6 +285,12 @@ def files(program: pathlib.Path, top: pathlib.Path) -> Iterator[Case]:
     wanted = Answer(plain_sums.report_of(two, 0))
     yield "standard input behind a file", difference(wanted, answer(program, ["report", CRASH, "-"], example))
     yield "standard input first", difference(wanted, answer(program, ["report", "-", EXAMPLE], crash))
+    for workers in WORKERS:
+        came = answer(program, ["report", "-", EXAMPLE, "--workers", str(workers)], crash)
+        yield f"standard input first, {workers} workers", difference(wanted, came)
+        for command in ("report", "show", "export"):
+            came = answer(program, [command, CRASH, "--workers", str(workers)])
+            yield f"{command} of one image, {workers} workers", difference(answer(program, [command, CRASH]), came)
     empty = top / "empty"
     empty.mkdir()
     none = plain_sums.Sum()
@@ -255,8 +333,10 @@ def looked(program: pathlib.Path, top: pathlib.Path, crash: bytes) -> Iterator[C
     two, _ = plain_sums.sum_of([(1, crash), (2, crash)])
     written = top / "crash.tot"
     written.write_bytes(plain_sums.totals_text(plain_sums.sum_of([(1, crash)])[0]))
-    came = answer(program, ["report", CRASH, written, "--live"])
-    yield "an image and totals, --live", difference(Answer(plain_sums.report_of(two, 0)), came)
+    for workers in ("1", "4"):
+        came = answer(program, ["report", CRASH, written, "--live", "--workers", workers])
+        title = f"an image and totals, --live, {workers} workers"
+        yield title, difference(Answer(plain_sums.report_of(two, 0)), came)
     old = answer(program, ["report", CRASH, EXAMPLE, "--live"])
     one, _ = plain_sums.sum_of([(1, crash)])
     wanted = Answer(plain_sums.report_of(one, 1), told([(EXAMPLE, "Adopt OldVersion")]), 3)
@@ -326,17 +406,69 @@ def unreadable(program: pathlib.Path, top: pathlib.Path) -> Iterator[Case]:
     yield "folders in a list", difference(Answer(plain_sums.report_of(two, 0)), came)
 
 
+def fed(pipes: Sequence[tuple[pathlib.Path, bytes]], seconds: float) -> threading.Thread:
+    """A thread that writes into pipes that have names, after so many seconds into the first."""
+
+    def feed() -> None:
+        for number, (path, data) in enumerate(pipes):
+            with open(path, "wb") as pipe:
+                if number == 0:
+                    time.sleep(seconds)
+                pipe.write(data)
+
+    thread = threading.Thread(target=feed)
+    thread.start()
+    return thread
+
+
+def far(place: bytes, units: bytes) -> bytes:
+    """The pattern of the line that tells how far a sum of four inputs is."""
+    return re.escape(ERASE) + b"persist_report: %s of 4 files, %s units so far" % (place, units)
+
+
+def told_meanwhile(program: pathlib.Path, top: pathlib.Path) -> Iterator[Case]:
+    """A line tells how far a sum is: on a terminal, where it takes long. It is erased before anything else is told."""
+    crash, empty = CRASH.read_bytes(), top / "empty"
+    empty.write_bytes(b"")
+    three, left = plain_sums.sum_of([(1, crash), (2, crash), (empty, b""), (3, crash)])
+    wanted = wanted_of(plain_sums.report_of(three, len(left)), left)
+    units = sum(sum(part.units.values()) for part in plain_sums.of_image(crash).parts.values())
+    late = far(b"1", b"%d" % units) + b"(?:%s)*" % far(rb"\d", rb"\d+") + re.escape(ERASE)
+    pipes = [(top / "first", crash), (top / "second", crash)]
+    for path, _ in pipes:
+        os.mkfifo(path)
+    for workers in (1, 4):
+        words: list[Word] = ["report", *(path for path, _ in pipes), empty, CRASH, "--workers", str(workers)]
+        for seconds, lines in ((0, b""), (PATIENCE + 0.3, late)):
+            title = f"a sum that takes {seconds} seconds, {workers} workers"
+            feeding = fed(pipes, seconds)
+            came = explaining.on_terminal(program, words)
+            feeding.join()
+            is_told = re.fullmatch(lines + re.escape(wanted.error), came.error) is not None
+            is_right = is_told and (came.output, came.status) == (wanted.output, wanted.status)
+            yield f"{title}, on a terminal", None if is_right else f"came {came}"
+            feeding = fed(pipes, seconds)
+            came = answer(program, words)
+            feeding.join()
+            yield title, difference(wanted, came)
+
+
 def usage(program: pathlib.Path, top: pathlib.Path) -> Iterator[Case]:
     """What cannot go together is a usage fault, and nothing is written."""
+    two: list[Word] = ["report", CRASH, CRASH]
     commands: list[list[Word]] = [
         ["report", "-", "-"],
         ["report", "-", "--files-from", "-"],
         ["report", CRASH, "--files-from", "-", "--minus", "-"],
         ["report", "-", "--minus", "-"],
         ["report", "--totals", "--rows", CRASH],
+        *[[*two, "--workers", count] for count in ("0", "17", "-1", "", "two", "4294967297")],
+        ["report", CRASH, "--workers"],
+        ["show", CRASH, "--workers", "1", "--workers", "2"],
+        ["info", CRASH, "--workers", "1"],
         ["export", "--totals", CRASH],
         ["show", "--totals", CRASH],
-        ["show", CRASH, "--also", EXAMPLE, "--html"],
+        ["show", CRASH, "--also", EXAMPLE, "--html", "--log"],
         ["info", CRASH, EXAMPLE],
         ["report", CRASH, "--strict", "--strict"],
         ["report", CRASH, "--files-from", "a", "--files-from", "b"],
@@ -348,9 +480,9 @@ def usage(program: pathlib.Path, top: pathlib.Path) -> Iterator[Case]:
 
 
 def cases(program: pathlib.Path, options: argparse.Namespace) -> Iterator[Case]:
-    for part in (folders, trees, earlier):
+    for part in (folders, trees, earlier, many):
         with tempfile.TemporaryDirectory() as name:
             yield from part(program, pathlib.Path(name).resolve(), options.seed)
-    for more in (files, unreadable, usage):
+    for more in (files, unreadable, told_meanwhile, usage):
         with tempfile.TemporaryDirectory() as name:
             yield from more(program, pathlib.Path(name).resolve())

@@ -311,6 +311,28 @@ def text_by(whole: Sum, writer: Callable[..., bytes], **options: Any) -> bytes:
         return writer(b"", **options)
 
 
+def overview_of(whole: Sum, left: int) -> Iterator[str]:
+    """The lines of the overview of a sum for people, of which so many inputs were left out. Beside its images,
+    histograms and units, it has those that are not 0."""
+    shown = shown_of(whole)
+    kinds = [plain_reader.KINDS[spec[0]] for spec, _ in shown.values()]
+    counts = {
+        "left out": left,
+        "full": whole.full,
+        "corrupt": whole.corrupt,
+        "stopped": whole.stopped,
+        "bad records": whole.bad,
+        "other specs": len(whole.parts) - len(shown),
+    }
+    units = sum(sum(part.units.values()) for _, part in shown.values())
+    yield f"images       {whole.images:,}"
+    yield from (f"{label:13}{count:,}" for label, count in counts.items() if count)
+    yield "histograms   " + ", ".join(
+        f"{kinds.count(kind):,} {kind}" for kind in ("linear", "boolean", "custom", "sparse")
+    )
+    yield f"units        {min(units, MOST):,}"
+
+
 def ending_of(whole: Sum, left: int) -> Iterator[str]:
     """The lines behind the report of a sum: of how many images it is, what it does not show, what was left out."""
     shown = shown_of(whole)

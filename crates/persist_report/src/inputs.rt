@@ -9,6 +9,7 @@ use crate::dashes::{DASH, two_inputs};
 use crate::explaining::unopened;
 use crate::failure::Failure;
 use crate::leftover::is_new_name;
+use crate::workers::Workers;
 use persist_report_core::CliFault;
 use std::alloc::{AllocError, Global};
 use std::fs::File;
@@ -25,6 +26,8 @@ pub struct Inputs<'a> {
     pub list: Option<&'a str>,
     /// What is taken off the sum.
     pub earlier: Option<&'a str>,
+    /// How many workers add up, where that is said.
+    pub workers: Option<Workers>,
     /// Whether an input that cannot be read ends the command.
     pub is_strict: bool,
     /// Whether the sum is written whole.
@@ -52,6 +55,11 @@ impl<'a> Inputs<'a> {
             (false, false) => 0,
             _ => 1,
         }
+    }
+
+    /// Returns how many workers add up: 1 where that is not said.
+    pub fn workers(&self) -> usize {
+        self.workers.map_or(1, |workers| workers.count() as usize)
     }
 
     /// Returns whether a sum is asked for, whatever the first file is.
@@ -170,6 +178,22 @@ fn list_bytes<R: Files<File = File> + Input + AllocGlobal>(
     fs::read_to_string(rt, list)
 }
 
+// Puts what the lines of a text name behind others; empty lines name nothing.
+fn put_lines<R: Files<File = File> + AllocGlobal>(
+    context: &Context<'_, R>,
+    names: &mut Vec<Named>,
+    lines: &str,
+) -> Result<(), Failure>
+    ensures { IfErr result UsageIsMistake }
+{
+    for line in lines.lines() {
+        if !line.is_empty() {
+            put_input(context, names, line)?;
+        }
+    }
+    Ok(())
+}
+
 // Puts what the lines of a list name behind others.
 fn put_list<R: Files<File = File> + Input + AllocGlobal>(
     context: &Context<'_, R>,
@@ -178,16 +202,10 @@ fn put_list<R: Files<File = File> + Input + AllocGlobal>(
 ) -> Result<(), Failure>
     ensures { IfErr result UsageIsMistake }
 {
-    let lines = match list_bytes(context.rt, list) {
-        Ok(lines) => lines,
-        Err(error) => return Err(unopened(context, Cause::of(CliFault::Read, error), list)),
-    };
-    for line in lines.as_str().lines() {
-        if !line.is_empty() {
-            put_input(context, names, line)?;
-        }
+    match list_bytes(context.rt, list) {
+        Ok(lines) => put_lines(context, names, lines.as_str()),
+        Err(error) => Err(unopened(context, Cause::of(CliFault::Read, error), list)),
     }
-    Ok(())
 }
 
 // How many of some names are standard input, counted on from a number.
@@ -211,6 +229,62 @@ fn check_dashes_among(alloc: Global, names: &[Named], others: usize) -> Result<(
     Ok(())
 }
 
+// Puts files behind others, each by its name, or what is in the folder.
+fn put_files<R: Files<File = File> + AllocGlobal>(
+    context: &Context<'_, R>,
+    names: &mut Vec<Named>,
+    files: &[&str],
+) -> Result<(), Failure>
+    ensures { IfErr result UsageIsMistake }
+{
+    for file in files {
+        put_input(context, names, file)?;
+    }
+    Ok(())
+}
+
+// Puts the files that are named behind others, or standard input where nothing is.
+fn put_named_files<R: Files<File = File> + AllocGlobal>(
+    context: &Context<'_, R>,
+    names: &mut Vec<Named>,
+    inputs: &Inputs<'_>,
+) -> Result<(), Failure>
+    ensures { IfErr result UsageIsMistake }
+{
+    if inputs.files.is_empty() && inputs.list.is_none() {
+        return put_input(context, names, DASH);
+    }
+    put_files(context, names, &inputs.files)
+}
+
+// Puts what the list names behind others, if there is one. Of them all and so many others one may be standard input.
+fn put_listed_files<R: Files<File = File> + Input + AllocGlobal>(
+    context: &Context<'_, R>,
+    names: &mut Vec<Named>,
+    list: Option<&str>,
+    others: usize,
+) -> Result<(), Failure>
+    ensures { IfErr result UsageIsMistake }
+{
+    let Some(list) = list else { return Ok(()) };
+    put_list(context, names, list)?;
+    check_dashes_among(context.alloc(), names, others)
+}
+
+// Puts the names of all inputs behind others, in their order.
+fn put_names<R: Files<File = File> + Input + AllocGlobal>(
+    context: &Context<'_, R>,
+    names: &mut Vec<Named>,
+    inputs: &Inputs<'_>,
+) -> Result<(), Failure>
+    ensures { IfErr result UsageIsMistake }
+{
+    let others = inputs.other_dashes();
+    put_named_files(context, names, inputs)?;
+    check_dashes_among(context.alloc(), names, others)?;
+    put_listed_files(context, names, inputs.list, others)
+}
+
 /// Returns the names of all inputs, in their order. `Usage` comes only for a mistake on the command line, as where standard
 /// input is named twice.
 pub fn names_of<R: Files<File = File> + Input + AllocGlobal>(
@@ -220,17 +294,8 @@ pub fn names_of<R: Files<File = File> + Input + AllocGlobal>(
     ensures { IfErr result UsageIsMistake }
 {
     let mut names = Vec::new(context.alloc());
-    for file in &inputs.files {
-        put_input(context, &mut names, file)?;
+    match put_names(context, &mut names, inputs) {
+        Ok(()) => Ok(names),
+        Err(failure) => Err(failure),
     }
-    if inputs.files.is_empty() && inputs.list.is_none() {
-        put_input(context, &mut names, DASH)?;
-    }
-    let others = inputs.other_dashes();
-    check_dashes_among(context.alloc(), &names, others)?;
-    if let Some(list) = inputs.list {
-        put_list(context, &mut names, list)?;
-        check_dashes_among(context.alloc(), &names, others)?;
-    }
-    Ok(names)
 }

@@ -23,7 +23,7 @@ use arguments::explain_flag;
 use clap::error::ErrorKind;
 use clap::{ArgMatches, Command, Error};
 use fault_texts::VARIABLE_HELP;
-pub use mistakes::{no_fault, no_labels, no_page, no_prefix, not_text};
+pub use mistakes::{no_fault, no_labels, no_overview, no_prefix, not_text};
 use reading::{
     explain_command, export_command, export_task, report_command, show_command, show_task,
 };

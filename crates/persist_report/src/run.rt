@@ -4,7 +4,7 @@ ghost use Rattle.std.specs.Prelude.{IfErr};
 ghost use Rattle.persist_report.specs.Failure.{UsageIsMistake};
 
 use crate::context::Context;
-use crate::dashes::{DASH, check_dashes};
+use crate::dashes::check_dashes;
 use crate::extracting::extract_file;
 use crate::failure::Failure;
 use crate::files::{merge_files_into, resume_file, run_file, write_file};
@@ -14,6 +14,7 @@ use crate::repeating::{Division, Repeat, Shown, begin, show_again};
 use crate::request::{Request, Task, no_fault, not_text};
 use crate::scales::print_scale;
 use crate::sizing::size_of_task;
+use crate::sources::source_of;
 use crate::sum_writing::Text;
 use crate::terminal::columns;
 use crate::texts::{write_export, write_inputs};
@@ -121,14 +122,6 @@ fn report_form<'a>(has_rows_alone: bool) -> Form<'a> {
         Form::Rows
     } else {
         Form::Report
-    }
-}
-
-// Where an image comes from.
-fn source_of<'a>(file: Option<&'a str>) -> Source<'a> {
-    match file {
-        Some(path) if path != DASH => Source::File(path),
-        _ => Source::Input,
     }
 }
 

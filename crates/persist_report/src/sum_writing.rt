@@ -15,23 +15,26 @@ use crate::families::clash_failure;
 use crate::files::open_out;
 use crate::inputs::{Inputs, Named, names_of, put_input};
 use crate::noted::Stream;
-use crate::request::no_page;
-use crate::summing::{
-    Left, Reading, Summed, add_from, origin_of, path_of, sum_of_names, tell_left,
-};
+use crate::request::no_overview;
+use crate::sources::source_of_sum;
+use crate::summing::{Reading, add_from, origin_of, path_of, sum_of_names, tell_left};
 use fault_texts::{Origin, Source};
 use image_reader::Reading as ImageReading;
 use persist_report_core::{CliFault, write_and_flush};
-use reading_shows::{Form, first_missing, list_text, show_since_text, show_text};
+use reading_shows::{
+    Form, SumHead, first_missing, list_text, page_of_sum, show_since_text, show_text,
+};
 use reading_sums::{MinusFault, Sums};
 use reading_texts::{FamilyFault, Label, export_text, families_text, table_text};
-use std::alloc::Global;
+use std::alloc::{AllocError, Global};
 use std::fs::File;
 use std::io::Read;
 use std::random::RandomSource;
 use std::rt::Files;
+use std::sync::Wait;
+use std::thread::Threads;
 use std::time::Clock;
-use sum_commands::{InputFault, InputKind};
+use sum_commands::{InputFault, InputKind, Left, Summed};
 use sum_texts::{Totals, report_of, totals_text};
 
 /// The text that is written: in a form, or with a family for each histogram.
@@ -110,10 +113,11 @@ fn minus_failure<R: AllocGlobal>(context: &Context<'_, R>, fault: MinusFault) ->
 }
 
 // The sum less that of an earlier file or folder, each of whose inputs has to be read.
-fn less_earlier<R: Files<File = File> + Input + AllocGlobal>(
+fn less_earlier<R: Files<File = File> + Clock + Input + Eprint + AllocGlobal + Threads + Wait>(
     context: &Context<'_, R>,
     sums: Sums,
     earlier: &str,
+    workers: usize,
 ) -> Result<Sums, Failure>
     ensures { IfErr result UsageIsMistake }
 {
@@ -125,6 +129,7 @@ fn less_earlier<R: Files<File = File> + Input + AllocGlobal>(
         Reading {
             is_live: false,
             is_strict: true,
+            workers,
         },
     )?;
     first_failure(context, &names, before.left)?;
@@ -151,7 +156,22 @@ fn families_of<R: AllocGlobal>(
     }
 }
 
-// The text of a sum in a form, of which so many inputs are left out. A page and an overview are of one image alone.
+// What the page of a sum says of its inputs, of which so many are left out.
+fn head_of(alloc: Global, sums: &Sums, left: u64) -> Result<SumHead, AllocError> {
+    let notes = sums.notes();
+    let others = sums.others(alloc)?;
+    Ok(SumHead {
+        images: notes.images,
+        left,
+        full: notes.full,
+        corrupt: notes.corrupt,
+        stopped: notes.stopped,
+        bad: notes.bad,
+        others: others.len() as u64,
+    })
+}
+
+// The text of a sum in a form, of which so many inputs are left out. An overview is of one image alone.
 fn form_text<R: AllocGlobal>(
     context: &Context<'_, R>,
     form: Form<'_>,
@@ -175,7 +195,15 @@ fn form_text<R: AllocGlobal>(
             earlier,
         } => show_since_text(alloc, reading, earlier, style, choice),
         Form::List { style, choice } => list_text(alloc, reading, style, choice),
-        Form::Page { .. } | Form::Info { .. } => return Err(Failure::Usage(no_page(alloc)?)),
+        Form::Page {
+            source,
+            shows_all,
+            choice,
+        } => {
+            let head = head_of(alloc, sums, left)?;
+            page_of_sum(alloc, &head, reading, source, shows_all, choice)
+        }
+        Form::Info { .. } => return Err(Failure::Usage(no_overview(alloc)?)),
     };
     Ok(text?)
 }
@@ -239,8 +267,26 @@ fn make_composed<R: AllocGlobal>(
     Ok(Composed { text, wrong })
 }
 
+// The same text; a page names where the sum comes from.
+fn text_of_inputs<'a>(text: Text<'a>, inputs: &Inputs<'a>, names: &'a [Named]) -> Text<'a> {
+    match text {
+        Text::Form(
+            Form::Page {
+                source: _,
+                shows_all,
+                choice,
+            },
+        ) => Text::Form(Form::Page {
+            source: source_of_sum(inputs, names),
+            shows_all,
+            choice,
+        }),
+        other => other,
+    }
+}
+
 // The text of the sum of inputs by their names.
-fn compose<R: Files<File = File> + Input + Eprint + AllocGlobal>(
+fn compose<R: Files<File = File> + Clock + Input + Eprint + AllocGlobal + Threads + Wait>(
     context: &Context<'_, R>,
     inputs: &Inputs<'_>,
     names: &[Named],
@@ -252,11 +298,13 @@ fn compose<R: Files<File = File> + Input + Eprint + AllocGlobal>(
     let how = Reading {
         is_live: context.is_live,
         is_strict: inputs.is_strict,
+        workers: inputs.workers(),
     };
     let Summed {
         sums,
         left,
         is_damaged,
+        ..
     } = sum_of_names(context, names, how)?;
     let count = left.len() as u64;
     if inputs.is_strict {
@@ -265,7 +313,7 @@ fn compose<R: Files<File = File> + Input + Eprint + AllocGlobal>(
         tell_left(context.rt, names, &left);
     }
     let sums = match inputs.earlier {
-        Some(earlier) => less_earlier(context, sums, earlier)?,
+        Some(earlier) => less_earlier(context, sums, earlier, how.workers)?,
         None => sums,
     };
     make_composed(context, text, inputs.has_totals, sums, is_damaged, count)
@@ -302,16 +350,26 @@ fn write_composed<R: Files<File = File> + Clock + Print + RandomSource + AllocGl
 /// Writes a text of the sum of inputs: to the file `to`, or to standard output if there is none. Inputs that cannot be read are
 /// told and left out, or the first ends it. `Usage` comes only for a mistake on the command line.
 pub fn write_sum<
-    R: Files<File = File> + Clock + Input + Print + Eprint + RandomSource + AllocGlobal,
+    'a,
+    R: Files<File = File>
+        + Clock
+        + Input
+        + Print
+        + Eprint
+        + RandomSource
+        + AllocGlobal
+        + Threads
+        + Wait,
 >(
     context: &Context<'_, R>,
-    inputs: &Inputs<'_>,
-    text: Text<'_>,
+    inputs: &Inputs<'a>,
+    text: Text<'a>,
     to: Option<&str>,
 ) -> Result<(), Failure>
     ensures { IfErr result UsageIsMistake }
 {
     let names = names_of(context, inputs)?;
+    let text = text_of_inputs(text, inputs, &names);
     let composed = compose(context, inputs, &names, text)?;
     write_composed(context, composed, to)
 }

@@ -10,36 +10,26 @@ use crate::incoming::Incoming;
 use crate::inputs::Named;
 use crate::looking::look_at;
 use crate::peeked::Peeked;
+use crate::progress::ProgressLine;
 use fault_texts::Origin;
 use persist_report_core::{CliFault, read_input};
 use reading_sums::Sums;
 use segment_image::{Watched, read_bytes};
-use std::alloc::{AllocError, Global};
+use std::alloc::Global;
 use std::fs::File;
 use std::io::Read;
 use std::rt::Files;
+use std::sync::Wait;
+use std::thread::Threads;
+use std::time::Clock;
 use std::{fmt, fs};
-use sum_commands::{InputFault, InputKind, add_image, add_totals};
+use sum_commands::{
+    InputFault, InputKind, Left, Manner, OpenInput, Source, Summed, add_image, add_totals,
+    sum_of_inputs,
+};
 
 // A totals has at most so many bytes.
 const MAX_TOTALS: usize = 1 << 40;
-
-/// An input that is left out of a sum: its place among the names, and why.
-#[derive(Drop)]
-pub struct Left {
-    pub place: usize,
-    pub fault: InputFault,
-}
-
-/// The sum of inputs.
-#[derive(Drop)]
-pub struct Summed {
-    pub sums: Sums,
-    /// Which inputs are left out.
-    pub left: Vec<Left>,
-    /// Whether an image that was read is damaged.
-    pub is_damaged: bool,
-}
 
 // The line of an input that is left out.
 #[derive(Drop)]
@@ -140,68 +130,111 @@ fn add_named<R: Files<File = File> + Input + AllocGlobal>(
     }
 }
 
-// Puts an input that is left out behind others.
-fn put_left(all: &mut Vec<Left>, left: Left) -> Result<(), AllocError> {
-    all.push(left)?;
-    Ok(())
+// A file that is open, which a worker reads.
+#[derive(Drop)]
+struct OpenedFile {
+    alloc: Global,
+    file: File,
+    // Whether it was found in a folder.
+    is_found: bool,
+}
+
+impl OpenInput for OpenedFile {
+    fn add_to(self, sums: &mut Sums) -> Result<bool, InputFault> {
+        let OpenedFile {
+            alloc,
+            file,
+            is_found,
+        } = self;
+        let (kind, peeked) = Peeked::of(alloc, file)?;
+        if kind == InputKind::Other && is_found {
+            return Ok(false);
+        }
+        let mut reader = Watched::new(peeked);
+        add_from(alloc, sums, kind, &mut reader)
+    }
+}
+
+// The inputs of a sum by their names.
+#[derive(Drop)]
+struct NamedInputs<'a, 'r, R> {
+    context: &'a Context<'r, R>,
+    names: &'a [Named],
+    is_live: bool,
+}
+
+// Whether a regular file is at a path, whose reading waits for nobody.
+fn is_regular<R: Files>(rt: &R, path: &str) -> bool {
+    match fs::metadata(rt, path) {
+        Ok(found) => path != DASH && found.is_file(),
+        Err(_) => false,
+    }
+}
+
+impl<R: Files<File = File> + Input + AllocGlobal> Source for NamedInputs<'_, '_, R> {
+    type Opened = OpenedFile;
+
+    // Workers read regular files. Standard input, pipes and devices are read in their turn.
+    fn open(&self, place: usize) -> Option<OpenedFile> {
+        let name = self.names.get(place)?;
+        let path = name.path.as_str();
+        if !is_regular(self.context.rt, path) {
+            return None;
+        }
+        let file = fs::open(self.context.rt, path).ok()?;
+        Some(OpenedFile {
+            alloc: self.context.alloc(),
+            file,
+            is_found: name.is_found,
+        })
+    }
+
+    fn add_input(&self, sums: &mut Sums, place: usize) -> Result<bool, InputFault> {
+        match self.names.get(place) {
+            Some(name) => add_named(self.context, sums, name, self.is_live),
+            None => Ok(false),
+        }
+    }
 }
 
 // How inputs are read.
 #[derive(Clone, Copy)]
 pub struct Reading {
-    /// Whether images are looked at.
+    /// Whether images are looked at, by one worker alone.
     pub is_live: bool,
     /// Whether the first that cannot be read ends it.
     pub is_strict: bool,
+    /// How many workers add up.
+    pub workers: usize,
 }
 
-impl Summed {
-    // The sum of no inputs.
-    fn none(alloc: Global) -> Summed {
-        Summed {
-            sums: Sums::new(alloc),
-            left: Vec::new(alloc),
-            is_damaged: false,
-        }
-    }
-
-    // Whether nothing more is to be read.
-    fn is_ended(&self, how: Reading) -> bool {
-        how.is_strict && !self.left.is_empty()
-    }
-}
-
-// Adds the inputs from one place to another; up to the first that cannot be read, if that is to end it.
-fn add_part<R: Files<File = File> + Input + AllocGlobal>(
-    context: &Context<'_, R>,
-    summed: &mut Summed,
-    names: &[Named],
-    part: (usize, usize),
-    how: Reading,
-) -> Result<(), CliFault> {
-    for place in part.0..part.1 {
-        let Some(name) = names.get(place) else { break };
-        if summed.is_ended(how) {
-            break;
-        }
-        match add_named(context, &mut summed.sums, name, how.is_live) {
-            Ok(is_damaged) => summed.is_damaged = summed.is_damaged || is_damaged,
-            Err(fault) if fault.is_no_memory() => return Err(CliFault::NoMemory),
-            Err(fault) => put_left(&mut summed.left, Left { place, fault })?,
-        }
-    }
-    Ok(())
-}
-
-/// Returns the sum of inputs.
-pub fn sum_of_names<R: Files<File = File> + Input + AllocGlobal>(
+/// Returns the sum of inputs: the same for any number of workers. Where it takes long and the error stream is a terminal, a line
+/// there tells how far it is.
+pub fn sum_of_names<R: Files<File = File> + Clock + Input + Eprint + AllocGlobal + Threads + Wait>(
     context: &Context<'_, R>,
     names: &[Named],
     how: Reading,
 ) -> Result<Summed, CliFault> {
-    let mut summed = Summed::none(context.alloc());
-    add_part(context, &mut summed, names, (0, names.len()), how)?;
-    Ok(summed)
+    let source = NamedInputs {
+        context,
+        names,
+        is_live: how.is_live,
+    };
+    let manner = Manner {
+        workers: if how.is_live { 1 } else { how.workers },
+        is_strict: how.is_strict,
+    };
+    let mut line = ProgressLine::of(context.rt, names.len());
+    let summed = sum_of_inputs(
+        context.rt,
+        context.alloc(),
+        &source,
+        &mut line,
+        names.len(),
+        manner,
+    );
+    line.erase();
+    summed
 }
 
 /// Tells which inputs are left out, a line each, on the error stream. If that cannot be written, nothing is said.

@@ -1,4 +1,4 @@
-//! Whether standard input is a terminal, and how wide a line of one is.
+//! Whether standard input or the error stream is a terminal, and how wide a line of one is.
 
 use fault_texts::is_terminal_at;
 use std::env;
@@ -10,6 +10,11 @@ const USUAL_COLUMNS: u16 = 80;
 /// Whether standard input is a terminal.
 pub fn reads_terminal<R: Files>(rt: &R) -> bool {
     is_terminal_at(rt, "/proc/self/fd/0")
+}
+
+/// Whether the error stream is a terminal.
+pub fn tells_terminal<R: Files>(rt: &R) -> bool {
+    is_terminal_at(rt, "/proc/self/fd/2")
 }
 
 /// The columns of a line: the number in `COLUMNS`, but 40 at least and 200 at most. 80 where it has none.

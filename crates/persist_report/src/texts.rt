@@ -24,6 +24,8 @@ use std::fs::File;
 use std::io::Read;
 use std::random::RandomSource;
 use std::rt::Files;
+use std::sync::Wait;
+use std::thread::Threads;
 use std::time::Clock;
 use sum_commands::InputKind;
 
@@ -85,7 +87,15 @@ fn write_to<'a, R: Files<File = File> + Clock + Print + RandomSource + AllocGlob
 /// said. What is wrong with what was read comes after the text. `Usage` comes only for a mistake on the command line.
 pub fn write_inputs<
     'a,
-    R: Files<File = File> + Clock + Input + Print + Eprint + RandomSource + AllocGlobal,
+    R: Files<File = File>
+        + Clock
+        + Input
+        + Print
+        + Eprint
+        + RandomSource
+        + AllocGlobal
+        + Threads
+        + Wait,
 >(
     context: &Context<'_, R>,
     inputs: &Inputs<'a>,
@@ -132,7 +142,15 @@ fn labels_of<'a>(alloc: Global, words: &[&'a str]) -> Result<Option<Vec<Label<'a
 /// KEY=VALUE; with a family for each histogram where that is asked for. `Usage` comes only for a mistake on the command line.
 pub fn write_export<
     'a,
-    R: Files<File = File> + Clock + Input + Print + Eprint + RandomSource + AllocGlobal,
+    R: Files<File = File>
+        + Clock
+        + Input
+        + Print
+        + Eprint
+        + RandomSource
+        + AllocGlobal
+        + Threads
+        + Wait,
 >(
     context: &Context<'_, R>,
     inputs: &Inputs<'a>,

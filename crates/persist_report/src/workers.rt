@@ -1,8 +1,8 @@
-//! How many workers run a script.
+//! How many workers run a script, or add up inputs.
 
 ghost use Rattle.std.specs.Prelude.{◌≡◌, ◌≤◌, IfSome, IsSome, ◌↔◌};
 
-/// A number of workers that may run a script: from 1 to 16.
+/// A number of workers that may run a script or add up inputs: from 1 to 16.
 #[derive(Clone, Copy)]
 pub struct Workers {
     count: u32,

@@ -3,7 +3,7 @@
 //! [`kind_of`] tells what an input begins as. [`add_image`] and [`add_totals`] add up one input after the other, in their order: the images
 //! that were read have the numbers from 0 on, those of a totals too. Sums of parts of a list become that of the whole
 //! list, so any number of workers gives one sum: `specs/Inputs.antt` says of which readings a sum is. An input that
-//! cannot be read leaves the sum as it was.
+//! cannot be read leaves the sum as it was. [`sum_of_inputs`] does this with all inputs of a [`Source`].
 #![tactic(auto)]
 
 mod dividing;
@@ -11,9 +11,11 @@ mod fault;
 mod kind;
 mod summing;
 mod sums;
+mod working;
 
 pub use dividing::part_of_inputs;
 pub use fault::InputFault;
 pub use kind::{FRONT, InputKind, kind_of};
-pub use summing::{Left, Manner, Source, Summed, sum_of_inputs};
+pub use summing::{Left, OpenInput, Progress, Source, Summed};
 pub use sums::{add_image, add_totals, append_next};
+pub use working::{Manner, sum_of_inputs};

@@ -1,7 +1,8 @@
 //! The arguments of the commands that write a text of a sum.
 
 use crate::inputs::Inputs;
-use clap::{Arg, ArgAction, ArgMatches, Command};
+use crate::workers::Workers;
+use clap::{Arg, ArgAction, ArgMatches, Command, value_parser};
 use std::alloc::{AllocError, Global};
 
 /// The images that are read.
@@ -48,6 +49,14 @@ pub fn sum_options<'a>(alloc: Global, command: Command<'a>) -> Result<Command<'a
         "OLD",
         "Show what came since OLD, an earlier image, totals or folder",
     );
+    let workers = sum_option(
+        alloc,
+        "workers",
+        "K",
+        "Number of threads that read and add up, 1 to 16",
+    )
+    .value_parser(value_parser!(u32).range(1..=16))
+    .default_value("1");
     let strict = Arg::new(alloc, "strict")
         .long("strict")
         .action(ArgAction::SetTrue)
@@ -55,7 +64,7 @@ pub fn sum_options<'a>(alloc: Global, command: Command<'a>) -> Result<Command<'a
         .help(
             "End with the fault of the first FILE that cannot be read, which is\nleft out otherwise",
         );
-    command.arg(list)?.arg(earlier)?.arg(strict)
+    command.arg(list)?.arg(earlier)?.arg(workers)?.arg(strict)
 }
 
 /// Asks for the sum whole.
@@ -85,6 +94,7 @@ pub fn inputs_found<'a>(alloc: Global, found: &ArgMatches<'a>) -> Result<Inputs<
         files,
         list: found.get_str("files-from"),
         earlier: found.get_str("minus"),
+        workers: found.get_one::<u32>("workers").and_then(Workers::of),
         is_strict: found.get_flag("strict"),
         has_totals: found.get_flag("totals"),
     })

@@ -1,0 +1,41 @@
+//! Where an image or a sum comes from, as a web page names it.
+
+use crate::dashes::DASH;
+use crate::inputs::{Inputs, Named};
+use reading_shows::Source;
+
+// What stands for standard input among several inputs.
+const INPUT: &str = "standard input";
+
+/// Where an image comes from: a file, or standard input if none is named, or `-`.
+pub fn source_of<'a>(file: Option<&'a str>) -> Source<'a> {
+    match file {
+        Some(path) if path != DASH => Source::File(path),
+        _ => Source::Input,
+    }
+}
+
+// Where the inputs of these names come from, of which there are more behind the first.
+fn source_of_names<'a>(first: &'a Named, more: &'a [Named]) -> Source<'a> {
+    let path = first.path.as_str();
+    let count = more.len() as u64;
+    if count == 0 {
+        source_of(Some(path))
+    } else if path == DASH {
+        Source::Several(INPUT, count)
+    } else {
+        Source::Several(path, count)
+    }
+}
+
+/// Where a sum comes from: the one file or folder that is named, or standard input; or the first input that is read of those that
+/// several files, folders and a list name, and how many more there are. If these name none, the file, or the list.
+pub fn source_of_sum<'a>(inputs: &Inputs<'a>, names: &'a [Named]) -> Source<'a> {
+    if inputs.files.len() <= 1 && inputs.list.is_none() {
+        return source_of(inputs.first());
+    }
+    match names {
+        [first, more @ ..] => source_of_names(first, more),
+        [] => source_of(inputs.first().or(inputs.list)),
+    }
+}

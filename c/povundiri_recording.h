@@ -97,7 +97,7 @@ struct povundiri_began {
  *   OTHER_SPEC  the present segment has a histogram of that name with another spec: it is continued from another release, or this program
  *               asks for the name with both
  *   NO_SPACE    the present segment has no room or too few units, or there is none, and the system refused the next one, now or less than a
- *               second before: the device is full, a limit is reached, the folder is gone or may not be written
+ *               second before: the device is full, a limit is reached, there is no memory, the folder is gone or may not be written
  *   ROLLING     the present segment has no room or too few units, and was begun less than `apart` before
  *   FORKED      this is a child of fork, and the recording its parent's
  *   ENDED       the recording has ended
@@ -119,8 +119,8 @@ enum povundiri_missed {
  * `options` may be null. A relative path is resolved now, once.
  *
  * The newest segment of the folder is continued, if nobody records into it, it has the size that the options ask for, it is this user's, it
- * has units and was never full, and povundiri_adopt would take its image. Else the next one is begun, and that one stays and is counted, if
- * its header has no fault. So a restart continues where the process before stopped, and one that starts while that still runs begins anew.
+ * has units and was never full, and povundiri_adopt would take its image. Else the next one is begun; the newest stays, and is in the sum if
+ * its header has no fault. So a restart continues where the process before stopped, and a process that starts beside it has its own segment.
  *
  * POVUNDIRI_DONE: *recording is not null. It is so also where no segment can be made, as on a full disk: then began->fault says why, samples
  * are missed, as NO_SPACE, and it is tried again, a second later at the earliest. On any other status *recording is as it was.
@@ -184,17 +184,16 @@ uint32_t povundiri_recording_sums(struct povundiri_recording *recording, struct 
 
 /* Texts of the sum: its report as CSV, its metrics for Prometheus, and its text for people (povundiri_sums_report, _export, _show, which say
  * what `prefix` and `width` are). Behind each is what this process has missed, with a REASON in lower case, such as no_space:
- *   report   !left,SEGMENTS if some were left out (povundiri_folder_sums), then !missed,REASON,UNITS for each reason with units
+ *   report   !missed,REASON,UNITS for each reason with units; before that !left,SEGMENTS, if some were left out (povundiri_folder_sums)
  *   export   a counter, PREFIX_missed_total{reason="REASON"}, for each reason
  *   show     `missed, REASON: UNITS` for each reason with units
  *
- * A text is of the whole folder, so of several processes that record there one is to be scraped. Where it says that the segment was full (the
- * flag `full`), some segment was: that is how one ends, and nothing is lost by it. A text takes no mutex of the recording, and reads each
- * segment three times. An export folds first where `fold_at` segments stand, and then waits for the device; whether that fold is done makes
- * no difference to the text.
+ * A text is of the whole folder, so let one of the processes that record there be scraped. The flag `full` in it says that some segment was
+ * full, which is how each one ends. A text takes no mutex of the recording, and reads each segment three times. An export folds first where
+ * `fold_at` segments stand, and then waits for the device; whether that fold is done makes no difference to the text, and is not told.
  *
  * POVUNDIRI_DONE: *text is for free(), and has *length bytes and a zero behind them. Else it is null, and *length 0.
- *   those of povundiri_folder_sums, of which POVUNDIRI_SYSTEM sets *fault; POVUNDIRI_NO_MEMORY; of an export POVUNDIRI_BAD_PREFIX
+ *   those of povundiri_folder_sums, of which POVUNDIRI_SYSTEM sets *fault; of an export also POVUNDIRI_BAD_PREFIX
  * Keep: pointers; process. */
 uint32_t povundiri_recording_report(struct povundiri_recording *recording, char **text, size_t *length, int *fault) POVUNDIRI_CHECKED;
 uint32_t povundiri_recording_export(struct povundiri_recording *recording, const char *prefix, char **text, size_t *length,

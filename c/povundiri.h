@@ -114,7 +114,7 @@ struct povundiri_count {
     uint64_t count;
 };
 
-/* What a delta or a snapshot returns beside its counts. */
+/* What a delta or a snapshot returns beside its counts. It is not the totals of a sum, which are a text. */
 struct povundiri_totals {
     size_t length;      /* how many counts it wrote; on POVUNDIRI_SHORT, how many the array has to have room for */
     int64_t sum;
@@ -138,12 +138,13 @@ enum povundiri_status {
     POVUNDIRI_LIST_ENDS = 12,    /* there is no record after the cursor yet */
     POVUNDIRI_NO_MEMORY = 13,    /* out of memory for a handle, a name, or a text */
     POVUNDIRI_ELSEWHERE = 14,    /* the recorder's own segment has met it, by a call of another thread there: its handle is empty */
-    POVUNDIRI_BUSY = 15,         /* another thread passes a recorder of the same segment at this moment: nothing has happened, try again */
-    POVUNDIRI_SYSTEM = 16,       /* of povundiri_file.h: the system's fault, whose number (errno.h) is returned beside it */
+    POVUNDIRI_BUSY = 15,         /* another thread passes a recorder of the same segment at this moment, or somebody folds the same folder:
+                                  * nothing has happened, try again */
+    POVUNDIRI_SYSTEM = 16,       /* of files and folders: the system's fault, whose number (errno.h) is returned beside it */
     POVUNDIRI_TOO_MANY_KEYS = 17, /* the image has more keys than the caller allows, and is not reported */
     POVUNDIRI_BAD_PREFIX = 18,    /* no name of a metric may begin with the prefix */
     POVUNDIRI_TOO_MANY = 19,      /* a total of the sum would not fit: units, marks, redundant counts or images 64 bits, amounts 128 */
-    POVUNDIRI_BAD_TOTALS = 20,    /* the text is that of no totals; of a text of a sum: it is not well formed, as no call makes it */
+    POVUNDIRI_BAD_TOTALS = 20,    /* the text is no totals; where a sum is to be written: it is not well formed, which no call makes it */
 
     /* Why a call is refused. */
     POVUNDIRI_REFUSED_BAD_NAME = 101,

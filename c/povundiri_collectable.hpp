@@ -1,10 +1,12 @@
 // A recording as a Collectable of prometheus-cpp 1.0 and later, for its exposer:
 //
 //     const auto metrics = std::make_shared<povundiri::Collectable>(recording);
-//     exposer.RegisterCollectable(metrics);                            // which keeps no owner of it
+//     exposer.RegisterCollectable(metrics);                            // the exposer does not own it: keep 'metrics'
 //
-// It returns the families of Recording::prometheus, with all their values, of which those above 2^53 are rounded to doubles. The recording
-// stays where it is while the exposer asks. Where there is no text, as while folds end again and again, it returns no family.
+// It returns the families of Recording::prometheus, with all their values, of which those above 2^53 are rounded to doubles. The exposer may
+// ask from several threads. As long as it may ask, the Recording is not moved, assigned, ended or destroyed. Where there is no text, as on a
+// fault of the system or with a prefix that is none, it returns no family; std::bad_alloc is thrown. As each text is of the whole folder,
+// let one process of a folder be scraped.
 #ifndef POVUNDIRI_COLLECTABLE_HPP
 #define POVUNDIRI_COLLECTABLE_HPP
 

@@ -149,7 +149,7 @@ uint32_t povundiri_folder_adopt(const char *folder, struct povundiri_shape shape
         return status;
     }
     /* It stays under its name, and is read like any other. */
-    found->refused = status;
+    found->refused = opened.refused;
     povundiri_folder_release(owned);
     return POVUNDIRI_DONE;
 }
@@ -171,9 +171,9 @@ uint32_t povundiri_folder_spare(const char *folder, struct povundiri_shape shape
         *spare = owned;
         return status;
     }
-    if (status == POVUNDIRI_SYSTEM && *fault == 0) {
-        *fault = opened.fault;
-        /* It was made, and is empty. */
+    if (*fault == 0) {
+        if (status == POVUNDIRI_SYSTEM) *fault = opened.fault;
+        /* It may have been made, and is empty. */
         unlink(owned->path);
     }
     free(owned);

@@ -1,4 +1,4 @@
-/* A recording that never ends: any thread counts samples at any time, through kills and restarts, into a folder.
+/* A recording: any thread counts samples at any time, through kills and restarts, into a folder, for as long as the device has room.
  *
  *     struct povundiri_recording *recording = NULL;
  *     struct povundiri_began began;
@@ -8,24 +8,44 @@
  *     povundiri_recording_add(recording, latency, elapsed_us, 1);       any thread; no lock in the usual sample
  *     status = povundiri_recording_export(recording, NULL, &text, &length, &fault);
  *
- * SEGMENTS have a fixed size and 4,294,967,295 units. Where one is full or has no units left, the next one of the folder is begun, and the
- * same sample is counted there. What stands in the folder is in povundiri_folder.h; povundiri_recording_fold keeps it small.
+ * SEGMENTS have a fixed size and 4,294,967,295 units. A recording counts in one segment of the folder, its present one. Where that is full,
+ * or has too few units left, it begins the next one and counts the same sample there. Others may record into the folder as well, each into
+ * segments of its own. povundiri_folder.h says what stands there; povundiri_recording_fold keeps it small.
  *
- * THREADS need no handles. Each gets a recorder at its first sample, and gives it back when it ends. Only the first samples of a thread, and
- * those of each histogram in a segment, take a mutex, and so do those for which a segment is begun or units are lent. Above 250 threads,
- * further ones share a recorder under the mutex.
+ * SIZE. All histograms that are in use have to fit in a segment together, and better many times: where they do not, a segment is begun each
+ * time one of them finds no room, as fast as `apart` allows, and takes its bytes of the device. A histogram takes 15 words of 8 bytes, its
+ * name and, of a scale or a custom one, a word for each value; and for its counts 4 words and 2 for each bucket. Each value of a sparse
+ * histogram takes 8 words. So the usual 1 MiB has room for about 64 histograms like the one above, or 1,000 linear ones of 50 buckets.
+ *
+ * THREADS need no handles, and all calls may come from any threads at any time. A thread gets a recorder when it first counts a sample or
+ * asks for a histogram, and gives it back when it ends. A sample takes the recording's mutex where it is the first of its thread in a
+ * segment, or the thread's first of a histogram there; where the thread borrows units, about 1,048,576 at once; where a segment is begun for
+ * it; and where it is missed. All others take none. One of the threads that took it also makes the file of the segment after the present one,
+ * a spare, if there is none. Above 250 threads further ones share a recorder, and each of their samples takes the mutex.
  *
  * WHAT COULD NOT BE COUNTED is counted, by reason: povundiri_recording_missed. It is in the texts of this process as well.
  *
- * A KILL loses no sample whose call had returned. A crash of the machine may lose what no fold has synced.
+ * SPECS. A histogram whose buckets change should get another name. Of a name with several specs, texts show the one that the oldest segment
+ * had, also when that is folded; of the others the report has only how many units there are (!other), and the totals of
+ * povundiri_recording_sums have all.
  *
- * FORK. A child of fork has no part in the recordings of its parent: its samples are missed, as FORKED, until it opens a recording of its
- * own, which may be in the same folder. _Fork and a raw clone are not seen: such a child makes no call.
+ * USERS. The folder is made with mode 0700, and its files with 0600: it is for the processes of one user, also for folds. A segment that this
+ * user may not read is a fault of each text; so are totals, such as those of a fold by root, and then no segment can be begun either. Only
+ * users who are trusted like the program itself may write in the folder, or in those that it is in.
  *
- * ENDS. A recording's state is never freed, so a call after povundiri_recording_end is no fault: a sample is missed, as ENDED. A shared object
- * that this is linked into is linked with -z nodelete, since threads call it when they end.
+ * A KILL, exit and _exit lose no sample whose call had returned; a spare may be left, which the next open removes. A crash of the machine may
+ * lose what no fold has synced.
  *
- * For Linux with glibc. Nothing here is proved; what it stands on is (povundiri.h), but the files. */
+ * FORK. A child of fork has no part in the recordings of its parent: there each sample is missed, as FORKED, and povundiri_recording_end and
+ * _leave do nothing. To count, the child opens a recording of its own, which may be in the same folder, and asks that for its
+ * histograms. So 'process', which calls below ask to keep, lets a child of fork make calls here, and forbids them in signal handlers and in
+ * handlers of pthread_atfork. _Fork and a raw clone are not seen: such a child makes no call.
+ *
+ * ENDS. A recording's state is never freed, so a call after povundiri_recording_end is no fault: a sample is missed, as ENDED. A shared
+ * object that this is linked into is linked with -z nodelete, since threads call it when they end.
+ *
+ * For Linux with glibc, and file systems with hard links and flock(2). Nothing here is proved; what it stands on is (povundiri.h), but the
+ * files. */
 #ifndef POVUNDIRI_RECORDING_H
 #define POVUNDIRI_RECORDING_H
 
@@ -42,11 +62,13 @@ extern "C" {
 struct povundiri_recording;
 
 /* All zeros, or a null in its place, are what is usual.
- *   bytes     of a segment, from 512 to 8,388,608; 0: 1 MiB. From 32,768 on, every histogram of 1,000 buckets fits
- *   fold_at   povundiri_recording_export folds first where so many segments stand; 0: 64; UINT64_MAX: never
- *   apart     the least nanoseconds between the beginnings of two segments; 0: 1,000,000
- *   random    the source of random numbers, as for ids; null: getrandom(2)
- *   context   what it is given */
+ *   bytes     that a segment has at most, from 512 to 8,388,608; 0: 1 MiB. From 32,768 on, every histogram of 1,000 buckets fits in one
+ *   fold_at   povundiri_recording_export folds first where so many segments or more stand; 0: 64; UINT64_MAX: never
+ *   apart     the least nanoseconds from the beginning of a segment to that of the next one; 0: 1,000,000. The first segment of a recording
+ *             may be followed at once
+ *   random    returns random numbers, for ids and names, another one each time; null: getrandom(2). Threads call it as they record, also
+ *             two at once, and it makes no call of a recording
+ *   context   what `random` is given */
 struct povundiri_recording_options {
     uint64_t bytes;
     uint64_t fold_at;
@@ -56,11 +78,12 @@ struct povundiri_recording_options {
 };
 
 /* How a recording began.
- *   number     of the segment; 0: there is none yet, since none could be made. Then it is tried again, once a second
- *   adopted    whether that was there before
- *   refused    why the newest segment of the folder was not adopted, where that is its image's fault; else POVUNDIRI_DONE
- *   fault      the system's, if the status is POVUNDIRI_SYSTEM, or if no segment could be made; else 0
- *   set_aside  the new name of a segment whose header has a fault; else empty */
+ *   number     that of its segment; 0: there is none yet, since none could be made. A sample tries it again, a second later at the earliest
+ *   adopted    whether that segment was in the folder before, and is continued
+ *   refused    what is wrong with the image of the folder's newest segment, so that it is not continued (povundiri_adopt, povundiri_report);
+ *              else POVUNDIRI_DONE, also where that segment is in use, full, or of another size or user
+ *   fault      the system's (errno.h), if the status is POVUNDIRI_SYSTEM, or if no segment could be made; else 0
+ *   set_aside  the new path of the newest segment, NUMBER.damaged, where its header has a fault; else empty */
 struct povundiri_began {
     uint64_t number;
     bool adopted;
@@ -70,13 +93,15 @@ struct povundiri_began {
 };
 
 /* Why units were not counted.
- *   TOO_LARGE   the histogram does not fit in a segment
- *   OTHER_SPEC  the segment has a histogram of that name with another spec: it was adopted from another release
- *   NO_SPACE    no segment could be made: the system refused it
- *   ROLLING     a segment was begun less than the least time before
+ *   TOO_LARGE   the histogram does not fit in a segment, not even alone
+ *   OTHER_SPEC  the present segment has a histogram of that name with another spec: it is continued from another release, or this program
+ *               asks for the name with both
+ *   NO_SPACE    the present segment has no room or too few units, or there is none, and the system refused the next one, now or less than a
+ *               second before: the device is full, a limit is reached, there is no memory, the folder is gone or may not be written
+ *   ROLLING     the present segment has no room or too few units, and was begun less than `apart` before
  *   FORKED      this is a child of fork, and the recording its parent's
  *   ENDED       the recording has ended
- *   NO_MEMORY   there was no memory */
+ *   NO_MEMORY   there was no memory for what the first samples of a thread or of a histogram take */
 enum povundiri_missed {
     POVUNDIRI_MISSED_TOO_LARGE = 0,
     POVUNDIRI_MISSED_OTHER_SPEC = 1,
@@ -90,30 +115,41 @@ enum povundiri_missed {
 
 /* ---- Beginning and end ---- */
 
-/* Begins to record into a folder, which is made where there is none. It has to be empty or a recording's.
+/* Begins to record into a folder, which is made if it is not there, but not what it is in. It has to be empty, or a folder of recordings.
+ * `options` may be null. A relative path is resolved now, once.
  *
- * POVUNDIRI_DONE: *recording is not null. It is so also where no segment can be made, as on a full disk: then samples are missed, as
- * NO_SPACE, and it is tried again once a second.
- *   POVUNDIRI_NULL, POVUNDIRI_NOT_EMPTY (*recording), POVUNDIRI_NO_MEMORY
+ * The newest segment of the folder is continued, if nobody records into it, it has the size that the options ask for, it is this user's, it
+ * has units and was never full, and povundiri_adopt would take its image. Else the next one is begun; the newest stays, and is in the sum if
+ * its header has no fault. So a restart continues where the process before stopped, and a process that starts beside it has its own segment.
+ *
+ * POVUNDIRI_DONE: *recording is not null. It is so also where no segment can be made, as on a full disk: then began->fault says why, samples
+ * are missed, as NO_SPACE, and it is tried again, a second later at the earliest. On any other status *recording is as it was.
+ *   POVUNDIRI_NULL (any but the options), POVUNDIRI_NOT_EMPTY (*recording), POVUNDIRI_NO_MEMORY, POVUNDIRI_OPEN_NO_MEMORY
  *   POVUNDIRI_OPEN_BAD_SHAPE   no segment has so many bytes
- *   POVUNDIRI_SYSTEM           began->fault says what: EEXIST: the folder is not empty, and not a recording's; others as the calls say
+ *   POVUNDIRI_SYSTEM           began->fault says what: EEXIST: the folder is neither empty nor a recording's; ENOTDIR: it is no folder;
+ *                              ENOENT: that which it would be in is not there; ENAMETOOLONG, EACCES, EROFS and others as the calls say
  * Keep: pointers; process. */
 uint32_t povundiri_recording_open(const char *folder, const struct povundiri_recording_options *options,
                                   struct povundiri_recording **recording, struct povundiri_began *began) POVUNDIRI_CHECKED;
 
-/* Ends it. The segment is final when the last thread that recorded into it has ended, or has called this recording once more. */
+/* Ends it: from now on samples are missed, as ENDED. Texts, sums and folds are as before. With a null, or a second time, nothing happens.
+ * This thread gives back what it has of the recording. A segment that others recorded into is final, so that a fold takes it, when each of
+ * them has ended, or has called povundiri_recording_add or _leave once more.
+ * Keep: process. */
 void povundiri_recording_end(struct povundiri_recording *recording);
 
 /* ---- Samples ---- */
 
-/* The number of a histogram for all threads, by its name and its spec (povundiri_hist): the same for the same. It is found in the segment
- * at once.
+/* A metric: the number of a histogram for all threads, by its name and its spec (povundiri_hist): the same number for the same, until the
+ * process ends. The histogram is made in the present segment, if it is not there and has room. Ask once, and not for each sample.
  *
- * POVUNDIRI_DONE; or one of these, and there is a number all the same:
- *   POVUNDIRI_REFUSED_OTHER_SPEC   this segment has it with another spec: until the next one is begun, samples are missed
- *   POVUNDIRI_REFUSED_TOO_LARGE    no segment has room for it: samples are missed
+ * POVUNDIRI_DONE; or one of these, and *metric is a number all the same:
+ *   POVUNDIRI_REFUSED_OTHER_SPEC   the present segment has it with another spec: samples are missed until the next one is begun, which may be
+ *                                  long (SPECS, above). Other `bytes` at the next start begin one at once
+ *   POVUNDIRI_REFUSED_TOO_LARGE    no segment has room for it: samples are missed, all of them or from the second bucket on
  * Or there is none:
- *   POVUNDIRI_NULL, POVUNDIRI_NO_MEMORY, POVUNDIRI_BAD_KIND, POVUNDIRI_REFUSED_BAD_NAME, POVUNDIRI_SPEC_..
+ *   POVUNDIRI_NULL, POVUNDIRI_NO_MEMORY, POVUNDIRI_OPEN_NO_MEMORY, POVUNDIRI_REFUSED_NO_MEMORY
+ *   POVUNDIRI_BAD_KIND, POVUNDIRI_REFUSED_BAD_NAME, POVUNDIRI_SPEC_..   as povundiri_hist says
  * Keep: pointers; process. */
 uint32_t povundiri_recording_hist(struct povundiri_recording *recording, const char *name, size_t name_length, struct povundiri_spec spec,
                                   const uint32_t *values, size_t values_length, size_t *metric) POVUNDIRI_CHECKED;
@@ -122,37 +158,51 @@ uint32_t povundiri_recording_hist(struct povundiri_recording *recording, const c
 uint32_t povundiri_recording_scale(struct povundiri_recording *recording, const char *name, uint32_t minimum, uint32_t maximum,
                                    uint32_t bits, size_t *metric) POVUNDIRI_CHECKED;
 
-/* Counts a sample: `count` units of a value. False if it was missed, or if there is no such metric. Any thread may call it at any time, also
- * one that ends. errno stays as it was.
+/* Counts a sample: `count` units of a value, all or none of them (povundiri_add). False if it was missed, if there is no such metric, or if
+ * `recording` is null. With a count of 0 nothing is counted or missed. Any thread may call it at any time, also in a destructor as it ends.
+ * errno stays as it was.
  * Keep: process. */
 bool povundiri_recording_add(struct povundiri_recording *recording, size_t metric, int32_t value, uint32_t count);
 
-/* Gives back what this thread has of the recording: for a thread that will be idle for long, which else holds an old segment. Its next sample
- * begins anew. */
+/* Gives back what this thread has of the recording. It is for a thread that has counted a sample, or asked for a histogram, and will count
+ * none for long: when others begin the next segment, it holds the old one, which no fold takes then. Its next sample begins anew. With a
+ * null nothing happens.
+ * Keep: process. */
 void povundiri_recording_leave(struct povundiri_recording *recording);
 
-/* How many units this process has missed for a reason since it opened the recording. */
+/* How many units this process has missed for a reason since it opened the recording, or since it was forked. 0 of a null, and of what is
+ * no reason.
+ * Keep: process. */
 uint64_t povundiri_recording_missed(const struct povundiri_recording *recording, enum povundiri_missed reason);
 
 /* ---- What was counted ---- */
 
-/* The sum of the folder (povundiri_folder_sums), in which all processes are that record into it, and what was recorded before.
- * Statuses: those of povundiri_folder_sums. */
+/* The sum of the folder (povundiri_folder_sums): what all processes recorded into it, this one and others, now and before.
+ * Statuses and what to keep: as there; POVUNDIRI_NULL also if `recording` is null. */
 uint32_t povundiri_recording_sums(struct povundiri_recording *recording, struct povundiri_handle *sums, uint64_t *left,
                                   int *fault) POVUNDIRI_CHECKED;
 
-/* Texts of the sum: its report as CSV, its metrics for Prometheus, and its text for people (povundiri_sums_report, _export, _show). Behind
- * each is what this process has missed: `!missed,REASON,UNITS` lines, a counter PREFIX_missed_total for each reason, `missed` lines.
+/* Texts of the sum: its report as CSV, its metrics for Prometheus, and its text for people (povundiri_sums_report, _export, _show, which say
+ * what `prefix` and `width` are). Behind each is what this process has missed, with a REASON in lower case, such as no_space:
+ *   report   !missed,REASON,UNITS for each reason with units; before that !left,SEGMENTS, if some were left out (povundiri_folder_sums)
+ *   export   a counter, PREFIX_missed_total{reason="REASON"}, for each reason
+ *   show     `missed, REASON: UNITS` for each reason with units
  *
- * POVUNDIRI_DONE: *text is for free(), and has *length bytes and a zero behind them. Else it is null.
- *   those of povundiri_folder_sums; POVUNDIRI_BAD_PREFIX */
+ * A text is of the whole folder, so let one of the processes that record there be scraped. The flag `full` in it says that some segment was
+ * full, which is how each one ends. A text takes no mutex of the recording, and reads each segment three times. An export folds first where
+ * `fold_at` segments stand, and then waits for the device; whether that fold is done makes no difference to the text, and is not told.
+ *
+ * POVUNDIRI_DONE: *text is for free(), and has *length bytes and a zero behind them. Else it is null, and *length 0.
+ *   those of povundiri_folder_sums, of which POVUNDIRI_SYSTEM sets *fault; of an export also POVUNDIRI_BAD_PREFIX
+ * Keep: pointers; process. */
 uint32_t povundiri_recording_report(struct povundiri_recording *recording, char **text, size_t *length, int *fault) POVUNDIRI_CHECKED;
 uint32_t povundiri_recording_export(struct povundiri_recording *recording, const char *prefix, char **text, size_t *length,
                                     int *fault) POVUNDIRI_CHECKED;
 uint32_t povundiri_recording_show(struct povundiri_recording *recording, uint16_t width, char **text, size_t *length,
                                   int *fault) POVUNDIRI_CHECKED;
 
-/* povundiri_folder_fold of its folder. */
+/* povundiri_folder_fold of its folder. The present segments of this and of other recordings are not final, and stay.
+ * Statuses and what to keep: as there; POVUNDIRI_NULL also if `recording` is null. */
 uint32_t povundiri_recording_fold(struct povundiri_recording *recording, uint64_t *folded, int *fault) POVUNDIRI_CHECKED;
 
 /* ---- For povundiri_recorded.c alone ---- */

@@ -1,11 +1,20 @@
-// A recording that never ends, for C++17 and later: over povundiri_recording.h, which says what it does.
+// A recording, for C++17 and later: over povundiri_recording.h, which says what it does, how large segments should be, and what forks and
+// changed histograms need.
 //
 //     povundiri::Recording recording("metrics");                       // a folder
 //     const auto latency = recording.scale("request_us", 1, 10'000'000, 5);
 //     latency.add(elapsed_us);                                         // any thread; never throws; no lock in the usual sample
 //     std::string text = recording.prometheus();                       // at any time
 //
-// 'add' and 'missed' throw nothing. 'try_' calls return a Status, or the system's fault. All others throw as those of povundiri.hpp do.
+// CALLS. 'add', 'missed', 'leave' and 'end' throw nothing. 'try_' calls return a Status, or an error code: of the category
+// povundiri::category(), with which a Status is compared, or the system's. All others throw as those of povundiri.hpp do: a Fault, or a
+// std::system_error for a fault of the system. Besides, what fills a string may throw std::bad_alloc.
+//
+// THREADS. A Metric is copied and used by any threads at any time, also when its Recording has ended. Calls of one Recording come from any
+// threads, as long as none moves, assigns, ends or destroys that object meanwhile.
+//
+// An empty Recording (one that was moved from, has ended, or could not be opened) has nothing: calls that return text or a number of
+// segments, and those for histograms, return or throw Null, 'missed' is 0, and 'end' and 'leave' do nothing.
 #ifndef POVUNDIRI_RECORDING_HPP
 #define POVUNDIRI_RECORDING_HPP
 
@@ -26,17 +35,19 @@ enum class Missed {
     NoMemory = POVUNDIRI_MISSED_NO_MEMORY
 };
 
-// A histogram of a recording, for any thread, also after the recording has ended. One that no recording returned counts nothing.
+// A histogram of a recording, for any thread, also after the recording has ended. One that no recording returned counts nothing, and what it
+// is given is not counted as missed either.
 class Metric {
 public:
     constexpr Metric() noexcept = default;
 
-    // Counts a sample: 'count' units of a value. False if it was missed.
+    // Counts a sample: 'count' units of a value, all or none of them. False if it was missed.
     bool add(Value value, std::uint32_t count = 1) const noexcept {
         return povundiri_recording_add(recording_, number_, value.get(), count);
     }
 
-    // Done; or why samples are missed for now: RefusedOtherSpec, RefusedTooLarge (povundiri_recording_hist).
+    // What the call returned that made it: Done, or why samples are missed: RefusedOtherSpec, RefusedTooLarge (povundiri_recording_hist).
+    // Empty: no call did.
     Status told() const noexcept { return told_; }
 
 private:
@@ -66,7 +77,8 @@ public:
     }
     ~Recording() { end(); }
 
-    // 'recording' is empty: NotEmpty else.
+    // Opens one in 'recording', which has to be empty: NotEmpty else. Where no fault is returned it holds a recording, also if no segment could
+    // be made yet, as on a full disk: then 'began().fault' is not 0.
     [[nodiscard]] static std::error_code try_open(const char* folder, Recording& recording, const RecordingOptions& options = {}) noexcept {
         const std::uint32_t status = povundiri_recording_open(folder, &options, &recording.recording_, &recording.began_);
         if (status == POVUNDIRI_SYSTEM) return {recording.began_.fault, std::generic_category()};
@@ -75,16 +87,17 @@ public:
 
     explicit operator bool() const noexcept { return recording_ != nullptr; }
 
-    // How it began: which segment, and what was set aside.
+    // How it began: in which segment, what was set aside, and why there is no segment yet.
     const povundiri_began& began() const noexcept { return began_; }
 
-    // Ends it: later samples are missed, as Ended.
+    // Ends it, and leaves this object empty: later samples of its metrics are missed, as Ended. The destructor does so too.
     void end() noexcept { povundiri_recording_end(std::exchange(recording_, nullptr)); }
 
-    // Gives back what this thread has: for one that will be idle for long.
+    // Gives back what this thread has of it: for a thread that has counted or asked for a histogram, and will be idle for long.
     void leave() noexcept { povundiri_recording_leave(recording_); }
 
-    // The histogram of a name. What no segment may have is thrown; what this segment has otherwise is told by the metric.
+    // The histogram of a name. A name or a spec that no histogram may have is returned, or thrown as a Fault, and 'metric' is unchanged. But
+    // RefusedOtherSpec and RefusedTooLarge are not thrown: there is a metric all the same, and its 'told' returns them.
     [[nodiscard]] Status try_hist(std::string_view name, povundiri_spec spec, Span<const std::uint32_t> values, Metric& metric) noexcept {
         std::size_t number = 0;
         const auto status = static_cast<Status>(
@@ -103,10 +116,11 @@ public:
     Metric scale(std::string_view name, std::uint32_t minimum, std::uint32_t maximum, std::uint32_t bits) {
         return made(name, {POVUNDIRI_SCALE, minimum, maximum, bits}, {});
     }
+    // For values from 0 to n - 1: a bucket for each, and one more from n on. 'n' is from 2 to 999.
     Metric enumeration(std::string_view name, std::uint32_t n) { return linear(name, 1, n, n + 1); }
     Metric sparse(std::string_view name) { return made(name, {POVUNDIRI_SPARSE, 0, 0, 0}, {}); }
 
-    // How many units this process has missed.
+    // How many units this process has missed: for a reason, and for all.
     std::uint64_t missed(Missed reason) const noexcept {
         return povundiri_recording_missed(recording_, static_cast<povundiri_missed>(reason));
     }
@@ -116,7 +130,9 @@ public:
         return all;
     }
 
-    // What the folder has: its report as CSV, its metrics for Prometheus, its text for people, its sum.
+    // What the folder has: its report as CSV, its metrics for Prometheus, its text for people. They fail with Busy where folds have ended
+    // sixteen times meanwhile, and as povundiri_folder_sums says; 'prometheus' also with BadPrefix. Of 'try_prometheus' the text is unchanged
+    // then. A 'width' of 0 is 80 cells.
     std::string report() {
         return text("report",
                     [this](char** at, std::size_t* size, int* fault) { return povundiri_recording_report(recording_, at, size, fault); });
@@ -137,7 +153,7 @@ public:
         });
     }
 
-    // Adds the final segments of the folder to its totals (povundiri_folder_fold). How many.
+    // Adds the final segments of the folder to its totals (povundiri_folder_fold), and returns how many. Busy: somebody else folds.
     std::uint64_t fold() {
         std::uint64_t folded = 0;
         const std::error_code fault = try_fold(folded);

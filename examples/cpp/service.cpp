@@ -1,11 +1,12 @@
 // A small service. Four threads answer requests and record how long each took, into a folder, until the service is ended or killed.
-// When it starts again, it goes on with what the one before left, and says so. Whatever becomes of its figures, it goes on answering:
+// When it starts again, it continues with what the one before left, and says so. Whatever becomes of its figures, it goes on answering:
 //
 //   - where a segment is full, or has no units left, the next one is begun;
-//   - a damaged one is set aside, and another is begun;
-//   - where none can be made, as on a full disk, that is tried again each second;
-//   - a histogram that another release made with other buckets is not recorded into while its segment lasts;
-//   - what is not recorded is counted, and told at the end.
+//   - where the newest segment is damaged, the next one is begun; if not even its header can be read, it also gets another name;
+//   - where no segment can be made, as on a full disk, it is tried again, a second later at the earliest;
+//   - where another release made the histogram with other buckets, nothing is recorded until that segment is full: so give a histogram with
+//     other buckets another name;
+//   - requests that are not recorded are counted, and it says at the end how many there were.
 //
 // Meanwhile a thread writes the metrics to a file, if one is named, each second.
 //
@@ -50,17 +51,17 @@ void serve(povundiri::Metric latency, unsigned seed) {
     }
 }
 
-// Writes the metrics of the folder to a file, which is whole at any moment: it is written beside it and renamed.
+// Writes the metrics of the folder to a file, which is whole at any moment: they are written beside it, and get its name when all are there.
 void publish(povundiri::Recording& recording, const std::string& path) {
     const std::string beside = path + ".new";
     std::string text;
     while (!ends) {
-        if (!recording.try_prometheus(text) && std::ofstream(beside) << text) std::rename(beside.c_str(), path.c_str());
+        if (!recording.try_prometheus(text) && (std::ofstream(beside) << text).flush()) std::rename(beside.c_str(), path.c_str());
         std::this_thread::sleep_for(std::chrono::seconds(1));
     }
 }
 
-// The recording in the folder, and what is there. Where there can be none, it is empty, and so is each metric of it.
+// Opens the recording, and says what it found. Where there can be none, it is empty, and its metrics count nothing.
 povundiri::Recording open_recording(const char* folder) {
     povundiri::Recording recording;
     povundiri::RecordingOptions options{};

@@ -152,6 +152,19 @@ void again() {
     HOLDS(recording.fold() == 1 && units_in(recording.report(), "b") == 28);
 }
 
+// A segment with a whole image that may not be continued, since its group may write it: it stays and is counted, and nothing is said of its
+// image.
+void not_continued() {
+    const std::string path = folder("writable"), first = path + "/0000000001.seg";
+    Recording recording;
+    HOLDS(opens(path, recording) && metric_of(recording, "b").add(1, 3));
+    recording.end();
+    HOLDS(chmod(first.c_str(), 0620) == 0 && opens(path, recording));
+    HOLDS(recording.began().number == 2 && !recording.began().adopted && recording.began().fault == 0);
+    ANSWERS(DONE, recording.began().refused);
+    HOLDS(metric_of(recording, "b").add(1, 4) && units_in(recording.report(), "b") == 7);
+}
+
 // The counts of one do not fit in a page, and those of the other not behind its record.
 void too_large() {
     Recording recording;
@@ -480,6 +493,7 @@ int run(bool only_threads) {
     failed += group("metrics", metrics);
     failed += group("folders", folders);
     failed += group("again", again);
+    failed += group("a segment that is not continued", not_continued);
     failed += group("a histogram that is too large", too_large);
     failed += group("another spec", other_spec);
     failed += group("ended", ended);

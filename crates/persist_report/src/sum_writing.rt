@@ -51,8 +51,12 @@ struct Composed {
     wrong: Result<(), Failure>,
 }
 
-// The failure of an input.
-fn input_failure<R: AllocGlobal>(context: &Context<'_, R>, fault: InputFault, path: &str) -> Failure
+/// Returns the failure of an input; `Usage` comes only for a mistake on the command line.
+pub fn input_failure<R: AllocGlobal>(
+    context: &Context<'_, R>,
+    fault: InputFault,
+    path: &str,
+) -> Failure
     ensures { UsageIsMistake result }
 {
     if fault.is_no_memory() {

@@ -22,7 +22,8 @@ pub enum Failure {
     Fault(CliFault),
     /// It failed, and these lines follow the line of the fault.
     Explained(CliFault, String),
-    /// Another process has the lock of the file that it writes. These lines follow, if there are any.
+    /// Another process has the lock of the file that it writes, or folds kept ending beside the reading of a folder. These lines follow, if there
+    /// are any.
     Busy(String),
     /// The scale that it asks for has this fault. These lines follow, if there are any.
     Scale(SpecFault, String),

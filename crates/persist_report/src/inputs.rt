@@ -9,6 +9,8 @@ use crate::dashes::{DASH, two_inputs};
 use crate::explaining::unopened;
 use crate::failure::Failure;
 use crate::leftover::is_new_name;
+use crate::recorded::{Recorded, read_folder};
+use crate::standing::{is_recording, path_in};
 use crate::workers::Workers;
 use persist_report_core::CliFault;
 use std::alloc::{AllocError, Global};
@@ -48,6 +50,11 @@ impl<'a> Inputs<'a> {
         self.files.first().copied()
     }
 
+    /// Returns whether one file or folder is read, or standard input.
+    pub fn is_one(&self) -> bool {
+        self.files.len() <= 1 && self.list.is_none()
+    }
+
     // How many of the other files that are named are standard input.
     fn other_dashes(&self) -> usize {
         match (is_dash(self.list), is_dash(self.earlier)) {
@@ -77,13 +84,30 @@ pub fn is_of_many<R: Files>(rt: &R, inputs: &Inputs<'_>) -> bool {
     inputs.is_sum() || is_folder(rt, inputs.first().unwrap_or(DASH))
 }
 
+/// What an input is.
+#[derive(Drop)]
+pub enum What {
+    /// A file that was named, or standard input.
+    Named,
+    /// A file that was found in a folder, where those that are neither images nor totals are passed over.
+    Found,
+    /// A recording's folder, which was read.
+    Recorded(Recorded),
+}
+
+impl What {
+    /// Returns whether it was found in a folder.
+    pub fn is_found(&self) -> bool {
+        matches!(self, What::Found)
+    }
+}
+
 /// An input by its name.
 #[derive(Drop)]
 pub struct Named {
     /// Its path, or `-`.
     pub path: String,
-    /// Whether it was found in a folder, where files that are neither images nor totals are passed over.
-    pub is_found: bool,
+    pub what: What,
 }
 
 /// Whether a folder is at a path.
@@ -95,19 +119,9 @@ pub fn is_folder<R: Files>(rt: &R, path: &str) -> bool {
 }
 
 // Puts an input behind others.
-fn put_named(names: &mut Vec<Named>, path: String, is_found: bool) -> Result<(), AllocError> {
-    names.push(Named { path, is_found })?;
+fn put_named(names: &mut Vec<Named>, path: String, what: What) -> Result<(), AllocError> {
+    names.push(Named { path, what })?;
     Ok(())
-}
-
-// The path of a name in a folder.
-fn path_in(alloc: Global, folder: &str, name: &str) -> Result<String, AllocError> {
-    let mut path = String::from_str(alloc, folder)?;
-    if !folder.ends_with('/') {
-        path.push('/')?;
-    }
-    path.push_str(name)?;
-    Ok(path)
 }
 
 // Puts the path of a name in a folder behind others, if it is a regular file that no running command is writing.
@@ -126,7 +140,7 @@ fn put_found<R: Files + AllocGlobal>(
         Err(_) => false,
     };
     if is_file && !is_new_name(name) {
-        put_named(names, path, true)?;
+        put_named(names, path, What::Found)?;
     }
     Ok(())
 }
@@ -149,7 +163,26 @@ fn put_folder<R: Files + AllocGlobal>(
     Ok(())
 }
 
-/// Puts a file behind others, or the regular files in a folder by their names.
+// Puts what a recording's folder has behind others, and then its segments that could not be looked at: these are read as any other
+// input is, or told.
+fn put_recorded<R: Files<File = File> + AllocGlobal>(
+    context: &Context<'_, R>,
+    names: &mut Vec<Named>,
+    folder: &str,
+) -> Result<(), Failure>
+    ensures { IfErr result UsageIsMistake }
+{
+    let reading = read_folder(context, folder)?;
+    let path = String::from_str(context.alloc(), folder)?;
+    put_named(names, path, What::Recorded(reading.recorded))?;
+    for path in reading.others {
+        put_named(names, path, What::Named)?;
+    }
+    Ok(())
+}
+
+/// Puts a file behind others, what a recording's folder has, or the regular files in another folder by their names. `Busy` comes where
+/// folds kept ending beside it.
 pub fn put_input<R: Files<File = File> + AllocGlobal>(
     context: &Context<'_, R>,
     names: &mut Vec<Named>,
@@ -158,12 +191,15 @@ pub fn put_input<R: Files<File = File> + AllocGlobal>(
     ensures { IfErr result UsageIsMistake }
 {
     if is_folder(context.rt, path) {
+        if is_recording(context.rt, path)? {
+            return put_recorded(context, names, path);
+        }
         return match put_folder(context.rt, names, path) {
             Ok(()) => Ok(()),
             Err(error) => Err(unopened(context, Cause::of(CliFault::Read, error), path)),
         };
     }
-    put_named(names, String::from_str(context.alloc(), path)?, false)?;
+    put_named(names, String::from_str(context.alloc(), path)?, What::Named)?;
     Ok(())
 }
 

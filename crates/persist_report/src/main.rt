@@ -1,6 +1,6 @@
 //! The program `persist_report`: writes the histograms of an image as a report, as metrics or for people, runs scripts in
-//! new segments and in those of images, merges images, looks at files in use, extracts images from any file, prints
-//! scales, and explains faults.
+//! new segments and in those of images, merges images, looks at files in use, extracts images from any file, folds the
+//! folders of recordings, prints scales, and explains faults.
 #![tactic(auto)]
 
 mod cause;
@@ -11,6 +11,7 @@ mod extracting;
 mod failure;
 mod families;
 mod files;
+mod folding;
 mod incoming;
 mod inputs;
 mod leftover;
@@ -23,6 +24,7 @@ mod part;
 mod peeked;
 mod place;
 mod progress;
+mod recorded;
 mod repeating;
 mod request;
 mod run;
@@ -31,6 +33,7 @@ mod scaling;
 mod sizing;
 mod sizing_request;
 mod sources;
+mod standing;
 mod sum_writing;
 mod summing;
 mod terminal;

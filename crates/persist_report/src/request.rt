@@ -1,6 +1,7 @@
 //! What the command line asks for.
 
 mod arguments;
+mod fold;
 mod info;
 mod mistakes;
 mod reading;
@@ -12,6 +13,7 @@ mod writing;
 use crate::inputs::Inputs;
 use crate::nth::Nth;
 use crate::repeating::Repeat;
+use crate::request::fold::{fold_command, fold_task};
 use crate::request::info::{info_command, info_task};
 use crate::request::scale::{scale_command, scale_task};
 use crate::request::sums::inputs_found;
@@ -112,6 +114,10 @@ pub enum Task<'a> {
         at: Option<u64>,
         out: Option<&'a str>,
     },
+    /// Add the segments of a recording's folder that are final to its totals, and remove them.
+    Fold {
+        folder: &'a str,
+    },
     /// Find a segment in a file. Write its image to another, and to the error stream where it was.
     Extract {
         file: &'a str,
@@ -148,6 +154,7 @@ pub fn command<'a>(alloc: Global) -> Result<Command<'a>, AllocError> {
         .subcommand(run_command(alloc)?)?
         .subcommand(resume_command(alloc)?)?
         .subcommand(look_command(alloc)?)?
+        .subcommand(fold_command(alloc)?)?
         .subcommand(extract_command(alloc)?)?
         .subcommand(size_command(alloc)?.arg(explain_flag(alloc))?)?
         .subcommand(scale_command(alloc)?)?
@@ -182,6 +189,7 @@ fn plain_task<'a>(name: &str, found: &ArgMatches<'a>) -> Option<Task<'a>> {
         "resume" => resume_task(found),
         "merge" => merge_task(found),
         "look" => look_task(found),
+        "fold" => fold_task(found),
         "extract" => extract_task(found),
         "scale" => scale_task(found),
         "explain" => Some(Task::Explain {

@@ -8,6 +8,7 @@ use crate::dashes::check_dashes;
 use crate::extracting::extract_file;
 use crate::failure::Failure;
 use crate::files::{merge_files_into, resume_file, run_file, write_file};
+use crate::folding::fold_folder;
 use crate::inputs::{Inputs, is_of_many};
 use crate::looking::look_into;
 use crate::repeating::{Division, Repeat, Shown, begin, show_again};
@@ -198,6 +199,7 @@ fn meet<
         } => resume_file(context, base, script, out, workers),
         Task::Merge { base, dead, out } => merge_files_into(context, base, dead, out),
         Task::Look { file, at, out } => look_into(context, file, at, out),
+        Task::Fold { folder } => fold_folder(context, folder),
         Task::Extract { file, out, nth } => extract_file(context, file, out, nth),
         Task::Size(ref size) => size_of_task(context, size),
         Task::Scale { name, scale } => print_scale(context, name, scale),

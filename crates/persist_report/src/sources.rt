@@ -1,7 +1,7 @@
 //! Where an image or a sum comes from, as a web page names it.
 
 use crate::dashes::DASH;
-use crate::inputs::{Inputs, Named};
+use crate::inputs::Named;
 use reading_shows::Source;
 
 // What stands for standard input among several inputs.
@@ -28,14 +28,11 @@ fn source_of_names<'a>(first: &'a Named, more: &'a [Named]) -> Source<'a> {
     }
 }
 
-/// Where a sum comes from: the one file or folder that is named, or standard input; or the first input that is read of those that
-/// several files, folders and a list name, and how many more there are. If these name none, the file, or the list.
-pub fn source_of_sum<'a>(inputs: &Inputs<'a>, names: &'a [Named]) -> Source<'a> {
-    if inputs.files.len() <= 1 && inputs.list.is_none() {
-        return source_of(inputs.first());
-    }
+/// Where a sum comes from. If it is of one file or folder, or of standard input: what is named. Else the first input that is read, and how
+/// many more there are; if there is none, what is named.
+pub fn source_of_sum<'a>(named: &'a str, is_one: bool, names: &'a [Named]) -> Source<'a> {
     match names {
-        [first, more @ ..] => source_of_names(first, more),
-        [] => source_of(inputs.first().or(inputs.list)),
+        [first, more @ ..] if !is_one => source_of_names(first, more),
+        _ => source_of(Some(named)),
     }
 }

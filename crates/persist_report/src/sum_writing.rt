@@ -22,7 +22,8 @@ use fault_texts::{Origin, Source};
 use image_reader::Reading as ImageReading;
 use persist_report_core::{CliFault, write_and_flush};
 use reading_shows::{
-    Form, SumHead, first_missing, list_text, page_of_sum, show_since_text, show_text,
+    Form, Source as Place, SumHead, first_missing, list_text, page_of_sum, show_since_text,
+    show_text,
 };
 use reading_sums::{MinusFault, Sums};
 use reading_texts::{FamilyFault, Label, export_text, families_text, table_text};
@@ -54,8 +55,12 @@ struct Composed {
     wrong: Result<(), Failure>,
 }
 
-// The failure of an input.
-fn input_failure<R: AllocGlobal>(context: &Context<'_, R>, fault: InputFault, path: &str) -> Failure
+/// Returns the failure of an input; `Usage` comes only for a mistake on the command line.
+pub fn input_failure<R: AllocGlobal>(
+    context: &Context<'_, R>,
+    fault: InputFault,
+    path: &str,
+) -> Failure
     ensures { UsageIsMistake result }
 {
     if fault.is_no_memory() {
@@ -171,10 +176,12 @@ fn head_of(alloc: Global, sums: &Sums, left: u64) -> Result<SumHead, AllocError>
     })
 }
 
-// The text of a sum in a form, of which so many inputs are left out. An overview is of one image alone.
+// The text of a sum in a form, of which so many inputs are left out. A page names where the sum comes from. An overview is of one image
+// alone.
 fn form_text<R: AllocGlobal>(
     context: &Context<'_, R>,
     form: Form<'_>,
+    place: Place<'_>,
     sums: &Sums,
     reading: &ImageReading,
     left: u64,
@@ -196,12 +203,12 @@ fn form_text<R: AllocGlobal>(
         } => show_since_text(alloc, reading, earlier, style, choice),
         Form::List { style, choice } => list_text(alloc, reading, style, choice),
         Form::Page {
-            source,
+            source: _,
             shows_all,
             choice,
         } => {
             let head = head_of(alloc, sums, left)?;
-            page_of_sum(alloc, &head, reading, source, shows_all, choice)
+            page_of_sum(alloc, &head, reading, place, shows_all, choice)
         }
         Form::Info { .. } => return Err(Failure::Usage(no_overview(alloc)?)),
     };
@@ -238,6 +245,7 @@ fn wrong_with<R: AllocGlobal>(
 fn make_composed<R: AllocGlobal>(
     context: &Context<'_, R>,
     text: Text<'_>,
+    place: Place<'_>,
     has_totals: bool,
     sums: Sums,
     is_damaged: bool,
@@ -261,28 +269,10 @@ fn make_composed<R: AllocGlobal>(
                 fold: None,
             },
         )?,
-        Text::Form(form) => form_text(context, form, &sums, &reading, left)?,
+        Text::Form(form) => form_text(context, form, place, &sums, &reading, left)?,
         Text::Families { prefix, labels } => families_of(context, &reading, prefix, labels)?,
     };
     Ok(Composed { text, wrong })
-}
-
-// The same text; a page names where the sum comes from.
-fn text_of_inputs<'a>(text: Text<'a>, inputs: &Inputs<'a>, names: &'a [Named]) -> Text<'a> {
-    match text {
-        Text::Form(
-            Form::Page {
-                source: _,
-                shows_all,
-                choice,
-            },
-        ) => Text::Form(Form::Page {
-            source: source_of_sum(inputs, names),
-            shows_all,
-            choice,
-        }),
-        other => other,
-    }
 }
 
 // The text of the sum of inputs by their names.
@@ -316,7 +306,17 @@ fn compose<R: Files<File = File> + Clock + Input + Eprint + AllocGlobal + Thread
         Some(earlier) => less_earlier(context, sums, earlier, how.workers)?,
         None => sums,
     };
-    make_composed(context, text, inputs.has_totals, sums, is_damaged, count)
+    let named = inputs.first().or(inputs.list).unwrap_or(DASH);
+    let place = source_of_sum(named, inputs.is_one(), names);
+    make_composed(
+        context,
+        text,
+        place,
+        inputs.has_totals,
+        sums,
+        is_damaged,
+        count,
+    )
 }
 
 // Writes a text to a file, or to standard output if there is none, and then tells what is wrong with what was read.
@@ -350,7 +350,6 @@ fn write_composed<R: Files<File = File> + Clock + Print + RandomSource + AllocGl
 /// Writes a text of the sum of inputs: to the file `to`, or to standard output if there is none. Inputs that cannot be read are
 /// told and left out, or the first ends it. `Usage` comes only for a mistake on the command line.
 pub fn write_sum<
-    'a,
     R: Files<File = File>
         + Clock
         + Input
@@ -362,16 +361,23 @@ pub fn write_sum<
         + Wait,
 >(
     context: &Context<'_, R>,
-    inputs: &Inputs<'a>,
-    text: Text<'a>,
+    inputs: &Inputs<'_>,
+    text: Text<'_>,
     to: Option<&str>,
 ) -> Result<(), Failure>
     ensures { IfErr result UsageIsMistake }
 {
     let names = names_of(context, inputs)?;
-    let text = text_of_inputs(text, inputs, &names);
     let composed = compose(context, inputs, &names, text)?;
     write_composed(context, composed, to)
+}
+
+// Where a page says that it comes from.
+fn place_in<'a>(text: Text<'a>) -> Place<'a> {
+    match text {
+        Text::Form(Form::Page { source, .. }) => source,
+        _ => Place::Input,
+    }
 }
 
 /// Writes a text of the totals that a reader has left, as that of a sum. `Usage` comes only for a mistake on the command line.
@@ -392,6 +398,7 @@ pub fn write_totals<
     if let Err(fault) = added {
         return Err(input_failure(context, fault, path_of(reader.into_inner().origin())));
     }
-    let composed = make_composed(context, text, false, sums, false, 0)?;
+    let place = place_in(text);
+    let composed = make_composed(context, text, place, false, sums, false, 0)?;
     write_composed(context, composed, to)
 }

@@ -7,10 +7,11 @@ use crate::context::Context;
 use crate::dashes::DASH;
 use crate::failure::Failure;
 use crate::incoming::Incoming;
-use crate::inputs::Named;
+use crate::inputs::{Named, What};
 use crate::looking::look_at;
 use crate::peeked::Peeked;
 use crate::progress::ProgressLine;
+use crate::recorded::add_recorded;
 use fault_texts::Origin;
 use persist_report_core::{CliFault, read_input};
 use reading_sums::Sums;
@@ -110,6 +111,9 @@ fn add_named<R: Files<File = File> + Input + AllocGlobal>(
     name: &Named,
     is_live: bool,
 ) -> Result<bool, InputFault> {
+    if let What::Recorded(recorded) = &name.what {
+        return add_recorded(sums, recorded);
+    }
     let path = name.path.as_str();
     let incoming = if path == DASH {
         Incoming::Standard(context.rt.reader())
@@ -121,7 +125,7 @@ fn add_named<R: Files<File = File> + Input + AllocGlobal>(
     };
     let (kind, peeked) = Peeked::of(context.alloc(), incoming)?;
     match kind {
-        InputKind::Other if name.is_found => Ok(false),
+        InputKind::Other if name.what.is_found() => Ok(false),
         InputKind::Image if is_live && path != DASH => add_look(context, sums, path),
         _ => {
             let mut reader = Watched::new(peeked);
@@ -185,7 +189,7 @@ impl<R: Files<File = File> + Input + AllocGlobal> Source for NamedInputs<'_, '_,
         Some(OpenedFile {
             alloc: self.context.alloc(),
             file,
-            is_found: name.is_found,
+            is_found: name.what.is_found(),
         })
     }
 

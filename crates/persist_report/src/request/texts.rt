@@ -78,6 +78,13 @@ and the process is not disturbed. It has the histograms and counts of the time
 of the reads. Use it like any other image. OUT is the old file until it is the
 whole new one.";
 
+/// What `fold` does.
+pub const FOLD: &str =
+    "Add the segments of a recording's folder that nobody records into to the totals
+there, and remove them, while others record and read. What the folder has in all
+is the same before and after, also if the fold is killed. A segment that cannot
+be read stays, and is told.";
+
 /// What `extract` does.
 pub const EXTRACT: &str =
     "Find a segment in any file, such as a mapped file or a core dump, and write its

@@ -1,0 +1,176 @@
+//! What stands in a recording's folder. `docs/FORMAT.md` has the names.
+
+ghost use Rattle.std.specs.Prelude.{IfErr};
+ghost use Rattle.persist_report.specs.Failure.{UsageIsMistake};
+
+use crate::cause::Cause;
+use crate::context::Context;
+use crate::explaining::unopened;
+use crate::failure::Failure;
+use crate::sum_writing::input_failure;
+use persist_report_core::{CliFault, image_in};
+use reading_sums::Sums;
+use recording_folders::{FileKind, kind_of};
+use segment_image::layout::ID_WORD;
+use segment_image::push_words;
+use std::alloc::{AllocError, Global};
+use std::fs::File;
+use std::io::{BufRead, BufReader, ErrorKind, Read, Seek, SeekFrom};
+use std::path::PathBuf;
+use std::rt::Files;
+use std::{fs, io};
+use sum_commands::InputFault;
+use sum_texts::{Totals, totals_of};
+
+/// The file that says what the folder is.
+pub const MARK: &str = "recording";
+
+/// The totals.
+pub const TOTALS: &str = "totals";
+
+/// Totals that are being written.
+pub const NEW_TOTALS: &str = "totals.new";
+
+/// The file whose lock a fold has.
+pub const FOLD_LOCK: &str = "fold.lock";
+
+// The bytes that are read to see the id of a segment: those of a word of zeros, and of the first words of an image.
+const FRONT: usize = 8 * (1 + ID_WORD + 1);
+
+/// A segment: its number, and the path of its file.
+#[derive(Drop)]
+pub struct Segment {
+    pub number: u64,
+    pub path: PathBuf,
+}
+
+/// The path of a name in a folder.
+pub fn path_in(alloc: Global, folder: &str, name: &str) -> Result<String, AllocError> {
+    let mut path = String::from_str(alloc, folder)?;
+    if !folder.ends_with('/') {
+        path.push('/')?;
+    }
+    path.push_str(name)?;
+    Ok(path)
+}
+
+/// Returns whether the folder at a path is a recording's.
+pub fn is_recording<R: Files + AllocGlobal>(rt: &R, folder: &str) -> Result<bool, AllocError> {
+    let mark = path_in(rt.alloc(), folder, MARK)?;
+    Ok(fs::symlink_metadata(rt, mark.as_str()).is_ok())
+}
+
+/// Returns the cause of a read that failed for this reason.
+pub fn cause_of_read(reason: io::Error) -> Cause {
+    match reason.kind() {
+        ErrorKind::OutOfMemory => Cause::from(CliFault::NoMemory),
+        _ => Cause::of(CliFault::Read, reason),
+    }
+}
+
+// Whether something else than a regular file is at a path. A file that is gone is not.
+fn is_other<R: Files>(rt: &R, path: &str) -> bool {
+    match fs::symlink_metadata(rt, path) {
+        Ok(found) => !found.is_file(),
+        Err(_) => false,
+    }
+}
+
+// Puts a segment behind others, if its name is that of a regular file.
+fn put_segment<R: Files + AllocGlobal>(
+    rt: &R,
+    segments: &mut Vec<Segment>,
+    folder: &str,
+    number: u64,
+    name: &str,
+) -> Result<(), AllocError> {
+    let path = path_in(rt.alloc(), folder, name)?;
+    if !is_other(rt, path.as_str()) {
+        let path = PathBuf::from_str(rt.alloc(), path.as_str())?;
+        segments.push(Segment { number, path })?;
+    }
+    Ok(())
+}
+
+/// Returns the segments that stand in a folder, by their numbers.
+pub fn segments_in<R: Files + AllocGlobal>(rt: &R, folder: &str) -> io::Result<Vec<Segment>> {
+    let alloc = rt.alloc();
+    let mut segments = Vec::new(alloc);
+    for name in BufReader::new(alloc, rt.open_dir(folder)?)?.split(alloc, 0) {
+        let name = name?;
+        if let FileKind::Segment(number) = kind_of(alloc, &name)?
+            && let Ok(name) = str::from_utf8(&name)
+        {
+            put_segment(rt, &mut segments, folder, number, name)?;
+        }
+    }
+    segments.sort_by(|a, b| a.number.cmp(&b.number))?;
+    Ok(segments)
+}
+
+// The bytes of the totals at a path; none if there is no such file.
+fn read_totals<R: Files + AllocGlobal>(rt: &R, path: &str) -> io::Result<Option<Vec<u8>>> {
+    if is_other(rt, path) {
+        return Err(io::Error::from(ErrorKind::InvalidInput));
+    }
+    match fs::read(rt, path) {
+        Ok(text) => Ok(Some(text)),
+        Err(error) if error.kind() == ErrorKind::NotFound => Ok(None),
+        Err(error) => Err(error),
+    }
+}
+
+/// Returns the text of the totals of a folder; none if there is no such file. `Usage` comes only for a mistake on the command line.
+pub fn totals_text_in<R: Files + AllocGlobal>(
+    context: &Context<'_, R>,
+    folder: &str,
+) -> Result<Option<Vec<u8>>, Failure>
+    ensures { IfErr result UsageIsMistake }
+{
+    let path = path_in(context.alloc(), folder, TOTALS)?;
+    match read_totals(context.rt, path.as_str()) {
+        Ok(text) => Ok(text),
+        Err(error) => Err(unopened(context, cause_of_read(error), path.as_str())),
+    }
+}
+
+/// Returns what the text of the totals of a folder says: without a text, that nothing was folded. `Usage` comes only for a mistake
+/// on the command line.
+pub fn totals_from<R: AllocGlobal>(
+    context: &Context<'_, R>,
+    folder: &str,
+    text: Option<&[u8]>,
+) -> Result<Totals, Failure>
+    ensures { IfErr result UsageIsMistake }
+{
+    let alloc = context.alloc();
+    let Some(text) = text else {
+        return Ok(Totals {
+            sums: Sums::new(alloc),
+            of: Vec::new(alloc),
+            fold: None,
+        });
+    };
+    match totals_of(alloc, text) {
+        Ok(totals) => Ok(totals),
+        Err(fault) => {
+            let path = path_in(alloc, folder, TOTALS)?;
+            Err(input_failure(context, InputFault::from(fault), path.as_str()))
+        }
+    }
+}
+
+/// Returns the id of the segment in an open file that stands at its start, and does again then; none if the file is too short to have
+/// one.
+pub fn id_in(alloc: Global, file: &mut File) -> io::Result<Option<u64>> {
+    let mut front = [0; FRONT];
+    match file.read_exact(&mut front) {
+        Ok(()) => {}
+        Err(error) if error.kind() == ErrorKind::UnexpectedEof => return Ok(None),
+        Err(error) => return Err(error),
+    }
+    file.seek(SeekFrom::Start(0))?;
+    let mut words = Vec::new(alloc);
+    push_words(&mut words, &front)?;
+    Ok(image_in(&words).get(ID_WORD).copied())
+}

@@ -17,6 +17,7 @@ fn place_of(inputs: usize, workers: usize, worker: usize) -> usize
 /// the others, or one more. So the first begins at 0, each other where the one before ends, and the last ends at the end
 /// [first] [last], and none ends behind it [within]. No part ends before it begins [ordered]. Where there is no such worker, the
 /// part is empty.
+#[tactic(auto, using(crate::proofs::Ascending::place_ascends))]
 pub fn part_of_inputs(inputs: usize, workers: usize, worker: usize) -> (usize, usize)
     ensures begins { worker < workers → result.0 ≡ place inputs workers worker }
     ensures ends { worker < workers → result.1 ≡ place inputs workers (worker + 1) }

@@ -9,6 +9,7 @@
 #include <stdlib.h>
 #include <string.h>
 #include <sys/file.h>
+#include <sys/resource.h>
 #include <sys/stat.h>
 #include <unistd.h>
 
@@ -534,11 +535,18 @@ static uint32_t text_of(struct fold *fold, char **text, size_t *length) {
     return POVUNDIRI_DONE;
 }
 
+/* EFBIG if the process may not write a file of this length: a write would raise SIGXFSZ. */
+static int check_limit(size_t length) {
+    struct rlimit limit;
+    return getrlimit(RLIMIT_FSIZE, &limit) == 0 && limit.rlim_cur != RLIM_INFINITY && (rlim_t)length > limit.rlim_cur ? EFBIG : 0;
+}
+
 /* Writes a file beside its place, syncs it, and gives it its place. Only whoever has the lock of folds comes here. */
 static int put_totals(const char *folder, const char *text, size_t length) {
     struct povundiri_held held;
     char path[POVUNDIRI_PATH_BYTES], place[POVUNDIRI_PATH_BYTES];
-    int fault = povundiri_parts_join(path, folder, "totals.new");
+    int fault = check_limit(length);
+    if (fault == 0) fault = povundiri_parts_join(path, folder, "totals.new");
     if (fault == 0) fault = povundiri_parts_join(place, folder, "totals");
     if (fault == 0) fault = povundiri_parts_open(&held, path, O_WRONLY | O_CREAT | O_TRUNC);
     if (fault != 0) return fault;

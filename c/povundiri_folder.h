@@ -55,7 +55,7 @@ uint32_t povundiri_folder_sums(const char *folder, struct povundiri_handle *sums
  *   POVUNDIRI_BAD_TOTALS   the file `totals` is damaged: nothing was done
  *   POVUNDIRI_BUSY         somebody else folds
  *   POVUNDIRI_SYSTEM       *fault is the system's (errno.h), EINVAL also of a folder that is no recording's, EMFILE where the process may not
- *                          open so many segments; else *fault is 0
+ *                          open so many segments, EFBIG where it may not write totals of that length; else *fault is 0
  * Keep: pointers; process. */
 uint32_t povundiri_folder_fold(const char *folder, uint64_t *folded, int *fault) POVUNDIRI_CHECKED;
 

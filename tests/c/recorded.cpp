@@ -428,7 +428,27 @@ void no_space() {
     }));
 }
 
-// The same where the device is full while it records, and has room again.
+// Totals that are longer than a limit of the files' length allows: the fold is refused, no signal comes, and the sum is what it was.
+void long_totals() {
+    HOLDS(in_child([] {
+        Recording recording;
+        Metric sparse;
+        if (!opens(folder("limit"), recording, small())) return false;
+        if (recording.try_hist("s", {POVUNDIRI_SPARSE, 0, 0, 0}, {}, sparse) != Status::Done) return false;
+        struct rlimit limit;
+        if (getrlimit(RLIMIT_FSIZE, &limit) != 0) return false;
+        limit.rlim_cur = 20'000;
+        std::signal(SIGXFSZ, SIG_DFL);
+        if (setrlimit(RLIMIT_FSIZE, &limit) != 0) return false;
+        for (int value = 0; value < 4000; ++value) {
+            if (!sparse.add(value)) return false;
+        }
+        std::uint64_t folded = 0;
+        return recording.try_fold(folded) == std::errc::file_too_large && folded == 0 && units_in(recording.report(), "s") == 4000;
+    }));
+}
+
+// What no_space has, where the device is full while it records, and has room again.
 void full_disk() {
     Recording recording;
     HOLDS(opens(folder("disk"), recording, small()));
@@ -500,6 +520,7 @@ int run(bool only_threads) {
     failed += group("a month", month);
     failed += group("forks", forks);
     failed += group("a limit of the files' length", no_space);
+    failed += group("totals beyond that limit", long_totals);
     failed += group("a full disk", full_disk);
     failed += group("an unwritable folder", unwritable);
     failed += group("exits", exits);

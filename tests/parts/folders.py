@@ -10,6 +10,7 @@ fall. The recordings of the library are folded by the program, and the folders o
 from __future__ import annotations
 
 import argparse
+import collections
 import contextlib
 import errno
 import fcntl
@@ -25,12 +26,10 @@ import threading
 import time
 from collections.abc import Callable, Collection, Iterator, Sequence
 
-from parts import recordings, sums
-from support import forge, layout, native, plain_folders, plain_reader, plain_sums, tracer
+from parts import failing, recordings, sums
+from support import forge, native, plain_folders, plain_sums, tracer
 from support.plain_folders import LOCK, MARK, NEW_TOTALS, TOTALS, Folder, mapped, name_of, with_id
-from support.program import (
-    ROOT, Answer, Case, Path, Word, answer, content, difference, explained, fault, untried,
-)
+from support.program import ROOT, Answer, Case, Path, answer, content, difference, explained, fault, untried
 
 PROGRAM = "persist_report"
 FOLDERS = 60
@@ -154,18 +153,18 @@ def wrong_files(path: pathlib.Path, wanted: Folder) -> str | None:
         return f"segments {sorted(wanted.segments)} are wanted, and there are {sorted(there.segments)}"
     if there != wanted:
         return f"wanted are totals {wanted.totals!r}, and there are {there.totals!r}"
-    return f"{NEW_TOTALS} is left" if there.totals is not None and (path / NEW_TOTALS).exists() else None
+    return None
 
 
 def folded(program: pathlib.Path, path: pathlib.Path, locked: Collection[int], title: str) -> Iterator[Case]:
     """A fold while some segments are locked, and the texts behind it."""
-    (path / NEW_TOTALS).unlink(missing_ok=True)
     before = Folder.at(path)
     wanted, left = before.folded(locked)
     with all_locked(path, locked):
         came = answer(program, ["fold", path])
     yield f"{title}, a fold", difference(sums.wanted_of(b"", left), came)
-    yield f"{title}, what is there then", wrong_files(path, wanted)
+    is_left = wanted.totals != before.totals and (path / NEW_TOTALS).exists()
+    yield f"{title}, what is there then", f"{NEW_TOTALS} is left" if is_left else wrong_files(path, wanted)
     yield from texts(program, wanted, f"{title}, folded")
 
 
@@ -354,6 +353,8 @@ def failures(program: pathlib.Path, top: pathlib.Path) -> Iterator[Case]:
             shutil.rmtree(copy)
             if made_to_fail.met <= place:
                 break
+            if came.status in failing.NOT_LOADED and not statuses:
+                continue
             statuses.add(came.status)
             is_told = came.status == 0 or came.error.startswith(b"persist_report: ")
             yield f"{title} fails at {place + 1}", wrong or (None if is_told else str(came))
@@ -535,7 +536,7 @@ def recorded(program: pathlib.Path, top: pathlib.Path, chance: random.Random) ->
 
 def wrong_beside(runs: recordings.Folder) -> str | None:
     """Reads and folds while a recording runs: no number falls, and the segment in use stays. What is wrong, or None."""
-    units: recordings.Counts = recordings.collections.Counter()
+    units: recordings.Counts = collections.Counter()
     with runs.running(0, recordings.SIZES[0]):
         for _ in range(40):
             folding = answer(runs.reader, ["fold", runs.folder])

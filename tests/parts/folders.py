@@ -1,0 +1,576 @@
+"""The folders of recordings, beside a plain model of them (plain_folders.py): what `report`, `show` and `export` say of
+one, and what `fold` makes of it.
+
+Folders of forged segments, whole ones and damaged ones, with totals that name some which still stand, or others of the
+same number, while some are locked. A fold is killed at each of its calls to the system, or each of them fails: the sum
+is what it was, and a later fold ends it. A reader beside folds and beside whoever begins segments never sees a number
+fall. The recordings of the library are folded by the program, and the folders of the program by the library.
+"""
+
+from __future__ import annotations
+
+import argparse
+import collections
+import contextlib
+import errno
+import fcntl
+import os
+import pathlib
+import random
+import shutil
+import signal
+import subprocess
+import sys
+import tempfile
+import threading
+import time
+from collections.abc import Callable, Collection, Iterator, Sequence
+
+from parts import failing, recordings, sums
+from support import forge, native, plain_folders, plain_sums, tracer
+from support.plain_folders import LOCK, MARK, NEW_TOTALS, TOTALS, Folder, mapped, name_of, with_id
+from support.program import ROOT, Answer, Case, Path, answer, content, difference, explained, fault, untried
+
+PROGRAM = "persist_report"
+FOLDERS = 60
+MOST_SEGMENTS = 9
+CRASH = ROOT / "examples" / "crash.img"
+BUSY = fault("Busy", 4)
+MISSING = f"{os.strerror(errno.ENOENT)} (os error {errno.ENOENT})"
+# Names that no segment in use has.
+OTHERS = ("spare-77-0123456789abcdef", "0000000004.damaged", "5.seg", "00000000005.seg", "0000000000.seg")
+# The numbers of all calls to the system.
+ALL_CALLS = tuple(range(512))
+# Those that may fail in a fold, and with what.
+FAILING = {
+    "opening": ((tracer.OPEN_AT,), errno.EACCES),
+    "reading": ((tracer.READ,), errno.EIO),
+    "writing": ((tracer.WRITE,), errno.ENOSPC),
+    "syncing": ((tracer.SYNC,), errno.EIO),
+    "locking": ((tracer.LOCK,), errno.ENOLCK),
+    "renaming": (tracer.RENAMES, errno.EACCES),
+    "removing": ((87, 263), errno.EACCES),
+    "allocating": (tracer.GROWTHS, errno.ENOMEM),
+}
+# How long a reader reads beside folds, how often one is to end beside it at least, and be Busy at most.
+BESIDE_SECONDS = 4
+LEAST_READINGS = 20
+# How often the totals change beside a reader, and how many readings there are.
+CHANGES_SECONDS = 60
+CHANGED_READINGS = 200
+
+
+# ---- folders
+
+
+def lawful_of(chance: random.Random) -> bytes:
+    """A forged image of version 2 of which a look is the image itself, and no total is near its limit."""
+    while True:
+        data = sums.lawful_of(chance)
+        if plain_folders.looked(data) == data:
+            return data
+
+
+def segment_of(chance: random.Random, number: int, is_lawful: bool) -> bytes:
+    """The file of a segment, with an id of its own: whole, or maybe damaged."""
+    data = lawful_of(chance) if is_lawful or chance.random() < 0.6 else forge.image_of(chance)
+    data = with_id(data, chance.randrange(2**64)) if len(data) > 40 else data
+    if not is_lawful and chance.random() < 0.1:
+        data = chance.choice([b"", data[: len(data) // 2], data[:-3], b"no segment at all, and not even words"])
+    return mapped(data)
+
+
+def made(path: pathlib.Path) -> pathlib.Path:
+    path.mkdir()
+    (path / MARK).touch()
+    return path
+
+
+def put(folder: pathlib.Path, number: int, data: bytes) -> None:
+    (folder / name_of(number)).write_bytes(data)
+
+
+def totals_of(chance: random.Random, segments: dict[int, bytes]) -> bytes:
+    """Totals of a fold that name some segments: some that stand and were not removed, some of which another has the
+    number, and some that are gone."""
+    whole, names = plain_sums.Sum(), []
+    for number in sorted(chance.sample(range(1, 12), chance.randint(1, 5))):
+        data = segments.get(number)
+        if data is None or chance.random() < 0.3:
+            data = segment_of(chance, number, is_lawful=True)
+        own = plain_folders.id_of(data)
+        with contextlib.suppress(plain_sums.Wrong):
+            whole = plain_folders.with_segment(whole, number, data)
+            assert own is not None
+            names.append((number, own))
+    before = Folder(pathlib.Path(), None, {})
+    text = before.next_totals(whole, [], names)
+    return text.replace(b"\nfold,1\n", f"\nfold,{chance.choice([1, 7, 2**63])}\n".encode())
+
+
+def filled(path: pathlib.Path, chance: random.Random, is_lawful: bool) -> None:
+    """Segments in a recording's folder that is made, maybe totals, and other files."""
+    made(path)
+    numbers = chance.sample(range(1, 12), chance.randint(0, MOST_SEGMENTS))
+    segments = {number: segment_of(chance, number, is_lawful) for number in numbers}
+    if segments and chance.random() < 0.2:
+        segments[10_000_000_000 + chance.randrange(5)] = segments.pop(max(segments))
+    for number, data in segments.items():
+        put(path, number, data)
+    if chance.random() < 0.7:
+        (path / TOTALS).write_bytes(totals_of(chance, segments))
+    crash = CRASH.read_bytes()
+    for name in (*OTHERS, "x.img"):
+        (path / name).write_bytes(mapped(crash))
+    (path / "0000000020.seg").symlink_to(path / "x.img")
+    (path / "0000000021.seg").mkdir()
+    if chance.random() < 0.3:
+        (path / NEW_TOTALS).write_bytes(b"totals,1\nimages")
+
+
+@contextlib.contextmanager
+def all_locked(folder: pathlib.Path, numbers: Collection[int]) -> Iterator[None]:
+    """While segments are locked."""
+    with contextlib.ExitStack() as stack:
+        for number in numbers:
+            file = stack.enter_context(open(folder / name_of(number), "rb"))
+            fcntl.flock(file, fcntl.LOCK_EX)
+        yield
+
+
+def texts(program: pathlib.Path, folder: Folder, title: str) -> Iterator[Case]:
+    """Each text of a folder."""
+    whole, left = folder.reading()
+    for words, text in sums.texts_of(whole, len(left)):
+        came = answer(program, [words[0], folder.path, *words[1:]])
+        yield f"{title}, {' '.join(words)}", difference(sums.wanted_of(text, left), came)
+
+
+def wrong_files(path: pathlib.Path, wanted: Folder) -> str | None:
+    """What is wrong with the files of a folder, or None."""
+    there = Folder.at(path)
+    if sorted(there.segments) != sorted(wanted.segments):
+        return f"segments {sorted(wanted.segments)} are wanted, and there are {sorted(there.segments)}"
+    if there != wanted:
+        return f"wanted are totals {wanted.totals!r}, and there are {there.totals!r}"
+    return None
+
+
+def folded(program: pathlib.Path, path: pathlib.Path, locked: Collection[int], title: str) -> Iterator[Case]:
+    """A fold while some segments are locked, and the texts behind it."""
+    before = Folder.at(path)
+    wanted, left = before.folded(locked)
+    with all_locked(path, locked):
+        came = answer(program, ["fold", path])
+    yield f"{title}, a fold", difference(sums.wanted_of(b"", left), came)
+    is_left = wanted.totals != before.totals and (path / NEW_TOTALS).exists()
+    yield f"{title}, what is there then", f"{NEW_TOTALS} is left" if is_left else wrong_files(path, wanted)
+    yield from texts(program, wanted, f"{title}, folded")
+
+
+def generated(program: pathlib.Path, top: pathlib.Path, seed: int | str) -> Iterator[Case]:
+    """Folders of forged segments: their texts, and folds."""
+    for number in range(FOLDERS):
+        chance = random.Random(f"folders {seed} {number}")
+        path, title = top / f"folder {number}", f"folder {number} of seed {seed}"
+        is_lawful = chance.random() < 0.5
+        filled(path, chance, is_lawful)
+        folder = Folder.at(path)
+        yield from texts(program, folder, title)
+        before = answer(program, ["report", "--totals", path])
+        locked = {one for one in folder.segments if chance.random() < 0.25}
+        yield from folded(program, path, locked, title)
+        yield from folded(program, path, (), f"{title}, again")
+        if is_lawful:
+            after = answer(program, ["report", "--totals", path])
+            yield f"{title}, the sum before and after", difference(before, after)
+        at_rest = Folder.at(path)
+        answer(program, ["fold", path])
+        yield f"{title}, a fold of nothing", wrong_files(path, at_rest)
+
+
+def many(program: pathlib.Path, top: pathlib.Path) -> Iterator[Case]:
+    """More segments than a fold takes at once, and so many that nobody could have all open."""
+    path, crash = made(top / "many"), CRASH.read_bytes()
+    for number in range(1, 1300):
+        put(path, number, mapped(with_id(crash, 5 * number)))
+    put(path, 300, b"none")
+    wanted, left = Folder.at(path).folded({700})
+    with all_locked(path, {700}):
+        came = answer(program, ["fold", path])
+    yield "1,300 segments, a fold", difference(sums.wanted_of(b"", left), came)
+    yield "1,300 segments, what is there then", wrong_files(path, wanted)
+    yield from texts(program, wanted, "1,300 segments")
+
+
+def among_others(program: pathlib.Path, top: pathlib.Path) -> Iterator[Case]:
+    """Folders of recordings among other inputs, as OLD, in a list; and what cannot be read of them."""
+    crash = CRASH.read_bytes()
+    first, second, plain = made(top / "first"), made(top / "second"), top / "plain"
+    plain.mkdir()
+    (plain / "a.img").write_bytes(crash)
+    for number in (3, 5):
+        put(first, number, mapped(with_id(crash, number)))
+    put(second, 2, mapped(with_id(crash, 9)))
+    one = Folder.at(first).reading()[0]
+    two = plain_sums.added(plain_sums.added(one, plain_sums.of_image(crash)), Folder.at(second).reading()[0])
+    wanted = Answer(plain_sums.report_of(two, 0))
+    yield "several inputs", difference(wanted, answer(program, ["report", first, CRASH, second]))
+    yield "a plain folder", difference(wanted, answer(program, ["report", first, plain, second]))
+    lines = f"{first}\n{plain}\n{second}\n".encode()
+    yield "a list", difference(wanted, answer(program, ["report", "--files-from", "-"], lines))
+    text = plain_sums.text_by(two, sums.plain_show.text_of)
+    came = answer(program, ["show", first, "--also", CRASH, "--also", second])
+    yield "--also", difference(Answer(text), came)
+    yield "a slash behind it", difference(wanted, answer(program, ["report", f"{first}/", CRASH, second]))
+    since = plain_sums.since(two, one)
+    came = answer(program, ["report", first, CRASH, second, "--minus", first])
+    yield "--minus", difference(Answer(plain_sums.report_of(since, 0)), came)
+    put(first, 4, mapped(b"no segment, but words ..")[:32])
+    (damaged,) = Folder.at(first).reading()[1]
+    text = plain_sums.report_of(two, 1)
+    came = answer(program, ["report", first, CRASH, second])
+    yield "a damaged segment", difference(sums.wanted_of(text, [damaged]), came)
+    refused = fault(f'{damaged[1]}: "{damaged[0]}"', 3)
+    yield "--strict", difference(refused, answer(program, ["report", first, CRASH, second, "--strict"]))
+    yield "OLD with a damaged segment", difference(refused, answer(program, ["report", second, "--minus", first]))
+    came = answer(program, ["show", first, "--html"])
+    yield "a page", None if (came.output, came.status) == (b"", 2) else str(came)
+    (first / MARK).unlink()
+    files = ((file, file.read_bytes()) for file in sorted(first.iterdir()))
+    whole, left = plain_sums.sum_of((file, data) for file, data in files if plain_sums.is_taken(data))
+    came = answer(program, ["report", first])
+    yield "without its mark", difference(Answer(plain_sums.report_of(whole, len(left))), came)
+
+
+def refusals(program: pathlib.Path, top: pathlib.Path) -> Iterator[Case]:
+    """Folders that are not folded or read: none of a recording, one that is folded now, damaged totals."""
+    crash, path = CRASH.read_bytes(), made(top / "refused")
+    put(path, 1, mapped(crash))
+    before = Folder.at(path)
+    for other in (top, top / "missing", path / name_of(1)):
+        mark = f'"{other / MARK}": '
+        came = answer(program, ["fold", other, "--explain"])
+        is_told = came.error.startswith(f"persist_report: Read\n  {mark}".encode())
+        yield f"fold {other.name}", None if (came.output, came.status, is_told) == (b"", 4, True) else str(came)
+    (path / LOCK).touch()
+    with open(path / LOCK, "rb") as file:
+        fcntl.flock(file, fcntl.LOCK_EX)
+        yield "beside another fold", difference(BUSY, answer(program, ["fold", path]))
+        came = answer(program, ["fold", path, "--explain"])
+        yield "beside another fold, explained", difference(explained("Busy", 4, [f'"{path / LOCK}"']), came)
+        yield from texts(program, before, "beside another fold")
+    yield "beside another fold, what is there then", wrong_files(path, before)
+    totals = before.folded()[0].totals
+    assert totals is not None
+    for line, text in enumerate(totals.splitlines(True), 1):
+        data = totals.replace(text, b"nothing\n", 1)
+        (path / TOTALS).write_bytes(data)
+        wanted = fault(f'BadTotals {line}: "{path / TOTALS}"', 3)
+        if line == 1:
+            for words in (["fold"], ["report"], ["show"], ["export"]):
+                yield f"{words[0]} of damaged totals", difference(wanted, answer(program, [*words, path]))
+        yield f"fold of totals with line {line} changed", difference(wanted, answer(program, ["fold", path]))
+        there = Folder.at(path)
+        is_same = there.totals == data and there.segments == before.segments
+        yield f"totals with line {line} changed, what is there then", None if is_same else "it is not as it was"
+    (path / TOTALS).unlink()
+    yield "no totals again", difference(Answer(), answer(program, ["fold", path]))
+    none = made(top / "nothing")
+    yield "nothing in it", difference(Answer(), answer(program, ["report", none]))
+    yield "a fold of nothing in it", difference(Answer(), answer(program, ["fold", none]))
+    left = sorted(file.name for file in none.iterdir())
+    yield "what is in it then", None if left == [LOCK, MARK] else f"{left}"
+
+
+# ---- kills and failures
+
+
+def to_be_folded(path: pathlib.Path) -> Folder:
+    """A folder with segments, totals that name one of them, and one of which another has the number; and one that is
+    damaged in it, so that a look and the image itself are the same."""
+    crash, made_of = CRASH.read_bytes(), made(path)
+    for number in (1, 2):
+        put(made_of, number, mapped(with_id(crash, 100 + number)))
+    wanted = Folder.at(made_of).folded()[0]
+    assert wanted.totals is not None
+    (made_of / TOTALS).write_bytes(wanted.totals)
+    put(made_of, 2, mapped(with_id(crash, 200)))
+    for number in (3, 4):
+        put(made_of, number, mapped(with_id(crash, 100 + number)))
+    return Folder.at(made_of)
+
+
+def wrong_after(program: pathlib.Path, path: pathlib.Path, text: bytes, whole: bytes) -> str | None:
+    """What is wrong with a folder that was left amid a fold, or None: the sum is the same, and a later fold ends it."""
+    for when in ("then", "after a later fold"):
+        came = answer(program, ["report", "--totals", path])
+        if wrong := difference(Answer(text), came):
+            return f"the sum {when}: {wrong}"
+        if wrong := difference(Answer(), answer(program, ["fold", path])):
+            return f"a later fold: {wrong}"
+    left = Folder.at(path).segments
+    if left or (path / NEW_TOTALS).exists():
+        return f"segments {sorted(left)} are left, or {NEW_TOTALS}"
+    return difference(Answer(whole), answer(program, ["report", path]))
+
+
+def kills(program: pathlib.Path, top: pathlib.Path) -> Iterator[Case]:
+    """A fold is killed at each of its calls to the system."""
+    folder = to_be_folded(top / "kills")
+    whole = folder.reading()[0]
+    text, report = plain_sums.totals_text(whole), plain_sums.report_of(whole, 0)
+    copy, kept = top / "copy", set()
+    for place in range(10_000):
+        shutil.copytree(folder.path, copy)
+        came = tracer.answer(program, ["fold", copy], tracer.Fault(ALL_CALLS, at=place, kills=True))
+        kept.add((content(copy / TOTALS) == folder.totals, len(Folder.at(copy).segments)))
+        wrong = wrong_after(program, copy, text, report)
+        shutil.rmtree(copy)
+        yield f"killed at call {place + 1}", wrong
+        if came.status == 0:
+            break
+        yield f"killed at call {place + 1}, its status", None if came.status == -signal.SIGKILL else str(came)
+    # Before anything, with the named one removed, with the new totals, with each one of the segments removed.
+    wanted = {(True, 4), (True, 3), (False, 3), (False, 2), (False, 1), (False, 0)}
+    yield "what was there after a kill", None if kept == wanted else f"{sorted(kept)}"
+
+
+def failures(program: pathlib.Path, top: pathlib.Path) -> Iterator[Case]:
+    """Each call of a kind fails in turn in a fold."""
+    folder = to_be_folded(top / "failures")
+    whole = folder.reading()[0]
+    text, report = plain_sums.totals_text(whole), plain_sums.report_of(whole, 0)
+    copy = top / "copy"
+    settings = {"env": {**os.environ, **tracer.EACH_BY_ITSELF}}
+    for title, (numbers, error) in FAILING.items():
+        statuses = set()
+        for place in range(10_000):
+            shutil.copytree(folder.path, copy)
+            made_to_fail = tracer.Fault(numbers, at=place, error=error)
+            came = tracer.answer(program, ["fold", copy], made_to_fail, **settings)
+            wrong = wrong_after(program, copy, text, report)
+            shutil.rmtree(copy)
+            if made_to_fail.met <= place:
+                break
+            if came.status in failing.NOT_LOADED and not statuses:
+                continue
+            statuses.add(came.status)
+            is_told = came.status == 0 or came.error.startswith(b"persist_report: ")
+            yield f"{title} fails at {place + 1}", wrong or (None if is_told else str(came))
+        yield f"{title} fails: a fold says so", None if statuses - {0} else f"its statuses are {statuses}"
+
+
+# ---- beside others
+
+
+class Beginner:
+    """Begins segments in a folder as a recording does, each of one image, and has the lock of the newest."""
+
+    def __init__(self, folder: pathlib.Path) -> None:
+        self.folder, self.data = folder, CRASH.read_bytes()
+        self.begun = self.ended = 0
+        self.last: contextlib.ExitStack | None = None
+
+    def begin(self) -> None:
+        number = self.begun + 1
+        spare = self.folder / f"spare-{os.getpid()}-{number:016x}"
+        spare.write_bytes(mapped(with_id(self.data, number)))
+        held = contextlib.ExitStack()
+        file = held.enter_context(open(spare, "rb"))
+        fcntl.flock(file, fcntl.LOCK_EX)
+        self.begun = number
+        os.link(spare, self.folder / name_of(number))
+        self.ended = number
+        spare.unlink()
+        self.end()
+        self.last = held
+
+    def end(self) -> None:
+        if self.last is not None:
+            self.last.close()
+
+
+def images_in(report: bytes) -> int:
+    """How many images a report is of; none of an empty one, and one where it does not say."""
+    lines = [line for line in report.splitlines() if line.startswith(b"!images,")]
+    return int(lines[0].split(b",")[1]) if lines else int(bool(report))
+
+
+def beside(program: pathlib.Path, top: pathlib.Path) -> Iterator[Case]:
+    """A reader while segments are begun and folded all the time: each is counted once, and no number falls."""
+    beginner = Beginner(made(top / "beside"))
+    is_over, wrong_folds = threading.Event(), []
+
+    def begin_all() -> None:
+        while not is_over.is_set():
+            beginner.begin()
+            time.sleep(0.002)
+
+    def fold_all() -> None:
+        while not is_over.is_set():
+            came = answer(program, ["fold", beginner.folder])
+            if came != Answer():
+                wrong_folds.append(str(came))
+
+    threads = [threading.Thread(target=work) for work in (begin_all, fold_all)]
+    for thread in threads:
+        thread.start()
+    wrong, busy, read, before = None, 0, 0, 0
+    end = time.monotonic() + BESIDE_SECONDS
+    while wrong is None and time.monotonic() < end:
+        least = beginner.ended
+        came = answer(program, ["report", beginner.folder])
+        if came == BUSY:
+            busy += 1
+            continue
+        found, most = images_in(came.output), beginner.begun
+        if came.status != 0 or not max(before, least) <= found <= most:
+            wrong = f"between {max(before, least)} and {most} images were wanted, came {found}: {came.error!r}"
+        before, read = found, read + 1
+    is_over.set()
+    for thread in threads:
+        thread.join()
+    beginner.end()
+    serial = Folder.at(beginner.folder).serial()
+    print(f"beside {serial} folds: {read} readings, {busy} of them Busy", flush=True)
+    yield "a reader beside folds", wrong
+    yield "folds beside a reader", wrong_folds[0] if wrong_folds else None
+    enough = read >= LEAST_READINGS and serial >= LEAST_READINGS and busy <= read
+    yield "enough of both", None if enough else f"{read} readings, {busy} of them Busy, beside {serial} folds"
+    yield "a last fold", difference(Answer(), answer(program, ["fold", beginner.folder]))
+    wanted = plain_sums.report_of(Folder.at(beginner.folder).reading()[0], 0)
+    came = answer(program, ["report", beginner.folder])
+    whole = f"{images_in(came.output)} of {beginner.begun} images are there"
+    yield "all that was begun", difference(Answer(wanted), came) or (
+        None if images_in(came.output) == beginner.begun else whole
+    )
+
+
+# Gives totals another serial again and again: the folder, and the text around the serial.
+CHANGER = """
+import os, sys
+place, front, back = sys.argv[1:]
+serial = 10
+while True:
+    serial += 1
+    with open(place + ".other", "w") as file:
+        file.write(front + str(serial) + back)
+    os.rename(place + ".other", place)
+"""
+
+
+def changing(program: pathlib.Path, top: pathlib.Path) -> Iterator[Case]:
+    """A reader beside folds that end faster than it reads is Busy, and else right."""
+    folder = made(top / "changing")
+    put(folder, 1, mapped(CRASH.read_bytes()))
+    wanted = Folder.at(folder).folded()[0]
+    assert wanted.totals is not None
+    front, back = wanted.totals.decode().split("fold,1\n")
+    (folder / TOTALS).write_bytes(wanted.totals)
+    (folder / name_of(1)).unlink()
+    put(folder, 2, mapped(with_id(CRASH.read_bytes(), 5)))
+    right = Answer(plain_sums.report_of(Folder.at(folder).reading()[0], 0))
+    words: list[Path] = [sys.executable, "-c", CHANGER, folder / TOTALS, f"{front}fold,", f"\n{back}"]
+    wrong, busy = None, 0
+    with subprocess.Popen(words) as changer:
+        try:
+            for _ in range(CHANGED_READINGS):
+                came = answer(program, ["report", folder])
+                busy += came == BUSY
+                if came not in (BUSY, right):
+                    wrong = str(came)
+                if busy >= 2:
+                    break
+            told = answer(program, ["report", folder, "--explain"])
+        finally:
+            changer.kill()
+    yield "beside totals that change", wrong
+    yield "it is Busy", None if busy else f"never in {CHANGED_READINGS} readings"
+    if told.status == BUSY.status:
+        yield "it is Busy, explained", difference(explained("Busy", 4, [f'"{folder}"']), told)
+    yield "when they have come to rest", difference(right, answer(program, ["report", folder]))
+
+
+# ---- the library
+
+
+def wrong_between(library: pathlib.Path, program: pathlib.Path, folder: pathlib.Path) -> str | None:
+    """Where the readers of a folder differ, or None."""
+    came = answer(program, ["report", folder])
+    return difference(answer(library, ["report", folder]), came) or (None if came.output else "nothing is there")
+
+
+def recorded(program: pathlib.Path, top: pathlib.Path, chance: random.Random) -> Iterator[Case]:
+    """Recordings of the library, killed, read and folded by the program, and by the library in turn."""
+    try:
+        programs = recordings.Programs(top)
+    except native.Failed as why:
+        yield "the library", str(why)
+        return
+    library = programs.reader
+
+    def home(name: str) -> pathlib.Path:
+        (top / name).mkdir()
+        return top / name
+
+    runs = recordings.Folder(programs.recording, program, home("killed"), chance)
+    yield "recordings that are killed", recordings.killed(runs, 30, "-")
+    yield "both readers", wrong_between(library, program, runs.folder)
+    for number in range(6):
+        for _ in range(3):
+            with runs.running(0, recordings.SIZES[0]):
+                time.sleep(0.02)
+        folding = (program, library)[number % 2]
+        text = answer(program, ["report", runs.folder]).output
+        came = answer(folding, ["fold", runs.folder])
+        yield f"fold {number + 1}, by {folding.name}", None if came.status == 0 else str(came)
+        yield f"fold {number + 1}, both readers", wrong_between(library, program, runs.folder)
+        after = answer(program, ["report", runs.folder]).output
+        yield f"fold {number + 1}, the sum", None if text == after else "it is another one"
+        yield f"fold {number + 1}, what is left", None if not runs.numbers() else f"{runs.numbers()}"
+    yield "what was counted", runs.wrong()
+    beside_runs = recordings.Folder(programs.recording, program, home("beside"), chance)
+    yield "beside a recording that runs", wrong_beside(beside_runs)
+
+
+def wrong_beside(runs: recordings.Folder) -> str | None:
+    """Reads and folds while a recording runs: no number falls, and the segment in use stays. What is wrong, or None."""
+    units: recordings.Counts = collections.Counter()
+    with runs.running(0, recordings.SIZES[0]):
+        for _ in range(40):
+            folding = answer(runs.reader, ["fold", runs.folder])
+            if folding != Answer():
+                return f"fold: {folding}"
+            ended = runs.counts()[1]
+            came = runs.report()
+            if came == BUSY:
+                continue
+            if came.status != 0:
+                return f"report: {came}"
+            found, begun = recordings.units_of(came.output), runs.counts()[0]
+            for name in recordings.NAMES:
+                if not max(units[name], ended[name]) <= found[name] <= begun[name]:
+                    return f"{name!r}: {units[name]} were there, {ended[name]} had ended, {found[name]} are there"
+            units = found
+            time.sleep(0.01)
+    return runs.wrong() if sum(units.values()) else "the reader found nothing"
+
+
+def cases(program: pathlib.Path, options: argparse.Namespace) -> Iterator[Case]:
+    Part = Callable[[pathlib.Path, pathlib.Path], Iterator[Case]]
+    parts: Sequence[Part] = (many, among_others, refusals, beside, changing)
+    traced: Sequence[Part] = (kills, failures)
+    if not tracer.can_trace():
+        yield untried(tracer.NOT_ALLOWED, options)
+        traced = ()
+    with tempfile.TemporaryDirectory() as name:
+        yield from generated(program, pathlib.Path(name).resolve(), options.seed)
+    for part in (*parts, *traced):
+        with tempfile.TemporaryDirectory() as name:
+            yield from part(program, pathlib.Path(name).resolve())
+    with tempfile.TemporaryDirectory() as name:
+        top = pathlib.Path(name).resolve()
+        # Another user passes through it (`recordings`).
+        top.chmod(0o711)
+        yield from recorded(program, top, random.Random(options.seed))

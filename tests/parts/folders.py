@@ -344,7 +344,7 @@ def failures(program: pathlib.Path, top: pathlib.Path) -> Iterator[Case]:
     copy = top / "copy"
     settings = {"env": {**os.environ, **tracer.EACH_BY_ITSELF}}
     for title, (numbers, error) in FAILING.items():
-        statuses = set()
+        statuses: set[int] = set()
         for place in range(10_000):
             shutil.copytree(folder.path, copy)
             made_to_fail = tracer.Fault(numbers, at=place, error=error)

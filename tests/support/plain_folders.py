@@ -161,9 +161,9 @@ class Folder:
                     continue
                 try:
                     whole = with_segment(whole, number, data)
-                    own = id_of(data)
-                    assert own is not None
-                    finals.append((number, own))
+                    id_there = id_of(data)
+                    assert id_there is not None
+                    finals.append((number, id_there))
                 except Wrong as why:
                     left.append((self.file(number), str(why)))
             if finals:

@@ -52,11 +52,10 @@ FAILING = {
     "removing": ((87, 263), errno.EACCES),
     "allocating": (tracer.GROWTHS, errno.ENOMEM),
 }
-# How long a reader reads beside folds, how often one is to end beside it at least, and be Busy at most.
-BESIDE_SECONDS = 4
-LEAST_READINGS = 20
-# How often the totals change beside a reader, and how many readings there are.
-CHANGES_SECONDS = 60
+# A reader reads beside folds until there were so many of both, which takes so long at most.
+LEAST_READINGS = 100
+MOST_SECONDS = 60
+# How many readings there are beside totals that change, at most.
 CHANGED_READINGS = 200
 
 
@@ -405,7 +404,7 @@ def beside(program: pathlib.Path, top: pathlib.Path) -> Iterator[Case]:
     def begin_all() -> None:
         while not is_over.is_set():
             beginner.begin()
-            time.sleep(0.002)
+            time.sleep(0.003)
 
     def fold_all() -> None:
         while not is_over.is_set():
@@ -416,9 +415,9 @@ def beside(program: pathlib.Path, top: pathlib.Path) -> Iterator[Case]:
     threads = [threading.Thread(target=work) for work in (begin_all, fold_all)]
     for thread in threads:
         thread.start()
-    wrong, busy, read, before = None, 0, 0, 0
-    end = time.monotonic() + BESIDE_SECONDS
-    while wrong is None and time.monotonic() < end:
+    wrong, busy, read, before, serial = None, 0, 0, 0, 0
+    end = time.monotonic() + MOST_SECONDS
+    while wrong is None and min(read, serial) < LEAST_READINGS and time.monotonic() < end:
         least = beginner.ended
         came = answer(program, ["report", beginner.folder])
         if came == BUSY:
@@ -427,16 +426,15 @@ def beside(program: pathlib.Path, top: pathlib.Path) -> Iterator[Case]:
         found, most = images_in(came.output), beginner.begun
         if came.status != 0 or not max(before, least) <= found <= most:
             wrong = f"between {max(before, least)} and {most} images were wanted, came {found}: {came.error!r}"
-        before, read = found, read + 1
+        before, read, serial = found, read + 1, Folder.at(beginner.folder).serial()
     is_over.set()
     for thread in threads:
         thread.join()
     beginner.end()
-    serial = Folder.at(beginner.folder).serial()
     print(f"beside {serial} folds: {read} readings, {busy} of them Busy", flush=True)
     yield "a reader beside folds", wrong
     yield "folds beside a reader", wrong_folds[0] if wrong_folds else None
-    enough = read >= LEAST_READINGS and serial >= LEAST_READINGS and busy <= read
+    enough = min(read, serial) >= LEAST_READINGS and busy <= read // 10
     yield "enough of both", None if enough else f"{read} readings, {busy} of them Busy, beside {serial} folds"
     yield "a last fold", difference(Answer(), answer(program, ["fold", beginner.folder]))
     wanted = plain_sums.report_of(Folder.at(beginner.folder).reading()[0], 0)

@@ -1,8 +1,10 @@
 //! The reading of a recording's folder, beside processes that record there, and beside folds.
 //!
 //! It reads the totals, lists the folder, looks at each segment, and reads the totals again. If a fold has ended meanwhile, or a file
-//! of the listing is gone, it begins again. So each segment is counted once: in the totals, which name it, or by itself. Between the two
-//! readings of the totals nothing is done but what has to be, since a fold may end at any moment.
+//! of the listing is gone, it begins again. So each segment is counted once: in the totals, which name it, or by itself.
+//!
+//! A fold may end at any moment, so little is done between the two readings of the totals. Looks are kept, and added up behind the second
+//! one; and where it begins again, it looks at new segments alone: what had ended before it first began is in the looks that it has.
 
 ghost use Rattle.std.specs.Prelude.{IfErr};
 ghost use Rattle.persist_report.specs.Failure.{UsageIsMistake};
@@ -22,14 +24,16 @@ use std::alloc::{AllocError, Global};
 use std::collections::VecDeque;
 use std::fs::File;
 use std::io::ErrorKind;
-use std::path::PathBuf;
 use std::rt::Files;
-use std::{fs, io};
+use std::{fs, io, mem};
 use sum_commands::{InputFault, append_next};
 use sum_texts::Totals;
 
 // How often a reading begins.
 const MOST_TIMES: u32 = 16;
+
+// Looks are kept of files that have so many bytes together. Those at others are added up at once.
+const MOST_KEPT: u64 = 1 << 26;
 
 /// What a recording's folder has: the sum of its totals, and of a look at each segment that they do not name.
 #[derive(Drop)]
@@ -53,10 +57,51 @@ enum Seen {
     Gone,
     // The totals name it.
     Named,
+    // It was looked at before: the place of that look.
+    Kept(usize),
     // What a look at it reads as.
     Look(Reading),
     // It cannot be looked at.
     Other,
+}
+
+// A look at a segment: its number, and what the look reads as.
+#[derive(Drop)]
+struct Look {
+    number: u64,
+    reading: Reading,
+}
+
+// The looks that are kept, and of how many bytes of files they are.
+#[derive(Drop)]
+struct Looks {
+    all: Vec<Look>,
+    bytes: u64,
+}
+
+impl Looks {
+    // The place of the look at a segment, if it is kept.
+    fn place_of(&self, number: u64, id: u64) -> Option<usize> {
+        self.all
+            .iter()
+            .position(|look| look.number == number && look.reading.id == id)
+    }
+
+    // Whether the look at a file of so many bytes is kept too.
+    fn has_room(&self, bytes: u64) -> bool {
+        self.bytes.saturating_add(bytes) <= MOST_KEPT
+    }
+
+    // Keeps a look at a segment. Returns its place.
+    fn put(&mut self, segment: &Segment, reading: Reading) -> Result<usize, AllocError> {
+        let place = self.all.len();
+        self.all.push(Look {
+            number: segment.number,
+            reading,
+        })?;
+        self.bytes = self.bytes.saturating_add(segment.bytes);
+        Ok(place)
+    }
 }
 
 /// Adds what a recording's folder has to a sum, behind its readings. Returns whether an image there is damaged.
@@ -66,7 +111,7 @@ pub fn add_recorded(sums: &mut Sums, recorded: &Recorded) -> Result<bool, InputF
 }
 
 // What the look at a segment reads as, whose file was opened three times.
-fn look(alloc: Global, files: (File, File, File)) -> Result<Reading, CliFault> {
+fn reading_of_look(alloc: Global, files: (File, File, File)) -> Result<Reading, CliFault> {
     let mut first = Watched::new(files.0);
     let mut second = Watched::new(files.1);
     let mut third = Watched::new(files.2);
@@ -82,62 +127,89 @@ fn look(alloc: Global, files: (File, File, File)) -> Result<Reading, CliFault> {
     read_image(alloc, &words)
 }
 
-// The file of a segment, opened three times; none if the totals name it.
-fn open_unnamed<R: Files<File = File> + AllocGlobal>(
+// Looks at a segment that was listed, if the totals do not name it and it was not looked at before.
+fn see_file<R: Files<File = File> + AllocGlobal>(
     rt: &R,
     segment: &Segment,
     named: &[(u64, u64)],
-) -> io::Result<Option<(File, File, File)>> {
+    looks: &Looks,
+) -> io::Result<Seen> {
     let mut first = fs::open(rt, &segment.path)?;
-    match id_in(rt.alloc(), &mut first)? {
-        Some(id) if is_named(named, segment.number, id) => Ok(None),
-        _ => {
-            let second = fs::open(rt, &segment.path)?;
-            let third = fs::open(rt, &segment.path)?;
-            Ok(Some((first, second, third)))
+    if let Some(id) = id_in(rt.alloc(), &mut first)? {
+        if is_named(named, segment.number, id) {
+            return Ok(Seen::Named);
+        }
+        if let Some(place) = looks.place_of(segment.number, id) {
+            return Ok(Seen::Kept(place));
         }
     }
-}
-
-// Looks at a segment that was listed. The one fault is `NoMemory`.
-fn see<R: Files<File = File> + AllocGlobal>(
-    rt: &R,
-    segment: &Segment,
-    named: &[(u64, u64)],
-) -> Result<Seen, AllocError> {
-    let files = match open_unnamed(rt, segment, named) {
-        Ok(Some(files)) => files,
-        Ok(None) => return Ok(Seen::Named),
-        Err(error) => {
-            return match error.kind() {
-                ErrorKind::NotFound => Ok(Seen::Gone),
-                ErrorKind::OutOfMemory => Err(AllocError),
-                _ => Ok(Seen::Other),
-            };
-        }
-    };
-    match look(rt.alloc(), files) {
+    let second = fs::open(rt, &segment.path)?;
+    let third = fs::open(rt, &segment.path)?;
+    match reading_of_look(rt.alloc(), (first, second, third)) {
         Ok(reading) => Ok(Seen::Look(reading)),
-        Err(CliFault::NoMemory) => Err(AllocError),
+        Err(CliFault::NoMemory) => Err(io::Error::from(ErrorKind::OutOfMemory)),
         Err(_) => Ok(Seen::Other),
     }
 }
 
-impl FolderReading {
+// The same. The one fault is that memory runs out.
+fn see<R: Files<File = File> + AllocGlobal>(
+    rt: &R,
+    segment: &Segment,
+    named: &[(u64, u64)],
+    looks: &Looks,
+) -> Result<Seen, AllocError> {
+    match see_file(rt, segment, named, looks) {
+        Ok(seen) => Ok(seen),
+        Err(error) => match error.kind() {
+            ErrorKind::NotFound => Ok(Seen::Gone),
+            ErrorKind::OutOfMemory => Err(AllocError),
+            _ => Ok(Seen::Other),
+        },
+    }
+}
+
+// A look at a segment of the listing.
+#[derive(Drop)]
+struct Looked<'s> {
+    segment: &'s Segment,
+    // The place of the look among those that are kept.
+    place: usize,
+}
+
+// A reading that is being made.
+#[derive(Drop)]
+struct Round<'s> {
+    recorded: Recorded,
+    // The looks that have to be added to it.
+    looked: Vec<Looked<'s>>,
+    // The segments that are not in it.
+    others: Vec<&'s Segment>,
+}
+
+impl<'s> Round<'s> {
     // What the totals of a folder have.
-    fn of(alloc: Global, sums: Sums) -> FolderReading {
-        FolderReading {
+    fn of(alloc: Global, sums: Sums) -> Round<'s> {
+        Round {
             recorded: Recorded {
                 sums,
                 is_damaged: false,
             },
+            looked: Vec::new(alloc),
             others: Vec::new(alloc),
         }
     }
 
-    // Puts a segment to those that are not in it.
-    fn put_other(&mut self, alloc: Global, path: &PathBuf) -> Result<(), AllocError> {
-        self.others.push(String::from_str(alloc, path.as_str())?)?;
+    // Adds what a look at a segment reads as. If a total would not fit, the segment is not in it.
+    fn add(&mut self, segment: &'s Segment, reading: &Reading) -> Result<(), AllocError> {
+        match self.recorded.sums.add(segment.number, reading) {
+            Ok(()) => {
+                let is_damaged = damage_of(reading).is_some();
+                self.recorded.is_damaged = self.recorded.is_damaged || is_damaged;
+            }
+            Err(SumsFault::NoMemory) => return Err(AllocError),
+            Err(SumsFault::TooMany) => self.others.push(segment)?,
+        }
         Ok(())
     }
 
@@ -145,23 +217,20 @@ impl FolderReading {
     fn take<R: Files<File = File> + AllocGlobal>(
         &mut self,
         rt: &R,
-        segment: &Segment,
+        segment: &'s Segment,
         named: &[(u64, u64)],
+        looks: &mut Looks,
     ) -> Result<bool, AllocError> {
-        match see(rt, segment, named)? {
+        match see(rt, segment, named, looks)? {
             Seen::Gone => return Ok(false),
             Seen::Named => {}
-            Seen::Other => self.put_other(rt.alloc(), &segment.path)?,
-            Seen::Look(reading) => {
-                match self.recorded.sums.add(segment.number, &reading) {
-                    Ok(()) => {
-                        let is_damaged = damage_of(&reading).is_some();
-                        self.recorded.is_damaged = self.recorded.is_damaged || is_damaged;
-                    }
-                    Err(SumsFault::NoMemory) => return Err(AllocError),
-                    Err(SumsFault::TooMany) => self.put_other(rt.alloc(), &segment.path)?,
-                }
+            Seen::Kept(place) => self.looked.push(Looked { segment, place })?,
+            Seen::Other => self.others.push(segment)?,
+            Seen::Look(reading) if looks.has_room(segment.bytes) => {
+                let place = looks.put(segment, reading)?;
+                self.looked.push(Looked { segment, place })?;
             }
+            Seen::Look(reading) => self.add(segment, &reading)?,
         }
         Ok(true)
     }
@@ -170,15 +239,40 @@ impl FolderReading {
     fn take_all<R: Files<File = File> + AllocGlobal>(
         &mut self,
         rt: &R,
-        segments: &[Segment],
+        segments: &'s [Segment],
         named: &[(u64, u64)],
+        looks: &mut Looks,
     ) -> Result<bool, AllocError> {
         for segment in segments {
-            if !self.take(rt, segment, named)? {
+            if !self.take(rt, segment, named, looks)? {
                 return Ok(false);
             }
         }
         Ok(true)
+    }
+
+    // Adds the looks that have to be added.
+    fn add_looked(&mut self, looks: &Looks) -> Result<(), AllocError> {
+        let looked = mem::try_take(&mut self.looked)?;
+        for one in &looked {
+            if let Some(look) = looks.all.get(one.place) {
+                self.add(one.segment, &look.reading)?;
+            }
+        }
+        Ok(())
+    }
+
+    // The reading, when all looks are added.
+    fn end(mut self, alloc: Global) -> Result<FolderReading, AllocError> {
+        self.others.sort_by(|a, b| a.number.cmp(&b.number))?;
+        let mut others = Vec::new(alloc);
+        for segment in &self.others {
+            others.push(String::from_str(alloc, segment.path.as_str())?)?;
+        }
+        Ok(FolderReading {
+            recorded: self.recorded,
+            others,
+        })
     }
 }
 
@@ -186,6 +280,7 @@ impl FolderReading {
 fn read_once<R: Files<File = File> + AllocGlobal>(
     context: &Context<'_, R>,
     folder: &str,
+    looks: &mut Looks,
 ) -> Result<Option<FolderReading>, Failure>
     ensures { IfErr result UsageIsMistake }
 {
@@ -197,8 +292,8 @@ fn read_once<R: Files<File = File> + AllocGlobal>(
         Ok(segments) => segments,
         Err(error) => return Err(unopened(context, cause_of_read(error), folder)),
     };
-    let mut reading = FolderReading::of(context.alloc(), sums);
-    if !reading.take_all(context.rt, &segments, &of)? {
+    let mut round = Round::of(context.alloc(), sums);
+    if !round.take_all(context.rt, &segments, &of, looks)? {
         return Ok(None);
     }
     let after = totals_text_in(context, folder)?;
@@ -208,11 +303,11 @@ fn read_once<R: Files<File = File> + AllocGlobal>(
     } else {
         serial_of(&totals_from(context, folder, after.as_deref())?)
     };
-    Ok(if stands(serial, now) {
-        Some(reading)
-    } else {
-        None
-    })
+    if !stands(serial, now) {
+        return Ok(None);
+    }
+    round.add_looked(looks)?;
+    Ok(Some(round.end(context.alloc())?))
 }
 
 /// Returns the reading of a recording's folder. `Busy` comes if folds ended, or files went away, as often as it was read; `Usage` only for
@@ -223,8 +318,12 @@ pub fn read_folder<R: Files<File = File> + AllocGlobal>(
 ) -> Result<FolderReading, Failure>
     ensures { IfErr result UsageIsMistake }
 {
+    let mut looks = Looks {
+        all: Vec::new(context.alloc()),
+        bytes: 0,
+    };
     for _ in 0..MOST_TIMES {
-        if let Some(reading) = read_once(context, folder)? {
+        if let Some(reading) = read_once(context, folder, &mut looks)? {
             return Ok(reading);
         }
     }

@@ -142,10 +142,9 @@ pub fn command<'a>(alloc: Global) -> Result<Command<'a>, AllocError> {
     Command::new(alloc, "persist_report")
         .version("0.1.0")
         .about("Show, convert, merge and continue the histograms of a Povundiri segment")
-        .after_help(VARIABLE_HELP)
         .after_long_help(texts::PROGRAM)
         .subcommand_required(true)
-        .arg(explain_flag(alloc))?
+        .arg(explain_flag(alloc).help(VARIABLE_HELP))?
         .subcommand(show_command(alloc)?)?
         .subcommand(report_command(alloc)?)?
         .subcommand(info_command(alloc)?)?

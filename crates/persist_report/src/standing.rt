@@ -37,11 +37,12 @@ pub const FOLD_LOCK: &str = "fold.lock";
 // The bytes that are read to see the id of a segment: those of a word of zeros, and of the first words of an image.
 const FRONT: usize = 8 * (1 + ID_WORD + 1);
 
-/// A segment: its number, and the path of its file.
+/// A segment: its number, and the path of its file, which had so many bytes when it was listed.
 #[derive(Drop)]
 pub struct Segment {
     pub number: u64,
     pub path: PathBuf,
+    pub bytes: u64,
 }
 
 /// The path of a name in a folder.
@@ -68,15 +69,7 @@ pub fn cause_of_read(reason: io::Error) -> Cause {
     }
 }
 
-// Whether something else than a regular file is at a path. A file that is gone is not.
-fn is_other<R: Files>(rt: &R, path: &str) -> bool {
-    match fs::symlink_metadata(rt, path) {
-        Ok(found) => !found.is_file(),
-        Err(_) => false,
-    }
-}
-
-// Puts a segment behind others, if its name is that of a regular file.
+// Puts a segment behind others, if its name is that of a regular file, or its file is gone.
 fn put_segment<R: Files + AllocGlobal>(
     rt: &R,
     segments: &mut Vec<Segment>,
@@ -85,10 +78,17 @@ fn put_segment<R: Files + AllocGlobal>(
     name: &str,
 ) -> Result<(), AllocError> {
     let path = path_in(rt.alloc(), folder, name)?;
-    if !is_other(rt, path.as_str()) {
-        let path = PathBuf::from_str(rt.alloc(), path.as_str())?;
-        segments.push(Segment { number, path })?;
-    }
+    let bytes = match fs::symlink_metadata(rt, path.as_str()) {
+        Ok(found) if !found.is_file() => return Ok(()),
+        Ok(found) => found.len(),
+        Err(_) => 0,
+    };
+    let path = PathBuf::from_str(rt.alloc(), path.as_str())?;
+    segments.push(Segment {
+        number,
+        path,
+        bytes,
+    })?;
     Ok(())
 }
 
@@ -110,7 +110,7 @@ pub fn segments_in<R: Files + AllocGlobal>(rt: &R, folder: &str) -> io::Result<V
 
 // The bytes of the totals at a path; none if there is no such file.
 fn read_totals<R: Files + AllocGlobal>(rt: &R, path: &str) -> io::Result<Option<Vec<u8>>> {
-    if is_other(rt, path) {
+    if fs::symlink_metadata(rt, path).is_ok_and(|found| !found.is_file()) {
         return Err(io::Error::from(ErrorKind::InvalidInput));
     }
     match fs::read(rt, path) {

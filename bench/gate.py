@@ -1,7 +1,8 @@
 #!/usr/bin/env python3
 """Runs the merge gate and reports what it takes, crate by crate: for proofs, for tests and for edits.
 
-    bench/gate.py [--anew]
+    bench/gate.py
+    bench/gate.py --proofs FILE
 
 The steps are those of .ci/run: 'rt ci', and then tests/run. It prints what they print, and then what docs/TESTING.md
 has at its end: the date and the machine, minutes of processor time (user and system), and a table with a line for each
@@ -9,13 +10,15 @@ crate, in which the last column is the most memory that its checks had at a time
 check of all of it.
 
 The processes of 'rt ci' are looked at twice a second; what ended between two looks is reported as being in no line of
-the table. With --anew, 'rt ci' proves what it has proved on this machine before. The status is 1 where a step failed.
-Run it on a clean clone, on a machine that does nothing else.
+the table. The status is 1 where a step failed. Run it on a clean clone, on a machine that does nothing else.
+
+With --proofs it runs 'rt ci' alone, and writes what that took to FILE. So each run of .ci/run says what it takes.
 """
 
 from __future__ import annotations
 
 import collections
+import contextlib
 import datetime
 import os
 import pathlib
@@ -162,7 +165,9 @@ def watched(words: Sequence[str], costs: Costs) -> int:
     """The status of a command whose processes are looked at."""
     running = subprocess.Popen(words, cwd=ROOT, stdin=subprocess.DEVNULL)
     while running.poll() is None:
-        costs.look(running.pid)
+        # What ends meanwhile is not there any more.
+        with contextlib.suppress(OSError, ValueError, IndexError):
+            costs.look(running.pid)
         time.sleep(SECONDS_BETWEEN)
     return running.returncode
 
@@ -173,29 +178,43 @@ def taken(start: float, before: float) -> str:
     return f"{processor_minutes() - before:.1f} minutes of processor time, {by_clock:.1f} by the clock"
 
 
+def prove() -> tuple[int, Costs, str]:
+    """Runs 'rt ci': its status, what it took by crate, and a sentence of what it took in all."""
+    costs, start, before = Costs(), time.monotonic(), processor_minutes()
+    os.environ.setdefault("RT_JOBS", subprocess.check_output([sys.executable, LANES], text=True).strip())
+    failed = watched(["rt", "ci"], costs)
+    in_lines = sum(sum(ones.values()) for ones in costs.seconds.values()) / 60
+    rest = processor_minutes() - before - in_lines
+    all_in_all = f"`rt ci` took {taken(start, before)}, {os.environ['RT_JOBS']} checks at a time"
+    return failed, costs, f"{all_in_all}; {rest:.1f} minutes are in no line"
+
+
+def report(costs: Costs, *sentences: str) -> str:
+    """The date, the machine, the sentences, and what each crate took."""
+    today = datetime.date.today()
+    head = f"{today.day} {today:%B %Y}, {machine()}: {'. '.join(sentences)}."
+    dearest = ", ".join(f"`{edit}` {seconds:.0f}" for seconds, edit in sorted(costs.edits(), reverse=True)[:MOST_EDITS])
+    end = textwrap.fill(f"The dearest edits, in seconds: {dearest or 'none'}.", WIDTH, break_on_hyphens=False)
+    return "\n".join([*textwrap.wrap(head, WIDTH, break_on_hyphens=False), "", *table(costs), "", end])
+
+
 def main(words: Sequence[str]) -> int:
-    if words not in ([], ["--anew"]):
+    if len(words) == 2 and words[0] == "--proofs":
+        failed, costs, proofs = prove()
+        pathlib.Path(words[1]).write_text(report(costs, proofs) + "\n", encoding="utf-8")
+        return 1 if failed else 0
+    if words:
         sys.exit(__doc__)
-    costs, start = Costs(), time.monotonic()
     with tempfile.NamedTemporaryFile() as sums:
         subprocess.run([sys.executable, MARKS, "note", sums.name], check=True)
-        before = processor_minutes()
-        os.environ.setdefault("RT_JOBS", subprocess.check_output([sys.executable, LANES], text=True).strip())
-        failed = watched(["rt", "ci", *words], costs)
-        proved, in_lines = taken(start, before), sum(sum(ones.values()) for ones in costs.seconds.values()) / 60
-        rest = processor_minutes() - before - in_lines
+        failed, costs, proofs = prove()
         tests = "tests/run was not begun"
         if not failed:
             subprocess.run([sys.executable, MARKS, "keep", sums.name], check=True)
             start, before = time.monotonic(), processor_minutes()
             failed = subprocess.run(["tests/run"], cwd=ROOT).returncode
             tests = f"`tests/run` took {taken(start, before)}"
-    today = datetime.date.today()
-    ran = f"`rt ci` took {proved}, {os.environ['RT_JOBS']} checks at a time; {rest:.1f} minutes are in no line"
-    head = f"{today.day} {today:%B %Y}, {machine()}: {ran}. {tests}."
-    dearest = ", ".join(f"`{edit}` {seconds:.0f}" for seconds, edit in sorted(costs.edits(), reverse=True)[:MOST_EDITS])
-    print("\n" + "\n".join([*textwrap.wrap(head, WIDTH, break_on_hyphens=False), "", *table(costs)]))
-    print("\n" + textwrap.fill(f"The dearest edits, in seconds: {dearest or 'none'}.", WIDTH, break_on_hyphens=False))
+    print("\n" + report(costs, proofs, tests))
     return 1 if failed else 0
 
 

@@ -1,9 +1,9 @@
 """The program of docs/USING.md, in a repository of its own: it is proved there, and prints what it has to.
 
 All of it is taken from the page: the commands that copy the libraries, and each file, which is a block after a line
-that names it. `rt ci` proves the program, builds it by both compilers, runs what each made, and compares what that
-prints with `stdout`. The libraries are not proved again, where a run of `rt ci` on this machine has proved the same
-files. Then the program is run twice in one folder: the second run continues in the image of the first.
+that names it. `rt run` proves the program and builds it. The libraries are copied with the proofs that the gate has
+made, and are proved first where there are none. Then the program is run twice in one folder: the first run prints what
+`stdout` has, and the second continues in the image of the first.
 
 The lines in Rattle of README.md and of the README of live_segment are run too, as functions of a program, by `rt try`.
 """
@@ -84,10 +84,10 @@ def make_repository(folder: pathlib.Path, found: Mapping[pathlib.Path, str]) -> 
     return None
 
 
-def wrong_gate(repository: pathlib.Path) -> str | None:
-    """What is wrong where the repository is put through the gate, or None."""
-    came = subprocess.run(["rt", "ci"], cwd=repository, capture_output=True, text=True)
-    if came.returncode != 0 or not came.stdout.endswith(" passed, 0 failed\n"):
+def wrong_proof(home: pathlib.Path) -> str | None:
+    """What is wrong where the program is proved and built, or None."""
+    came = subprocess.run(["rt", "run"], cwd=home, capture_output=True, text=True)
+    if came.returncode != 0:
         return f"status {came.returncode}\n{(came.stdout + came.stderr)[-MOST_SHOWN:]}"
     return None
 
@@ -148,6 +148,6 @@ def cases(_program: None, _options: argparse.Namespace) -> Iterator[Case]:
         folder = pathlib.Path(scratch).resolve()
         yield "the libraries are copied", make_repository(folder, found)
         repository = folder / "repository"
-        yield "proved and run", wrong_gate(repository)
+        yield "proved and built", wrong_proof(repository / HOME)
         yield "run twice", wrong_runs(repository / HOME / "out" / NAME, folder / "twice", found[HOME / "stdout"])
         yield "lines of READMEs", wrong_lines(repository)

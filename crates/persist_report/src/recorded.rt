@@ -133,25 +133,26 @@ fn see_file<R: Files<File = File> + AllocGlobal>(
     segment: &Segment,
     named: &[(u64, u64)],
     looks: &Looks,
-) -> io::Result<Result<Seen, CliFault>> {
+) -> io::Result<Seen> {
     let mut first = fs::open(rt, &segment.path)?;
     if let Some(id) = id_in(rt.alloc(), &mut first)? {
         if is_named(named, segment.number, id) {
-            return Ok(Ok(Seen::Named));
+            return Ok(Seen::Named);
         }
         if let Some(place) = looks.place_of(segment.number, id) {
-            return Ok(Ok(Seen::Kept(place)));
+            return Ok(Seen::Kept(place));
         }
     }
     let second = fs::open(rt, &segment.path)?;
     let third = fs::open(rt, &segment.path)?;
-    Ok(match reading_of_look(rt.alloc(), (first, second, third)) {
+    match reading_of_look(rt.alloc(), (first, second, third)) {
         Ok(reading) => Ok(Seen::Look(reading)),
-        Err(fault) => Err(fault),
-    })
+        Err(CliFault::NoMemory) => Err(io::Error::from(ErrorKind::OutOfMemory)),
+        Err(_) => Ok(Seen::Other),
+    }
 }
 
-// The same. Memory may run out.
+// The same. The one fault is that memory runs out.
 fn see<R: Files<File = File> + AllocGlobal>(
     rt: &R,
     segment: &Segment,
@@ -159,9 +160,7 @@ fn see<R: Files<File = File> + AllocGlobal>(
     looks: &Looks,
 ) -> Result<Seen, AllocError> {
     match see_file(rt, segment, named, looks) {
-        Ok(Ok(seen)) => Ok(seen),
-        Ok(Err(CliFault::NoMemory)) => Err(AllocError),
-        Ok(Err(_)) => Ok(Seen::Other),
+        Ok(seen) => Ok(seen),
         Err(error) => match error.kind() {
             ErrorKind::NotFound => Ok(Seen::Gone),
             ErrorKind::OutOfMemory => Err(AllocError),

@@ -55,6 +55,8 @@ FAILING = {
 # A reader reads beside folds until there were so many of both, which takes so long at most.
 LEAST_READINGS = 100
 MOST_SECONDS = 60
+# No segment is begun while so many files are in the folder.
+MOST_FILES = 20
 # How many readings there are beside totals that change, at most.
 CHANGED_READINGS = 200
 
@@ -396,53 +398,72 @@ def images_in(report: bytes) -> int:
     return int(lines[0].split(b",")[1]) if lines else int(bool(report))
 
 
-def beside(program: pathlib.Path, top: pathlib.Path) -> Iterator[Case]:
-    """A reader while segments are begun and folded all the time: each is counted once, and no number falls."""
-    beginner = Beginner(made(top / "beside"))
-    is_over, wrong_folds = threading.Event(), []
+def serial_of(folder: pathlib.Path) -> int:
+    """The serial of the totals of a folder, in which others are at work."""
+    return Folder(folder, content(folder / TOTALS), {}).serial()
 
-    def begin_all() -> None:
+
+@contextlib.contextmanager
+def at_work(*works: Callable[[], None]) -> Iterator[None]:
+    """While threads do things again and again."""
+    is_over = threading.Event()
+
+    def go_on(work: Callable[[], None]) -> None:
         while not is_over.is_set():
-            beginner.begin()
-            time.sleep(0.003)
+            work()
 
-    def fold_all() -> None:
-        while not is_over.is_set():
-            came = answer(program, ["fold", beginner.folder])
-            if came != Answer():
-                wrong_folds.append(str(came))
-
-    threads = [threading.Thread(target=work) for work in (begin_all, fold_all)]
+    threads = [threading.Thread(target=go_on, args=(work,)) for work in works]
     for thread in threads:
         thread.start()
-    wrong, busy, read, before, serial = None, 0, 0, 0, 0
+    try:
+        yield
+    finally:
+        is_over.set()
+        for thread in threads:
+            thread.join()
+
+
+def beside(program: pathlib.Path, top: pathlib.Path) -> Iterator[Case]:
+    """A reader while segments are begun and folded all the time: each is counted once, and no number falls."""
+    beginner, wrong_folds = Beginner(made(top / "beside")), []
+    folder = beginner.folder
+
+    def begin() -> None:
+        if len(os.listdir(folder)) < MOST_FILES:
+            beginner.begin()
+        time.sleep(0.002)
+
+    def fold() -> None:
+        came = answer(program, ["fold", folder])
+        if came != Answer():
+            wrong_folds.append(str(came))
+
+    wrong, busy, read, before = None, 0, 0, 0
     end = time.monotonic() + MOST_SECONDS
-    while wrong is None and min(read, serial) < LEAST_READINGS and time.monotonic() < end:
-        least = beginner.ended
-        came = answer(program, ["report", beginner.folder])
-        if came == BUSY:
-            busy += 1
-            continue
-        found, most = images_in(came.output), beginner.begun
-        if came.status != 0 or not max(before, least) <= found <= most:
-            wrong = f"between {max(before, least)} and {most} images were wanted, came {found}: {came.error!r}"
-        before, read, serial = found, read + 1, Folder.at(beginner.folder).serial()
-    is_over.set()
-    for thread in threads:
-        thread.join()
+    with at_work(begin, fold):
+        while wrong is None and min(read, serial_of(folder)) < LEAST_READINGS and time.monotonic() < end:
+            least = beginner.ended
+            came = answer(program, ["report", folder])
+            if came == BUSY:
+                busy += 1
+                continue
+            found, most = images_in(came.output), beginner.begun
+            if came.status != 0 or not max(before, least) <= found <= most:
+                wrong = f"between {max(before, least)} and {most} images were wanted, came {found}: {came.error!r}"
+            before, read = found, read + 1
     beginner.end()
+    serial = serial_of(folder)
     print(f"beside {serial} folds: {read} readings, {busy} of them Busy", flush=True)
     yield "a reader beside folds", wrong
     yield "folds beside a reader", wrong_folds[0] if wrong_folds else None
     enough = min(read, serial) >= LEAST_READINGS and busy <= read // 10
-    yield "enough of both", None if enough else f"{read} readings, {busy} of them Busy, beside {serial} folds"
-    yield "a last fold", difference(Answer(), answer(program, ["fold", beginner.folder]))
-    wanted = plain_sums.report_of(Folder.at(beginner.folder).reading()[0], 0)
-    came = answer(program, ["report", beginner.folder])
-    whole = f"{images_in(came.output)} of {beginner.begun} images are there"
-    yield "all that was begun", difference(Answer(wanted), came) or (
-        None if images_in(came.output) == beginner.begun else whole
-    )
+    yield "enough of both", None if enough else f"{read} readings, {busy} Busy, beside {serial} folds"
+    yield "a last fold", difference(Answer(), answer(program, ["fold", folder]))
+    wanted = plain_sums.report_of(Folder.at(folder).reading()[0], 0)
+    came = answer(program, ["report", folder])
+    there = images_in(came.output)
+    is_whole = None if there == beginner.begun else f"{there} of {beginner.begun} images are there"
+    yield "all that was begun", difference(Answer(wanted), came) or is_whole
 
 
 # Gives totals another serial again and again: the folder, and the text around the serial.

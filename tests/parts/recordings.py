@@ -37,7 +37,8 @@ STOPPED = (
 )
 # A program that begins segments has made so many of these calls after some milliseconds.
 BEGINNINGS = 100
-FULL_DISK = "-Wl,--wrap=posix_fallocate"
+# The programs that check something, and which calls to the system each of them stands before.
+CHECKED = {"recorded": "-Wl,--wrap=posix_fallocate", "recorded_folders": "-Wl,--wrap=open"}
 THREADS = "-fsanitize=thread"
 # The reasons for what is missed, in the order of the library; what a run may miss that nothing disturbs.
 REASONS = ("too_large", "other_spec", "no_space", "rolling", "forked", "ended", "no_memory")
@@ -314,7 +315,7 @@ class Programs:
             for source in (*sources, native.PROGRAMS / "recorded.cpp")
         ]
         built = home / "recorded"
-        words = [*native.compiler(".cpp"), THREADS, "-pthread", FULL_DISK]
+        words = [*native.compiler(".cpp"), THREADS, "-pthread", CHECKED["recorded"]]
         native.run([*words, "-o", built, *objects, *self.installed.words("--libs")])
         return built
 
@@ -334,9 +335,10 @@ class Programs:
         yield from native.checks_of("collected", [program, home], {**os.environ})
 
     def all_checked(self) -> Iterator[Case]:
-        source = native.PROGRAMS / "recorded.cpp"
-        yield from self.checked("recorded", self.installed.program(source, FULL_DISK, *native.SANITIZED))
-        yield from self.checked("no exceptions", self.installed.program(source, FULL_DISK, "-fno-exceptions"))
+        for name, words in CHECKED.items():
+            source = native.PROGRAMS / f"{name}.cpp"
+            yield from self.checked(name, self.installed.program(source, words, *native.SANITIZED))
+            yield from self.checked(f"{name}, no exceptions", self.installed.program(source, words, "-fno-exceptions"))
         yield from self.checked("threads", self.for_threads(), "threads")
         yield from self.collected()
 

@@ -47,7 +47,8 @@ uint32_t povundiri_folder_sums(const char *folder, struct povundiri_handle *sums
 /* Adds the segments that are final to the totals, and removes them. It waits for the device, and for nobody: a segment whose lock somebody
  * holds stays. The totals are written whole and synced before any is removed, so a kill at any moment, or a crash of the machine, loses
  * nothing that is in them, and nothing is counted twice. `folded`, which may be null, is how many were added, also on a fault, if some were
- * before it: 256 are added at once, or as many as the process may open, each of them open until it is removed, and then the next ones.
+ * before it: 256 are added at once, or as many as the process may open, each of them open until it is removed, and then the next ones. So
+ * where the process may open fewer, its other threads can open nothing meanwhile.
  * A segment whose header has a fault, that may not be read, or with which a total would not fit, stays. Of one whose list of records is
  * damaged, what can be read is added, as in a report.
  *

@@ -303,8 +303,8 @@ void many_threads() {
     HOLDS(units_in(recording.report(), "b") == kThreads * kSamples + 2LL * kMost);
 }
 
-// Threads that come and go beside rolls, folds and readers: nothing is missed, no reader sees a number fall. A segment has units for 21 samples
-// of the many.
+// Threads that come and go beside rolls, folds and readers: nothing is missed, no reader sees a number fall. A segment has units for 21
+// samples of the many.
 void beside() {
     constexpr long long kThreads = 4, kLives = 20, kSamples = 300, kMany = 200'000'000;
     Recording recording;

@@ -16,6 +16,17 @@ namespace {
 // A folder that is folded, once, just before a segment is opened for recording.
 std::string folded_between;
 
+// How many segments are opened to be folded before one is refused, once; -1: none is.
+int opened_until_fault = -1;
+
+void fold_between() {
+    const std::string path = std::exchange(folded_between, "");
+    std::uint64_t folded = 0;
+    int fault = 0;
+    ANSWERS(DONE, povundiri_folder_fold(path.c_str(), &folded, &fault));
+    HOLDS(folded == 1);
+}
+
 }  // namespace
 
 extern "C" int __real_open(const char* path, int flags, ...);
@@ -24,12 +35,11 @@ extern "C" int __wrap_open(const char* path, int flags, ...) {
     va_start(more, flags);
     const int mode = (flags & O_CREAT) != 0 ? va_arg(more, int) : 0;
     va_end(more);
-    if (!folded_between.empty() && (flags & O_ACCMODE) == O_RDWR && std::string(path).find(".seg") != std::string::npos) {
-        const std::string path_of_folder = std::exchange(folded_between, "");
-        std::uint64_t folded = 0;
-        int fault = 0;
-        DONE(static_cast<povundiri::Status>(povundiri_folder_fold(path_of_folder.c_str(), &folded, &fault)));
-        HOLDS(folded == 1);
+    const bool is_segment = std::string(path).find(".seg") != std::string::npos, is_recorded = (flags & O_ACCMODE) == O_RDWR;
+    if (is_segment && is_recorded && !folded_between.empty()) fold_between();
+    if (is_segment && !is_recorded && opened_until_fault >= 0 && opened_until_fault-- == 0) {
+        errno = ENFILE;
+        return -1;
     }
     return __real_open(path, flags, mode);
 }
@@ -67,11 +77,26 @@ void marks() {
 // A spare that nobody holds is removed. What has not the name of one is not, and what somebody holds is not either.
 void spares() {
     const std::string path = folder("spares");
-    const std::vector<std::string> others = {"spare-", "spare-notes", "spare-1", "spare-1-", "spare-1-0123456789abcde", "spare-1-0123456789abcdef0",
-        "spare-1-0123456789ABCDEF", "spare-1-0123456789abcdeg", "spare-01-0123456789abcdef", "spare-0-0123456789abcdef",
-        "spare--1-0123456789abcdef", "spare-+1-0123456789abcdef", "spare- 1-0123456789abcdef", "spare-1- 123456789abcdef",
-        "spare-1-0x23456789abcdef", "spare-1-0123456789abcdef.txt", "spare-1_0123456789abcdef", "Spare-1-0123456789abcdef",
-        "spare-99999999999999999999-0123456789abcdef", "my-spare-1-0123456789abcdef"};
+    const std::vector<std::string> others = {"spare-",
+                                             "spare-notes",
+                                             "spare-1",
+                                             "spare-1-",
+                                             "spare-1-0123456789abcde",
+                                             "spare-1-0123456789abcdef0",
+                                             "spare-1-0123456789ABCDEF",
+                                             "spare-1-0123456789abcdeg",
+                                             "spare-01-0123456789abcdef",
+                                             "spare-0-0123456789abcdef",
+                                             "spare--1-0123456789abcdef",
+                                             "spare-+1-0123456789abcdef",
+                                             "spare- 1-0123456789abcdef",
+                                             "spare-1- 123456789abcdef",
+                                             "spare-1-0x23456789abcdef",
+                                             "spare-1-0123456789abcdef.txt",
+                                             "spare-1_0123456789abcdef",
+                                             "Spare-1-0123456789abcdef",
+                                             "spare-99999999999999999999-0123456789abcdef",
+                                             "my-spare-1-0123456789abcdef"};
     const std::vector<std::string> left = {"spare-1-0123456789abcdef", "spare-4194304-0000000000000000", "spare-77-ffffffffffffffff"};
     Recording held, recording;
     HOLDS(opens(path, held));
@@ -99,7 +124,8 @@ void taken() {
     HOLDS(metric_of(recording, "b").add(1, 4) && units_in(recording.report(), "b") == 7 && segments_in(path) == 1);
 }
 
-// A file of the newest number in which nothing was begun, as a crash of the machine may leave it: a segment is begun there, and none continued.
+// A file of the newest number in which nothing was begun, as a crash of the machine may leave it: a segment is begun there, and none is
+// continued.
 void unmade() {
     const std::string path = folder("unmade"), second = path + "/0000000002.seg";
     Recording recording;
@@ -112,40 +138,72 @@ void unmade() {
     HOLDS(opens(path, recording) && recording.began().adopted && recording.began().number == 2);
 }
 
+// A folder of final segments, each of which has as many units.
+class Finals {
+   public:
+    explicit Finals(const char* name) : path_(folder(name)) {}
+
+    bool make(std::uint32_t segments) {
+        Recording recording;
+        Metric metric;
+        if (!opens(path_, recording, small()) || recording.try_hist("b", {POVUNDIRI_BOOLEAN, 0, 0, 0}, {}, metric) != Status::Done) return false;
+        for (std::uint32_t i = 0; i < segments; ++i) units_ += metric.add(1, kCount) ? kCount : 0;
+        recording.end();
+        return stand(segments);
+    }
+
+    // Folds with so few descriptors, and says what the system's fault is, or 0.
+    int fold(rlim_t descriptors, std::uint64_t& folded) const {
+        struct rlimit limit, few;
+        int fault = -1;
+        if (getrlimit(RLIMIT_NOFILE, &limit) != 0) return -1;
+        few = limit;
+        few.rlim_cur = descriptors;
+        if (setrlimit(RLIMIT_NOFILE, &few) != 0) return -1;
+        const std::uint32_t status = povundiri_folder_fold(path_.c_str(), &folded, &fault);
+        return setrlimit(RLIMIT_NOFILE, &limit) == 0 && status == (fault == 0 ? POVUNDIRI_DONE : POVUNDIRI_SYSTEM) ? fault : -1;
+    }
+
+    // Whether so many segments stand there, the sum is whole, and no new totals are left.
+    bool stand(std::uint64_t segments) const {
+        return segments_in(path_) == segments && units_beside(path_, "b") == units_ && bytes_of(path_ + "/totals.new") == -1;
+    }
+
+    bool has_totals() const { return bytes_of(path_ + "/totals") != -1; }
+
+   private:
+    static constexpr std::uint32_t kCount = 3'000'000'000;
+    std::string path_;
+    long long units_ = 0;
+};
+
 // More final segments than the process may open at once: they are folded in rounds. Where it may not open four files, none is.
 void few_descriptors() {
     HOLDS(in_child([] {
-        constexpr std::uint32_t kSegments = 64, kCount = 3'000'000'000;
-        const std::string path = folder("few");
-        Recording recording;
-        Metric metric;
-        if (!opens(path, recording, small())) return false;
-        if (recording.try_hist("b", {POVUNDIRI_BOOLEAN, 0, 0, 0}, {}, metric) != Status::Done) return false;
-        for (std::uint32_t segment = 0; segment < kSegments; ++segment) {
-            if (!metric.add(1, kCount)) return false;
-        }
-        recording.end();
-        const auto is_whole = [&] { return units_beside(path, "b") == static_cast<long long>(kSegments) * kCount; };
-        if (segments_in(path) != kSegments || !is_whole()) return false;
+        Finals finals("few");
+        std::uint64_t folded = 9;
         const int lowest = dup(0);
-        struct rlimit limit, few;
-        if (lowest < 0 || close(lowest) != 0 || lowest > 30 || getrlimit(RLIMIT_NOFILE, &limit) != 0) return false;
-        const auto folds = [&](rlim_t most, std::uint64_t& folded, int& fault) {
-            few = limit;
-            few.rlim_cur = most;
-            if (setrlimit(RLIMIT_NOFILE, &few) != 0) return false;
-            const std::uint32_t status = povundiri_folder_fold(path.c_str(), &folded, &fault);
-            return setrlimit(RLIMIT_NOFILE, &limit) == 0 && status == (fault == 0 ? POVUNDIRI_DONE : POVUNDIRI_SYSTEM);
-        };
-        std::uint64_t folded = 0;
-        int fault = 0;
+        if (lowest < 0 || close(lowest) != 0 || lowest > 30 || !finals.make(64)) return false;
         for (int more = 0; more < 4; ++more) {
-            if (!folds(static_cast<rlim_t>(lowest + more), folded, fault) || fault != EMFILE || folded != 0) return false;
-            if (segments_in(path) != kSegments || !is_whole() || bytes_of(path + "/totals") != -1 || bytes_of(path + "/totals.new") != -1) return false;
+            if (finals.fold(static_cast<rlim_t>(lowest + more), folded) != EMFILE || folded != 0) return false;
+            if (!finals.stand(64) || finals.has_totals()) return false;
         }
-        return folds(40, folded, fault) && fault == 0 && folded == kSegments && segments_in(path) == 0 && is_whole() &&
-               bytes_of(path + "/totals.new") == -1;
+        if (finals.fold(40, folded) != 0 || folded != 64 || !finals.stand(0) || !finals.has_totals()) return false;
+        return finals.make(8) && finals.fold(static_cast<rlim_t>(lowest + 4), folded) == 0 && folded == 8 && finals.stand(0);
     }));
+}
+
+// The system has no descriptor left for a moment, behind each number of segments.
+void no_descriptor() {
+    Finals finals("none_left");
+    std::uint64_t folded = 9;
+    for (int opened = 0; opened < 8; ++opened) {
+        HOLDS(finals.make(8));
+        opened_until_fault = opened;
+        HOLDS(finals.fold(1024, folded) == (opened == 0 ? ENFILE : 0) && folded == (opened == 0 ? 0 : 8) && opened_until_fault == -1);
+        HOLDS(finals.stand(opened == 0 ? 8 : 0));
+        if (opened == 0) HOLDS(finals.fold(1024, folded) == 0 && folded == 8);
+    }
 }
 
 int run() {
@@ -154,6 +212,7 @@ int run() {
     failed += group("a fold before a start", taken);
     failed += group("a file in which nothing was begun", unmade);
     failed += group("few descriptors", few_descriptors);
+    failed += group("no descriptor for a moment", no_descriptor);
     return failed;
 }
 

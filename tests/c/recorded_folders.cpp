@@ -37,11 +37,11 @@ extern "C" int __wrap_open(const char* path, int flags, ...) {
     va_end(more);
     const bool is_segment = std::string(path).find(".seg") != std::string::npos, is_recorded = (flags & O_ACCMODE) == O_RDWR;
     if (is_segment && is_recorded && !folded_between.empty()) fold_between();
-    if (is_segment && !is_recorded && opened_until_fault >= 0 && opened_until_fault-- == 0) {
-        errno = ENFILE;
-        return -1;
-    }
-    return __real_open(path, flags, mode);
+    const int descriptor = __real_open(path, flags, mode);
+    if (descriptor < 0 || !is_segment || is_recorded || opened_until_fault < 0 || opened_until_fault-- > 0) return descriptor;
+    close(descriptor);
+    errno = ENFILE;
+    return -1;
 }
 
 namespace {

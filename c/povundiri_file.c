@@ -27,7 +27,10 @@ enum { COOKIE_AT = 0, VERSION_AT = 1, SIZE_AT = 2, PAGE_AT = 3, ID_AT = 4, FLAGS
 /* For how long a lock is tried, and how often; how many bytes are reserved or read by one call; how many names are tried. */
 enum { MOST_MILLISECONDS = 100, NAP_NANOSECONDS = 2000000, PIECE = 1 << 18, BLOCK = 4096, MOST_NAMES = 100000 };
 
-enum { ALL_FLAGS = POVUNDIRI_FILE_GROUP_WRITES | POVUNDIRI_FILE_ANY_OWNER | POVUNDIRI_FILE_FOLLOW | POVUNDIRI_FILE_KEEP_ON_FORK };
+enum {
+    ALL_FLAGS = POVUNDIRI_FILE_GROUP_WRITES | POVUNDIRI_FILE_ANY_OWNER | POVUNDIRI_FILE_FOLLOW | POVUNDIRI_FILE_KEEP_ON_FORK |
+                POVUNDIRI_FILE_EXISTING
+};
 
 static const uint64_t COOKIE = 0x408305DC;
 
@@ -261,6 +264,7 @@ static int status_at(const struct request *request, struct stat *about) {
 /* What is no file is not even opened: opening alone may make a device do something. */
 static int open_descriptor(const struct request *request, struct povundiri_mapping *mapping) {
     const int no_link = (request->flags & POVUNDIRI_FILE_FOLLOW) != 0 ? 0 : O_NOFOLLOW;
+    const int makes = (request->flags & POVUNDIRI_FILE_EXISTING) != 0 ? 0 : O_CREAT;
     struct stat about;
     int fault = status_at(request, &about);
     if (fault != 0 && fault != ENOENT) return fault;
@@ -268,7 +272,7 @@ static int open_descriptor(const struct request *request, struct povundiri_mappi
     if (fault == 0 && !S_ISREG(about.st_mode)) return EINVAL;
     do {
         pthread_mutex_lock(&mutex);
-        mapping->descriptor = open(request->path, O_RDWR | O_CREAT | O_CLOEXEC | O_NOCTTY | O_NONBLOCK | no_link, request->mode);
+        mapping->descriptor = open(request->path, O_RDWR | O_CLOEXEC | O_NOCTTY | O_NONBLOCK | makes | no_link, request->mode);
         fault = mapping->descriptor < 0 ? errno : 0;
         pthread_mutex_unlock(&mutex);
     } while (fault == EINTR);

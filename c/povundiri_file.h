@@ -65,7 +65,8 @@ enum povundiri_file_flag {
     POVUNDIRI_FILE_GROUP_WRITES = 1, /* the group may write the file: it is trusted as well. Others may not in any case */
     POVUNDIRI_FILE_ANY_OWNER = 2,    /* the file may be another user's, who is trusted as well */
     POVUNDIRI_FILE_FOLLOW = 4,       /* the last part of the path may be a symbolic link */
-    POVUNDIRI_FILE_KEEP_ON_FORK = 8  /* children of fork have the file, as povundiri_file_keep_on_fork says */
+    POVUNDIRI_FILE_KEEP_ON_FORK = 8, /* children of fork have the file, as povundiri_file_keep_on_fork says */
+    POVUNDIRI_FILE_EXISTING = 16     /* no file is made: ENOENT if there is none, also behind one that was set aside */
 };
 
 /* How a file is opened. All zeros, or a null in its place, are what is usual.

@@ -215,12 +215,23 @@ static int ascending(const void *one, const void *other) {
     return (a > b) - (a < b);
 }
 
+int povundiri_parts_mark(const char *folder, bool *is_marked) {
+    struct stat about;
+    char path[POVUNDIRI_PATH_BYTES];
+    int fault = povundiri_parts_join(path, folder, "recording");
+    *is_marked = false;
+    if (fault == 0 && fstatat(AT_FDCWD, path, &about, AT_SYMLINK_NOFOLLOW) != 0) fault = errno;
+    if (fault == 0) *is_marked = S_ISREG(about.st_mode) && about.st_size == 0;
+    return fault == ENOENT ? 0 : fault;
+}
+
 /* `numbers` are for free(), also after a fault. */
 int povundiri_parts_list(const char *folder, struct povundiri_listing *listing) {
     const struct povundiri_listing none = {NULL, 0, 0, 0, false, true};
     int fault;
     *listing = none;
     fault = povundiri_parts_each(folder, list_name, listing);
+    if (fault == 0 && listing->is_marked) fault = povundiri_parts_mark(folder, &listing->is_marked);
     if (listing->count > 1) qsort(listing->numbers, listing->count, sizeof *listing->numbers, ascending);
     return fault;
 }
@@ -431,6 +442,9 @@ struct fold {
     struct povundiri_handle sums;
     struct final *finals; /* that are added */
     size_t count;
+    bool is_cut;                      /* others stand behind them, for the next round */
+    bool is_writing;                  /* what follows is open */
+    struct povundiri_held place, new; /* the folder, and totals.new */
 };
 
 /* Removes a file that the totals name, under its lock. False if it still stands. */
@@ -499,11 +513,31 @@ static uint32_t add_final(struct fold *fold, uint64_t number, int *fault) {
     return povundiri_parts_is_fault(status) || status == POVUNDIRI_TOO_MANY ? (uint32_t)POVUNDIRI_DONE : status;
 }
 
+/* Opens what the totals are written with, as soon as there is a segment to add: no later one takes the last descriptor from it. */
+static uint32_t begin_writing(struct fold *fold, int *fault) {
+    char path[POVUNDIRI_PATH_BYTES];
+    *fault = povundiri_parts_join(path, fold->folder, "totals.new");
+    if (*fault == 0) *fault = povundiri_parts_open(&fold->place, fold->folder, O_RDONLY | O_DIRECTORY);
+    if (*fault != 0) return POVUNDIRI_SYSTEM;
+    *fault = povundiri_parts_open(&fold->new, path, O_WRONLY | O_CREAT | O_TRUNC);
+    fold->is_writing = *fault == 0;
+    if (*fault != 0) povundiri_parts_close(&fold->place);
+    return *fault == 0 ? POVUNDIRI_DONE : POVUNDIRI_SYSTEM;
+}
+
+/* Adds those that are final, as far as they may be open at once. */
 static uint32_t add_finals(struct fold *fold, int *fault) {
     uint32_t status = POVUNDIRI_DONE;
     size_t i;
     for (i = 0; i < fold->listing.count && fold->count < MOST_FOLDED && status == POVUNDIRI_DONE; i += 1) {
         status = add_final(fold, fold->listing.numbers[i], fault);
+        if (status == POVUNDIRI_DONE && fold->count > 0 && !fold->is_writing) status = begin_writing(fold, fault);
+    }
+    fold->is_cut = i < fold->listing.count;
+    if (status == POVUNDIRI_SYSTEM && fold->is_writing && (*fault == EMFILE || *fault == ENFILE)) {
+        fold->is_cut = true;
+        *fault = 0;
+        return POVUNDIRI_DONE;
     }
     return status;
 }
@@ -541,24 +575,26 @@ static int check_limit(size_t length) {
     return getrlimit(RLIMIT_FSIZE, &limit) == 0 && limit.rlim_cur != RLIM_INFINITY && (rlim_t)length > limit.rlim_cur ? EFBIG : 0;
 }
 
-/* Writes a file beside its place, syncs it, and gives it its place. Only whoever has the lock of folds comes here. */
-static int put_totals(const char *folder, const char *text, size_t length) {
-    struct povundiri_held held;
+/* Writes the new totals, syncs them, and gives them their place. Only whoever has the lock of folds comes here. */
+static int put_totals(const struct fold *fold, const char *text, size_t length) {
     char path[POVUNDIRI_PATH_BYTES], place[POVUNDIRI_PATH_BYTES];
     int fault = check_limit(length);
-    if (fault == 0) fault = povundiri_parts_join(path, folder, "totals.new");
-    if (fault == 0) fault = povundiri_parts_join(place, folder, "totals");
-    if (fault == 0) fault = povundiri_parts_open(&held, path, O_WRONLY | O_CREAT | O_TRUNC);
-    if (fault != 0) return fault;
-    fault = write_all(held.descriptor, text, length);
-    if (fault == 0) fault = sync_descriptor(held.descriptor);
-    povundiri_parts_close(&held);
+    if (fault == 0) fault = povundiri_parts_join(path, fold->folder, "totals.new");
+    if (fault == 0) fault = povundiri_parts_join(place, fold->folder, "totals");
+    if (fault == 0) fault = write_all(fold->new.descriptor, text, length);
+    if (fault == 0) fault = sync_descriptor(fold->new.descriptor);
     if (fault == 0 && rename(path, place) != 0) fault = errno;
-    if (fault != 0) {
-        unlink(path);
-        return fault;
-    }
-    return sync_folder(folder);
+    return fault == 0 ? sync_descriptor(fold->place.descriptor) : fault;
+}
+
+/* Closes what was opened for it. The name of totals that have not got their place is removed: the others have lost it. */
+static void end_writing(struct fold *fold) {
+    char path[POVUNDIRI_PATH_BYTES];
+    if (!fold->is_writing) return;
+    if (povundiri_parts_join(path, fold->folder, "totals.new") == 0) unlink(path);
+    povundiri_parts_close(&fold->new);
+    povundiri_parts_close(&fold->place);
+    fold->is_writing = false;
 }
 
 /* The totals are in their place: what is in them is removed. */
@@ -584,21 +620,27 @@ static uint32_t fold_locked(struct fold *fold, int *fault) {
     if (status != POVUNDIRI_DONE || fold->count == 0) return status;
     status = text_of(fold, &text, &length);
     if (status == POVUNDIRI_DONE) {
-        *fault = put_totals(fold->folder, text, length);
+        *fault = put_totals(fold, text, length);
         if (*fault != 0) status = POVUNDIRI_SYSTEM;
     }
     free(text);
+    end_writing(fold);
     if (status == POVUNDIRI_DONE) remove_finals(fold);
     return status;
 }
 
-static uint32_t fold_once(const char *folder, uint64_t *folded, int *fault) {
-    struct fold fold = {folder, {NULL, 0, NULL, 0, 0}, {NULL, 0, 0, 0, false, true}, {false, NULL}, NULL, 0};
+/* One round: `again` if others stand behind those that it added. */
+static uint32_t fold_once(const char *folder, uint64_t *folded, bool *again, int *fault) {
+    struct fold fold;
     uint32_t status;
     size_t i;
+    memset(&fold, 0, sizeof fold);
+    fold.folder = folder;
     fold.finals = (struct final *)calloc(MOST_FOLDED, sizeof *fold.finals);
     status = fold.finals == NULL ? (uint32_t)POVUNDIRI_NO_MEMORY : fold_locked(&fold, fault);
     *folded = status == POVUNDIRI_DONE ? fold.count : 0;
+    *again = status == POVUNDIRI_DONE && fold.is_cut;
+    end_writing(&fold);
     for (i = 0; i < fold.count; i += 1) povundiri_parts_close(&fold.finals[i].held);
     free(fold.finals);
     free(fold.listing.numbers);
@@ -611,8 +653,9 @@ static uint32_t fold_all(const char *folder, uint64_t *folded, int *fault) {
     struct povundiri_held held;
     struct povundiri_listing listing;
     char path[POVUNDIRI_PATH_BYTES];
-    uint64_t more = MOST_FOLDED;
+    uint64_t more = 0;
     uint32_t status = POVUNDIRI_SYSTEM;
+    bool again = false;
     *fault = povundiri_parts_list(folder, &listing);
     free(listing.numbers);
     if (*fault == 0 && !listing.is_marked) *fault = EINVAL;
@@ -622,9 +665,9 @@ static uint32_t fold_all(const char *folder, uint64_t *folded, int *fault) {
     *fault = lock(held.descriptor);
     if (*fault == 0) {
         do {
-            status = fold_once(folder, &more, fault);
+            status = fold_once(folder, &more, &again, fault);
             *folded += more;
-        } while (status == POVUNDIRI_DONE && more == MOST_FOLDED);
+        } while (again);
     }
     povundiri_parts_close(&held);
     return *fault == EBUSY ? (uint32_t)POVUNDIRI_BUSY : status;

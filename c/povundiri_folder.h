@@ -1,10 +1,10 @@
 /* The folder of recordings (povundiri_recording.h), for whoever reads it or keeps it small. Any process of the same user may do that, also
  * while others record.
  *
- *     recording           an empty file, which says what the folder is
+ *     recording           a regular file without bytes, which says what the folder is: without it a folder is no recording's
  *     0000000001.seg ..   segments in files (povundiri_file.h), each with an id of its own
  *     0000000004.damaged  what was segment 4, whose header has a fault: for you to look at, and to remove
- *     spare-PID-RANDOM    a segment that is not in use yet
+ *     spare-PID-RANDOM    a segment that is not in use yet, by the process that made it and 16 hexadecimal digits
  *     totals              the sum of segments that were removed (docs/FORMAT.md)
  *     totals.new          totals that a fold writes, or was writing when it was killed
  *     fold.lock           an empty file, whose lock a fold holds
@@ -47,7 +47,8 @@ uint32_t povundiri_folder_sums(const char *folder, struct povundiri_handle *sums
 /* Adds the segments that are final to the totals, and removes them. It waits for the device, and for nobody: a segment whose lock somebody
  * holds stays. The totals are written whole and synced before any is removed, so a kill at any moment, or a crash of the machine, loses
  * nothing that is in them, and nothing is counted twice. `folded`, which may be null, is how many were added, also on a fault, if some were
- * before it: 256 are added at once, each of them open until it is removed.
+ * before it: 256 are added at once, or as many as the process may open, each of them open until it is removed, and then the next ones. So
+ * where the process may open fewer, its other threads can open nothing meanwhile.
  * A segment whose header has a fault, that may not be read, or with which a total would not fit, stays. Of one whose list of records is
  * damaged, what can be read is added, as in a report.
  *
@@ -55,7 +56,7 @@ uint32_t povundiri_folder_sums(const char *folder, struct povundiri_handle *sums
  *   POVUNDIRI_BAD_TOTALS   the file `totals` is damaged: nothing was done
  *   POVUNDIRI_BUSY         somebody else folds
  *   POVUNDIRI_SYSTEM       *fault is the system's (errno.h), EINVAL also of a folder that is no recording's, EMFILE where the process may not
- *                          open so many segments, EFBIG where it may not write totals of that length; else *fault is 0
+ *                          open four files, EFBIG where it may not write totals of that length; else *fault is 0
  * Keep: pointers; process. */
 uint32_t povundiri_folder_fold(const char *folder, uint64_t *folded, int *fault) POVUNDIRI_CHECKED;
 
@@ -78,19 +79,22 @@ struct povundiri_owned {
 
 /* What a start has found in a folder. */
 struct povundiri_found {
-    struct povundiri_owned *adopted;     /* null: none could be adopted */
-    uint32_t refused;                    /* what is wrong with the image of the newest; else POVUNDIRI_DONE */
+    struct povundiri_owned *newest;       /* the newest segment, if it is continued, or begun where nothing was begun before; else null */
+    bool is_adopted;                      /* it is continued */
+    uint32_t refused;                     /* what is wrong with the image of the newest; else POVUNDIRI_DONE */
     char set_aside[POVUNDIRI_PATH_BYTES]; /* the new name of one whose header has a fault; else empty */
 };
 
 /* Watches for forks. False if there is no memory for it. */
 bool povundiri_folder_watch(void);
 
-/* Makes the folder, if it is not there, and removes spares that nobody holds. *absolute is its path, for free(). 0, or the system's fault. */
+/* Makes the folder, if it is not there, marks it as a recording's, if it is empty, and removes spares that nobody holds; EEXIST if it is
+ * neither empty nor a recording's, and then nothing is changed. *absolute is its path, for free(). 0, or the system's fault. */
 int povundiri_folder_enter(const char *folder, char **absolute);
 
-/* Adopts the newest segment, if it is final, has this shape, units and room, and the totals do not name it. POVUNDIRI_DONE also where none is
- * adopted; POVUNDIRI_NO_MEMORY; POVUNDIRI_SYSTEM and *fault: the folder could not be listed. */
+/* Adopts the newest segment, if it is final, has this shape, units and room, and the totals do not name it; or makes one in its file, if
+ * nothing was begun there. No file is made. POVUNDIRI_DONE also where neither is done; POVUNDIRI_NO_MEMORY; POVUNDIRI_SYSTEM and *fault: the
+ * folder could not be listed. */
 uint32_t povundiri_folder_adopt(const char *folder, struct povundiri_shape shape, struct povundiri_found *found, int *fault);
 
 /* A spare of this shape. On any but POVUNDIRI_DONE *spare is null; on POVUNDIRI_SYSTEM *fault is the system's. */

@@ -23,7 +23,7 @@ struct povundiri_listing {
     uint64_t *numbers; /* of segments, ascending */
     size_t count, room;
     uint64_t last;     /* the greatest number of a segment or of a damaged file; 0: there is none */
-    bool is_marked;    /* as a recording's */
+    bool is_marked;    /* as a recording's: `recording` is a regular file without bytes */
     bool is_empty;
 };
 
@@ -63,6 +63,9 @@ int povundiri_parts_join(char *path, const char *folder, const char *name);
 int povundiri_parts_path(char *path, const char *folder, uint64_t number, const char *kind);
 
 int povundiri_parts_each(const char *folder, povundiri_each_name *call, void *context);
+
+/* Whether the folder is a recording's. 0, or the system's fault. */
+int povundiri_parts_mark(const char *folder, bool *is_marked);
 
 /* `numbers` are for free(), also after a fault. */
 int povundiri_parts_list(const char *folder, struct povundiri_listing *listing);

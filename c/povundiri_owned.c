@@ -24,12 +24,31 @@ static int mark(const char *folder) {
     if (fault != 0) return fault;
     if (!listing.is_empty) {
         /* Another process may have marked it, and begun, after the list was read. */
-        struct stat about;
-        return fstatat(AT_FDCWD, path, &about, AT_SYMLINK_NOFOLLOW) == 0 ? 0 : EEXIST;
+        fault = povundiri_parts_mark(folder, &listing.is_marked);
+        return fault == 0 && !listing.is_marked ? EEXIST : fault;
     }
     fault = povundiri_parts_open(&held, path, O_WRONLY | O_CREAT);
     if (fault == 0) povundiri_parts_close(&held);
     return fault;
+}
+
+static void name_spare(char *name, long process, uint64_t random) {
+    snprintf(name, LONGEST_NAME, "spare-%ld-%016" PRIx64, process, random);
+}
+
+/* Whether this is a spare's name, as it is spelled. */
+static bool is_spare(const char *name) {
+    char spelled[LONGEST_NAME];
+    char *end;
+    long process;
+    uint64_t random;
+    if (strncmp(name, "spare-", 6) != 0) return false;
+    errno = 0;
+    process = strtol(name + 6, &end, 10);
+    if (errno != 0 || process <= 0 || *end != '-') return false;
+    random = strtoull(end + 1, NULL, 16);
+    name_spare(spelled, process, random);
+    return errno == 0 && strcmp(spelled, name) == 0;
 }
 
 /* Removes a spare that nobody holds: whoever made it was killed. */
@@ -37,7 +56,7 @@ static int sweep_name(void *context, const char *name) {
     struct povundiri_held held;
     struct stat about;
     char path[POVUNDIRI_PATH_BYTES];
-    if (strncmp(name, "spare-", 6) != 0 || povundiri_parts_join(path, (const char *)context, name) != 0) return 0;
+    if (!is_spare(name) || povundiri_parts_join(path, (const char *)context, name) != 0) return 0;
     if (povundiri_parts_open_locked(&held, path, &about) != 0) return 0;
     unlink(path);
     povundiri_parts_close(&held);
@@ -126,6 +145,8 @@ static bool is_folded(const char *folder, const struct povundiri_owned *owned, u
 }
 
 uint32_t povundiri_folder_adopt(const char *folder, struct povundiri_shape shape, struct povundiri_found *found, int *fault) {
+    /* A fold may take it before it is opened: then none is made in its place. */
+    static const struct povundiri_file_options existing = {POVUNDIRI_FILE_EXISTING, 0};
     struct povundiri_listing listing;
     struct povundiri_opened opened;
     struct povundiri_owned *owned;
@@ -143,9 +164,10 @@ uint32_t povundiri_folder_adopt(const char *folder, struct povundiri_shape shape
         free(owned);
         return POVUNDIRI_DONE;
     }
-    status = povundiri_open(owned->path, shape, POVUNDIRI_ADOPT_OR_FAIL, NULL, &owned->file, &owned->segment, &opened);
+    status = povundiri_open(owned->path, shape, POVUNDIRI_ADOPT_OR_FAIL, &existing, &owned->file, &owned->segment, &opened);
     if (status == POVUNDIRI_DONE && !opened.spent && !is_folded(folder, owned, opened.shape.id)) {
-        found->adopted = owned;
+        found->newest = owned;
+        found->is_adopted = opened.outcome == POVUNDIRI_ADOPTED;
         return status;
     }
     /* It stays under its name, and is read like any other. */
@@ -163,7 +185,7 @@ uint32_t povundiri_folder_spare(const char *folder, struct povundiri_shape shape
     *spare = NULL;
     *fault = 0;
     if (owned == NULL) return POVUNDIRI_NO_MEMORY;
-    snprintf(name, sizeof name, "spare-%ld-%016" PRIx64, (long)getpid(), random);
+    name_spare(name, (long)getpid(), random);
     *fault = povundiri_parts_join(owned->path, folder, name);
     status = *fault != 0 ? (uint32_t)POVUNDIRI_SYSTEM
                          : povundiri_open(owned->path, shape, POVUNDIRI_ADOPT_OR_FAIL, NULL, &owned->file, &owned->segment, &opened);

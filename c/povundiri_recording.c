@@ -19,7 +19,7 @@ enum { LEASE = 1 << 20, MOST_TRIES = 8 };
 /* The state of a thread is on lines of the cache of its own. */
 enum { LINE = 64 };
 
-static const uint64_t SECOND = 1000000000, USUAL_APART = 1000000, USUAL_BYTES = 1 << 20, USUAL_FOLD_AT = 64;
+static const uint64_t SECOND = 1000000000, USUAL_APART = 1000000, USUAL_BYTES = 1 << 20, LARGEST = 8 << 20, USUAL_FOLD_AT = 64;
 
 /* The turn of a thread that has no recorder, and that of a recording that has no segment. No segment has either. */
 static const uint64_t NO_RECORDER = UINT64_MAX, NO_SEGMENT = 0;
@@ -49,10 +49,13 @@ struct metric {
     struct povundiri_spec spec;
     uint32_t *values;
     size_t count;
-    bool is_too_large; /* a segment without any other has no room for it: then none is begun for it */
+    bool is_too_large; /* a segment of the present size without any other has no room for it: then none is begun for it */
 };
 
 enum state { RECORDS, HAS_ENDED, IS_FORKED };
+
+/* Whether all that is in use fits in a segment, as far as is known: it was full within a second; and the system refused a larger one. */
+enum fit { FITS, IS_TOO_SMALL, MAY_NOT_GROW };
 
 struct povundiri_recording {
     /* The number of the present segment, counted from 1 on in this process. Only this is read without the mutex. */
@@ -63,7 +66,6 @@ struct povundiri_recording {
     /* Set once. */
     struct povundiri_recording *next;
     char *folder;
-    struct povundiri_shape shape;
     struct povundiri_recording_options options;
 
     pthread_mutex_t mutex; /* for all that follows */
@@ -72,10 +74,13 @@ struct povundiri_recording {
     struct local shared;
     struct metric **metrics;
     size_t count;
-    uint64_t turns;    /* how many segments there were */
-    uint64_t began_at; /* when the present one was begun, in nanoseconds; 0: at the start */
-    uint64_t again_at; /* when a segment may be made again, after that was refused */
-    bool is_preparing; /* some thread makes a spare */
+    uint64_t bytes;               /* of the next segment, and of the spare */
+    struct povundiri_shape shape; /* in so many bytes */
+    uint64_t turns;               /* how many segments there were */
+    uint64_t began_at;            /* when the present one was begun, in nanoseconds; 0: by another process */
+    enum fit fit;                 /* of the present one */
+    uint64_t again_at;            /* when a segment may be made again, after that was refused */
+    bool is_preparing;            /* some thread makes a spare */
 };
 
 /* The recordings, and how many there were. They are never freed. The mutex is taken before any recording's. */
@@ -120,6 +125,28 @@ static struct povundiri_shape shape_for(uint64_t bytes) {
 
 static void miss(struct povundiri_recording *recording, enum povundiri_missed reason, uint32_t count) {
     __atomic_fetch_add(&recording->missed[reason], count, __ATOMIC_RELAXED);
+}
+
+/* Whether a name and a spec are such as a histogram may have, and whether it is too large for segments of this shape, with samples in two
+ * buckets: one in the heap says so. Where it says nothing else is known than before. */
+static uint32_t judge(struct povundiri_shape shape, struct metric *metric) {
+    struct povundiri_handle segment = {false, NULL}, recorder = {false, NULL};
+    size_t hist = 0;
+    uint32_t status = povundiri_create(shape, &segment);
+    if (status == POVUNDIRI_DONE) status = povundiri_recorder(&segment, 2, &recorder);
+    if (status == POVUNDIRI_DONE) {
+        status = povundiri_hist(&recorder, metric->name, metric->length, metric->spec, metric->values, metric->count, &hist);
+    }
+    if (status == POVUNDIRI_DONE) status = povundiri_add(&recorder, hist, 0, 1);
+    if (status == POVUNDIRI_DONE) status = povundiri_add(&recorder, hist, INT32_MAX, 1);
+    if (recorder.full) povundiri_drop(&recorder);
+    if (segment.full) povundiri_drop(&segment);
+    if (status == POVUNDIRI_REFUSED_FULL || status == POVUNDIRI_REFUSED_TOO_LARGE) {
+        metric->is_too_large = true;
+        return POVUNDIRI_DONE;
+    }
+    if (status == POVUNDIRI_DONE) metric->is_too_large = false;
+    return status;
 }
 
 /* ---- Segments: the mutex is held ---- */
@@ -167,15 +194,16 @@ static void retire(struct povundiri_recording *recording) {
     }
 }
 
-static void make_current(struct povundiri_recording *recording, struct povundiri_owned *owned) {
+static void make_current(struct povundiri_recording *recording, struct povundiri_owned *owned, uint64_t began_at) {
     recording->current = owned;
+    recording->began_at = began_at;
+    recording->fit = FITS;
     recording->turns += 1;
     set_turn(recording, recording->turns);
 }
 
-/* Makes a spare, and after it was refused not before a second has passed. */
-static struct povundiri_owned *new_spare(const struct povundiri_recording *recording, int *fault) {
-    struct povundiri_shape shape = recording->shape;
+/* Makes a spare of this shape, with an id of its own. After it was refused none is made before a second has passed. */
+static struct povundiri_owned *new_spare(const struct povundiri_recording *recording, struct povundiri_shape shape, int *fault) {
     struct povundiri_owned *spare = NULL;
     uint32_t status;
     shape.id = random_of(recording);
@@ -190,7 +218,7 @@ static int begin_next(struct povundiri_recording *recording) {
     int fault = 0;
     if (now() < recording->again_at) return EAGAIN;
     recording->spare = NULL;
-    if (next == NULL) next = new_spare(recording, &fault);
+    if (next == NULL) next = new_spare(recording, recording->shape, &fault);
     if (next != NULL) fault = povundiri_folder_commit(recording->folder, next);
     if (fault != 0) {
         povundiri_folder_release(next);
@@ -198,8 +226,31 @@ static int begin_next(struct povundiri_recording *recording) {
         return fault;
     }
     retire(recording);
-    make_current(recording, next);
-    recording->began_at = now();
+    make_current(recording, next, now());
+    return 0;
+}
+
+/* Makes a spare that is twice as large, or of the largest size, in place of the one that is there; later ones are as large. The system's
+ * fault, or 0. */
+static int grow(struct povundiri_recording *recording) {
+    const uint64_t bytes = recording->bytes < LARGEST / 2 ? 2 * recording->bytes : LARGEST;
+    const struct povundiri_shape shape = shape_for(bytes);
+    struct povundiri_owned *spare;
+    size_t i;
+    int fault = 0;
+    if (now() < recording->again_at) return EAGAIN;
+    spare = new_spare(recording, shape, &fault);
+    if (spare == NULL) {
+        recording->again_at = now() + SECOND;
+        return fault;
+    }
+    povundiri_folder_release(recording->spare);
+    recording->spare = spare;
+    recording->bytes = bytes;
+    recording->shape = shape;
+    for (i = 0; i < recording->count; i += 1) {
+        if (recording->metrics[i]->is_too_large) (void)judge(shape, recording->metrics[i]);
+    }
     return 0;
 }
 
@@ -326,8 +377,18 @@ static enum povundiri_missed reason_of(uint32_t status) {
 /* Why the next segment is not begun, or that it was. */
 enum rolled { BEGUN, TOO_SOON, REFUSED };
 
-static enum rolled roll(struct povundiri_recording *recording) {
-    if (recording->began_at != 0 && now() - recording->began_at < recording->options.apart) return TOO_SOON;
+/* Begins the next segment, since the present one has refused a sample. The next one is larger where this one is too small; where that is
+ * refused, it is as large as this one, and comes a second later. */
+static enum rolled roll(struct povundiri_recording *recording, uint32_t status) {
+    const uint64_t age = recording->began_at == 0 ? UINT64_MAX : now() - recording->began_at;
+    const bool is_full_early = status == POVUNDIRI_REFUSED_FULL && age < SECOND;
+    if (is_full_early && recording->fit == FITS) recording->fit = IS_TOO_SMALL;
+    if (recording->turns > 1 && age < recording->options.apart) return TOO_SOON;
+    if (recording->bytes == LARGEST && is_full_early) return TOO_SOON;
+    if (recording->fit == IS_TOO_SMALL && recording->bytes < LARGEST && grow(recording) != 0) {
+        recording->fit = MAY_NOT_GROW;
+        return REFUSED;
+    }
     return begin_next(recording) == 0 ? BEGUN : REFUSED;
 }
 
@@ -353,7 +414,7 @@ static bool count_or_miss(struct povundiri_recording *recording, size_t metric, 
             miss(recording, POVUNDIRI_MISSED_TOO_LARGE, count);
             return false;
         }
-        rolled = roll(recording);
+        rolled = roll(recording, status);
         if (rolled != BEGUN) {
             miss(recording, rolled == TOO_SOON ? POVUNDIRI_MISSED_ROLLING : POVUNDIRI_MISSED_NO_SPACE, count);
             return false;
@@ -368,18 +429,20 @@ static bool count_or_miss(struct povundiri_recording *recording, size_t metric, 
 /* Makes the next spare, if there is none and nobody else makes it. */
 static void prepare(struct povundiri_recording *recording) {
     struct povundiri_owned *spare;
+    struct povundiri_shape shape;
     bool is_mine;
     int fault = 0;
     pthread_mutex_lock(&recording->mutex);
+    shape = recording->shape;
     is_mine = recording->state == RECORDS && recording->spare == NULL && !recording->is_preparing && now() >= recording->again_at;
     if (is_mine) recording->is_preparing = true;
     pthread_mutex_unlock(&recording->mutex);
     if (!is_mine) return;
-    spare = new_spare(recording, &fault);
+    spare = new_spare(recording, shape, &fault);
     pthread_mutex_lock(&recording->mutex);
     recording->is_preparing = false;
     if (spare == NULL) recording->again_at = now() + SECOND;
-    if (spare != NULL && recording->state == RECORDS && recording->spare == NULL) {
+    if (spare != NULL && recording->state == RECORDS && recording->spare == NULL && shape.size == recording->shape.size) {
         recording->spare = spare;
         spare = NULL;
     }
@@ -569,24 +632,6 @@ static bool is_told(uint32_t status) {
     return status == POVUNDIRI_DONE || status == POVUNDIRI_REFUSED_OTHER_SPEC || status == POVUNDIRI_REFUSED_TOO_LARGE;
 }
 
-/* Whether a name and a spec are such as a histogram may have, and whether it is too large, with samples in two buckets: a segment in the
- * heap says so, that is such as those of the recording. */
-static uint32_t judge(const struct povundiri_recording *recording, struct metric *metric) {
-    struct povundiri_handle segment = {false, NULL}, recorder = {false, NULL};
-    size_t hist = 0;
-    uint32_t status = povundiri_create(recording->shape, &segment);
-    if (status == POVUNDIRI_DONE) status = povundiri_recorder(&segment, 2, &recorder);
-    if (status == POVUNDIRI_DONE) {
-        status = povundiri_hist(&recorder, metric->name, metric->length, metric->spec, metric->values, metric->count, &hist);
-    }
-    if (status == POVUNDIRI_DONE) status = povundiri_add(&recorder, hist, 0, 1);
-    if (status == POVUNDIRI_DONE) status = povundiri_add(&recorder, hist, INT32_MAX, 1);
-    if (recorder.full) povundiri_drop(&recorder);
-    if (segment.full) povundiri_drop(&segment);
-    metric->is_too_large = status == POVUNDIRI_REFUSED_FULL || status == POVUNDIRI_REFUSED_TOO_LARGE;
-    return metric->is_too_large ? (uint32_t)POVUNDIRI_DONE : status;
-}
-
 static uint32_t hist_of(struct povundiri_recording *recording, const char *name, size_t length, struct povundiri_spec spec,
                         const uint32_t *values, size_t count, size_t *metric) {
     uint32_t status;
@@ -600,7 +645,7 @@ static uint32_t hist_of(struct povundiri_recording *recording, const char *name,
     }
     status = new_metric(recording, name, length, spec, values, count);
     if (status != POVUNDIRI_DONE) return status;
-    status = judge(recording, recording->metrics[recording->count - 1]);
+    status = judge(recording->shape, recording->metrics[recording->count - 1]);
     if (status == POVUNDIRI_DONE) status = ask(recording, recording->count - 1);
     if (is_told(status)) {
         *metric = recording->count - 1;
@@ -647,7 +692,8 @@ static struct povundiri_recording *new_recording(const struct povundiri_recordin
     if (recording->options.bytes == 0) recording->options.bytes = USUAL_BYTES;
     if (recording->options.fold_at == 0) recording->options.fold_at = USUAL_FOLD_AT;
     if (recording->options.apart == 0) recording->options.apart = USUAL_APART;
-    recording->shape = shape_for(recording->options.bytes);
+    recording->bytes = recording->options.bytes;
+    recording->shape = shape_for(recording->bytes);
     recording->turn = NO_SEGMENT;
     recording->shared.recording = recording;
     clear(&recording->shared);
@@ -667,12 +713,11 @@ static void begin_first(struct povundiri_recording *recording, struct povundiri_
     struct povundiri_shape shape = recording->shape;
     struct povundiri_found found;
     shape.id = random_of(recording);
-    if (povundiri_folder_adopt(recording->folder, shape, &found, &began->fault) == POVUNDIRI_DONE && found.adopted != NULL) {
-        make_current(recording, found.adopted);
-        began->adopted = true;
+    if (povundiri_folder_adopt(recording->folder, shape, &found, &began->fault) == POVUNDIRI_DONE && found.newest != NULL) {
+        make_current(recording, found.newest, found.is_adopted ? 0 : now());
+        began->adopted = found.is_adopted;
     } else {
         began->fault = begin_next(recording);
-        recording->began_at = 0;
     }
     began->refused = found.refused;
     memcpy(began->set_aside, found.set_aside, sizeof found.set_aside);
@@ -700,8 +745,8 @@ uint32_t povundiri_recording_open(const char *folder, const struct povundiri_rec
     uint32_t status;
     int state;
     if (folder == NULL || recording == NULL || began == NULL) return POVUNDIRI_NULL;
-    memset(began, 0, sizeof *began);
     if (*recording != NULL) return POVUNDIRI_NOT_EMPTY;
+    memset(began, 0, sizeof *began);
     pthread_once(&once, make_ready);
     made = is_ready ? new_recording(options) : NULL;
     if (made == NULL) return POVUNDIRI_NO_MEMORY;

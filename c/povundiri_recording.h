@@ -12,10 +12,12 @@
  * or has too few units left, it begins the next one and counts the same sample there. Others may record into the folder as well, each into
  * segments of its own. povundiri_folder.h says what stands there; povundiri_recording_fold keeps it small.
  *
- * SIZE. All histograms that are in use have to fit in a segment together, and better many times: where they do not, a segment is begun each
- * time one of them finds no room, as fast as `apart` allows, and takes its bytes of the device. A histogram takes 15 words of 8 bytes, its
- * name and, of a scale or a custom one, a word for each value; and for its counts 4 words and 2 for each bucket. Each value of a sparse
- * histogram takes 8 words. So the usual 1 MiB has room for about 64 histograms like the one above, or 1,000 linear ones of 50 buckets.
+ * SIZE. All histograms that are in use have to fit in a segment together, and better many times. Where one of them finds no room in a segment
+ * less than a second after this was begun, the next one is twice as large, and so are later ones of this recording, up to 8,388,608 bytes.
+ * Where that is too small as well, one is begun each second, and what finds no room meanwhile is missed, as ROLLING. A histogram takes 15
+ * words of 8 bytes, its name and, of a scale or a custom one, a word for each value; and for its counts 4 words and 2 for each bucket. Each
+ * value of a sparse histogram takes 8 words. So the usual 1 MiB has room for about 64 histograms like the one above, or 1,000 linear ones of
+ * 50 buckets.
  *
  * THREADS need no handles, and all calls may come from any threads at any time. A thread gets a recorder when it first counts a sample or
  * asks for a histogram, and gives it back when it ends. A sample takes the recording's mutex where it is the first of its thread in a
@@ -62,10 +64,11 @@ extern "C" {
 struct povundiri_recording;
 
 /* All zeros, or a null in its place, are what is usual.
- *   bytes     that a segment has at most, from 512 to 8,388,608; 0: 1 MiB. From 32,768 on, every histogram of 1,000 buckets fits in one
+ *   bytes     that a segment has at most, from 512 to 8,388,608, until one is too small (SIZE, above); 0: 1 MiB. From 32,768 on, every
+ *             histogram of 1,000 buckets fits in one
  *   fold_at   povundiri_recording_export folds first where so many segments or more stand; 0: 64; UINT64_MAX: never
  *   apart     the least nanoseconds from the beginning of a segment to that of the next one; 0: 1,000,000. The first segment of a recording
- *             may be followed at once
+ *             may be followed at once. One of the largest size that has no room is not followed before a second has passed
  *   random    returns random numbers, for ids and names, another one each time; null: getrandom(2). Threads call it as they record, also
  *             two at once, and it makes no call of a recording
  *   context   what `random` is given */
@@ -93,12 +96,14 @@ struct povundiri_began {
 };
 
 /* Why units were not counted.
- *   TOO_LARGE   the histogram does not fit in a segment, not even alone
+ *   TOO_LARGE   the histogram does not fit in a segment of the present size, not even alone
  *   OTHER_SPEC  the present segment has a histogram of that name with another spec: it is continued from another release, or this program
  *               asks for the name with both
- *   NO_SPACE    the present segment has no room or too few units, or there is none, and the system refused the next one, now or less than a
- *               second before: the device is full, a limit is reached, there is no memory, the folder is gone or may not be written
- *   ROLLING     the present segment has no room or too few units, and was begun less than `apart` before
+ *   NO_SPACE    the present segment has no room or too few units, or there is none, and the system refused the next one, or a larger one, now
+ *               or less than a second before: the device is full, a limit is reached, there is no memory, the folder is gone or may not be
+ *               written. A second later the next one has the size of the present one
+ *   ROLLING     the present segment has no room or too few units, and was begun less than `apart` before; or it has no room, is of the largest
+ *               size, and was begun less than a second before
  *   FORKED      this is a child of fork, and the recording its parent's
  *   ENDED       the recording has ended
  *   NO_MEMORY   there was no memory for what the first samples of a thread or of a histogram take */
@@ -120,13 +125,16 @@ enum povundiri_missed {
  *
  * The newest segment of the folder is continued, if nobody records into it, it has the size that the options ask for, it is this user's, it
  * has units and was never full, and povundiri_adopt would take its image. Else the next one is begun; the newest stays, and is in the sum if
- * its header has no fault. So a restart continues where the process before stopped, and a process that starts beside it has its own segment.
+ * its header has no fault. So a restart continues where the process before stopped, unless segments had grown (SIZE, above), and a process
+ * that starts beside it has its own segment.
  *
  * POVUNDIRI_DONE: *recording is not null. It is so also where no segment can be made, as on a full disk: then began->fault says why, samples
- * are missed, as NO_SPACE, and it is tried again, a second later at the earliest. On any other status *recording is as it was.
+ * are missed, as NO_SPACE, and it is tried again, a second later at the earliest. On any other status *recording is as it was, and on NULL and
+ * NOT_EMPTY *began as well.
  *   POVUNDIRI_NULL (any but the options), POVUNDIRI_NOT_EMPTY (*recording), POVUNDIRI_NO_MEMORY, POVUNDIRI_OPEN_NO_MEMORY
  *   POVUNDIRI_OPEN_BAD_SHAPE   no segment has so many bytes
- *   POVUNDIRI_SYSTEM           began->fault says what: EEXIST: the folder is neither empty nor a recording's; ENOTDIR: it is no folder;
+ *   POVUNDIRI_SYSTEM           began->fault says what: EEXIST: the folder is neither empty nor a recording's (povundiri_folder.h), and nothing
+ *                              is changed in it; ENOTDIR: it is no folder;
  *                              ENOENT: that which it would be in is not there; ENAMETOOLONG, EACCES, EROFS and others as the calls say
  * Keep: pointers; process. */
 uint32_t povundiri_recording_open(const char *folder, const struct povundiri_recording_options *options,
@@ -146,7 +154,8 @@ void povundiri_recording_end(struct povundiri_recording *recording);
  * POVUNDIRI_DONE; or one of these, and *metric is a number all the same:
  *   POVUNDIRI_REFUSED_OTHER_SPEC   the present segment has it with another spec: samples are missed until the next one is begun, which may be
  *                                  long (SPECS, above). Other `bytes` at the next start begin one at once
- *   POVUNDIRI_REFUSED_TOO_LARGE    no segment has room for it: samples are missed, all of them or from the second bucket on
+ *   POVUNDIRI_REFUSED_TOO_LARGE    no segment of the present size has room for it: samples are missed, all of them or from the second bucket
+ *                                  on, unless segments grow (SIZE, above)
  * Or there is none:
  *   POVUNDIRI_NULL, POVUNDIRI_NO_MEMORY, POVUNDIRI_OPEN_NO_MEMORY, POVUNDIRI_REFUSED_NO_MEMORY
  *   POVUNDIRI_BAD_KIND, POVUNDIRI_REFUSED_BAD_NAME, POVUNDIRI_SPEC_..   as povundiri_hist says

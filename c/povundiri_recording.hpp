@@ -77,8 +77,8 @@ public:
     }
     ~Recording() { end(); }
 
-    // Opens one in 'recording', which has to be empty: NotEmpty else. Where no fault is returned it holds a recording, also if no segment could
-    // be made yet, as on a full disk: then 'began().fault' is not 0.
+    // Opens one in 'recording', which has to be empty: NotEmpty else, and it is unchanged. Where no fault is returned it holds a recording,
+    // also if no segment could be made yet, as on a full disk: then 'began().fault' is not 0.
     [[nodiscard]] static std::error_code try_open(const char* folder, Recording& recording, const RecordingOptions& options = {}) noexcept {
         const std::uint32_t status = povundiri_recording_open(folder, &options, &recording.recording_, &recording.began_);
         if (status == POVUNDIRI_SYSTEM) return {recording.began_.fault, std::generic_category()};

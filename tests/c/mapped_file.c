@@ -240,7 +240,7 @@ static void modes(void) {
     umask(022);
     unlink(path_of("mode"));
     for (i = 0; i < sizeof unlawful / sizeof unlawful[0]; i += 1) HOLDS(with("mode", 0, unlawful[i]) == EINVAL);
-    HOLDS(with("mode", POVUNDIRI_FILE_GROUP_WRITES, 0662) == EINVAL && with("mode", 16, 0) == EINVAL);
+    HOLDS(with("mode", POVUNDIRI_FILE_GROUP_WRITES, 0662) == EINVAL && with("mode", 32, 0) == EINVAL);
     HOLDS(!is_there(path_of("mode")));
 }
 
@@ -269,6 +269,23 @@ static void links(void) {
     HOLDS(with("link", 0, 0) == ELOOP && with("dangling", 0, 0) == ELOOP && !is_there(path_of("made_by_link")));
     HOLDS(with("link", POVUNDIRI_FILE_FOLLOW, 0) == 0 && with("dangling", POVUNDIRI_FILE_FOLLOW, 0) == 0);
     HOLDS(length_of("made_by_link") == 8224 && units_in(path_of("target")) == 5);
+}
+
+/* A file that has to be there: none is made, also where the last one was set aside. */
+static void existing(void) {
+    static const struct povundiri_file_options options = {POVUNDIRI_FILE_EXISTING, 0};
+    const uint64_t wrong = 16; /* the free pointer, before the record */
+    struct povundiri_file file = {0};
+    struct povundiri_handle segment = {0};
+    struct povundiri_opened opened;
+    HOLDS(with("existing", POVUNDIRI_FILE_EXISTING, 0) == ENOENT && !is_there(path_of("existing")));
+    store("existing", "", 0);
+    HOLDS(with("existing", POVUNDIRI_FILE_EXISTING, 0) == 0 && length_of("existing") == 8224);
+    make_segment("existing", 5);
+    HOLDS(with("existing", POVUNDIRI_FILE_EXISTING, 0) == 0 && units_in(path_of("existing")) == 5);
+    store_at("existing", 8 + 8 * 7, &wrong, 8);
+    ANSWERS(SYSTEM, povundiri_open(path_of("existing"), shape_of(WORDS), POVUNDIRI_ADOPT_OR_SET_ASIDE, &options, &file, &segment, &opened));
+    HOLDS(opened.fault == ENOENT && opened.outcome == POVUNDIRI_NOTHING && !is_there(path_of("existing")) && is_there(opened.set_aside));
 }
 
 static void no_files(void) {
@@ -336,6 +353,7 @@ int main(int count, char **words) {
     failed += group("writers", writers);
     failed += geteuid() == 0 ? group("foreign_owner", foreign_owner) : left_out("foreign_owner", "only root can give a file away");
     failed += group("links", links);
+    failed += group("existing", existing);
     failed += group("no_files", no_files);
     failed += group("goes_on", goes_on);
     return failed != 0;

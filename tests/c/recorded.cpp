@@ -1,23 +1,18 @@
 // Recordings in one process and its children: 'recorded FOLDER [threads]'. Each group works in a folder of its own below that. With
 // 'threads' only those are run that have threads and no children: for the thread sanitizer. It is linked with -Wl,--wrap=posix_fallocate.
 #include <sys/resource.h>
-#include <sys/stat.h>
-#include <sys/wait.h>
-#include <unistd.h>
 
 #include <atomic>
 #include <cerrno>
+#include <chrono>
 #include <condition_variable>
 #include <csignal>
 #include <cstdlib>
-#include <functional>
 #include <mutex>
-#include <string>
 #include <thread>
 #include <vector>
 
-#include "checks.hpp"
-#include "povundiri_recording.hpp"
+#include "recorded.hpp"
 
 namespace {
 
@@ -32,56 +27,6 @@ extern "C" int __wrap_posix_fallocate(int descriptor, off_t from, off_t length) 
 
 namespace {
 
-using povundiri::Metric;
-using povundiri::Missed;
-using povundiri::Recording;
-using povundiri::RecordingOptions;
-using povundiri::Status;
-
-std::string home;
-
-std::string folder(const char* name) { return home + "/" + name; }
-
-// So small that a few histograms fill one, and as fast as it goes.
-RecordingOptions small() {
-    RecordingOptions options{};
-    options.bytes = 16'384;
-    options.apart = 1;
-    return options;
-}
-
-bool opens(const std::string& path, Recording& recording, const RecordingOptions& options = {}) {
-    return !Recording::try_open(path.c_str(), recording, options);
-}
-
-// The units of a histogram in a report; -1 if it has none.
-long long units_in(const std::string& report, const std::string& name) {
-    const std::string begins = "\n" + name + ",total,", text = "\n" + report;
-    const std::size_t at = text.find(begins);
-    return at == std::string::npos ? -1 : std::stoll(text.substr(at + begins.size()));
-}
-
-// The same of a folder, for readers beside folds; -2 if too many of these have ended meanwhile.
-long long units_beside(const std::string& path, const std::string& name) {
-    povundiri_handle sums = {};
-    int fault = 0;
-    std::size_t needed = 0;
-    const std::uint32_t status = povundiri_folder_sums(path.c_str(), &sums, nullptr, &fault);
-    if (status == POVUNDIRI_BUSY) return -2;
-    ANSWERS(DONE, status);
-    ANSWERS(SHORT, povundiri_sums_report(&sums, nullptr, 0, &needed));
-    std::string report(needed, ' ');
-    ANSWERS(DONE, povundiri_sums_report(&sums, report.data(), needed, nullptr));
-    povundiri_sums_drop(&sums);
-    return units_in(report, name);
-}
-
-Metric metric_of(Recording& recording, const char* name, povundiri_spec spec = {POVUNDIRI_BOOLEAN, 0, 0, 0}) {
-    Metric metric;
-    DONE(recording.try_hist(name, spec, {}, metric));
-    return metric;
-}
-
 void metrics() {
     Recording recording;
     Metric metric, none;
@@ -94,6 +39,9 @@ void metrics() {
     ANSWERS(NULL, povundiri_recording_open(nullptr, nullptr, &own, &began));
     HOLDS(povundiri_recording_open(folder("metrics").c_str(), nullptr, &own, &began) == 0 && began.number == 2);
     ANSWERS(NOT_EMPTY, povundiri_recording_open(folder("metrics").c_str(), nullptr, &own, &began));
+    ANSWERS(NULL, povundiri_recording_open(nullptr, nullptr, &own, &began));
+    HOLDS(began.number == 2);
+    HOLDS(Recording::try_open(folder("metrics").c_str(), recording) == Status::NotEmpty && recording.began().number == 1);
     HOLDS(povundiri_recording_hist(own, "b", 1, boolean, nullptr, 0, &one) == 0);
     HOLDS(povundiri_recording_hist(own, "b and more", 1, again, nullptr, 0, &other) == 0);
     HOLDS(povundiri_recording_scale(own, "s", 1, 1000, 2, &scale) == 0);
@@ -188,6 +136,91 @@ void too_large() {
     HOLDS(povundiri_folder_count(folder("large").c_str(), &segments) == 0 && segments < 10);
 }
 
+// Threads count in histograms that do not fit together in a segment of 16 KiB: the third segment has room for all, since each is twice as
+// large as the one before. By the header a histogram takes 15 words, one for its name, and 4 and 2 for each bucket: 20 of them 35,200 bytes.
+void growth_of_segments() {
+    constexpr int kThreads = 3, kMetrics = 20;
+    const std::string path = folder("growth");
+    const auto begins = std::chrono::steady_clock::now(), ends = begins + std::chrono::milliseconds(200);
+    RecordingOptions options{};
+    options.bytes = 16'384;
+    Recording recording;
+    HOLDS(opens(path, recording, options));
+    std::vector<Metric> metrics;
+    for (int i = 0; i < kMetrics; ++i) {
+        metrics.push_back(metric_of(recording, ("h" + std::to_string(i)).c_str(), {POVUNDIRI_LINEAR, 1, 1000, 100}));
+    }
+    recording.leave();
+    std::atomic<long long> counted[kMetrics] = {}, missed{0};
+    std::vector<std::thread> threads;
+    for (int thread = 0; thread < kThreads; ++thread) {
+        threads.emplace_back([&] {
+            for (std::int32_t value = 0; std::chrono::steady_clock::now() < ends; value = (value + 7) % 1000) {
+                for (int i = 0; i < kMetrics; ++i) (metrics[i].add(value) ? counted[i] : missed) += 1;
+            }
+        });
+    }
+    for (std::thread& thread : threads) thread.join();
+    const std::uint64_t segments = segments_in(path), all = static_cast<std::uint64_t>(missed);
+    HOLDS(recording.missed() == all && recording.missed(Missed::Rolling) == all);
+    HOLDS(segments >= 3 && segments < 10);
+    // Unless the machine had something else to do.
+    if (std::chrono::steady_clock::now() - begins < std::chrono::seconds(1)) {
+        HOLDS(segments == 3 && bytes_of(path + "/0000000001.seg") == 16'384 + 16);
+        HOLDS(bytes_of(path + "/0000000002.seg") == 32'768 + 16 && bytes_of(path + "/0000000003.seg") == 65'536 + 16);
+    }
+    const auto are_counted = [&](const std::string& report) {
+        for (int i = 0; i < kMetrics; ++i) {
+            if (counted[i] == 0 || units_in(report, "h" + std::to_string(i)) != counted[i]) return false;
+        }
+        return true;
+    };
+    HOLDS(are_counted(recording.report()));
+    HOLDS(recording.fold() == segments - 1 && segments_in(path) == 1 && are_counted(recording.report()));
+}
+
+// Segments of the largest size that are too small are a second apart. A value of a sparse histogram takes 64 bytes: so 8 MiB have room for
+// fewer than 131,072 of them.
+void largest() {
+    constexpr int kMost = 400'000;
+    RecordingOptions options = small();
+    options.bytes = 4 << 20;
+    Recording recording;
+    HOLDS(opens(folder("largest"), recording, options));
+    const Metric sparse = metric_of(recording, "s", {POVUNDIRI_SPARSE, 0, 0, 0});
+    int value = 0;
+    while (value < kMost && sparse.add(value)) ++value;
+    HOLDS(value > 131'072 && value < kMost && segments_in(folder("largest")) == 2);
+    HOLDS(bytes_of(folder("largest") + "/0000000002.seg") == (8 << 20) + 16);
+    int missed = 1;
+    while (missed < 1000 && !sparse.add(value + missed)) ++missed;
+    HOLDS(missed == 1000 && recording.missed() == 1000 && recording.missed(Missed::Rolling) == 1000);
+    HOLDS(sparse.add(value - 1) && segments_in(folder("largest")) == 2);
+    std::this_thread::sleep_for(std::chrono::milliseconds(1100));
+    HOLDS(sparse.add(value) && segments_in(folder("largest")) == 3 && recording.missed() == 1000);
+    HOLDS(units_in(recording.report(), "s") == value + 2);
+}
+
+// A histogram that is too large for the first segments is counted in those that have grown.
+void fits_later() {
+    RecordingOptions options = small();
+    options.bytes = 8'192;
+    Recording recording;
+    HOLDS(opens(folder("later"), recording, options));
+    const Metric sparse = metric_of(recording, "s", {POVUNDIRI_SPARSE, 0, 0, 0});
+    Metric large;
+    RETURNS(RefusedTooLarge, recording.try_hist("l", {POVUNDIRI_LINEAR, 1, 100'000, 900}, {}, large));
+    long long counted = 0;
+    for (int i = 0; i < 50; ++i) counted += large.add(1 + 2000 * i);
+    HOLDS(counted < 50 && recording.missed() == static_cast<std::uint64_t>(50 - counted));
+    const std::uint64_t missed = recording.missed(Missed::TooLarge);
+    for (int value = 0; value < 1000; ++value) HOLDS(sparse.add(value));
+    for (int i = 0; i < 50; ++i) HOLDS(large.add(1 + 2000 * i));
+    HOLDS(recording.missed() == missed && recording.missed(Missed::TooLarge) == missed);
+    HOLDS(units_in(recording.report(), "l") == counted + 50 && units_in(recording.report(), "s") == 1000);
+    DONE(recording.try_hist("l", {POVUNDIRI_LINEAR, 1, 100'000, 900}, {}, large));
+}
+
 void other_spec() {
     const povundiri_spec sparse = {POVUNDIRI_SPARSE, 0, 0, 0};
     Recording recording;
@@ -270,9 +303,10 @@ void many_threads() {
     HOLDS(units_in(recording.report(), "b") == kThreads * kSamples + 2LL * kMost);
 }
 
-// Threads that come and go beside rolls, folds and readers: nothing is missed, no reader sees a number fall.
+// Threads that come and go beside rolls, folds and readers: nothing is missed, no reader sees a number fall. A segment has units for 21
+// samples of the many.
 void beside() {
-    constexpr int kThreads = 4, kLives = 20, kSamples = 300;
+    constexpr long long kThreads = 4, kLives = 20, kSamples = 300, kMany = 200'000'000;
     Recording recording;
     HOLDS(opens(folder("beside"), recording, small()));
     const Metric sparse = metric_of(recording, "s", {POVUNDIRI_SPARSE, 0, 0, 0});
@@ -302,7 +336,10 @@ void beside() {
         threads.emplace_back([&, i] {
             for (int life = 0; life < kLives; ++life) {
                 std::thread([&, i, life] {
-                    for (int sample = 0; sample < kSamples; ++sample) counted += sparse.add(i + 7 * life + sample, 1) ? 1 : 0;
+                    for (int sample = 0; sample < kSamples; ++sample) {
+                        const std::uint32_t count = sample % 10 == 0 ? kMany : 1;
+                        counted += sparse.add(i + 7 * life + sample, count) ? count : 0;
+                    }
                 }).join();
             }
         });
@@ -310,16 +347,16 @@ void beside() {
     for (std::thread& thread : threads) thread.join();
     ends = true;
     for (std::thread& thread : others) thread.join();
-    HOLDS(counted == kThreads * kLives * kSamples && recording.missed() == 0);
+    HOLDS(counted == kThreads * kLives * kSamples / 10 * (kMany + 9) && recording.missed() == 0);
     folded += static_cast<int>(recording.fold());
-    HOLDS(fallen == 0 && missing == 0 && folded > 0);
+    HOLDS(fallen == 0 && missing == 0 && folded > 100);
     HOLDS(units_in(recording.report(), "s") == counted);
 }
 
 // What a month has: more units than a segment, by many segments that are folded. The sums are exact.
 void month() {
     constexpr int kSamples = 4000;
-    constexpr std::uint32_t kCount = 2'500'000, kMost = 3'000'000'000;
+    constexpr std::uint32_t kCount = 250'000'000, kMost = 3'000'000'000;
     Recording recording;
     RecordingOptions options = small();
     options.bytes = 4'096;
@@ -331,10 +368,10 @@ void month() {
         if (sample % 1000 == 0) HOLDS(boolean.add(1, kMost));
         if (sample % 200 == 0) folded += recording.fold();
     }
-    HOLDS(folded > 20 && recording.missed() == 0);
-    HOLDS(units_in(recording.report(), "s") == 10'000'000'000 && units_in(recording.report(), "b") == 12'000'000'000);
+    HOLDS(folded > 200 && recording.missed() == 0);
+    HOLDS(units_in(recording.report(), "s") == 1'000'000'000'000 && units_in(recording.report(), "b") == 12'000'000'000);
     recording.fold();
-    HOLDS(units_in(recording.report(), "s") == 10'000'000'000 && units_in(recording.report(), "b") == 12'000'000'000);
+    HOLDS(units_in(recording.report(), "s") == 1'000'000'000'000 && units_in(recording.report(), "b") == 12'000'000'000);
 }
 
 // A thread that is idle holds the segment that it has recorded into, until it leaves.
@@ -364,14 +401,6 @@ void idle() {
     stage = 4;
     thread.join();
     HOLDS(units_in(recording.report(), "b") == 2 && units_in(recording.report(), "s") == added);
-}
-
-// Whether a child says so, by its status.
-bool in_child(const std::function<bool()>& says) {
-    const pid_t child = fork();
-    if (child == 0) _exit(says() ? 0 : 1);
-    int status = 0;
-    return child > 0 && waitpid(child, &status, 0) == child && WIFEXITED(status) && WEXITSTATUS(status) == 0;
 }
 
 void forks() {
@@ -428,6 +457,29 @@ void no_space() {
     }));
 }
 
+// Where a larger segment is refused, the next one has the size of the present one, a second later.
+void may_not_grow() {
+    HOLDS(in_child([] {
+        struct rlimit limit;
+        if (getrlimit(RLIMIT_FSIZE, &limit) != 0) return false;
+        limit.rlim_cur = 20'000;
+        if (setrlimit(RLIMIT_FSIZE, &limit) != 0) return false;
+        Recording recording;
+        Metric sparse;
+        if (!opens(folder("grow"), recording, small())) return false;
+        if (recording.try_hist("s", {POVUNDIRI_SPARSE, 0, 0, 0}, {}, sparse) != Status::Done) return false;
+        long long counted = 0, missed = 0;
+        for (int second = 0; second < 2; ++second) {
+            for (int value = 0; value < 1000; ++value) (sparse.add(1000 * second + value) ? counted : missed) += 1;
+            if (segments_in(folder("grow")) != static_cast<std::uint64_t>(second + 1)) return false;
+            std::this_thread::sleep_for(std::chrono::milliseconds(1100));
+        }
+        return sparse.add(-1) && segments_in(folder("grow")) == 3 && bytes_of(folder("grow") + "/0000000003.seg") == 16'384 + 16 &&
+               missed > 1000 && recording.missed(Missed::NoSpace) == static_cast<std::uint64_t>(missed) &&
+               recording.missed() == static_cast<std::uint64_t>(missed) && units_in(recording.report(), "s") == counted + 1;
+    }));
+}
+
 // Totals that are longer than a limit of the files' length allows: the fold is refused, no signal comes, and the sum is what it was.
 void long_totals() {
     HOLDS(in_child([] {
@@ -435,14 +487,14 @@ void long_totals() {
         Metric sparse;
         if (!opens(folder("limit"), recording, small())) return false;
         if (recording.try_hist("s", {POVUNDIRI_SPARSE, 0, 0, 0}, {}, sparse) != Status::Done) return false;
+        for (int value = 0; value < 4000; ++value) {
+            if (!sparse.add(value)) return false;
+        }
         struct rlimit limit;
         if (getrlimit(RLIMIT_FSIZE, &limit) != 0) return false;
         limit.rlim_cur = 20'000;
         std::signal(SIGXFSZ, SIG_DFL);
         if (setrlimit(RLIMIT_FSIZE, &limit) != 0) return false;
-        for (int value = 0; value < 4000; ++value) {
-            if (!sparse.add(value)) return false;
-        }
         std::uint64_t folded = 0;
         return recording.try_fold(folded) == std::errc::file_too_large && folded == 0 && units_in(recording.report(), "s") == 4000;
     }));
@@ -509,17 +561,21 @@ int run(bool only_threads) {
     int failed = group("threads beside rolls and folds", beside);
     failed += group("many threads", many_threads);
     failed += group("an idle thread", idle);
+    failed += group("segments that grow", growth_of_segments);
+    failed += group("segments of the largest size", largest);
     if (only_threads) return failed;
     failed += group("metrics", metrics);
     failed += group("folders", folders);
     failed += group("again", again);
     failed += group("a segment that is not continued", not_continued);
     failed += group("a histogram that is too large", too_large);
+    failed += group("a histogram that fits later", fits_later);
     failed += group("another spec", other_spec);
     failed += group("ended", ended);
     failed += group("a month", month);
     failed += group("forks", forks);
     failed += group("a limit of the files' length", no_space);
+    failed += group("segments beyond that limit", may_not_grow);
     failed += group("totals beyond that limit", long_totals);
     failed += group("a full disk", full_disk);
     failed += group("an unwritable folder", unwritable);

@@ -8,6 +8,7 @@
 //     f   a thread folds again and again
 //     i   a thread has recorded one sample, and is idle
 //     o   the last metric does not fit in a segment of 8,192 bytes
+//     g   so many values of a sparse histogram that segments of less than 2 MiB are full, and grow
 #include <fcntl.h>
 #include <sys/mman.h>
 #include <unistd.h>
@@ -58,14 +59,14 @@ Tally& tally_of(const std::string& path) {
 
 std::atomic<bool> ends{false};
 
-// One life of a thread: some thousand samples.
-void live(const std::vector<povundiri::Metric>& metrics, Cell (&cells)[kMetrics], std::uint32_t seed) {
+// One life of a thread: some thousand samples, of so many values of the sparse histogram.
+void live(const std::vector<povundiri::Metric>& metrics, Cell (&cells)[kMetrics], std::uint32_t seed, std::uint32_t values) {
     std::mt19937 chance(seed);
     const std::uint32_t samples = 200 + chance() % 4000;
     for (std::uint32_t i = 0; i < samples && !ends; ++i) {
         const std::size_t metric = chance() % metrics.size();
         const std::uint32_t count = chance() % 100 == 0 ? chance() % 3'000'000 + 1 : 1 + chance() % 3;
-        const auto value = static_cast<std::int32_t>(metric == 3 ? chance() % 64 : chance() % 100'000);
+        const auto value = static_cast<std::int32_t>(metric == 3 ? chance() % values : chance() % 100'000);
         cells[metric].begun += count;
         if (metrics[metric].add(value, count)) {
             cells[metric].ended += count;
@@ -163,13 +164,15 @@ void run(const Words& words) {
                                               recording.linear("linear", 1, 1000, 10), recording.sparse("sparse")};
     metrics.push_back(words.mode.find('o') != std::string::npos ? recording.linear("custom", 1, 100'000, 500)
                                                                 : recording.custom("custom", {10, 100}));
+    const std::uint32_t values = words.mode.find('g') != std::string::npos ? 20'000 : 64;
     std::puts("begins");
     std::fflush(stdout);
     std::vector<std::thread> threads;
     for (std::size_t i = 0; i < kThreads; ++i) {
         threads.emplace_back([&, i] {
             for (std::uint32_t lives = 0; !ends; ++lives) {
-                std::thread(live, std::cref(metrics), std::ref(tally[i]), static_cast<std::uint32_t>(words.seed + 1000 * i + lives)).join();
+                const auto seed = static_cast<std::uint32_t>(words.seed + 1000 * i + lives);
+                std::thread(live, std::cref(metrics), std::ref(tally[i]), seed, values).join();
             }
         });
     }

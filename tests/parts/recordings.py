@@ -1,5 +1,5 @@
-"""Threads of a C++ program record into a folder, in segments so small that one is begun each few milliseconds, and
-the program is killed at a random moment and starts again in the same folder.
+"""Threads of a C++ program record into a folder, where they spend the units of a segment in some ten milliseconds, or
+fill small segments, which grow. The program is killed at a random moment and starts again in the same folder.
 
 The sum of the folder has of each histogram at least what had ended, and at most what was begun, over all that ran
 there: one after the other, two at once, or one that starts while another ends; with folds and without; and no reader
@@ -37,7 +37,8 @@ STOPPED = (
 )
 # A program that begins segments has made so many of these calls after some milliseconds.
 BEGINNINGS = 100
-FULL_DISK = "-Wl,--wrap=posix_fallocate"
+# The programs that check something, and which calls to the system each of them stands before.
+CHECKED = {"recorded": "-Wl,--wrap=posix_fallocate", "recorded_folders": "-Wl,--wrap=open"}
 THREADS = "-fsanitize=thread"
 # The reasons for what is missed, in the order of the library; what a run may miss that nothing disturbs.
 REASONS = ("too_large", "other_spec", "no_space", "rolling", "forked", "ended", "no_memory")
@@ -269,10 +270,10 @@ def folds_killed(runs: Folder) -> str | None:
     return runs.wrong()
 
 
-def beginnings_killed(runs: Folder) -> str | None:
+def beginnings_killed(runs: Folder, mode: str) -> str | None:
     """The program is killed before each of the calls to the system with which it starts and begins segments."""
     for at in range(1, BEGINNINGS):
-        status = stopped(runs.words(0, runs.chance.choice(SIZES), 1, "-"), at)
+        status = stopped(runs.words(0, runs.chance.choice(SIZES), 1, mode), at)
         if status != -9:
             return f"status {status} where it is killed before call {at}"
         wrong = runs.wrong() if (runs.folder / "recording").exists() else None
@@ -280,7 +281,7 @@ def beginnings_killed(runs: Folder) -> str | None:
             wrong = runs.folded()
         if wrong is not None:
             return f"killed before call {at}: {wrong}"
-    with runs.running(0, SIZES[0]):
+    with runs.running(0, SIZES[0], mode):
         time.sleep(0.05)
     left = [path.name for path in runs.folder.glob("spare-*")]
     return f"spares are left: {left}" if len(left) > 2 else runs.wrong()
@@ -314,7 +315,7 @@ class Programs:
             for source in (*sources, native.PROGRAMS / "recorded.cpp")
         ]
         built = home / "recorded"
-        words = [*native.compiler(".cpp"), THREADS, "-pthread", FULL_DISK]
+        words = [*native.compiler(".cpp"), THREADS, "-pthread", CHECKED["recorded"]]
         native.run([*words, "-o", built, *objects, *self.installed.words("--libs")])
         return built
 
@@ -334,9 +335,10 @@ class Programs:
         yield from native.checks_of("collected", [program, home], {**os.environ})
 
     def all_checked(self) -> Iterator[Case]:
-        source = native.PROGRAMS / "recorded.cpp"
-        yield from self.checked("recorded", self.installed.program(source, FULL_DISK, *native.SANITIZED))
-        yield from self.checked("no exceptions", self.installed.program(source, FULL_DISK, "-fno-exceptions"))
+        for name, words in CHECKED.items():
+            source = native.PROGRAMS / f"{name}.cpp"
+            yield from self.checked(name, self.installed.program(source, words, *native.SANITIZED))
+            yield from self.checked(f"{name}, no exceptions", self.installed.program(source, words, "-fno-exceptions"))
         yield from self.checked("threads", self.for_threads(), "threads")
         yield from self.collected()
 
@@ -360,11 +362,12 @@ def cases(program: None, options: argparse.Namespace) -> Iterator[Case]:
             return Folder(programs.recording, programs.reader, home, chance)
 
         kills = options.kills // 2
-        for mode in ("-", "f", "rf"):
+        for mode in ("-", "f", "rf", "fg"):
             yield f"killed, mode {mode}", killed(runs(f"killed_{mode}"), kills, mode)
         yield "two at once", beside(runs("beside"), 10)
         yield "restarts that overlap", overlapping(runs("overlapping"), 20)
-        for mode in ("-", "r", "f", "rfi", "o"):
+        for mode in ("-", "r", "f", "rfi", "o", "g", "rfg"):
             yield f"to its end, mode {mode}", to_its_end(runs(f"end_{mode}"), mode)
         yield "folds that are killed", folds_killed(runs("folds"))
-        yield "killed as it begins a segment", beginnings_killed(runs("beginnings"))
+        for mode in ("-", "g"):
+            yield f"killed as it begins a segment, mode {mode}", beginnings_killed(runs(f"beginnings_{mode}"), mode)

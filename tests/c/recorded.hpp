@@ -1,0 +1,83 @@
+// What the tests of recordings in one process and its children share.
+#pragma once
+
+#include <sys/stat.h>
+#include <sys/wait.h>
+#include <unistd.h>
+
+#include <functional>
+#include <string>
+
+#include "checks.hpp"
+#include "povundiri_recording.hpp"
+
+using povundiri::Metric;
+using povundiri::Missed;
+using povundiri::Recording;
+using povundiri::RecordingOptions;
+using povundiri::Status;
+
+// Where each group has folders of its own.
+inline std::string home;
+
+inline std::string folder(const char* name) { return home + "/" + name; }
+
+// So small that a few histograms fill one, and as fast as it goes.
+inline RecordingOptions small() {
+    RecordingOptions options{};
+    options.bytes = 16'384;
+    options.apart = 1;
+    return options;
+}
+
+// How many segments stand in a folder, and the bytes of one; -1 if it is not there.
+inline std::uint64_t segments_in(const std::string& path) {
+    std::uint64_t segments = 0;
+    HOLDS(povundiri_folder_count(path.c_str(), &segments) == 0);
+    return segments;
+}
+
+inline long bytes_of(const std::string& path) {
+    struct stat about;
+    return lstat(path.c_str(), &about) == 0 ? static_cast<long>(about.st_size) : -1;
+}
+
+inline bool opens(const std::string& path, Recording& recording, const RecordingOptions& options = {}) {
+    return !Recording::try_open(path.c_str(), recording, options);
+}
+
+// The units of a histogram in a report; -1 if it has none.
+inline long long units_in(const std::string& report, const std::string& name) {
+    const std::string begins = "\n" + name + ",total,", text = "\n" + report;
+    const std::size_t at = text.find(begins);
+    return at == std::string::npos ? -1 : std::stoll(text.substr(at + begins.size()));
+}
+
+// The same of a folder, for readers beside folds; -2 if too many of these have ended meanwhile.
+inline long long units_beside(const std::string& path, const std::string& name) {
+    povundiri_handle sums = {};
+    int fault = 0;
+    std::size_t needed = 0;
+    const std::uint32_t status = povundiri_folder_sums(path.c_str(), &sums, nullptr, &fault);
+    if (status == POVUNDIRI_BUSY) return -2;
+    ANSWERS(DONE, status);
+    ANSWERS(SHORT, povundiri_sums_report(&sums, nullptr, 0, &needed));
+    std::string report(needed, ' ');
+    ANSWERS(DONE, povundiri_sums_report(&sums, report.data(), needed, nullptr));
+    povundiri_sums_drop(&sums);
+    return units_in(report, name);
+}
+
+inline Metric metric_of(Recording& recording, const char* name, povundiri_spec spec = {POVUNDIRI_BOOLEAN, 0, 0, 0}) {
+    Metric metric;
+    DONE(recording.try_hist(name, spec, {}, metric));
+    return metric;
+}
+
+// Whether a child says so, by its status.
+inline bool in_child(const std::function<bool()>& says) {
+    const pid_t child = fork();
+    if (child == 0) _exit(says() ? 0 : 1);
+    int status = 0;
+    return child > 0 && waitpid(child, &status, 0) == child && WIFEXITED(status) && WEXITSTATUS(status) == 0;
+}

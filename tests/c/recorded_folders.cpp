@@ -1,0 +1,225 @@
+// The folders of recordings: whose they are, what a start removes and continues there, and folds with few descriptors: 'recorded_folders
+// FOLDER'. Each group works in a folder of its own below that. It is linked with -Wl,--wrap=open.
+#include <fcntl.h>
+#include <sys/resource.h>
+
+#include <cerrno>
+#include <cstdarg>
+#include <cstdio>
+#include <utility>
+#include <vector>
+
+#include "recorded.hpp"
+
+namespace {
+
+// A folder that is folded, once, just before a segment is opened for recording.
+std::string folded_between;
+
+// How many segments are opened to be folded before one is refused, once; -1: none is.
+int opened_until_fault = -1;
+
+void fold_between() {
+    const std::string path = std::exchange(folded_between, "");
+    std::uint64_t folded = 0;
+    int fault = 0;
+    ANSWERS(DONE, povundiri_folder_fold(path.c_str(), &folded, &fault));
+    HOLDS(folded == 1);
+}
+
+}  // namespace
+
+extern "C" int __real_open(const char* path, int flags, ...);
+extern "C" int __wrap_open(const char* path, int flags, ...) {
+    va_list more;
+    va_start(more, flags);
+    const int mode = (flags & O_CREAT) != 0 ? va_arg(more, int) : 0;
+    va_end(more);
+    const bool is_segment = std::string(path).find(".seg") != std::string::npos, is_recorded = (flags & O_ACCMODE) == O_RDWR;
+    if (is_segment && is_recorded && !folded_between.empty()) fold_between();
+    const int descriptor = __real_open(path, flags, mode);
+    if (descriptor < 0 || !is_segment || is_recorded || opened_until_fault < 0 || opened_until_fault-- > 0) return descriptor;
+    close(descriptor);
+    errno = ENFILE;
+    return -1;
+}
+
+namespace {
+
+bool is_made(const std::string& path, const char* text) {
+    std::FILE* const file = std::fopen(path.c_str(), "w");
+    return file != nullptr && std::fputs(text, file) >= 0 && std::fclose(file) == 0;
+}
+
+// What is named as a recording's mark, and is none: nothing is removed there, or made.
+void marks() {
+    const std::string path = folder("marked"), mark = path + "/recording", spare = path + "/spare-1-0123456789abcdef";
+    HOLDS(mkdir(path.c_str(), 0700) == 0 && is_made(spare, "not a segment") && is_made(folder("empty"), ""));
+    const auto is_refused = [&] {
+        Recording recording;
+        povundiri_handle sums = {};
+        int fault = 0, other = 0;
+        return Recording::try_open(path.c_str(), recording) == std::errc::file_exists && bytes_of(spare) == 13 &&
+               povundiri_folder_sums(path.c_str(), &sums, nullptr, &fault) == POVUNDIRI_SYSTEM && fault == EINVAL &&
+               povundiri_folder_fold(path.c_str(), nullptr, &other) == POVUNDIRI_SYSTEM && other == EINVAL &&
+               bytes_of(path + "/fold.lock") == -1 && segments_in(path) == 0;
+    };
+    HOLDS(is_refused());
+    HOLDS(is_made(mark, "my notes\n") && is_refused() && bytes_of(mark) == 9 && std::remove(mark.c_str()) == 0);
+    HOLDS(mkdir(mark.c_str(), 0700) == 0 && is_refused() && rmdir(mark.c_str()) == 0);
+    HOLDS(symlink(folder("empty").c_str(), mark.c_str()) == 0 && is_refused() && std::remove(mark.c_str()) == 0);
+    HOLDS(mkfifo(mark.c_str(), 0600) == 0 && is_refused() && std::remove(mark.c_str()) == 0);
+    HOLDS(is_made(mark, ""));
+    Recording recording;
+    HOLDS(opens(path, recording) && bytes_of(spare) == -1);
+}
+
+// A spare that nobody holds is removed. What has not the name of one is not, and what somebody holds is not either.
+void spares() {
+    const std::string path = folder("spares");
+    const std::vector<std::string> others = {"spare-",
+                                             "spare-notes",
+                                             "spare-1",
+                                             "spare-1-",
+                                             "spare-1-0123456789abcde",
+                                             "spare-1-0123456789abcdef0",
+                                             "spare-1-0123456789ABCDEF",
+                                             "spare-1-0123456789abcdeg",
+                                             "spare-01-0123456789abcdef",
+                                             "spare-0-0123456789abcdef",
+                                             "spare--1-0123456789abcdef",
+                                             "spare-+1-0123456789abcdef",
+                                             "spare- 1-0123456789abcdef",
+                                             "spare-1- 123456789abcdef",
+                                             "spare-1-0x23456789abcdef",
+                                             "spare-1-0123456789abcdef.txt",
+                                             "spare-1_0123456789abcdef",
+                                             "Spare-1-0123456789abcdef",
+                                             "spare-99999999999999999999-0123456789abcdef",
+                                             "my-spare-1-0123456789abcdef"};
+    const std::vector<std::string> left = {"spare-1-0123456789abcdef", "spare-4194304-0000000000000000", "spare-77-ffffffffffffffff"};
+    Recording held, recording;
+    HOLDS(opens(path, held));
+    for (const std::string& name : others) HOLDS(is_made(path + "/" + name, "x"));
+    for (const std::string& name : left) HOLDS(is_made(path + "/" + name, "x"));
+    HOLDS(mkdir((path + "/spare-2-0123456789abcdef").c_str(), 0700) == 0 && opens(path, recording));
+    for (const std::string& name : others) HOLDS(bytes_of(path + "/" + name) == 1);
+    for (const std::string& name : left) HOLDS(bytes_of(path + "/" + name) == -1);
+    HOLDS(bytes_of(path + "/spare-2-0123456789abcdef") >= 0);
+    // The spare of the one that holds it was not swept: the next segment is begun with it.
+    HOLDS(metric_of(held, "b").add(1, 4'000'000'000) && metric_of(held, "b").add(1, 4'000'000'000) && held.missed() == 0);
+    HOLDS(units_in(held.report(), "b") == 8'000'000'000);
+}
+
+// A fold takes the newest segment just before it is continued: the next number is begun, and that one's file is not made again.
+void taken() {
+    const std::string path = folder("taken"), first = path + "/0000000001.seg";
+    Recording recording;
+    HOLDS(opens(path, recording) && metric_of(recording, "b").add(1, 3));
+    recording.end();
+    folded_between = path;
+    HOLDS(opens(path, recording) && folded_between.empty());
+    HOLDS(!recording.began().adopted && recording.began().number == 2 && recording.began().fault == 0 && bytes_of(first) == -1);
+    ANSWERS(DONE, recording.began().refused);
+    HOLDS(metric_of(recording, "b").add(1, 4) && units_in(recording.report(), "b") == 7 && segments_in(path) == 1);
+}
+
+// A file of the newest number in which nothing was begun, as a crash of the machine may leave it: a segment is begun there, and none is
+// continued.
+void unmade() {
+    const std::string path = folder("unmade"), second = path + "/0000000002.seg";
+    Recording recording;
+    HOLDS(opens(path, recording) && metric_of(recording, "b").add(1, 3));
+    recording.end();
+    HOLDS(is_made(second, "") && chmod(second.c_str(), 0600) == 0 && opens(path, recording));
+    HOLDS(!recording.began().adopted && recording.began().number == 2 && recording.began().fault == 0 && segments_in(path) == 2);
+    HOLDS(metric_of(recording, "b").add(1, 4) && units_in(recording.report(), "b") == 7);
+    recording.end();
+    HOLDS(opens(path, recording) && recording.began().adopted && recording.began().number == 2);
+}
+
+// A folder of final segments, each of which has as many units.
+class Finals {
+   public:
+    explicit Finals(const char* name) : path_(folder(name)) {}
+
+    bool make(std::uint32_t segments) {
+        Recording recording;
+        Metric metric;
+        if (!opens(path_, recording, small()) || recording.try_hist("b", {POVUNDIRI_BOOLEAN, 0, 0, 0}, {}, metric) != Status::Done) return false;
+        for (std::uint32_t i = 0; i < segments; ++i) units_ += metric.add(1, kCount) ? kCount : 0;
+        recording.end();
+        return stand(segments);
+    }
+
+    // Folds with so few descriptors, and says what the system's fault is, or 0.
+    int fold(rlim_t descriptors, std::uint64_t& folded) const {
+        struct rlimit limit, few;
+        int fault = -1;
+        if (getrlimit(RLIMIT_NOFILE, &limit) != 0) return -1;
+        few = limit;
+        few.rlim_cur = descriptors;
+        if (setrlimit(RLIMIT_NOFILE, &few) != 0) return -1;
+        const std::uint32_t status = povundiri_folder_fold(path_.c_str(), &folded, &fault);
+        return setrlimit(RLIMIT_NOFILE, &limit) == 0 && status == (fault == 0 ? POVUNDIRI_DONE : POVUNDIRI_SYSTEM) ? fault : -1;
+    }
+
+    // Whether so many segments stand there, the sum is whole, and no new totals are left.
+    bool stand(std::uint64_t segments) const {
+        return segments_in(path_) == segments && units_beside(path_, "b") == units_ && bytes_of(path_ + "/totals.new") == -1;
+    }
+
+    bool has_totals() const { return bytes_of(path_ + "/totals") != -1; }
+
+   private:
+    static constexpr std::uint32_t kCount = 3'000'000'000;
+    std::string path_;
+    long long units_ = 0;
+};
+
+// More final segments than the process may open at once: they are folded in rounds. Where it may not open four files, none is.
+void few_descriptors() {
+    HOLDS(in_child([] {
+        Finals finals("few");
+        std::uint64_t folded = 9;
+        const int lowest = dup(0);
+        if (lowest < 0 || close(lowest) != 0 || lowest > 30 || !finals.make(64)) return false;
+        for (int more = 0; more < 4; ++more) {
+            if (finals.fold(static_cast<rlim_t>(lowest + more), folded) != EMFILE || folded != 0) return false;
+            if (!finals.stand(64) || finals.has_totals()) return false;
+        }
+        if (finals.fold(40, folded) != 0 || folded != 64 || !finals.stand(0) || !finals.has_totals()) return false;
+        return finals.make(8) && finals.fold(static_cast<rlim_t>(lowest + 4), folded) == 0 && folded == 8 && finals.stand(0);
+    }));
+}
+
+// The system has no descriptor left for a moment, behind each number of segments.
+void no_descriptor() {
+    Finals finals("none_left");
+    std::uint64_t folded = 9;
+    for (int opened = 0; opened < 8; ++opened) {
+        HOLDS(finals.make(8));
+        opened_until_fault = opened;
+        HOLDS(finals.fold(1024, folded) == (opened == 0 ? ENFILE : 0) && folded == (opened == 0 ? 0 : 8) && opened_until_fault == -1);
+        HOLDS(finals.stand(opened == 0 ? 8 : 0));
+        if (opened == 0) HOLDS(finals.fold(1024, folded) == 0 && folded == 8);
+    }
+}
+
+int run() {
+    int failed = group("what is no recording's folder", marks);
+    failed += group("spares", spares);
+    failed += group("a fold before a start", taken);
+    failed += group("a file in which nothing was begun", unmade);
+    failed += group("few descriptors", few_descriptors);
+    failed += group("no descriptor for a moment", no_descriptor);
+    return failed;
+}
+
+}  // namespace
+
+int main(int count, char** words) {
+    if (count != 2) return 2;
+    home = words[1];
+    return run() != 0;
+}

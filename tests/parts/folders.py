@@ -26,7 +26,7 @@ import threading
 import time
 from collections.abc import Callable, Collection, Iterator, Sequence
 
-from parts import failing, recordings, sums
+from parts import failing, recordings, summed_pages, sums
 from support import forge, native, plain_folders, plain_sums, tracer
 from support.plain_folders import LOCK, MARK, NEW_TOTALS, TOTALS, Folder, mapped, name_of, with_id
 from support.program import ROOT, Answer, Case, Path, answer, content, difference, explained, fault, untried
@@ -235,8 +235,9 @@ def among_others(program: pathlib.Path, top: pathlib.Path) -> Iterator[Case]:
     refused = fault(f'{damaged[1]}: "{damaged[0]}"', 3)
     yield "--strict", difference(refused, answer(program, ["report", first, CRASH, second, "--strict"]))
     yield "OLD with a damaged segment", difference(refused, answer(program, ["report", second, "--minus", first]))
+    whole, left = Folder.at(first).reading()
     came = answer(program, ["show", first, "--html"])
-    yield "a page", None if (came.output, came.status) == (b"", 2) else str(came)
+    yield "a page", summed_pages.beside(came, first, whole, left)
     (first / MARK).unlink()
     files = ((file, file.read_bytes()) for file in sorted(first.iterdir()))
     whole, left = plain_sums.sum_of((file, data) for file, data in files if plain_sums.is_taken(data))
@@ -479,6 +480,10 @@ while True:
 """
 
 
+# So many segments make a reading take longer than totals stand.
+BESIDE_CHANGES = 150
+
+
 def changing(program: pathlib.Path, top: pathlib.Path) -> Iterator[Case]:
     """A reader beside folds that end faster than it reads is Busy, and else right."""
     folder = made(top / "changing")
@@ -488,7 +493,8 @@ def changing(program: pathlib.Path, top: pathlib.Path) -> Iterator[Case]:
     front, back = wanted.totals.decode().split("fold,1\n")
     (folder / TOTALS).write_bytes(wanted.totals)
     (folder / name_of(1)).unlink()
-    put(folder, 2, mapped(with_id(CRASH.read_bytes(), 5)))
+    for number in range(2, 2 + BESIDE_CHANGES):
+        put(folder, number, mapped(with_id(CRASH.read_bytes(), number)))
     right = Answer(plain_sums.report_of(Folder.at(folder).reading()[0], 0))
     words: list[Path] = [sys.executable, "-c", CHANGER, folder / TOTALS, f"{front}fold,", f"\n{back}"]
     wrong, busy = None, 0

@@ -44,6 +44,8 @@ THREADS = "-fsanitize=thread"
 REASONS = ("too_large", "other_spec", "no_space", "rolling", "forked", "ended", "no_memory")
 MAY_MISS = ("too_large", "rolling")
 MOST_SECONDS = 100
+# In which a program makes BEGINNINGS calls, also on a machine that has much else to do.
+ENOUGH_SECONDS = 60
 
 Counts = collections.Counter[bytes]
 
@@ -273,7 +275,7 @@ def folds_killed(runs: Folder) -> str | None:
 def beginnings_killed(runs: Folder, mode: str) -> str | None:
     """The program is killed before each of the calls to the system with which it starts and begins segments."""
     for at in range(1, BEGINNINGS):
-        status = stopped(runs.words(0, runs.chance.choice(SIZES), 1, mode), at)
+        status = stopped(runs.words(0, runs.chance.choice(SIZES), ENOUGH_SECONDS, mode), at)
         if status != -9:
             return f"status {status} where it is killed before call {at}"
         wrong = runs.wrong() if (runs.folder / "recording").exists() else None

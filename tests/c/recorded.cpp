@@ -1,5 +1,6 @@
 // Recordings in one process and its children: 'recorded FOLDER [threads]'. Each group works in a folder of its own below that. With
-// 'threads' only those are run that have threads and no children: for the thread sanitizer. It is linked with -Wl,--wrap=posix_fallocate.
+// 'threads' only those are run that have threads and no children: for the thread sanitizer. It is linked with -Wl,--wrap=clock_gettime and
+// -Wl,--wrap=posix_fallocate.
 #include <sys/resource.h>
 
 #include <atomic>
@@ -8,6 +9,7 @@
 #include <condition_variable>
 #include <csignal>
 #include <cstdlib>
+#include <ctime>
 #include <mutex>
 #include <thread>
 #include <vector>
@@ -18,7 +20,29 @@ namespace {
 
 std::atomic<bool> device_is_full{false};
 
+// What the clock shows, in nanoseconds, where a test has it; else 0.
+std::atomic<std::int64_t> shown{0};
+
+// A clock that does not go while the machine has something else to do: only by a microsecond each time that it is read, and as it is told.
+class Clock {
+   public:
+    Clock() { shown = std::int64_t{1} << 50; }
+    ~Clock() { shown = 0; }
+    Clock(const Clock&) = delete;
+    Clock& operator=(const Clock&) = delete;
+    void pass(std::int64_t milliseconds) { shown += milliseconds * 1'000'000; }
+};
+
 }  // namespace
+
+extern "C" int __real_clock_gettime(clockid_t which, timespec* time);
+extern "C" int __wrap_clock_gettime(clockid_t which, timespec* time) {
+    if (shown == 0) return __real_clock_gettime(which, time);
+    const std::int64_t now = shown += 1000;
+    time->tv_sec = static_cast<std::time_t>(now / 1'000'000'000);
+    time->tv_nsec = static_cast<long>(now % 1'000'000'000);
+    return 0;
+}
 
 extern "C" int __real_posix_fallocate(int descriptor, off_t from, off_t length);
 extern "C" int __wrap_posix_fallocate(int descriptor, off_t from, off_t length) {
@@ -137,11 +161,12 @@ void too_large() {
 }
 
 // Threads count in histograms that do not fit together in a segment of 16 KiB: the third segment has room for all, since each is twice as
-// large as the one before. By the header a histogram takes 15 words, one for its name, and 4 and 2 for each bucket: 20 of them 35,200 bytes.
+// large as the one before. By the header a histogram takes 15 words, one for its name, and 4 and 2 for each bucket: 20 of them take 35,200
+// bytes.
 void growth_of_segments() {
-    constexpr int kThreads = 3, kMetrics = 20;
+    constexpr int kThreads = 3, kMetrics = 20, kSamples = 5000;
     const std::string path = folder("growth");
-    const auto begins = std::chrono::steady_clock::now(), ends = begins + std::chrono::milliseconds(200);
+    Clock clock;
     RecordingOptions options{};
     options.bytes = 16'384;
     Recording recording;
@@ -155,20 +180,16 @@ void growth_of_segments() {
     std::vector<std::thread> threads;
     for (int thread = 0; thread < kThreads; ++thread) {
         threads.emplace_back([&] {
-            for (std::int32_t value = 0; std::chrono::steady_clock::now() < ends; value = (value + 7) % 1000) {
-                for (int i = 0; i < kMetrics; ++i) (metrics[i].add(value) ? counted[i] : missed) += 1;
+            for (std::int32_t value = 0; value < kSamples; ++value) {
+                for (int i = 0; i < kMetrics; ++i) (metrics[i].add(value % 1000) ? counted[i] : missed) += 1;
             }
         });
     }
     for (std::thread& thread : threads) thread.join();
-    const std::uint64_t segments = segments_in(path), all = static_cast<std::uint64_t>(missed);
-    HOLDS(recording.missed() == all && recording.missed(Missed::Rolling) == all);
-    HOLDS(segments >= 3 && segments < 10);
-    // Unless the machine had something else to do.
-    if (std::chrono::steady_clock::now() - begins < std::chrono::seconds(1)) {
-        HOLDS(segments == 3 && bytes_of(path + "/0000000001.seg") == 16'384 + 16);
-        HOLDS(bytes_of(path + "/0000000002.seg") == 32'768 + 16 && bytes_of(path + "/0000000003.seg") == 65'536 + 16);
-    }
+    const auto all = static_cast<std::uint64_t>(missed);
+    HOLDS(recording.missed() == all && recording.missed(Missed::Rolling) == all && all > 0);
+    HOLDS(segments_in(path) == 3 && bytes_of(path + "/0000000001.seg") == 16'384 + 16);
+    HOLDS(bytes_of(path + "/0000000002.seg") == 32'768 + 16 && bytes_of(path + "/0000000003.seg") == 65'536 + 16);
     const auto are_counted = [&](const std::string& report) {
         for (int i = 0; i < kMetrics; ++i) {
             if (counted[i] == 0 || units_in(report, "h" + std::to_string(i)) != counted[i]) return false;
@@ -176,13 +197,14 @@ void growth_of_segments() {
         return true;
     };
     HOLDS(are_counted(recording.report()));
-    HOLDS(recording.fold() == segments - 1 && segments_in(path) == 1 && are_counted(recording.report()));
+    HOLDS(recording.fold() == 2 && segments_in(path) == 1 && are_counted(recording.report()));
 }
 
 // Segments of the largest size that are too small are a second apart. A value of a sparse histogram takes 64 bytes: so 8 MiB have room for
 // fewer than 131,072 of them.
 void largest() {
     constexpr int kMost = 400'000;
+    Clock clock;
     RecordingOptions options = small();
     options.bytes = 4 << 20;
     Recording recording;
@@ -195,14 +217,16 @@ void largest() {
     int missed = 1;
     while (missed < 1000 && !sparse.add(value + missed)) ++missed;
     HOLDS(missed == 1000 && recording.missed() == 1000 && recording.missed(Missed::Rolling) == 1000);
-    HOLDS(sparse.add(value - 1) && segments_in(folder("largest")) == 2);
-    std::this_thread::sleep_for(std::chrono::milliseconds(1100));
-    HOLDS(sparse.add(value) && segments_in(folder("largest")) == 3 && recording.missed() == 1000);
+    clock.pass(990);
+    HOLDS(!sparse.add(value) && sparse.add(value - 1) && segments_in(folder("largest")) == 2);
+    clock.pass(10);
+    HOLDS(sparse.add(value) && segments_in(folder("largest")) == 3 && recording.missed() == 1001);
     HOLDS(units_in(recording.report(), "s") == value + 2);
 }
 
 // A histogram that is too large for the first segments is counted in those that have grown.
 void fits_later() {
+    Clock clock;
     RecordingOptions options = small();
     options.bytes = 8'192;
     Recording recording;
@@ -464,6 +488,7 @@ void may_not_grow() {
         if (getrlimit(RLIMIT_FSIZE, &limit) != 0) return false;
         limit.rlim_cur = 20'000;
         if (setrlimit(RLIMIT_FSIZE, &limit) != 0) return false;
+        Clock clock;
         Recording recording;
         Metric sparse;
         if (!opens(folder("grow"), recording, small())) return false;
@@ -472,7 +497,7 @@ void may_not_grow() {
         for (int second = 0; second < 2; ++second) {
             for (int value = 0; value < 1000; ++value) (sparse.add(1000 * second + value) ? counted : missed) += 1;
             if (segments_in(folder("grow")) != static_cast<std::uint64_t>(second + 1)) return false;
-            std::this_thread::sleep_for(std::chrono::milliseconds(1100));
+            clock.pass(1000);
         }
         return sparse.add(-1) && segments_in(folder("grow")) == 3 && bytes_of(folder("grow") + "/0000000003.seg") == 16'384 + 16 &&
                missed > 1000 && recording.missed(Missed::NoSpace) == static_cast<std::uint64_t>(missed) &&

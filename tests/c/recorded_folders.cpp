@@ -146,7 +146,8 @@ class Finals {
     bool make(std::uint32_t segments) {
         Recording recording;
         Metric metric;
-        if (!opens(path_, recording, small()) || recording.try_hist("b", {POVUNDIRI_BOOLEAN, 0, 0, 0}, {}, metric) != Status::Done) return false;
+        if (!opens(path_, recording, small())) return false;
+        if (recording.try_hist("b", {POVUNDIRI_BOOLEAN, 0, 0, 0}, {}, metric) != Status::Done) return false;
         for (std::uint32_t i = 0; i < segments; ++i) units_ += metric.add(1, kCount) ? kCount : 0;
         recording.end();
         return stand(segments);

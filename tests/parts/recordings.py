@@ -38,12 +38,14 @@ STOPPED = (
 # A program that begins segments has made so many of these calls after some milliseconds.
 BEGINNINGS = 100
 # The programs that check something, and which calls to the system each of them stands before.
-CHECKED = {"recorded": "-Wl,--wrap=posix_fallocate", "recorded_folders": "-Wl,--wrap=open"}
+CHECKED = {"recorded": ("clock_gettime", "posix_fallocate"), "recorded_folders": ("open",)}
 THREADS = "-fsanitize=thread"
 # The reasons for what is missed, in the order of the library; what a run may miss that nothing disturbs.
 REASONS = ("too_large", "other_spec", "no_space", "rolling", "forked", "ended", "no_memory")
 MAY_MISS = ("too_large", "rolling")
 MOST_SECONDS = 100
+# In which a program makes BEGINNINGS calls, also on a machine that has much else to do.
+ENOUGH_SECONDS = 60
 
 Counts = collections.Counter[bytes]
 
@@ -273,7 +275,7 @@ def folds_killed(runs: Folder) -> str | None:
 def beginnings_killed(runs: Folder, mode: str) -> str | None:
     """The program is killed before each of the calls to the system with which it starts and begins segments."""
     for at in range(1, BEGINNINGS):
-        status = stopped(runs.words(0, runs.chance.choice(SIZES), 1, mode), at)
+        status = stopped(runs.words(0, runs.chance.choice(SIZES), ENOUGH_SECONDS, mode), at)
         if status != -9:
             return f"status {status} where it is killed before call {at}"
         wrong = runs.wrong() if (runs.folder / "recording").exists() else None
@@ -287,6 +289,11 @@ def beginnings_killed(runs: Folder, mode: str) -> str | None:
     return f"spares are left: {left}" if len(left) > 2 else runs.wrong()
 
 
+def wrapped(calls: Sequence[str]) -> list[str]:
+    """How a program is linked that stands before these calls to the system."""
+    return [f"-Wl,--wrap={call}" for call in calls]
+
+
 class Programs:
     """The programs of this part, in a folder."""
 
@@ -294,7 +301,7 @@ class Programs:
         self.folder = folder
         self.installed = native.Installed(folder)
         calls = compiling.compiled(folder, native.PROGRAMS / "stopped.c")
-        words: list[Word] = [*(f"-Wl,--wrap={call}" for call in STOPPED), calls]
+        words: list[Word] = [*wrapped(STOPPED), calls]
         self.recording = self.installed.program(native.PROGRAMS / "recording.cpp", *words)
         self.reader = self.installed.program(native.PROGRAMS / "folder.c", *words)
 
@@ -315,7 +322,7 @@ class Programs:
             for source in (*sources, native.PROGRAMS / "recorded.cpp")
         ]
         built = home / "recorded"
-        words = [*native.compiler(".cpp"), THREADS, "-pthread", CHECKED["recorded"]]
+        words = [*native.compiler(".cpp"), THREADS, "-pthread", *wrapped(CHECKED["recorded"])]
         native.run([*words, "-o", built, *objects, *self.installed.words("--libs")])
         return built
 
@@ -335,10 +342,10 @@ class Programs:
         yield from native.checks_of("collected", [program, home], {**os.environ})
 
     def all_checked(self) -> Iterator[Case]:
-        for name, words in CHECKED.items():
-            source = native.PROGRAMS / f"{name}.cpp"
-            yield from self.checked(name, self.installed.program(source, words, *native.SANITIZED))
-            yield from self.checked(f"{name}, no exceptions", self.installed.program(source, words, "-fno-exceptions"))
+        for name, calls in CHECKED.items():
+            source, words = native.PROGRAMS / f"{name}.cpp", wrapped(calls)
+            yield from self.checked(name, self.installed.program(source, *words, *native.SANITIZED))
+            yield from self.checked(f"{name}, no exceptions", self.installed.program(source, *words, "-fno-exceptions"))
         yield from self.checked("threads", self.for_threads(), "threads")
         yield from self.collected()
 

@@ -339,7 +339,7 @@ def kills(program: pathlib.Path, top: pathlib.Path) -> Iterator[Case]:
 
 
 def failures(program: pathlib.Path, top: pathlib.Path) -> Iterator[Case]:
-    """Each call of a kind fails in turn in a fold."""
+    """Each call of a kind fails in turn in a fold; allocations from one on."""
     folder = to_be_folded(top / "failures")
     whole = folder.reading()[0]
     text, report = plain_sums.totals_text(whole), plain_sums.report_of(whole, 0)
@@ -349,13 +349,13 @@ def failures(program: pathlib.Path, top: pathlib.Path) -> Iterator[Case]:
         statuses: set[int] = set()
         for place in range(10_000):
             shutil.copytree(folder.path, copy)
-            made_to_fail = tracer.Fault(numbers, at=place, error=error)
+            made_to_fail = tracer.Fault(numbers, at=place, error=error, lasting=title == "allocating")
             came = tracer.answer(program, ["fold", copy], made_to_fail, **settings)
             wrong = wrong_after(program, copy, text, report)
             shutil.rmtree(copy)
             if made_to_fail.met <= place:
                 break
-            if came.status in failing.NOT_LOADED and not statuses:
+            if came.status in failing.NOT_LOADED and statuses <= {0}:
                 continue
             statuses.add(came.status)
             is_told = came.status == 0 or came.error.startswith(b"persist_report: ")

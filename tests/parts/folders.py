@@ -12,6 +12,7 @@ from __future__ import annotations
 import argparse
 import collections
 import contextlib
+import dataclasses
 import errno
 import fcntl
 import os
@@ -19,8 +20,6 @@ import pathlib
 import random
 import shutil
 import signal
-import subprocess
-import sys
 import tempfile
 import threading
 import time
@@ -29,7 +28,7 @@ from collections.abc import Callable, Collection, Iterator, Sequence
 from parts import failing, recordings, summed_pages, sums
 from support import forge, native, plain_folders, plain_sums, tracer
 from support.plain_folders import LOCK, MARK, NEW_TOTALS, TOTALS, Folder, mapped, name_of, with_id
-from support.program import ROOT, Answer, Case, Path, answer, content, difference, explained, fault, untried
+from support.program import ROOT, Answer, Case, answer, content, difference, explained, fault, untried
 
 PROGRAM = "persist_report"
 FOLDERS = 60
@@ -57,8 +56,9 @@ LEAST_READINGS = 100
 MOST_SECONDS = 60
 # No segment is begun while so many files are in the folder.
 MOST_FILES = 20
-# How many readings there are beside totals that change, at most.
-CHANGED_READINGS = 200
+# How often a reading begins at most, and the call that lists a folder.
+MOST_TIMES = 16
+LISTING = 217
 
 
 # ---- folders
@@ -467,54 +467,49 @@ def beside(program: pathlib.Path, top: pathlib.Path) -> Iterator[Case]:
     yield "all that was begun", difference(Answer(wanted), came) or is_whole
 
 
-# Gives totals another serial again and again: the folder, and the text around the serial.
-CHANGER = """
-import os, sys
-place, front, back = sys.argv[1:]
-serial = 10
-while True:
-    serial += 1
-    with open(place + ".other", "w") as file:
-        file.write(front + str(serial) + back)
-    os.rename(place + ".other", place)
-"""
+@dataclasses.dataclass
+class AtListings(tracer.Fault):
+    """Does something before a folder is listed, so many times. No call fails."""
+
+    folder: str = ""
+    times: int = 0
+    work: Callable[[], None] = lambda: None
+    listed: set[int] = dataclasses.field(default_factory=set)
+
+    def is_meant(self, thread: int, call: tracer.Call) -> bool:
+        file = call.arguments[0]
+        if call.number == tracer.CLOSE:
+            self.listed.discard(file)
+        if call.number == LISTING and file not in self.listed and tracer.file_of(thread, file) == self.folder:
+            self.listed.add(file)
+            if self.times > 0:
+                self.times -= 1
+                self.work()
+        return False
 
 
-# So many segments make a reading take longer than totals stand.
-BESIDE_CHANGES = 150
+def amid_readings(program: pathlib.Path, top: pathlib.Path) -> Iterator[Case]:
+    """A segment is begun and a fold ends each time after a reader has read the totals: it begins again, sixteen times
+    at most, and then it has each segment once, or is Busy."""
+    for folds in (0, 1, 2, 7, MOST_TIMES - 1, MOST_TIMES):
+        beginner, folding = Beginner(made(top / f"{folds} folds")), []
+        beginner.begin()
 
+        def work() -> None:
+            beginner.begin()
+            folding.append(answer(program, ["fold", beginner.folder]))
 
-def changing(program: pathlib.Path, top: pathlib.Path) -> Iterator[Case]:
-    """A reader beside folds that end faster than it reads is Busy, and else right."""
-    folder = made(top / "changing")
-    put(folder, 1, mapped(CRASH.read_bytes()))
-    wanted = Folder.at(folder).folded()[0]
-    assert wanted.totals is not None
-    front, back = wanted.totals.decode().split("fold,1\n")
-    (folder / TOTALS).write_bytes(wanted.totals)
-    (folder / name_of(1)).unlink()
-    for number in range(2, 2 + BESIDE_CHANGES):
-        put(folder, number, mapped(with_id(CRASH.read_bytes(), number)))
-    right = Answer(plain_sums.report_of(Folder.at(folder).reading()[0], 0))
-    words: list[Path] = [sys.executable, "-c", CHANGER, folder / TOTALS, f"{front}fold,", f"\n{back}"]
-    wrong, busy = None, 0
-    with subprocess.Popen(words) as changer:
-        try:
-            for _ in range(CHANGED_READINGS):
-                came = answer(program, ["report", folder])
-                busy += came == BUSY
-                if came not in (BUSY, right):
-                    wrong = str(came)
-                if busy >= 2:
-                    break
-            told = answer(program, ["report", folder, "--explain"])
-        finally:
-            changer.kill()
-    yield "beside totals that change", wrong
-    yield "it is Busy", None if busy else f"never in {CHANGED_READINGS} readings"
-    if told.status == BUSY.status:
-        yield "it is Busy, explained", difference(explained("Busy", 4, [f'"{folder}"']), told)
-    yield "when they have come to rest", difference(right, answer(program, ["report", folder]))
+        beside_it = AtListings((), folder=str(beginner.folder), times=folds, work=work)
+        came = tracer.answer(program, ["report", beginner.folder, "--explain"], beside_it)
+        beginner.end()
+        whole, _ = Folder.at(beginner.folder).reading()
+        wanted = Answer(plain_sums.report_of(whole, 0))
+        if folds == MOST_TIMES:
+            wanted = explained("Busy", 4, [f'"{beginner.folder}"'])
+        there = f"{whole.images} of {folds + 1} images are there, after {len(folding)} folds"
+        is_done = (whole.images, folding) == (folds + 1, folds * [Answer()])
+        yield f"{folds} folds amid a reading, and they are done", None if is_done else there
+        yield f"{folds} folds amid a reading", difference(wanted, came)
 
 
 # ---- the library
@@ -584,8 +579,8 @@ def wrong_beside(runs: recordings.Folder) -> str | None:
 
 def cases(program: pathlib.Path, options: argparse.Namespace) -> Iterator[Case]:
     Part = Callable[[pathlib.Path, pathlib.Path], Iterator[Case]]
-    parts: Sequence[Part] = (many, among_others, refusals, beside, changing)
-    traced: Sequence[Part] = (kills, failures)
+    parts: Sequence[Part] = (many, among_others, refusals, beside)
+    traced: Sequence[Part] = (amid_readings, kills, failures)
     if not tracer.can_trace():
         yield untried(tracer.NOT_ALLOWED, options)
         traced = ()

@@ -5,6 +5,7 @@ pub mod Views
 pub mod Whole
 pub mod Notes
 pub mod Sums
+pub mod Addends
 pub mod Shown
 pub mod Since
 pub mod Alone

@@ -8,11 +8,12 @@ ghost use Rattle.std.specs.Cmp.Lexicographic.{slice_cmp};
 ghost use Rattle.bucket_ranges.specs.Reading as definition;
 ghost use Rattle.image_reader.specs.Views.{histogram_view, reading_view};
 ghost use Rattle.image_reader.specs.Readable.{IsReadable};
-ghost use Rattle.reading_sums.specs.Totals.{part_from, SameTotals};
+ghost use Rattle.reading_sums.specs.Addends.{AddsNumbered};
+ghost use Rattle.reading_sums.specs.Totals.{part_from, raised_part, SameTotals};
 ghost use Rattle.reading_sums.specs.Views.{part_of, parts_of};
 ghost use Rattle.reading_sums.specs.Shown.{shown_parts, other_parts, IsOtherOf};
 ghost use Rattle.reading_sums.specs.Since.{AreSince, HasFallen, HasChangedSpec, HasTooMany, IsGrown, MatchFault};
-ghost use Rattle.reading_sums.specs.Sums.{IsSumOver, raised};
+ghost use Rattle.reading_sums.specs.Sums.{IsSumOver, IsSumOfBoth, raised};
 ghost use Rattle.reading_sums.specs.Whole.{AreWhole, HasNamesOnce, IsWellFormed, IsWholeHistogram, IsWholeReading};
 
 use crate::check::are_whole;
@@ -81,13 +82,15 @@ impl Sums {
     }
 
     /// Adds what one image reads as, which has a number. A sum of any list of numbered readings is then the sum of that
-    /// list with this one behind it [added]. It is well formed if it was, and the reading is whole: it has each name once,
-    /// each of a lawful spec with its keys and with units that together fit 64 bits [well_formed].
+    /// list with this one behind it [added], and of any sum it is that with the totals and the notes of this reading more [more].
+    /// It is well formed if it was, and the reading is whole: it has each name once, each of a lawful spec with its keys and
+    /// with units that together fit 64 bits [well_formed].
     ///
     /// It is refused if a total would not fit, `TooMany`, or if there is no memory, `NoMemory`. The sum is then as it
     /// was [refused].
     pub fn add(&mut self, number: u64, reading: &Reading) -> Result<(), SumsFault>
         ensures added { OnOk result ((readings : List (ℕ × definition.Reading)) → IsSumOver readings self.old → IsSumOver (readings ++ (number, reading_view reading.now) ∷ []) self.new) }
+        ensures more { OnOk result (AddsNumbered (number, reading_view reading.now) self.old self.new) }
         ensures well_formed { OnOk result (IsWellFormed self.old → IsWholeReading (reading_view reading.now) → IsWellFormed self.new) }
         ensures refused { OnErr result (self.new ≡ self.old) }
     {
@@ -100,12 +103,13 @@ impl Sums {
     }
 
     /// Adds another sum. Sums of any two lists of numbered readings become the sum of both lists, one behind the other
-    /// [added], well formed if both are [well_formed]. The other sum stays.
+    /// [added], and any two sums what both have together [both], well formed if both are [well_formed]. The other sum stays.
     ///
     /// It is refused if a total would not fit, `TooMany`, or if there is no memory, `NoMemory`. The sum is then as it
     /// was [refused].
     pub fn append(&mut self, other: &Sums) -> Result<(), SumsFault>
         ensures added { OnOk result ((readings more : List (ℕ × definition.Reading)) → IsSumOver readings self.old → IsSumOver more other.now → IsSumOver (readings ++ more) self.new) }
+        ensures both { OnOk result (IsSumOfBoth self.old other.now self.new) }
         ensures well_formed { OnOk result (IsWellFormed self.old → IsWellFormed other.now → IsWellFormed self.new) }
         ensures refused { OnErr result (self.new ≡ self.old) }
     {
@@ -116,12 +120,15 @@ impl Sums {
         Ok(())
     }
 
-    /// Returns the sum of the same readings, where the number of each is so much greater [raised]. So the sum of what comes
-    /// behind others can be added to theirs.
+    /// Returns the sum of the same readings, where the number of each is so much greater [raised]: the least number of each
+    /// name and spec is so much greater [parts], and all else is the same [notes]. So the sum of what comes behind others can
+    /// be added to theirs.
     ///
     /// It is refused if a number would not fit 64 bits, `TooMany`, or if there is no memory, `NoMemory`.
     pub fn raised(&self, by: u64) -> Result<Sums, SumsFault>
         ensures raised { IfOk result (λ sums. (readings : List (ℕ × definition.Reading)) → IsSumOver readings self.now → IsSumOver (map (raised by) readings) sums) }
+        ensures parts { IfOk result (λ sums. parts_of sums ≡ map (raised_part by) (parts_of self.now)) }
+        ensures notes { IfOk result (λ sums. sums.notes ≡ self.now.notes) }
     {
         Ok(Sums {
             alloc: self.alloc,

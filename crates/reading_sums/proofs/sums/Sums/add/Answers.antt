@@ -1,19 +1,45 @@
 -- What a reading has goes to what the readings before it have.
-use Rattle.std.proofs.Common.{◌∷◌, ◌++◌, [], ℕ, List, map, ap, subst, sym, ◌∙◌}
+use Rattle.std.proofs.Common.{◌+◌, ◌∷◌, ◌++◌, [], ℕ, List, map, refl, ap, subst, sym, ◌∙◌}
 use Rattle.bucket_ranges.specs.Reading.{Reading}
 use Rattle.std.proofs.lemmas.Simd.{map-map}
 use Rattle.image_reader.specs.Views.{histogram_view, reading_view}
 use Rattle.reading_sums.specs.Totals.{Part, SameTotals, part_from}
 use Rattle.reading_sums.specs.Views.{part_of, parts_of}
-use Rattle.reading_sums.specs.Sums.{parts_of_one}
+use Rattle.reading_sums.specs.declared.notes.Notes.{Notes}
+use Rattle.reading_sums.specs.declared.sums.Sums.{Sums}
+use Rattle.reading_sums.specs.Addends.{AddsNumbered, notes_of_one}
+use Rattle.reading_sums.specs.Notes.{AreNotesOf, AreNotesOfBoth}
+use Rattle.reading_sums.specs.Sums.{IsSumOver, parts_of_one}
 use Rattle.std.specs.List.{All}
 use Rattle.image_reader.specs.declared.reading.HistReading.{HistReading}
 use Rattle.reading_sums.specs.Whole.{AreWhole, HasNamesOnce, IsWholeHistogram}
 use Rattle.reading_sums.proofs.Readings.{parts-both, parts-one, notes-both, notes-one}
+use Rattle.reading_sums.proofs.Totals.{same-append, same-refl, same-trans}
 use Rattle.reading_sums.proofs.sums.Sums.add.Goals as goal
 
-pub returns-clause-added : goal.returns-clause-added
-returns-clause-added c = λ readings before.
+-- the notes of one image are known
+notes-more : (reading : Reading) (before one after : Notes) → AreNotesOf reading one → AreNotesOfBoth before one after
+    → AreNotesOfBoth before (notes_of_one reading) after
+notes-more reading before one after are both = record {
+  images = both.images ∙ ap (λ n. before.images + n) are.images;
+  full = both.full ∙ ap (λ n. before.full + n) are.full;
+  corrupt = both.corrupt ∙ ap (λ n. before.corrupt + n) are.corrupt;
+  stopped = both.stopped ∙ ap (λ n. before.stopped + n) are.stopped;
+  bad = both.bad ∙ ap (λ n. before.bad + n) are.bad;
+}
+
+-- a sum with one numbered reading more is that of the readings with this one behind them
+added-behind : (readings : List (ℕ × Reading)) (one : ℕ × Reading) (before after : Sums) → IsSumOver readings before
+    → AddsNumbered one before after → IsSumOver (readings ++ one ∷ []) after
+added-behind readings one before after is more = record {
+  hists = parts-both readings (one ∷ []) (parts_of before) (parts_of_one one) (parts_of after) is.hists
+      (parts-one one (parts_of_one one) (same-refl (parts_of_one one))) more.hists;
+  notes = notes-both readings (one ∷ []) before.notes (notes_of_one one.1) after.notes is.notes
+      (notes-one one.0 one.1 (notes_of_one one.1) (record { images = refl; full = refl; corrupt = refl; stopped = refl; bad = refl })) more.notes;
+}
+
+pub returns-clause-more : goal.returns-clause-more
+returns-clause-more c =
     let one : ℕ × Reading = (c.args.number, reading_view c.args.reading.now) in
     let P : List Part → Type 0 = λ z. SameTotals (map part_of c.in_ok-hists.hists.items) z in
     let both : SameTotals (map part_of c.in_ok-hists.hists.items) (parts_of c.args.self.now ++ map part_of c.in_ok-one.one.items) =
@@ -22,11 +48,17 @@ returns-clause-added c = λ readings before.
     let parts : SameTotals (map part_of c.in_ok-one.one.items) (parts_of_one one) =
     subst Q (ap (map (λ hist. part_from c.args.number (histogram_view hist))) c.deref.ensures.value
     ∙ sym (map-map (part_from c.args.number) histogram_view c.args.reading.now.hists.items)) c.in_ok-one.ensures.same in record {
-      hists = parts-both readings (one ∷ []) (parts_of c.args.self.now) (map part_of c.in_ok-one.one.items) (map part_of c.in_ok-hists.hists.items)
-          before.hists (parts-one one (map part_of c.in_ok-one.one.items) parts) both;
-      notes = notes-both readings (one ∷ []) c.args.self.now.notes c.notes_of.result c.in_ok-notes.notes before.notes
-          (notes-one c.args.number (reading_view c.args.reading.now) c.notes_of.result c.notes_of.ensures) c.in_ok-notes.ensures;
+      hists = same-trans (map part_of c.in_ok-hists.hists.items) (parts_of c.args.self.now ++ map part_of c.in_ok-one.one.items)
+          (parts_of c.args.self.now ++ parts_of_one one) both
+          (same-append (parts_of c.args.self.now) (parts_of c.args.self.now) (map part_of c.in_ok-one.one.items) (parts_of_one one)
+          (same-refl (parts_of c.args.self.now)) parts);
+      notes = notes-more (reading_view c.args.reading.now) c.args.self.now.notes c.notes_of.result c.in_ok-notes.notes c.notes_of.ensures c.in_ok-notes.ensures;
     }
+
+pub returns-clause-added : goal.returns-clause-added
+returns-clause-added c = λ readings before.
+    let after : Sums = record { alloc = c.args.self.now.alloc; notes = c.in_ok-notes.notes; hists = c.in_ok-hists.hists } in
+    added-behind readings (c.args.number, reading_view c.args.reading.now) c.args.self.now after before (returns-clause-more c)
 
 pub returns-clause-well_formed : goal.returns-clause-well_formed
 returns-clause-well_formed c = λ before reading.

@@ -6,13 +6,12 @@ use Rattle.reading_sums.specs.Sums.{parts_in, raised as raised_reading}
 use Rattle.reading_sums.proofs.RaisedSums.{parts-raised, notes-raised}
 use Rattle.reading_sums.proofs.sums.Sums.raised.Goals as goal
 
-pub returns : goal.returns
-returns c = record {
-  raised = λ readings before.
-      let P : List Part → Type 0 = λ z. SameTotals z (parts_in (map (raised_reading c.args.by) readings)) in
-      let parts : map part_of c.in_ok-raised_hists.field-0.items ≡ map (raised_part c.args.by) (parts_of c.args.self.now) =
-      c.in_ok-raised_hists.ensures ∙ ap (λ z. map (raised_part c.args.by) (map part_of z)) c.deref.ensures.value in record {
-        hists = subst P (sym parts) (parts-raised (parts_of c.args.self.now) c.args.by readings before.hists);
-        notes = notes-raised c.args.by readings c.args.self.now.notes before.notes;
-      };
-}
+pub returns-clause-parts : goal.returns-clause-parts
+returns-clause-parts c = c.in_ok-raised_hists.ensures ∙ ap (λ z. map (raised_part c.args.by) (map part_of z)) c.deref.ensures.value
+
+pub returns-clause-raised : goal.returns-clause-raised
+returns-clause-raised c = λ readings before.
+    let P : List Part → Type 0 = λ z. SameTotals z (parts_in (map (raised_reading c.args.by) readings)) in record {
+      hists = subst P (sym (returns-clause-parts c)) (parts-raised (parts_of c.args.self.now) c.args.by readings before.hists);
+      notes = notes-raised c.args.by readings c.args.self.now.notes before.notes;
+    }

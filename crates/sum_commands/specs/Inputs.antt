@@ -5,6 +5,7 @@ use Rattle.persist_report_core.specs.declared.fault.CliFault.TheVariants.{NoMemo
 use Rattle.reading_sums.specs.declared.fault.SumsFault.{SumsFault}
 use Rattle.reading_sums.specs.declared.fault.SumsFault.TheVariants as sums
 use Rattle.reading_sums.specs.declared.sums.Sums.{Sums}
+use Rattle.reading_sums.specs.Addends.{AddsAddend, addend_of, addend_of_reading}
 use Rattle.reading_sums.specs.Sums.{IsSumInOrder}
 use Rattle.persist_report_core.specs.Report.{IsReadingOf, IsCausedByImage}
 use Rattle.sum_texts.specs.declared.fault.TotalsFault.{TotalsFault}
@@ -36,6 +37,7 @@ pub record AddsReading (bytes : List ℕ) (before after : Sums) : Type 0 where
   pub reading : Reading
   pub reading_is : IsReadingOf bytes reading
   pub added : (readings : List Reading) → IsSumInOrder readings before → IsSumInOrder (readings ++ reading ∷ []) after
+  pub behind : AddsAddend (addend_of_reading reading) before after
 
 -- a sum became that of the readings of another one more, behind its own
 abbrev pub AddsBehind : Sums → Sums → Sums → Type 0
@@ -47,3 +49,4 @@ pub record AddsTotals (text : List ℕ) (before after : Sums) : Type 0 where
   pub totals : Totals
   pub text_is : text ≡ totals_text (whole_of totals)
   pub added : AddsBehind totals.sums before after
+  pub behind : AddsAddend (addend_of totals.sums) before after

@@ -1,3 +1,3 @@
 pub mod Kinds
 pub mod Inputs
-pub mod Dividing
+pub mod Sources

@@ -6,14 +6,12 @@
 //! cannot be read leaves the sum as it was. [`sum_of_inputs`] does this with all inputs of a [`Source`].
 #![tactic(auto)]
 
-mod dividing;
 mod fault;
 mod kind;
 mod summing;
 mod sums;
 mod working;
 
-pub use dividing::part_of_inputs;
 pub use fault::InputFault;
 pub use kind::{FRONT, InputKind, kind_of};
 pub use summing::{Left, OpenInput, Progress, Source, Summed};

@@ -1,16 +1,16 @@
 //! The sum of many inputs, which workers read and add up.
 //!
-//! The inputs are opened by the caller's thread, and each worker is given those of its part, of which it makes sums: one of each
-//! row, the inputs between two that no worker reads. The sums are appended in the order of the inputs, with those that no worker
-//! reads between them. All this is done in rounds, since only so many inputs can be open at once.
+//! The inputs are opened by the caller's thread, and each worker is given inputs that follow one another, of which it makes a sum.
+//! The sums are appended in the order of the inputs, with those that no worker reads between them. All this is done in rounds, since
+//! only so many inputs can be open at once.
 
-ghost use Rattle.std.specs.Prelude.{◌≤◌, ◌<◌};
+ghost use Rattle.std.specs.Prelude.{◌≡◌, ◌≤◌, ◌<◌, ◌+◌, ℕ, length, All, IfOk, IfErr, OnOk};
+ghost use Rattle.persist_report_core.specs.declared.fault.CliFault.TheVariants.{NoMemory};
+ghost use Rattle.sum_commands.specs.Sources.{IsBefore, IsRunOf, IsSumOfAll, IsWithin};
 
-use crate::dividing::part_of_inputs;
 use crate::summing::{OpenInput, Progress, Source, Summed};
 use persist_report_core::CliFault;
 use std::alloc::{AllocError, Global};
-use std::mem;
 use std::sync::Wait;
 use std::thread::Threads;
 use thread_jobs::{Job, run_within};
@@ -29,200 +29,143 @@ const OPEN_FOR_ONE: usize = 64;
 
 const OPEN_FOR_ALL: usize = 512;
 
-// Inputs that follow one another, and their sum.
+// The inputs of one worker, from a place on, which are open.
 #[derive(Drop)]
-struct Row {
-    part: (usize, usize),
-    summed: Summed,
-}
-
-impl Row {
-    // The row of no inputs, before a place.
-    fn before(alloc: Global, place: usize) -> Row {
-        Row {
-            part: (place, place),
-            summed: Summed::none(alloc),
-        }
-    }
-
-    // The row of no inputs behind the one that follows this.
-    fn next(&self, alloc: Global) -> Row {
-        Row::before(alloc, self.part.1.saturating_add(1))
-    }
-
-    // Adds the input that follows; not where one was left out, if that is to end it.
-    fn add<O: OpenInput + Drop>(&mut self, opened: O, is_strict: bool) -> Result<(), AllocError> {
-        if !self.summed.is_ended(is_strict) {
-            let added = opened.add_to(&mut self.summed.sums);
-            self.summed.note_one(self.part.1, added)?;
-        }
-        self.part.1 = self.part.1.saturating_add(1);
-        Ok(())
-    }
-}
-
-// Puts a row behind others.
-fn put_row(rows: &mut Vec<Row>, row: Row) -> Result<(), AllocError> {
-    rows.push(row)?;
-    Ok(())
-}
-
-// The inputs of one worker, from a place on: each that is opened, and none in the place of another.
-#[derive(Drop)]
-struct Work<O> {
+struct Run<O> {
     alloc: Global,
     first: usize,
-    inputs: Vec<Option<O>>,
+    opened: Vec<O>,
     is_strict: bool,
 }
 
-impl<O: OpenInput + Drop> Job for Work<O> {
-    ghost use Rattle.std.specs.Prelude.{⊤};
+impl<O: OpenInput + Drop> Job for Run<O> {
+    ghost use Rattle.std.specs.Prelude.{◌<◌, ◌+◌, ◌^◌, length, IfOk};
+    ghost use Rattle.sum_commands.specs.Sources.{HasRun};
 
-    type Output = Result<Vec<Row>, AllocError>;
+    type Output = Result<Summed, AllocError>;
 
-    ghost can_run = { λ _. ⊤ };
+    ghost can_run = { λ run. run.first + length run.opened.items < 2 ^ 64 };
 
-    ghost gives = { λ _ _. ⊤ };
+    ghost gives = { λ run result. IfOk result (HasRun O.may_be run.first run.opened.items run.is_strict) };
 
-    // Returns a row more than there are inputs that it is not given: each of these stands between two rows.
-    fn run(self) -> Result<Vec<Row>, AllocError> {
-        let mut rows = Vec::new(self.alloc);
-        let mut row = Row::before(self.alloc, self.first);
-        for input in self.inputs {
-            match input {
-                Some(opened) => row.add(opened, self.is_strict)?,
-                None => {
-                    let next = row.next(self.alloc);
-                    put_row(&mut rows, mem::replace(&mut row, next))?;
-                }
+    // Adds up the inputs; up to the first that is left out, if that is to end it.
+    fn run(self) -> Result<Summed, AllocError> {
+        let mut summed = Summed::none(self.alloc, self.first);
+        for opened in self.opened {
+            if summed.is_ended(self.is_strict) {
+                break;
             }
+            summed.add_opened(opened)?;
         }
-        put_row(&mut rows, row)?;
-        Ok(rows)
+        Ok(summed)
     }
 }
 
-// Opens the inputs from one place to another.
-fn open_part<S: Source<Opened = O>, O: Drop>(
+// Opens the inputs from one place to another, up to the first that no worker reads.
+fn open_run<S: Source>(
     alloc: Global,
     source: &S,
     part: (usize, usize),
-) -> Result<Vec<Option<O>>, AllocError> {
-    let mut inputs = Vec::new(alloc);
+    is_strict: bool,
+) -> Result<Run<S::Opened>, AllocError>
+    requires { part.0 ≤ part.1 }
+    ensures first { IfOk result (λ run. run.first ≡ part.0) }
+    ensures run { IfOk result (IsRunOf S.Opened.may_be (S.may_be source.now) part.1 is_strict) }
+{
+    let mut opened = Vec::new(alloc);
     for place in part.0..part.1 {
-        inputs.push(source.open(place))?;
+        match source.open(place) {
+            Some(input) => opened.push(input)?,
+            None => break,
+        }
     }
-    Ok(inputs)
+    Ok(Run {
+        alloc,
+        first: part.0,
+        opened,
+        is_strict,
+    })
 }
 
-// What the workers are to do with the inputs from one place to another.
-fn work_of<S: Source<Opened = O>, O: Drop>(
+// How many inputs a worker is given, of so many that are left: as many as each other one, in this round and in those behind it.
+fn share_of(left: usize, workers: usize) -> usize
+    requires { 0 < workers }
+    ensures { 0 < result }
+{
+    let most = OPEN_FOR_ONE.min(OPEN_FOR_ALL / workers).max(1);
+    let rounds = left.div_ceil(most.saturating_mul(workers)).max(1);
+    left.div_ceil(rounds.saturating_mul(workers)).max(1)
+}
+
+// The inputs that workers are given at once, of those from one place to another, and the place behind them.
+fn open_round<S: Source>(
     alloc: Global,
     source: &S,
     part: (usize, usize),
     how: Manner,
-) -> Result<Vec<Work<O>>, AllocError>
-    requires { part.0 ≤ part.1 }
+) -> Result<(Vec<Run<S::Opened>>, usize), AllocError>
+    requires some { 0 < how.workers }
+    requires left { part.0 < part.1 }
+    ensures on { IfOk result (λ round. part.0 < round.1) }
+    ensures within { IfOk result (λ round. round.1 ≤ part.1) }
+    ensures runs { IfOk result (λ round. All (IsRunOf S.Opened.may_be (S.may_be source.now) part.1 how.is_strict) round.0.items) }
 {
-    let inputs = part.1 - part.0;
-    let workers = how.workers.min(inputs);
-    let mut work = Vec::new(alloc);
-    for worker in 0..workers {
-        let (begin, end) = part_of_inputs(inputs, workers, worker);
-        let first = part.0 + begin;
-        work.push(Work {
-            alloc,
-            first,
-            inputs: open_part(alloc, source, (first, part.0 + end))?,
-            is_strict: how.is_strict,
-        })?;
+    let share = share_of(part.1 - part.0, how.workers);
+    let mut runs = Vec::new(alloc);
+    let mut place = part.0;
+    while place < part.1 && runs.len() < how.workers {
+        let end = part.1.min(place.saturating_add(share));
+        let run = open_run(alloc, source, (place, end), how.is_strict)?;
+        place = end.min((place + run.opened.len()).saturating_add(1));
+        if run.opened.len() > 0 {
+            runs.push(run)?;
+        }
     }
-    Ok(work)
+    Ok((runs, place))
 }
 
-// Appends the rows of a worker, with the inputs between them.
-fn append_rows<S: Source, P: Progress>(
+// Adds what workers have added up to the sum of the inputs before it.
+fn add_all<S: Source, P: Progress>(
     all: &mut Summed,
     source: &S,
     progress: &mut P,
-    rows: Vec<Row>,
+    done: Vec<Result<Summed, AllocError>>,
     is_strict: bool,
-) -> Result<(), AllocError> {
-    let mut at = rows.first().map_or(0, |row| row.part.0);
-    for row in rows {
-        let Row { part, summed } = row;
-        all.add_part(source, progress, (at, part.0), is_strict)?;
-        if all.is_ended(is_strict) {
-            break;
-        }
-        all.append_part(source, progress, part, is_strict, summed)?;
-        at = part.1;
+) -> Result<(), AllocError>
+    ensures sum { (inputs : ℕ) → All (λ one. IfOk one (IsWithin (S.may_be source.now) is_strict inputs)) done.items → OnOk result (IsBefore (S.may_be source.now) is_strict inputs all.old → IsBefore (S.may_be source.now) is_strict inputs all.new) }
+{
+    for summed in done {
+        all.add_summed(source, progress, summed?, is_strict)?;
     }
     Ok(())
 }
 
-// Adds what the rows of all workers are, which follow one another.
-fn append_all<S: Source, P: Progress>(
-    all: &mut Summed,
-    source: &S,
-    progress: &mut P,
-    done: Vec<Result<Vec<Row>, AllocError>>,
-    is_strict: bool,
-) -> Result<(), AllocError> {
-    for rows in done {
-        if all.is_ended(is_strict) {
-            break;
-        }
-        append_rows(all, source, progress, rows?, is_strict)?;
-    }
-    Ok(())
-}
-
-// How many inputs are open at once at most.
-fn most_open(workers: usize) -> usize
-    requires { 0 < workers }
-    ensures { 0 < result }
-{
-    if workers > OPEN_FOR_ALL / OPEN_FOR_ONE {
-        OPEN_FOR_ALL
-    } else {
-        OPEN_FOR_ONE * workers
-    }
-}
-
-/// Returns the sum of so many inputs of a source. Workers read and add them up, each in a thread of its own, or fewer where a thread
-/// cannot be started: the sum is the same for any number of them, and so is what is left out. An input that cannot be read is left
-/// out, or ends it. With one worker the caller's thread adds them up one by one.
+/// Returns the sum of so many inputs of a source, from the one at 0 on. Workers read and add them up, each in a thread of its own, or
+/// fewer where a thread cannot be started. For any number of them it is the sum of all inputs in their order, each as it may be: the
+/// totals are those of the inputs that are added, those left out are told with their places and faults, in their order, and so is
+/// whether one is damaged. The first that is left out ends it, if it is strict [sum]. With one worker the caller's thread adds them
+/// up one by one.
 ///
-/// The one fault is `NoMemory`.
-pub fn sum_of_inputs<
-    R: Threads + Wait,
-    S: Source<Opened = O>,
-    O: OpenInput + Send + Drop,
-    P: Progress,
->(
+/// The one fault is `NoMemory` [fault].
+pub fn sum_of_inputs<R: Threads + Wait, S: Source, P: Progress>(
     rt: &R,
     alloc: Global,
     source: &S,
     progress: &mut P,
     inputs: usize,
     how: Manner,
-) -> Result<Summed, CliFault> {
-    let mut all = Summed::none(alloc);
-    if how.workers <= 1 {
-        all.add_part(source, progress, (0, inputs), how.is_strict)?;
-        return Ok(all);
+) -> Result<Summed, CliFault>
+    ensures sum { IfOk result (IsSumOfAll (S.may_be source.now) how.is_strict inputs) }
+    ensures fault { IfErr result (λ fault. fault ≡ NoMemory) }
+{
+    let mut all = Summed::none(alloc, 0);
+    let mut place = 0;
+    while how.workers > 1 && place < inputs && !all.is_ended(how.is_strict) {
+        let (runs, end) = open_round(alloc, source, (place, inputs), how)?;
+        let done = run_within(rt, alloc, runs)?;
+        add_all(&mut all, source, progress, done, how.is_strict)?;
+        place = end;
     }
-    let rounds = inputs.div_ceil(most_open(how.workers));
-    for round in 0..rounds {
-        if all.is_ended(how.is_strict) {
-            break;
-        }
-        let part = part_of_inputs(inputs, rounds, round);
-        let work = work_of(alloc, source, part, how)?;
-        let done = run_within(rt, alloc, work)?;
-        append_all(&mut all, source, progress, done, how.is_strict)?;
-    }
+    all.add_up_to(source, progress, inputs, how.is_strict)?;
     Ok(all)
 }

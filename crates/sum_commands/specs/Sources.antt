@@ -1,0 +1,191 @@
+-- What the inputs of a source are, and of which of them a sum is.
+use Rattle.std.specs.Prelude.{◌≡◌, ◌⊎◌, Bool, true, false, ◌&&◌, ◌||◌, nat_lt, ℕ, ◌+◌, ◌≤◌, List, [], ◌∷◌, ◌++◌, length, Result, Ok, Err, ⊤}
+use Rattle.reading_sums.specs.declared.sums.Sums.{Sums}
+use Rattle.reading_sums.specs.Addends.{Addend, AddsAddend, IsSumInTurn, addend_of}
+use Rattle.sum_commands.specs.declared.fault.InputFault.{InputFault}
+use Rattle.sum_commands.specs.declared.fault.InputFault.TheVariants.{Image, BadTotals, TooMany}
+use Rattle.sum_commands.specs.declared.summing.Left.{Left}
+use Rattle.sum_commands.specs.declared.summing.Summed.{Summed}
+use Rattle.sum_commands.specs.declared.working.Run.{Run}
+
+-- what an input is: an addend, of damaged images or not, or a fault for which it is left out
+pub data Input : Type 0 where
+  Added : (is_damaged : Bool) (addend : Addend) → Input
+  LeftOut : (fault : InputFault) → Input
+
+-- a sum became that of an input more, behind its own
+pub record AddsInput (may_be : Input → Type 0) (is_damaged : Bool) (before after : Sums) : Type 0 where
+  pub addend : Addend
+  pub is : may_be (Added is_damaged addend)
+  pub added : AddsAddend addend before after
+
+-- a sum became that of some input more, of which nothing is known, as of a file's
+abbrev pub AddsSome : Bool → Sums → Sums → Type 0
+AddsSome is_damaged before after = AddsInput (λ input. ⊤) is_damaged before after
+
+-- an input was taken as what it may be; or it was left out since a total would not fit with it
+abbrev pub MayBeTaken : (Input → Type 0) → Input → Type 0
+MayBeTaken may_be (Added is_damaged addend) = may_be (Added is_damaged addend)
+MayBeTaken may_be (LeftOut (Image fault)) = may_be (LeftOut (Image fault))
+MayBeTaken may_be (LeftOut (BadTotals line)) = may_be (LeftOut (BadTotals line))
+MayBeTaken may_be (LeftOut TooMany) = ⊤
+
+-- ---- inputs in their order
+
+-- inputs from a place on, each taken as one that may be at its place
+abbrev pub AreTakenFrom : (ℕ → Input → Type 0) → ℕ → List Input → Type 0
+AreTakenFrom may_be place [] = ⊤
+AreTakenFrom may_be place (input ∷ rest) = MayBeTaken (may_be place) input × AreTakenFrom may_be (place + 1) rest
+
+-- the addends of an input, and of all
+abbrev pub addends_of : Input → List Addend
+addends_of (Added is_damaged addend) = addend ∷ []
+addends_of (LeftOut fault) = []
+
+abbrev pub addends_in : List Input → List Addend
+addends_in [] = []
+addends_in (input ∷ rest) = addends_of input ++ addends_in rest
+
+-- an input at a place is left out, and all that are from a place on, in their order
+abbrev pub left_at : ℕ → Input → List Left
+left_at place (Added is_damaged addend) = []
+left_at place (LeftOut fault) = (record { place = place; fault = fault }) ∷ []
+
+abbrev pub left_from : ℕ → List Input → List Left
+left_from place [] = []
+left_from place (input ∷ rest) = left_at place input ++ left_from (place + 1) rest
+
+-- whether an input is damaged, and whether one is
+abbrev pub is_damaged_in : Input → Bool
+is_damaged_in (Added is_damaged addend) = is_damaged
+is_damaged_in (LeftOut fault) = false
+
+abbrev pub are_damaged : List Input → Bool
+are_damaged [] = false
+are_damaged (input ∷ rest) = is_damaged_in input || are_damaged rest
+
+-- none is left out but the last
+abbrev pub EndsAtFault : List Input → Type 0
+EndsAtFault [] = ⊤
+EndsAtFault (Added is_damaged addend ∷ rest) = EndsAtFault rest
+EndsAtFault (LeftOut fault ∷ rest) = rest ≡ []
+
+-- ---- sums of them
+
+-- A sum is that of inputs in their order: from its first place on up to the one that it has reached, each as it may be. The totals
+-- are those of the addends, and it tells which inputs are left out, and whether one is damaged. If the first that is left out is to
+-- end it, none comes behind that.
+pub record IsSumOf (may_be : ℕ → Input → Type 0) (is_strict : Bool) (summed : Summed) : Type 0 where
+  pub inputs : List Input
+  pub taken : AreTakenFrom may_be summed.first inputs
+  pub reached : summed.reached ≡ summed.first + length inputs
+  pub sum : IsSumInTurn (addends_in inputs) summed.sums
+  pub left : summed.left.items ≡ left_from summed.first inputs
+  pub damaged : summed.is_damaged ≡ are_damaged inputs
+  pub ends : is_strict ≡ true → EndsAtFault inputs
+
+-- whether a sum has ended before its last input: at one that is left out
+abbrev pub has_ended : Bool → Summed → Bool
+has_ended is_strict summed = is_strict && nat_lt 0 (length summed.left.items)
+
+-- a sum is that of all inputs, which are so many; or up to the first that is left out, if that is to end it
+pub record IsSumOfAll (may_be : ℕ → Input → Type 0) (is_strict : Bool) (inputs : ℕ) (summed : Summed) : Type 0 where
+  pub sum : IsSumOf may_be is_strict summed
+  pub first : summed.first ≡ 0
+  pub within : summed.reached ≤ inputs
+  pub all : has_ended is_strict summed ≡ false → summed.reached ≡ inputs
+
+-- ---- steps
+
+-- what it notes of an input: at a place it is left out, or not
+abbrev pub left_of : ℕ → Result Bool InputFault → List Left
+left_of place (Ok is_damaged) = []
+left_of place (Err fault) = (record { place = place; fault = fault }) ∷ []
+
+-- whether it is damaged
+abbrev pub damage_in : Result Bool InputFault → Bool
+damage_in (Ok is_damaged) = is_damaged
+damage_in (Err fault) = false
+
+-- a sum became that of these addends more: of one, or of none
+abbrev pub Adds : List Addend → Sums → Sums → Type 0
+Adds [] before after = after ≡ before
+Adds (addend ∷ rest) before after = AddsAddend addend before after
+
+-- an input more was noted: how it was added, or why it is left out
+pub record HasNoted (added : Result Bool InputFault) (before after : Summed) : Type 0 where
+  pub first : after.first ≡ before.first
+  pub reached : after.reached ≡ before.reached + 1
+  pub sums : after.sums ≡ before.sums
+  pub left : after.left.items ≡ before.left.items ++ left_of before.reached added
+  pub damaged : after.is_damaged ≡ (before.is_damaged || damage_in added)
+
+-- no input before the one at a place
+pub record IsNoneAt (place : ℕ) (summed : Summed) : Type 0 where
+  pub first : summed.first ≡ place
+  pub reached : summed.reached ≡ place
+  pub sum : IsSumInTurn [] summed.sums
+  pub left : summed.left.items ≡ []
+  pub damaged : summed.is_damaged ≡ false
+
+-- the next input was taken as one that it may be
+pub record HasTaken (may_be : Input → Type 0) (before after : Summed) : Type 0 where
+  pub input : Input
+  pub taken : MayBeTaken may_be input
+  pub first : after.first ≡ before.first
+  pub reached : after.reached ≡ before.reached + 1
+  pub sum : Adds (addends_of input) before.sums after.sums
+  pub left : after.left.items ≡ before.left.items ++ left_at before.reached input
+  pub damaged : after.is_damaged ≡ (before.is_damaged || is_damaged_in input)
+
+-- the inputs of another sum were appended
+pub record HasAppended (more before after : Summed) : Type 0 where
+  pub first : after.first ≡ before.first
+  pub reached : after.reached ≡ more.reached
+  pub sum : AddsAddend (addend_of more.sums) before.sums after.sums
+  pub left : after.left.items ≡ before.left.items ++ more.left.items
+  pub damaged : after.is_damaged ≡ (before.is_damaged || more.is_damaged)
+
+-- the inputs of another sum were appended, since they follow, and nothing has ended it; or nothing was done
+abbrev pub MayHaveAppended : Bool → Summed → Summed → Summed → Type 0
+MayHaveAppended is_strict more before after =
+    (after ≡ before) ⊎ ((before.reached ≡ more.first) × (has_ended is_strict before ≡ false) × HasAppended more before after)
+
+-- ---- workers
+
+-- an input at a place is one that was opened, of those from a place on
+pub record IsOpenedAt {O : Type 0} (may_be : O → Input → Type 0) (first : ℕ) (opened : List O) (place : ℕ) (input : Input) : Type 0 where
+  pub front : List O
+  pub one : O
+  pub behind : List O
+  pub split : opened ≡ front ++ one ∷ behind
+  pub at : place ≡ first + length front
+  pub is : may_be one input
+
+-- inputs that were opened from a place on: each may be what its place may have
+abbrev pub AreOpenedFrom : {O : Type 0} → (O → Input → Type 0) → (ℕ → Input → Type 0) → ℕ → List O → Type 0
+AreOpenedFrom opened_may_be may_be place [] = ⊤
+AreOpenedFrom opened_may_be may_be place (one ∷ rest) =
+    ((input : Input) → opened_may_be one input → may_be place input) × AreOpenedFrom opened_may_be may_be (place + 1) rest
+
+-- a run of opened inputs, which ends before a place
+pub record IsRunOf {O : Type 0} (opened_may_be : O → Input → Type 0) (may_be : ℕ → Input → Type 0) (end : ℕ) (is_strict : Bool) (run : Run O) : Type 0 where
+  pub are : AreOpenedFrom opened_may_be may_be run.first run.opened.items
+  pub within : run.first + length run.opened.items ≤ end
+  pub strict : run.is_strict ≡ is_strict
+
+-- a run of opened inputs was added up
+pub record HasRun {O : Type 0} (may_be : O → Input → Type 0) (first : ℕ) (opened : List O) (is_strict : Bool) (summed : Summed) : Type 0 where
+  pub sum : IsSumOf (IsOpenedAt may_be first opened) is_strict summed
+  pub within : summed.reached ≤ first + length opened
+
+-- a sum of inputs that end before a place
+pub record IsWithin (may_be : ℕ → Input → Type 0) (is_strict : Bool) (end : ℕ) (summed : Summed) : Type 0 where
+  pub sum : IsSumOf may_be is_strict summed
+  pub within : summed.reached ≤ end
+
+-- the same from the first input on
+pub record IsBefore (may_be : ℕ → Input → Type 0) (is_strict : Bool) (end : ℕ) (summed : Summed) : Type 0 where
+  pub sum : IsSumOf may_be is_strict summed
+  pub first : summed.first ≡ 0
+  pub within : summed.reached ≤ end

@@ -29,3 +29,4 @@ pub mod Matched
 pub mod Alone
 pub mod WholeKeys
 pub mod WholeWords
+pub mod OneSum

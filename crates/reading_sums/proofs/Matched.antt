@@ -36,7 +36,7 @@ apart-here x y true is below first second =
     let wrong : Less ≡ Equal = sym below ∙ equal in absurd (cc)
 apart-here x y false is below first second = refl
 
-apart-hists : (x : HistSum) (xs : List HistSum) → AllByRecursion (λ y. hist_cmp x y ≡ Less) xs → IsWholeHist x → All IsWholeHist xs
+pub apart-hists : (x : HistSum) (xs : List HistSum) → AllByRecursion (λ y. hist_cmp x y ≡ Less) xs → IsWholeHist x → All IsWholeHist xs
     → NoneOf x.name.items x.spec (map part_of xs)
 apart-hists x [] below whole all = tt
 apart-hists x (y ∷ ys) below whole all = (
@@ -84,7 +84,7 @@ le-itself : (n : ℕ) → nat_le n n ≡ true
 le-itself n = grind (arith, nat_tests)
 
 -- the first part of a list is had
-first-had : (part : Part) (rest : List Part) → is_had (IsUpTo part.least) part.name part.spec (part ∷ rest) ≡ true
+pub first-had : (part : Part) (rest : List Part) → is_had (IsUpTo part.least) part.name part.spec (part ∷ rest) ≡ true
 first-had part rest =
     or_left (is_of part.name part.spec part && nat_le part.least part.least) (is_had (IsUpTo part.least) part.name part.spec rest)
     (and_from (is_of part.name part.spec part) (nat_le part.least part.least) (is_of-itself part) (le-itself part.least))

@@ -12,7 +12,7 @@ equal-is Less e = absurd (cc)
 equal-is Equal e = refl
 equal-is Greater e = absurd (cc)
 
-then-equal : (o p : Ordering) → ordering_then o p ≡ Equal → (o ≡ Equal) × (p ≡ Equal)
+pub then-equal : (o p : Ordering) → ordering_then o p ≡ Equal → (o ≡ Equal) × (p ≡ Equal)
 then-equal Less p e = absurd (cc)
 then-equal Equal p e = (refl, e)
 then-equal Greater p e = absurd (cc)

@@ -113,7 +113,7 @@ total-none quantity name spec [] none = refl
 total-none quantity name spec (part ∷ rest) none =
     (λ i. (if none.0 i then quantity_of quantity part else pos 0) +ℤ total-none quantity name spec rest none.1 i) ∙ +ℤ_idl (pos 0)
 
-had-none : (feature : Feature) (name : List ℕ) (spec : Spec) (parts : List Part) → NoneOf name spec parts → is_had feature name spec parts ≡ false
+pub had-none : (feature : Feature) (name : List ℕ) (spec : Spec) (parts : List Part) → NoneOf name spec parts → is_had feature name spec parts ≡ false
 had-none feature name spec [] none = refl
 had-none feature name spec (part ∷ rest) none = λ i. (none.0 i && has_feature feature part) || had-none feature name spec rest none.1 i
 

@@ -11,7 +11,7 @@ ghost use Rattle.reading_sums.specs.Alone.{HasItsMarks, IsSumOfOne, ShowsInOrder
 ghost use Rattle.reading_sums.specs.Shown.{shown_parts, other_parts};
 ghost use Rattle.reading_sums.specs.Sums.{IsSumOver, IsSumOfBoth, HaveSameSum};
 ghost use Rattle.reading_sums.specs.Views.{parts_of};
-ghost use Rattle.reading_sums.specs.Whole.{IsWholeReading};
+ghost use Rattle.reading_sums.specs.Whole.{IsWellFormed, IsWholeReading};
 
 /// The order of the readings makes no difference: a sum of a list is a sum of each list that has the same numbered
 /// readings in another order.
@@ -23,12 +23,14 @@ pub fn order_is_nothing()
 
 /// The sum of two lists together is known from the sums of both: it is what they have together, and anything that has
 /// that is the sum of both lists [together]. And a list has one sum: two sums of it have the same totals and the same
-/// notes [one].
+/// notes [one]. Two well-formed sums with the same totals have the same histograms: of each name and spec the same keys, units,
+/// marks, amounts, redundant count, number of images and least number, in the same order [same].
 ///
 /// It does nothing: what it promises are laws of the definition.
 pub fn parts_append()
     ensures together { (readings more : List (ℕ × Reading)) → (a b both : Sums) → IsSumOver readings a → IsSumOver more b → IsSumOver (readings ++ more) both ↔ IsSumOfBoth a b both }
     ensures one { (readings : List (ℕ × Reading)) → (a b : Sums) → IsSumOver readings a → IsSumOver readings b → HaveSameSum a b }
+    ensures same { (a b : Sums) → IsWellFormed a → IsWellFormed b → HaveSameSum a b → parts_of a ≡ parts_of b }
 {}
 
 /// A well-formed sum of one reading alone reads as that reading, whatever number that has: it shows exactly the histograms

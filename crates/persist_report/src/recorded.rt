@@ -6,8 +6,9 @@
 //! A fold may end at any moment, so little is done between the two readings of the totals. Looks are kept, and added up behind the second
 //! one; and where it begins again, it looks at new segments alone: what had ended before it first began is in the looks that it has.
 
-ghost use Rattle.std.specs.Prelude.{IfErr};
+ghost use Rattle.std.specs.Prelude.{◌≡◌, IfErr, IfOk, OnErr};
 ghost use Rattle.persist_report.specs.Failure.{UsageIsMistake};
+ghost use Rattle.sum_commands.specs.Sources.{AddsSome};
 
 use crate::context::Context;
 use crate::explaining::{unopened, unopened_out};
@@ -104,8 +105,12 @@ impl Looks {
     }
 }
 
-/// Adds what a recording's folder has to a sum, behind its readings. Returns whether an image there is damaged.
-pub fn add_recorded(sums: &mut Sums, recorded: &Recorded) -> Result<bool, InputFault> {
+/// Adds what a recording's folder has to a sum: one input more, behind its readings [added]. Returns whether an image there is damaged.
+/// If it is left out, the sum is as it was [refused].
+pub fn add_recorded(sums: &mut Sums, recorded: &Recorded) -> Result<bool, InputFault>
+    ensures added { IfOk result (λ is_damaged. AddsSome is_damaged sums.old sums.new) }
+    ensures refused { OnErr result (sums.new ≡ sums.old) }
+{
     append_next(sums, &recorded.sums)?;
     Ok(recorded.is_damaged)
 }

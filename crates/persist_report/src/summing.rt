@@ -1,7 +1,8 @@
 //! The sum of many inputs.
 
-ghost use Rattle.std.specs.Prelude.{◌≡◌, false};
+ghost use Rattle.std.specs.Prelude.{◌≡◌, false, length, IfOk, OnErr, ⊤};
 ghost use Rattle.segment_image.specs.Watched.{has_failed};
+ghost use Rattle.sum_commands.specs.Sources.{AddsSome, IsSumOfAll};
 
 use crate::context::Context;
 use crate::dashes::DASH;
@@ -25,7 +26,7 @@ use std::thread::Threads;
 use std::time::Clock;
 use std::{fmt, fs};
 use sum_commands::{
-    InputFault, InputKind, Left, Manner, OpenInput, Source, Summed, add_image, add_totals,
+    InputFault, InputKind, Left, Manner, OpenInput, Source, Summed, add_image, add_totals, pass_over,
     sum_of_inputs,
 };
 
@@ -62,7 +63,8 @@ pub fn path_of<'a>(origin: Origin<'a>) -> &'a str {
     }
 }
 
-/// Adds what a reader has left to a sum, which is an image or a totals. Returns whether it is damaged.
+/// Adds what a reader has left to a sum, which is an image or a totals: one input more, behind the readings of the sum [added]. Returns
+/// whether it is damaged. If it is left out, the sum is as it was [refused].
 pub fn add_from<R: Read>(
     alloc: Global,
     sums: &mut Sums,
@@ -70,6 +72,8 @@ pub fn add_from<R: Read>(
     reader: &mut Watched<R>,
 ) -> Result<bool, InputFault>
     requires { has_failed reader.old ≡ false }
+    ensures added { IfOk result (λ is_damaged. AddsSome is_damaged sums.old sums.new) }
+    ensures refused { OnErr result (sums.new ≡ sums.old) }
 {
     if kind == InputKind::Totals {
         let text = read_bytes(alloc, reader, MAX_TOTALS).map_err(CliFault::from)?;
@@ -95,7 +99,10 @@ fn add_look<R: Files<File = File> + Input + AllocGlobal>(
     context: &Context<'_, R>,
     sums: &mut Sums,
     path: &str,
-) -> Result<bool, InputFault> {
+) -> Result<bool, InputFault>
+    ensures added { IfOk result (λ is_damaged. AddsSome is_damaged sums.old sums.new) }
+    ensures refused { OnErr result (sums.new ≡ sums.old) }
+{
     let bytes = match look_at(context, path) {
         Ok(bytes) => bytes,
         Err(failure) => return Err(InputFault::Image(fault_of_look(failure))),
@@ -110,7 +117,10 @@ fn add_named<R: Files<File = File> + Input + AllocGlobal>(
     sums: &mut Sums,
     name: &Named,
     is_live: bool,
-) -> Result<bool, InputFault> {
+) -> Result<bool, InputFault>
+    ensures added { IfOk result (λ is_damaged. AddsSome is_damaged sums.old sums.new) }
+    ensures refused { OnErr result (sums.new ≡ sums.old) }
+{
     if let What::Recorded(recorded) = &name.what {
         return add_recorded(sums, recorded);
     }
@@ -125,7 +135,7 @@ fn add_named<R: Files<File = File> + Input + AllocGlobal>(
     };
     let (kind, peeked) = Peeked::of(context.alloc(), incoming)?;
     match kind {
-        InputKind::Other if name.what.is_found() => Ok(false),
+        InputKind::Other if name.what.is_found() => Ok(pass_over(sums)),
         InputKind::Image if is_live && path != DASH => add_look(context, sums, path),
         _ => {
             let mut reader = Watched::new(peeked);
@@ -144,6 +154,11 @@ struct OpenedFile {
 }
 
 impl OpenInput for OpenedFile {
+    ghost use Rattle.std.specs.Prelude.{⊤};
+
+    // Nothing is known of what is in a file.
+    ghost may_be = { λ _ _. ⊤ };
+
     fn add_to(self, sums: &mut Sums) -> Result<bool, InputFault> {
         let OpenedFile {
             alloc,
@@ -152,7 +167,7 @@ impl OpenInput for OpenedFile {
         } = self;
         let (kind, peeked) = Peeked::of(alloc, file)?;
         if kind == InputKind::Other && is_found {
-            return Ok(false);
+            return Ok(pass_over(sums));
         }
         let mut reader = Watched::new(peeked);
         add_from(alloc, sums, kind, &mut reader)
@@ -176,7 +191,12 @@ fn is_regular<R: Files>(rt: &R, path: &str) -> bool {
 }
 
 impl<R: Files<File = File> + Input + AllocGlobal> Source for NamedInputs<'_, '_, R> {
+    ghost use Rattle.std.specs.Prelude.{⊤};
+
     type Opened = OpenedFile;
+
+    // Nothing is known of what is in a file.
+    ghost may_be = { λ _ _ _. ⊤ };
 
     // Workers read regular files. Standard input, pipes and devices are read in their turn.
     fn open(&self, place: usize) -> Option<OpenedFile> {
@@ -196,7 +216,7 @@ impl<R: Files<File = File> + Input + AllocGlobal> Source for NamedInputs<'_, '_,
     fn add_input(&self, sums: &mut Sums, place: usize) -> Result<bool, InputFault> {
         match self.names.get(place) {
             Some(name) => add_named(self.context, sums, name, self.is_live),
-            None => Ok(false),
+            None => Ok(pass_over(sums)),
         }
     }
 }
@@ -212,13 +232,16 @@ pub struct Reading {
     pub workers: usize,
 }
 
-/// Returns the sum of inputs: the same for any number of workers. Where it takes long and the error stream is a terminal, a line
-/// there tells how far it is.
+/// Returns the sum of inputs, each once and in their order, but for those that are left out, which it tells; up to the first of these
+/// if it is strict. It is so for any number of workers [sum]. Where it takes long and the error stream is a terminal, a line there tells
+/// how far it is.
 pub fn sum_of_names<R: Files<File = File> + Clock + Input + Eprint + AllocGlobal + Threads + Wait>(
     context: &Context<'_, R>,
     names: &[Named],
     how: Reading,
-) -> Result<Summed, CliFault> {
+) -> Result<Summed, CliFault>
+    ensures sum { IfOk result (IsSumOfAll (λ place input. ⊤) how.is_strict (length names.now)) }
+{
     let source = NamedInputs {
         context,
         names,

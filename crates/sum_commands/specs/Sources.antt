@@ -1,7 +1,11 @@
 -- What the inputs of a source are, and of which of them a sum is.
-use Rattle.std.specs.Prelude.{◌≡◌, ◌⊎◌, Bool, true, false, ◌&&◌, ◌||◌, nat_lt, ℕ, ◌+◌, ◌≤◌, List, [], ◌∷◌, ◌++◌, length, Result, Ok, Err, ⊤}
+use Rattle.std.specs.Prelude.{◌≡◌, ◌≢◌, ◌⊎◌, Bool, true, false, ◌&&◌, ◌||◌, nat_lt, ℕ, ◌+◌, ◌≤◌, List, [], ◌∷◌, ◌++◌, length, All, Result, Ok, Err, ⊤}
 use Rattle.reading_sums.specs.declared.sums.Sums.{Sums}
 use Rattle.reading_sums.specs.Addends.{Addend, AddsAddend, IsSumInTurn, addend_of}
+use Rattle.reading_sums.specs.Sums.{HaveSameSum}
+use Rattle.reading_sums.specs.Views.{parts_of}
+use Rattle.reading_sums.specs.Whole.{IsWellFormed}
+use Rattle.sum_texts.specs.Endings.{IsSumReport}
 use Rattle.sum_commands.specs.declared.fault.InputFault.{InputFault}
 use Rattle.sum_commands.specs.declared.fault.InputFault.TheVariants.{Image, BadTotals, TooMany}
 use Rattle.sum_commands.specs.declared.summing.Left.{Left}
@@ -94,6 +98,27 @@ pub record IsSumOfAll (may_be : ℕ → Input → Type 0) (is_strict : Bool) (in
   pub first : summed.first ≡ 0
   pub within : summed.reached ≤ inputs
   pub all : has_ended is_strict summed ≡ false → summed.reached ≡ inputs
+
+-- ---- the same sum
+
+-- the input at each place can be one thing alone, as that of a file which stays as it is
+abbrev pub IsFixed : (ℕ → Input → Type 0) → Type 0
+IsFixed may_be = (place : ℕ) (one other : Input) → may_be place one → may_be place other → one ≡ other
+
+-- no input was left out because a total would not fit with it
+abbrev pub HasRoom : Summed → Type 0
+HasRoom summed = All (λ left. left.fault ≢ TooMany) summed.left.items
+
+-- two sums are the same, leave out the same inputs for the same faults, and are damaged alike; if they are well formed, they have
+-- the same histograms, and each text that is the report of one is that of the other
+pub record AreAlike (a b : Summed) : Type 0 where
+  pub sums : HaveSameSum a.sums b.sums
+  pub reached : a.reached ≡ b.reached
+  pub left : a.left.items ≡ b.left.items
+  pub damaged : a.is_damaged ≡ b.is_damaged
+  pub hists : IsWellFormed a.sums → IsWellFormed b.sums → parts_of a.sums ≡ parts_of b.sums
+  pub report : IsWellFormed a.sums → IsWellFormed b.sums → (text : List ℕ) → IsSumReport a.sums (length a.left.items) text
+      → IsSumReport b.sums (length b.left.items) text
 
 -- ---- steps
 

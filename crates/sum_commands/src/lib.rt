@@ -8,12 +8,14 @@
 
 mod fault;
 mod kind;
+mod laws;
 mod summing;
 mod sums;
 mod working;
 
 pub use fault::InputFault;
 pub use kind::{FRONT, InputKind, kind_of};
+pub use laws::workers_are_nothing;
 pub use summing::{Left, OpenInput, Progress, Source, Summed};
-pub use sums::{add_image, add_totals, append_next};
+pub use sums::{add_image, add_totals, append_next, pass_over};
 pub use working::{Manner, sum_of_inputs};

@@ -1,6 +1,6 @@
 //! Sums of inputs, one after the other.
 
-ghost use Rattle.std.specs.Prelude.{◌≡◌, false, is_some, IfErr, IfOk, OnOk, OnErr};
+ghost use Rattle.std.specs.Prelude.{◌≡◌, Bool, false, is_some, IfErr, IfOk, OnOk, OnErr};
 ghost use Rattle.segment_image.specs.Words.{bytes_of_words};
 ghost use Rattle.reading_sums.specs.Addends.{AddsAddend, addend_of};
 ghost use Rattle.sum_commands.specs.Sources.{AddsSome};
@@ -15,13 +15,14 @@ use sum_texts::totals_of;
 
 /// Adds the readings of another sum to a sum, behind its own: the sum of any readings in their order, the first of which
 /// has the number 0, and the next 1, becomes that of these and then those of the other [added]. Any sum gets the totals and the
-/// notes of the other one more, whose images come behind its own [behind].
+/// notes of the other one more, whose images come behind its own [behind]: an input, which may be damaged or not [some].
 ///
 /// It is refused if a total or a number would not fit, `TooMany`, or if there is no memory, `NoMemory`. The sum is then as
 /// it was [refused].
 pub fn append_next(sums: &mut Sums, more: &Sums) -> Result<(), SumsFault>
     ensures added { OnOk result (AddsBehind more.now sums.old sums.new) }
     ensures behind { OnOk result (AddsAddend (addend_of more.now) sums.old sums.new) }
+    ensures some { OnOk result ((is_damaged : Bool) → AddsSome is_damaged sums.old sums.new) }
     ensures refused { OnErr result (sums.new ≡ sums.old) }
 {
     let raised = more.raised(sums.notes().images)?;
@@ -63,4 +64,12 @@ pub fn add_totals(alloc: Global, sums: &mut Sums, text: &[u8]) -> Result<(), Inp
     let totals = totals_of(alloc, text)?;
     append_next(sums, &totals.sums)?;
     Ok(())
+}
+
+/// Passes over an input that has nothing for a sum, as a file that is no image and no totals. Returns that it is not damaged: with the
+/// sum as it is, an input that adds nothing was added [some].
+pub fn pass_over(_sums: &Sums) -> bool
+    ensures some { AddsSome result _sums.now _sums.now }
+{
+    false
 }

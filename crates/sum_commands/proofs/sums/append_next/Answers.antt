@@ -4,6 +4,7 @@ use Rattle.bucket_ranges.specs.Reading.{Reading}
 use Rattle.reading_sums.specs.declared.notes.Notes.{Notes}
 use Rattle.reading_sums.specs.Sums.{IsSumOver, numbered_from, raised}
 use Rattle.reading_sums.proofs.Numbered.{behind-numbered}
+use Rattle.reading_sums.specs.Addends.{addend_of}
 use Rattle.sum_commands.proofs.InTurn.{raised-behind}
 use Rattle.sum_commands.proofs.sums.append_next.Goals as goal
 
@@ -11,6 +12,9 @@ pub returns-clause-behind : goal.returns-clause-behind
 returns-clause-behind c =
     raised-behind c.notes.result.images c.args.more.now c.in_ok-raised.raised c.args.sums.now c.append.new.self
     (ap (λ (notes : Notes). notes.images) c.notes.ensures) c.in_ok-raised.ensures.parts c.in_ok-raised.ensures.notes c.in_ok-append.ensures.both
+
+pub returns-clause-some : goal.returns-clause-some
+returns-clause-some c = λ is_damaged. record { addend = addend_of c.args.more.now; is = tt; added = returns-clause-behind c }
 
 pub returns-clause-added : goal.returns-clause-added
 returns-clause-added c = λ readings others first second.

@@ -1,0 +1,6 @@
+-- The same inputs were taken.
+use Rattle.sum_commands.proofs.Alike.{alike}
+use Rattle.sum_commands.proofs.laws.workers_are_nothing.Goals as goal
+
+pub returns : goal.returns
+returns g c = record { alike = λ is_strict inputs a b. alike (g.S.Source.may_be c.args._source.now) is_strict inputs a b }

@@ -8,6 +8,7 @@ pub mod Readings
 pub mod Ascending
 pub mod KeyOrder
 pub mod Values
+pub mod LongKeys
 pub mod HistOrder
 pub mod OneReading
 pub mod Readable

@@ -35,7 +35,7 @@ returns-clause-both c =
       quantities = quantities-both (part_of c.args.left.now) (part_of c.args.right.now) both keys
           (to_z-of_z w128 c.in_ok-amount_of_both.field-0 c.in_ok-amount_of_both.ensures.fits ∙ c.in_ok-amount_of_both.ensures.sum)
           (to_z-of_z w128 c.in_ok-amount_of_both-2.field-0 c.in_ok-amount_of_both-2.ensures.fits ∙ c.in_ok-amount_of_both-2.ensures.sum)
-          c.in_ok-number_of_both.ensures c.in_ok-number_of_both-2.ensures;
+          c.in_ok-number_of_both.ensures.sum c.in_ok-number_of_both-2.ensures.sum;
       features = features-both (part_of c.args.left.now) (part_of c.args.right.now) both keys c.min.ensures;
     }
 

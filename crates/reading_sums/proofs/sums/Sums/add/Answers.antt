@@ -52,7 +52,7 @@ returns-clause-more c =
           (parts_of c.args.self.now ++ parts_of_one one) both
           (same-append (parts_of c.args.self.now) (parts_of c.args.self.now) (map part_of c.in_ok-one.one.items) (parts_of_one one)
           (same-refl (parts_of c.args.self.now)) parts);
-      notes = notes-more (reading_view c.args.reading.now) c.args.self.now.notes c.notes_of.result c.in_ok-notes.notes c.notes_of.ensures c.in_ok-notes.ensures;
+      notes = notes-more (reading_view c.args.reading.now) c.args.self.now.notes c.notes_of.result c.in_ok-notes.notes c.notes_of.ensures c.in_ok-notes.ensures.both;
     }
 
 pub returns-clause-added : goal.returns-clause-added

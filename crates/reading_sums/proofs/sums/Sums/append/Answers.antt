@@ -11,7 +11,7 @@ pub returns-clause-both : goal.returns-clause-both
 returns-clause-both c =
     let P : List Part → Type 0 = λ z. SameTotals (map part_of c.in_ok-hists.hists.items) z in record {
       hists = subst P (λ i. map part_of (c.deref.ensures.value i) ++ map part_of (c.deref-2.ensures.value i)) c.in_ok-hists.ensures.same;
-      notes = c.in_ok-notes.ensures;
+      notes = c.in_ok-notes.ensures.both;
     }
 
 pub returns-clause-added : goal.returns-clause-added

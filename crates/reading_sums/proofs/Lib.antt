@@ -27,6 +27,8 @@ pub mod GroupNames
 pub mod SameSpecs
 pub mod SameParts
 pub mod Matched
+pub mod LongHists
+pub mod LongSums
 pub mod Alone
 pub mod WholeKeys
 pub mod WholeWords

@@ -36,7 +36,7 @@ apart-here x y true is below first second =
     let wrong : Less ≡ Equal = sym below ∙ equal in absurd (cc)
 apart-here x y false is below first second = refl
 
-apart-hists : (x : HistSum) (xs : List HistSum) → AllByRecursion (λ y. hist_cmp x y ≡ Less) xs → IsWholeHist x → All IsWholeHist xs
+pub apart-hists : (x : HistSum) (xs : List HistSum) → AllByRecursion (λ y. hist_cmp x y ≡ Less) xs → IsWholeHist x → All IsWholeHist xs
     → NoneOf x.name.items x.spec (map part_of xs)
 apart-hists x [] below whole all = tt
 apart-hists x (y ∷ ys) below whole all = (

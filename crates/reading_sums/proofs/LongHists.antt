@@ -1,5 +1,5 @@
 -- Histograms that do not fit together.
-use Rattle.std.proofs.Common.{◌≡◌, ◌<◌, ◌≤◌, ◌^◌, ◌+◌, ⊎_elim, inl, inr, Bool, true, false, ℕ, zero, suc, ℤ, pos, ◌+ℤ◌, List, [], ◌∷◌, ◌++◌, map, length, get_or, sum_by, if◌then◌else◌, refl, ap, sym, subst, ◌∙◌, arith}
+use Rattle.std.proofs.Common.{◌≡◌, ◌<◌, ◌≤◌, ◌^◌, ◌+◌, ⊎_elim, inl, inr, Bool, true, false, ℕ, zero, suc, ◌+ℤ◌, List, [], ◌∷◌, ◌++◌, map, length, get_or, sum_by, if◌then◌else◌, refl, ap, sym, subst, ◌∙◌, arith}
 use Rattle.std.specs.Ordering.{int_eq}
 use Rattle.std.specs.List.{All, Contains}
 use Rattle.std.specs.List.Sorted.{IsStrictlySortedBy}
@@ -156,13 +156,22 @@ parts-long a b xs ys names specs first second many =
     let f : Part → ℕ = λ p. if is_of a.name a.spec p then units_of p.keys else 0 in
     ⊎_elim
     (λ units.
-    let other : all_units a.name a.spec ys ≡ units_of b.keys = (λ i. all_units (names i) (specs i) ys) ∙ alone-units b ys second in
-    (a.name, a.spec, inl (subst (λ n. 2 ^ 64 ≤ n) (sym (sum_by-append f xs ys))
-    (both-pass (sum_by f xs) (sum_by f ys) (units_of a.keys) (units_of b.keys) (2 ^ 64) (alone-units a xs first) other units))))
+    let other : all_units a.name a.spec ys ≡ units_of b.keys = (λ i. all_units (names i) (specs i) ys) ∙ alone-units b ys second in (
+      a.name,
+      a.spec,
+      inl (subst (λ n. 2 ^ 64 ≤ n) (sym (sum_by-append f xs ys))
+          (both-pass (sum_by f xs) (sum_by f ys) (units_of a.keys) (units_of b.keys) (2 ^ 64) (alone-units a xs first) other units)),
+    ))
     (λ some.
-    let other : total some.0 a.name a.spec ys ≡ quantity_of some.0 b = (λ i. total some.0 (names i) (specs i) ys) ∙ alone-total some.0 b ys second in
-    (a.name, a.spec, inr (some.0, subst (IsTooMuch some.0)
-    (sym (total-append some.0 a.name a.spec xs ys ∙ (λ i. alone-total some.0 a xs first i +ℤ other i))) some.1)))
+    let other : total some.0 a.name a.spec ys ≡ quantity_of some.0 b = (λ i. total some.0 (names i) (specs i) ys) ∙ alone-total some.0 b ys second in (
+      a.name,
+      a.spec,
+      inr (
+        some.0,
+        subst (IsTooMuch some.0)
+            (sym (total-append some.0 a.name a.spec xs ys ∙ (λ i. alone-total some.0 a xs first i +ℤ other i))) some.1,
+      ),
+    ))
     many
 
 pair-long : (left right : List HistSum) → HavePairTooGreat left right → AreWhole left → AreWhole right → DoNotFit (map part_of left ++ map part_of right)

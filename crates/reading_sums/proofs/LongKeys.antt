@@ -55,8 +55,3 @@ units-step done new left right left_new right_new key i j all pushed cut_left cu
 pub if-many : (fault : SumsFault) (many : Type 0) → many → IfTooMany fault many
 if-many NoMemory many is = tt
 if-many TooMany many is = is
-
--- and what follows from what is so
-pub many-so : (fault : SumsFault) (this that : Type 0) → (this → that) → IfTooMany fault this → IfTooMany fault that
-many-so NoMemory this that so is = tt
-many-so TooMany this that so is = so is

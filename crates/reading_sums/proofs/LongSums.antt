@@ -25,11 +25,14 @@ moved-long xs ys zs moved many =
     let f : Part → ℕ = λ p. if is_of name spec p then units_of p.keys else 0 in
     let units : sum_by f (xs ++ ys) ≡ sum_by f (xs ++ zs) =
     sum_by-append f xs ys ∙ (ap (λ n. sum_by f xs + n) (sym (sum_by-IsPermutation f ys zs moved)) ∙ sym (sum_by-append f xs zs)) in
-    let same = same-append xs xs ys zs (same-refl xs) (same-permutation ys zs moved) in
-    (name, spec, ⊎_elim
-    (λ long. inl (subst (λ n. 2 ^ 64 ≤ n) units long))
-    (λ some. inr (some.0, subst (IsTooMuch some.0) (same.totals some.0 name spec) some.1))
-    many.2)
+    let same = same-append xs xs ys zs (same-refl xs) (same-permutation ys zs moved) in (
+      name,
+      spec,
+      ⊎_elim
+          (λ long. inl (subst (λ n. 2 ^ 64 ≤ n) units long))
+          (λ some. inr (some.0, subst (IsTooMuch some.0) (same.totals some.0 name spec) some.1))
+          many.2,
+    )
 
 -- a least number that does not fit when it is greater
 number-here : (hists : List HistSum) (k : ℕ) (x : HistSum) (by : ℕ) → k < length hists → x ≡ get_or hists k x → 2 ^ 64 ≤ x.least + by

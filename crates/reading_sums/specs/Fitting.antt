@@ -24,49 +24,50 @@ IfTooMany TooMany many = many
 
 -- a total does not fit: one of amounts 128 bits with a sign, each other one 64 bits
 abbrev pub IsTooMuch : Quantity → ℤ → Type 0
-IsTooMuch (Units key) much = pos (2 ^ 64) ≤ℤ much
-IsTooMuch (Marks key) much = pos (2 ^ 64) ≤ℤ much
-IsTooMuch Amounts much = ¬ FitsSigned w128 much
-IsTooMuch AmountMarks much = ¬ FitsSigned w128 much
-IsTooMuch Redundant much = pos (2 ^ 64) ≤ℤ much
-IsTooMuch Images much = pos (2 ^ 64) ≤ℤ much
+IsTooMuch (Units key) number = pos (2 ^ 64) ≤ℤ number
+IsTooMuch (Marks key) number = pos (2 ^ 64) ≤ℤ number
+IsTooMuch Amounts number = ¬ FitsSigned w128 number
+IsTooMuch AmountMarks number = ¬ FitsSigned w128 number
+IsTooMuch Redundant number = pos (2 ^ 64) ≤ℤ number
+IsTooMuch Images number = pos (2 ^ 64) ≤ℤ number
 
--- the units of all keys that parts of a name and a spec have
+-- the units of all keys that the parts of a name and a spec have together
 abbrev pub all_units : List ℕ → Spec → List Part → ℕ
 all_units name spec parts = sum_by (λ part. if is_of name spec part then units_of part.keys else 0) parts
 
--- what parts have together does not fit: of some name and spec all units together are 2^64 or more, or some total does not fit
+-- what parts have together does not fit: of some name and spec all units together are 2^64 or more, or another total does not
+-- fit
 abbrev pub DoNotFit : List Part → Type 0
 DoNotFit parts = (name : List ℕ) × (spec : Spec)
     × ((2 ^ 64 ≤ all_units name spec parts) ⊎ ((quantity : Quantity) × IsTooMuch quantity (total quantity name spec parts)))
 
--- some part has a least number that does not fit 64 bits when it is so much greater
+-- some part has a least number that is 2^64 or more when it is so much greater
 abbrev pub HasNumberTooGreat : ℕ → List Part → Type 0
 HasNumberTooGreat by parts = (part : Part) × Contains parts part × (2 ^ 64 ≤ part.least + by)
 
 -- ---- sums
 
--- what two sums say beside their histograms does not fit together: one of the numbers is 2^64 or more
+-- the notes of two sums do not fit together: one of the numbers is 2^64 or more
 abbrev pub NotesDoNotFit : Notes → Notes → Type 0
 NotesDoNotFit a b = (2 ^ 64 ≤ a.images + b.images) ⊎ (2 ^ 64 ≤ a.full + b.full) ⊎ (2 ^ 64 ≤ a.corrupt + b.corrupt)
     ⊎ (2 ^ 64 ≤ a.stopped + b.stopped) ⊎ (2 ^ 64 ≤ a.bad + b.bad)
 
--- more parts and more notes do not fit into a sum: what they and those of the sum have together does not
+-- parts and notes do not fit into a sum: the notes of both do not fit together, or what the parts of both have together does not
 abbrev pub DoesNotFit : Sums → List Part → Notes → Type 0
 DoesNotFit sums parts notes = NotesDoNotFit sums.notes notes ⊎ DoNotFit (parts_of sums ++ parts)
 
--- ---- on the way there
+-- ---- one name and one spec
 
--- what keys have together does not fit: all units together are 2^64 or more, or the marks of some value are
+-- what keys have together does not fit: all units are 2^64 or more, or the marks of some value
 abbrev pub KeysDoNotFit : List KeySum → Type 0
 KeysDoNotFit keys = (2 ^ 64 ≤ units_of keys) ⊎ ((value : ℤ) × (2 ^ 64 ≤ marks_at keys value))
 
--- what two parts have together does not fit
+-- what two parts have together does not fit: all units are 2^64 or more, or another sum does not fit
 abbrev pub PairDoesNotFit : Part → Part → Type 0
 PairDoesNotFit a b =
     (2 ^ 64 ≤ units_of a.keys + units_of b.keys) ⊎ ((quantity : Quantity) × IsTooMuch quantity (quantity_of quantity a +ℤ quantity_of quantity b))
 
--- of two lists each has a histogram of one name and one spec, and these do not fit together
+-- each of two lists has a histogram of one name and one spec, and these do not fit together
 pub record HavePairTooGreat (left right : List HistSum) : Type 0 where
   pub one : HistSum
   pub other : HistSum

@@ -88,9 +88,10 @@ impl Sums {
     /// It is well formed if it was, and the reading is whole: it has each name once, each of a lawful spec with its keys and
     /// with units that together fit 64 bits [well_formed].
     ///
-    /// It is refused with `NoMemory` if there is no memory, and with `TooMany`, where it is well formed and the reading
-    /// whole, only if a number does not fit: of the sum and the reading together some total or all units of a name and spec,
-    /// or some number of the notes [too_many]. The sum is then as it was [refused].
+    /// It is refused with `NoMemory` if there is no memory. Where the sum is well formed and the reading whole, it is refused
+    /// with `TooMany` only if what both have together does not fit: of some name and spec all units, the marks of a key, the
+    /// redundant counts or the images are 2^64 or more, or amounts do not fit 128 bits; or some number of the notes is 2^64 or
+    /// more [too_many]. The sum is then as it was [refused].
     pub fn add(&mut self, number: u64, reading: &Reading) -> Result<(), SumsFault>
         ensures added { OnOk result ((readings : List (ℕ × definition.Reading)) → IsSumOver readings self.old → IsSumOver (readings ++ (number, reading_view reading.now) ∷ []) self.new) }
         ensures more { OnOk result (AddsNumbered (number, reading_view reading.now) self.old self.new) }
@@ -109,9 +110,10 @@ impl Sums {
     /// Adds another sum. Sums of any two lists of numbered readings become the sum of both lists, one behind the other
     /// [added], and any two sums what both have together [both], well formed if both are [well_formed]. The other sum stays.
     ///
-    /// It is refused with `NoMemory` if there is no memory, and with `TooMany`, where both sums are well formed, only if a
-    /// number does not fit: of both together some total or all units of a name and spec, or some number of the notes
-    /// [too_many]. The sum is then as it was [refused].
+    /// It is refused with `NoMemory` if there is no memory. Where both sums are well formed, it is refused with `TooMany` only
+    /// if what both have together does not fit: of some name and spec all units, the marks of a key, the redundant counts or
+    /// the images are 2^64 or more, or amounts do not fit 128 bits; or some number of the notes is 2^64 or more [too_many].
+    /// The sum is then as it was [refused].
     pub fn append(&mut self, other: &Sums) -> Result<(), SumsFault>
         ensures added { OnOk result ((readings more : List (ℕ × definition.Reading)) → IsSumOver readings self.old → IsSumOver more other.now → IsSumOver (readings ++ more) self.new) }
         ensures both { OnOk result (IsSumOfBoth self.old other.now self.new) }
@@ -130,8 +132,8 @@ impl Sums {
     /// name and spec is so much greater [parts], and all else is the same [notes]. So the sum of what comes behind others can
     /// be added to theirs.
     ///
-    /// It is refused with `NoMemory` if there is no memory, and with `TooMany` only if some least number so much greater
-    /// does not fit 64 bits [too_many].
+    /// It is refused with `NoMemory` if there is no memory, and with `TooMany` only if some least number would be 2^64 or more
+    /// [too_many].
     pub fn raised(&self, by: u64) -> Result<Sums, SumsFault>
         ensures raised { IfOk result (λ sums. (readings : List (ℕ × definition.Reading)) → IsSumOver readings self.now → IsSumOver (map (raised by) readings) sums) }
         ensures parts { IfOk result (λ sums. parts_of sums ≡ map (raised_part by) (parts_of self.now)) }

@@ -2,7 +2,7 @@
 use Rattle.std.proofs.Common.{◌++◌, List, map, subst, sym}
 use Rattle.reading_sums.specs.declared.sums.Sums.{Sums}
 use Rattle.reading_sums.specs.Totals.{Part, SameTotals}
-use Rattle.reading_sums.specs.Views.{part_of, parts_of}
+use Rattle.reading_sums.specs.Views.{part_of}
 use Rattle.reading_sums.specs.Whole.{AreWhole}
 use Rattle.reading_sums.proofs.Readings.{sum-both}
 use Rattle.std.proofs.lemmas.Result.{err_from_is_err_and}

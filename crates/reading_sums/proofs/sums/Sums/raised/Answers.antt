@@ -1,5 +1,5 @@
 -- The parts of the sum, raised, are those of the readings, raised.
-use Rattle.std.proofs.Common.{◌≡◌, List, ℕ, map, ap, subst, sym, ◌∙◌}
+use Rattle.std.proofs.Common.{List, map, ap, subst, sym, ◌∙◌}
 use Rattle.reading_sums.specs.Totals.{Part, SameTotals, raised_part}
 use Rattle.reading_sums.specs.Views.{part_of, parts_of}
 use Rattle.reading_sums.specs.Sums.{parts_in, raised as raised_reading}

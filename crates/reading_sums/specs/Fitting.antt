@@ -35,8 +35,7 @@ IsTooMuch Images number = pos (2 ^ 64) ≤ℤ number
 abbrev pub all_units : List ℕ → Spec → List Part → ℕ
 all_units name spec parts = sum_by (λ part. if is_of name spec part then units_of part.keys else 0) parts
 
--- what parts have together does not fit: of some name and spec all units together are 2^64 or more, or another total does not
--- fit
+-- parts do not fit together: of some name and spec all units are 2^64 or more, or some total does not fit
 abbrev pub DoNotFit : List Part → Type 0
 DoNotFit parts = (name : List ℕ) × (spec : Spec)
     × ((2 ^ 64 ≤ all_units name spec parts) ⊎ ((quantity : Quantity) × IsTooMuch quantity (total quantity name spec parts)))
@@ -52,17 +51,17 @@ abbrev pub NotesDoNotFit : Notes → Notes → Type 0
 NotesDoNotFit a b = (2 ^ 64 ≤ a.images + b.images) ⊎ (2 ^ 64 ≤ a.full + b.full) ⊎ (2 ^ 64 ≤ a.corrupt + b.corrupt)
     ⊎ (2 ^ 64 ≤ a.stopped + b.stopped) ⊎ (2 ^ 64 ≤ a.bad + b.bad)
 
--- parts and notes do not fit into a sum: the notes of both do not fit together, or what the parts of both have together does not
+-- parts and notes do not fit into a sum: its notes and these do not fit together, or its parts and these do not
 abbrev pub DoesNotFit : Sums → List Part → Notes → Type 0
 DoesNotFit sums parts notes = NotesDoNotFit sums.notes notes ⊎ DoNotFit (parts_of sums ++ parts)
 
 -- ---- one name and one spec
 
--- what keys have together does not fit: all units are 2^64 or more, or the marks of some value
+-- keys do not fit together: all units are 2^64 or more, or the marks of some value
 abbrev pub KeysDoNotFit : List KeySum → Type 0
 KeysDoNotFit keys = (2 ^ 64 ≤ units_of keys) ⊎ ((value : ℤ) × (2 ^ 64 ≤ marks_at keys value))
 
--- what two parts have together does not fit: all units are 2^64 or more, or another sum does not fit
+-- two parts of one name and one spec do not fit together: all units are 2^64 or more, or some total does not fit
 abbrev pub PairDoesNotFit : Part → Part → Type 0
 PairDoesNotFit a b =
     (2 ^ 64 ≤ units_of a.keys + units_of b.keys) ⊎ ((quantity : Quantity) × IsTooMuch quantity (quantity_of quantity a +ℤ quantity_of quantity b))

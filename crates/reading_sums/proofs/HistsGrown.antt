@@ -88,7 +88,7 @@ settled-walk laters earliers front left rest i j n begins cut_left cut_rest step
 
 -- ---- a reason that the rest of the earlier list gives is one that the whole gives
 
-of-rest : (earliers rest : List HistSum) (j : ℕ) (e : HistSum) → rest ≡ drop j earliers → Contains rest e → Contains earliers e
+pub of-rest : (earliers rest : List HistSum) (j : ℕ) (e : HistSum) → rest ≡ drop j earliers → Contains rest e → Contains earliers e
 of-rest earliers rest j e cut has =
     subst (λ z. Contains z e) (take-append-drop j earliers)
     (Contains-append_right (take j earliers) (drop j earliers) e (subst (λ z. Contains z e) cut has))

@@ -8,7 +8,7 @@ use Rattle.reading_sums.specs.declared.key.KeySum.{KeySum}
 use Rattle.reading_sums.specs.Keys.{SameKeys, has_key, units_at, marks_at}
 
 -- one element more of a list that is added up so far
-sum-step : {X : Type 0} (f : X → ℕ) (done rest more : List X) (key : X) (all : ℕ) → sum_by f (done ++ rest) ≡ all
+pub sum-step : {X : Type 0} (f : X → ℕ) (done rest more : List X) (key : X) (all : ℕ) → sum_by f (done ++ rest) ≡ all
     → sum_by f (key ∷ more) ≡ sum_by f rest → sum_by f ((done ++ key ∷ []) ++ more) ≡ all
 sum-step f done rest more key all before here =
     omega (arith, sum_by-append f (done ++ key ∷ []) more, sum_by_push f done key, sum_by-append f done rest, sum_by-cons f key more)

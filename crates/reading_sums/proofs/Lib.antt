@@ -8,6 +8,7 @@ pub mod Readings
 pub mod Ascending
 pub mod KeyOrder
 pub mod Values
+pub mod LongKeys
 pub mod HistOrder
 pub mod OneReading
 pub mod Readable
@@ -26,6 +27,8 @@ pub mod GroupNames
 pub mod SameSpecs
 pub mod SameParts
 pub mod Matched
+pub mod LongHists
+pub mod LongSums
 pub mod Alone
 pub mod WholeKeys
 pub mod WholeWords

@@ -108,7 +108,7 @@ equal-parts a b names specs first second quantities features =
 abbrev pub NoneOf : List ℕ → Spec → List Part → Type 0
 NoneOf name spec parts = AllByRecursion (λ part. is_of name spec part ≡ false) parts
 
-total-none : (quantity : Quantity) (name : List ℕ) (spec : Spec) (parts : List Part) → NoneOf name spec parts → total quantity name spec parts ≡ pos 0
+pub total-none : (quantity : Quantity) (name : List ℕ) (spec : Spec) (parts : List Part) → NoneOf name spec parts → total quantity name spec parts ≡ pos 0
 total-none quantity name spec [] none = refl
 total-none quantity name spec (part ∷ rest) none =
     (λ i. (if none.0 i then quantity_of quantity part else pos 0) +ℤ total-none quantity name spec rest none.1 i) ∙ +ℤ_idl (pos 0)
@@ -118,7 +118,7 @@ had-none feature name spec [] none = refl
 had-none feature name spec (part ∷ rest) none = λ i. (none.0 i && has_feature feature part) || had-none feature name spec rest none.1 i
 
 -- of the first part's name and spec such a list has what that has
-total-first : (quantity : Quantity) (part : Part) (rest : List Part) → NoneOf part.name part.spec rest
+pub total-first : (quantity : Quantity) (part : Part) (rest : List Part) → NoneOf part.name part.spec rest
     → total quantity part.name part.spec (part ∷ rest) ≡ quantity_of quantity part
 total-first quantity part rest none =
     (λ i. (if is_of-itself part i then quantity_of quantity part else pos 0) +ℤ total-none quantity part.name part.spec rest none i)

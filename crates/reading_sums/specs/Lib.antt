@@ -6,6 +6,7 @@ pub mod Whole
 pub mod Notes
 pub mod Sums
 pub mod Addends
+pub mod Fitting
 pub mod Shown
 pub mod Since
 pub mod Alone

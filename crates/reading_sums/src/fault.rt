@@ -10,7 +10,7 @@ pub enum SumsFault {
     #[error("NoMemory")]
     NoMemory = 1,
     /// A total would not fit: the units of a histogram together, or one of marks, of redundant counts or of images 64
-    /// bits, or one of amounts 128.
+    /// bits, or one of amounts 128; or a number of the notes, or the least number of an image, 64.
     #[error("TooMany")]
     TooMany = 2,
 }

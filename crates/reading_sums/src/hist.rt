@@ -1,9 +1,10 @@
 //! The histograms of a sum.
 
-ghost use Rattle.std.specs.Prelude.{◌≡◌, ◌∷◌, ◌++◌, ◌+◌, ◌<◌, ◌≤◌, ◌+ℤ◌, FitsSigned, true, drop, length, map, IfOk};
+ghost use Rattle.std.specs.Prelude.{◌≡◌, ◌∷◌, ◌++◌, ◌+◌, ◌<◌, ◌≤◌, ◌+ℤ◌, FitsSigned, true, drop, length, map, IfOk, IfErr, OnErr};
 ghost use Rattle.std.specs.Int.{w128};
 ghost use Rattle.std.specs.Ordering.{is_eq};
 ghost use Rattle.image_reader.specs.Views.{histogram_view};
+ghost use Rattle.reading_sums.specs.Fitting.{DoNotFit, HavePairTooGreat, IfTooMany, PairDoesNotFit};
 ghost use Rattle.reading_sums.specs.Totals.{part_from, IsBoth, SameTotals};
 ghost use Rattle.std.specs.List.{All};
 ghost use Rattle.reading_sums.specs.Orders.{hist_cmp, ComesNext};
@@ -95,6 +96,7 @@ pub(crate) fn copy_of(alloc: Global, hist: &HistSum) -> Result<HistSum, AllocErr
 fn amount_of_both(left: &i128, right: &i128) -> Result<i128, SumsFault>
     ensures sum { IfOk result (λ sum. sum ≡ left.now +ℤ right.now) }
     ensures fits { IfOk result (FitsSigned w128) }
+    ensures too_many { OnErr result (¬ FitsSigned w128 (left.now +ℤ right.now)) }
 {
     left.checked_add(*right).ok_or(SumsFault::TooMany)
 }
@@ -103,6 +105,7 @@ fn amount_of_both(left: &i128, right: &i128) -> Result<i128, SumsFault>
 fn both(alloc: Global, left: &HistSum, right: &HistSum) -> Result<HistSum, SumsFault>
     ensures both { IfOk result (λ sum. IsBoth (part_of left.now) (part_of right.now) (part_of sum)) }
     ensures whole { IfOk result (λ sum. left.now.spec ≡ right.now.spec → IsWholeHist left.now → IsWholeHist right.now → IsWholeHist sum) }
+    ensures too_many { IfErr result (λ fault. IfTooMany fault (PairDoesNotFit (part_of left.now) (part_of right.now))) }
 {
     Ok(HistSum {
         name: Vec::from_slice(alloc, &left.name)?,
@@ -160,6 +163,7 @@ fn next_hist(
     ensures same { IfOk result (λ next. SameTotals (part_of next.0 ∷ (map part_of (drop next.1 left.now) ++ map part_of (drop next.2 right.now))) (map part_of left.now ++ map part_of right.now)) }
     ensures ordered { IfOk result (λ next. ComesNext hist_cmp next.0 next.1 next.2 left.now right.now) }
     ensures whole { IfOk result (λ next. All IsWholeHist left.now → All IsWholeHist right.now → IsWholeHist next.0) }
+    ensures too_many { IfErr result (λ fault. IfTooMany fault (HavePairTooGreat left.now right.now)) }
 {
     match side_of(left, right) {
         Side::Left => Ok((copy_of(alloc, &left[0])?, 1, 0)),
@@ -177,6 +181,7 @@ pub(crate) fn sums_of_both(
 ) -> Result<Vec<HistSum>, SumsFault>
     ensures same { IfOk result (λ hists. SameTotals (map part_of hists.items) (map part_of left.now ++ map part_of right.now)) }
     ensures whole { IfOk result (λ hists. AreWhole left.now → AreWhole right.now → AreWhole hists.items) }
+    ensures too_many { IfErr result (λ fault. IfTooMany fault (AreWhole left.now → AreWhole right.now → DoNotFit (map part_of left.now ++ map part_of right.now))) }
 {
     let mut hists = Vec::with_capacity(alloc, left.len().max(right.len()))?;
     let (mut left_rest, mut right_rest) = (left, right);

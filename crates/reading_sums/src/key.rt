@@ -1,7 +1,8 @@
 //! The keys of histograms, and their sums.
 
-ghost use Rattle.std.specs.Prelude.{◌≡◌, ◌∷◌, ◌++◌, ◌+◌, ◌<◌, ◌≤◌, ◌^◌, ◌↔◌, true, min, drop, length, slice_index, IfOk};
+ghost use Rattle.std.specs.Prelude.{◌≡◌, ◌∷◌, ◌++◌, ◌+◌, ◌<◌, ◌≤◌, ◌^◌, ◌↔◌, true, min, drop, length, slice_index, IfOk, IfErr, OnErr, ◌⊎◌};
 ghost use Rattle.std.specs.List.Sorted.{IsStrictlySortedBy};
+ghost use Rattle.reading_sums.specs.Fitting.{IfTooMany, KeysDoNotFit};
 ghost use Rattle.reading_sums.specs.Keys.{keys_from, IsKeyOfBoth, SameKeys, IsSide};
 ghost use Rattle.reading_sums.specs.Orders.{key_cmp, ComesNext};
 ghost use Rattle.reading_sums.specs.Shown.{counts_of, marks_of};
@@ -53,7 +54,8 @@ pub(crate) fn keys_of(
 // What two have of a key, or nothing where a total would pass 64 bits.
 fn key_of_both(left: &KeySum, right: &KeySum) -> Result<KeySum, SumsFault>
     requires { left.now.value ≡ right.now.value }
-    ensures { IfOk result (IsKeyOfBoth left.now right.now) }
+    ensures both { IfOk result (IsKeyOfBoth left.now right.now) }
+    ensures too_many { OnErr result ((2 ^ 64 ≤ left.now.units + right.now.units) ⊎ (2 ^ 64 ≤ left.now.marks + right.now.marks)) }
 {
     let units = left.units.checked_add(right.units);
     let marks = left.marks.checked_add(right.marks);
@@ -91,7 +93,9 @@ fn next_key(left: &[KeySum], right: &[KeySum]) -> Result<(KeySum, usize, usize),
     ensures right { IfOk result (λ next. next.2 ≤ length right.now) }
     ensures some { IfOk result (λ next. 0 < next.1 + next.2) }
     ensures same { IfOk result (λ next. SameKeys (next.0 ∷ (drop next.1 left.now ++ drop next.2 right.now)) (left.now ++ right.now)) }
+    ensures units { IfOk result (λ next. units_of (next.0 ∷ (drop next.1 left.now ++ drop next.2 right.now)) ≡ units_of (left.now ++ right.now)) }
     ensures ordered { IfOk result (λ next. ComesNext key_cmp next.0 next.1 next.2 left.now right.now) }
+    ensures too_many { OnErr result (KeysDoNotFit (left.now ++ right.now)) }
 {
     match side_of(left, right) {
         Side::Left => Ok((left[0], 1, 0)),
@@ -103,7 +107,9 @@ fn next_key(left: &[KeySum], right: &[KeySum]) -> Result<(KeySum, usize, usize),
 // The keys of two lists together: each has the units and the marks of both. Where both lists ascend, so do they.
 fn keys_of_both(alloc: Global, left: &[KeySum], right: &[KeySum]) -> Result<Vec<KeySum>, SumsFault>
     ensures same { IfOk result (λ keys. SameKeys keys.items (left.now ++ right.now)) }
+    ensures units { IfOk result (λ keys. units_of keys.items ≡ units_of (left.now ++ right.now)) }
     ensures ordered { IfOk result (λ keys. IsStrictlySortedBy key_cmp left.now → IsStrictlySortedBy key_cmp right.now → IsStrictlySortedBy key_cmp keys.items) }
+    ensures too_many { IfErr result (λ fault. IfTooMany fault (KeysDoNotFit (left.now ++ right.now))) }
 {
     let mut keys = Vec::with_capacity(alloc, left.len().max(right.len()))?;
     let (mut left_rest, mut right_rest) = (left, right);
@@ -139,6 +145,7 @@ pub(crate) fn fitting_keys_of_both(
     ensures same { IfOk result (λ keys. SameKeys keys.items (left.now ++ right.now)) }
     ensures ordered { IfOk result (λ keys. IsStrictlySortedBy key_cmp left.now → IsStrictlySortedBy key_cmp right.now → IsStrictlySortedBy key_cmp keys.items) }
     ensures small { IfOk result (λ keys. units_of keys.items < 2 ^ 64) }
+    ensures too_many { IfErr result (λ fault. IfTooMany fault (KeysDoNotFit (left.now ++ right.now))) }
 {
     let keys = keys_of_both(alloc, left, right)?;
     if units_fit(&keys) {

@@ -1,7 +1,8 @@
 //! What images say beside their histograms.
 
-ghost use Rattle.std.specs.Prelude.{◌≡◌, ◌+◌, IfOk};
+ghost use Rattle.std.specs.Prelude.{◌≡◌, ◌+◌, ◌≤◌, ◌^◌, IfOk, OnErr};
 ghost use Rattle.image_reader.specs.Views.{reading_view};
+ghost use Rattle.reading_sums.specs.Fitting.{NotesDoNotFit};
 ghost use Rattle.reading_sums.specs.Notes.{AreNotesOfBoth, AreNotesOf};
 
 use crate::fault::SumsFault;
@@ -37,14 +38,16 @@ pub(crate) fn notes_of(reading: &Reading) -> Notes
 
 /// The sum of two numbers, where it fits 64 bits.
 pub(crate) fn number_of_both(left: u64, right: u64) -> Result<u64, SumsFault>
-    ensures { IfOk result (λ sum. sum ≡ left + right) }
+    ensures sum { IfOk result (λ sum. sum ≡ left + right) }
+    ensures too_many { OnErr result (2 ^ 64 ≤ left + right) }
 {
     left.checked_add(right).ok_or(SumsFault::TooMany)
 }
 
 /// Those of two sums together, where each number fits 64 bits.
 pub(crate) fn notes_of_both(left: &Notes, right: &Notes) -> Result<Notes, SumsFault>
-    ensures { IfOk result (AreNotesOfBoth left.now right.now) }
+    ensures both { IfOk result (AreNotesOfBoth left.now right.now) }
+    ensures too_many { OnErr result (NotesDoNotFit left.now right.now) }
 {
     Ok(Notes {
         images: number_of_both(left.images, right.images)?,

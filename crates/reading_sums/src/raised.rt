@@ -1,6 +1,7 @@
 //! Sums of images that come behind others.
 
-ghost use Rattle.std.specs.Prelude.{◌≡◌, ◌+◌, map, IfOk};
+ghost use Rattle.std.specs.Prelude.{◌≡◌, ◌+◌, ◌≤◌, ◌^◌, map, IfOk, IfErr};
+ghost use Rattle.reading_sums.specs.Fitting.{HasNumberTooGreat, IfTooMany};
 ghost use Rattle.reading_sums.specs.Totals.{raised_part};
 ghost use Rattle.reading_sums.specs.Views.{part_of};
 
@@ -11,7 +12,8 @@ use std::alloc::Global;
 
 // What a histogram of a sum is where the numbers of its images are so much greater, if they fit 64 bits.
 fn raised_hist(alloc: Global, hist: &HistSum, by: u64) -> Result<HistSum, SumsFault>
-    ensures { IfOk result (λ raised. part_of raised ≡ raised_part by (part_of hist.now)) }
+    ensures raised { IfOk result (λ raised. part_of raised ≡ raised_part by (part_of hist.now)) }
+    ensures too_many { IfErr result (λ fault. IfTooMany fault (2 ^ 64 ≤ hist.now.least + by)) }
 {
     Ok(HistSum {
         name: Vec::from_slice(alloc, &hist.name)?,
@@ -31,7 +33,8 @@ pub(crate) fn raised_hists(
     hists: &[HistSum],
     by: u64,
 ) -> Result<Vec<HistSum>, SumsFault>
-    ensures { IfOk result (λ raised. map part_of raised.items ≡ map (raised_part by) (map part_of hists.now)) }
+    ensures raised { IfOk result (λ raised. map part_of raised.items ≡ map (raised_part by) (map part_of hists.now)) }
+    ensures too_many { IfErr result (λ fault. IfTooMany fault (HasNumberTooGreat by (map part_of hists.now))) }
 {
     let mut raised = Vec::with_capacity(alloc, hists.len())?;
     for hist in hists {

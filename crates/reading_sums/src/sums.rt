@@ -8,12 +8,13 @@ ghost use Rattle.std.specs.Cmp.Lexicographic.{slice_cmp};
 ghost use Rattle.bucket_ranges.specs.Reading as definition;
 ghost use Rattle.image_reader.specs.Views.{histogram_view, reading_view};
 ghost use Rattle.image_reader.specs.Readable.{IsReadable};
-ghost use Rattle.reading_sums.specs.Addends.{AddsNumbered};
+ghost use Rattle.reading_sums.specs.Addends.{AddsNumbered, notes_of_one};
+ghost use Rattle.reading_sums.specs.Fitting.{DoesNotFit, HasNumberTooGreat, IfTooMany};
 ghost use Rattle.reading_sums.specs.Totals.{part_from, raised_part, SameTotals};
 ghost use Rattle.reading_sums.specs.Views.{part_of, parts_of};
 ghost use Rattle.reading_sums.specs.Shown.{shown_parts, other_parts, IsOtherOf};
 ghost use Rattle.reading_sums.specs.Since.{AreSince, HasFallen, HasChangedSpec, HasTooMany, IsGrown, MatchFault};
-ghost use Rattle.reading_sums.specs.Sums.{IsSumOver, IsSumOfBoth, raised};
+ghost use Rattle.reading_sums.specs.Sums.{IsSumOver, IsSumOfBoth, parts_of_one, raised};
 ghost use Rattle.reading_sums.specs.Whole.{AreWhole, HasNamesOnce, IsWellFormed, IsWholeHistogram, IsWholeReading};
 
 use crate::check::are_whole;
@@ -52,6 +53,7 @@ fn sums_of_one(
     hists: &[HistReading],
 ) -> Result<Vec<HistSum>, AllocError>
     ensures same { IfOk result (λ sums. SameTotals (map part_of sums.items) (map (λ hist. part_from number (histogram_view hist)) hists.now)) }
+    ensures parts { IfOk result (λ sums. IsPermutation (map part_of sums.items) (map (λ hist. part_from number (histogram_view hist)) hists.now)) }
     ensures whole { IfOk result (λ sums. HasNamesOnce (map histogram_view hists.now) → All IsWholeHistogram (map histogram_view hists.now) → AreWhole sums.items) }
 {
     let ordered = in_order(alloc, hists)?;
@@ -86,13 +88,16 @@ impl Sums {
     /// It is well formed if it was, and the reading is whole: it has each name once, each of a lawful spec with its keys and
     /// with units that together fit 64 bits [well_formed].
     ///
-    /// It is refused if a total would not fit, `TooMany`, or if there is no memory, `NoMemory`. The sum is then as it
-    /// was [refused].
+    /// It is refused with `NoMemory` if there is no memory. Where the sum is well formed and the reading whole, it is refused
+    /// with `TooMany` only if what both have together does not fit: of some name and spec all units, the marks of a key, the
+    /// redundant counts or the images are 2^64 or more, or amounts do not fit 128 bits; or some number of the notes is 2^64 or
+    /// more [too_many]. The sum is then as it was [refused].
     pub fn add(&mut self, number: u64, reading: &Reading) -> Result<(), SumsFault>
         ensures added { OnOk result ((readings : List (ℕ × definition.Reading)) → IsSumOver readings self.old → IsSumOver (readings ++ (number, reading_view reading.now) ∷ []) self.new) }
         ensures more { OnOk result (AddsNumbered (number, reading_view reading.now) self.old self.new) }
         ensures well_formed { OnOk result (IsWellFormed self.old → IsWholeReading (reading_view reading.now) → IsWellFormed self.new) }
         ensures refused { OnErr result (self.new ≡ self.old) }
+        ensures too_many { IfErr result (λ fault. IfTooMany fault (IsWellFormed self.old → IsWholeReading (reading_view reading.now) → DoesNotFit self.old (parts_of_one (number, reading_view reading.now)) (notes_of_one (reading_view reading.now)))) }
     {
         let notes = notes_of_both(&self.notes, &notes_of(reading))?;
         let one = sums_of_one(self.alloc, number, &reading.hists)?;
@@ -105,13 +110,16 @@ impl Sums {
     /// Adds another sum. Sums of any two lists of numbered readings become the sum of both lists, one behind the other
     /// [added], and any two sums what both have together [both], well formed if both are [well_formed]. The other sum stays.
     ///
-    /// It is refused if a total would not fit, `TooMany`, or if there is no memory, `NoMemory`. The sum is then as it
-    /// was [refused].
+    /// It is refused with `NoMemory` if there is no memory. Where both sums are well formed, it is refused with `TooMany` only
+    /// if what both have together does not fit: of some name and spec all units, the marks of a key, the redundant counts or
+    /// the images are 2^64 or more, or amounts do not fit 128 bits; or some number of the notes is 2^64 or more [too_many].
+    /// The sum is then as it was [refused].
     pub fn append(&mut self, other: &Sums) -> Result<(), SumsFault>
         ensures added { OnOk result ((readings more : List (ℕ × definition.Reading)) → IsSumOver readings self.old → IsSumOver more other.now → IsSumOver (readings ++ more) self.new) }
         ensures both { OnOk result (IsSumOfBoth self.old other.now self.new) }
         ensures well_formed { OnOk result (IsWellFormed self.old → IsWellFormed other.now → IsWellFormed self.new) }
         ensures refused { OnErr result (self.new ≡ self.old) }
+        ensures too_many { IfErr result (λ fault. IfTooMany fault (IsWellFormed self.old → IsWellFormed other.now → DoesNotFit self.old (parts_of other.now) other.now.notes)) }
     {
         let notes = notes_of_both(&self.notes, &other.notes)?;
         let hists = sums_of_both(self.alloc, &self.hists, &other.hists)?;
@@ -124,11 +132,13 @@ impl Sums {
     /// name and spec is so much greater [parts], and all else is the same [notes]. So the sum of what comes behind others can
     /// be added to theirs.
     ///
-    /// It is refused if a number would not fit 64 bits, `TooMany`, or if there is no memory, `NoMemory`.
+    /// It is refused with `NoMemory` if there is no memory, and with `TooMany` only if some least number would be 2^64 or more
+    /// [too_many].
     pub fn raised(&self, by: u64) -> Result<Sums, SumsFault>
         ensures raised { IfOk result (λ sums. (readings : List (ℕ × definition.Reading)) → IsSumOver readings self.now → IsSumOver (map (raised by) readings) sums) }
         ensures parts { IfOk result (λ sums. parts_of sums ≡ map (raised_part by) (parts_of self.now)) }
         ensures notes { IfOk result (λ sums. sums.notes ≡ self.now.notes) }
+        ensures too_many { IfErr result (λ fault. IfTooMany fault (HasNumberTooGreat by (parts_of self.now))) }
     {
         Ok(Sums {
             alloc: self.alloc,

@@ -13,6 +13,8 @@ use Rattle.std.proofs.lemmas.Int.{to_z-of_z}
 use Rattle.reading_sums.specs.Totals.{Part}
 use Rattle.reading_sums.specs.Views.{part_of}
 use Rattle.reading_sums.proofs.Totals.{quantities-both, features-both}
+use Rattle.std.proofs.lemmas.Result.{err_from_is_err_and}
+use Rattle.reading_sums.proofs.LongHists.{fault-keys}
 use Rattle.reading_sums.proofs.hist.both.Goals as goal
 
 pub returns-clause-both : goal.returns-clause-both
@@ -35,7 +37,7 @@ returns-clause-both c =
       quantities = quantities-both (part_of c.args.left.now) (part_of c.args.right.now) both keys
           (to_z-of_z w128 c.in_ok-amount_of_both.field-0 c.in_ok-amount_of_both.ensures.fits ∙ c.in_ok-amount_of_both.ensures.sum)
           (to_z-of_z w128 c.in_ok-amount_of_both-2.field-0 c.in_ok-amount_of_both-2.ensures.fits ∙ c.in_ok-amount_of_both-2.ensures.sum)
-          c.in_ok-number_of_both.ensures c.in_ok-number_of_both-2.ensures;
+          c.in_ok-number_of_both.ensures.sum c.in_ok-number_of_both-2.ensures.sum;
       features = features-both (part_of c.args.left.now) (part_of c.args.right.now) both keys c.min.ensures;
     }
 
@@ -51,3 +53,9 @@ returns-clause-whole c = λ specs first second.
     subst Q (sym c.in_ok-copy_of_spec.ensures)
     (whole-both c.args.left.now.spec c.args.right.now.spec c.args.left.now.keys.items c.args.right.now.keys.items keys.field-0.items specs first second
     same (keys.ensures.ordered one other) keys.ensures.small)
+
+pub returns-in_err-fitting_keys_of_both-clause-too_many : goal.returns-in_err-fitting_keys_of_both-clause-too_many
+returns-in_err-fitting_keys_of_both-clause-too_many c =
+    let p = err_from_is_err_and c.from_residual-in_err-fitting_keys_of_both.result c.from_residual-in_err-fitting_keys_of_both.ensures.1 in
+    rw (p.1, p.2) (fault-keys _ (part_of c.args.left.now) (part_of c.args.right.now) _ _ c.deref-2.ensures.value c.deref-3.ensures.value
+    c.in_err-fitting_keys_of_both.ensures.too_many)

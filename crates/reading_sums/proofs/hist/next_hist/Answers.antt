@@ -3,6 +3,8 @@ use Rattle.reading_sums.specs.Views.{part_of}
 use Rattle.reading_sums.proofs.HistOrder.{left-hist, right-hist, both-hist, first-whole, copy-whole}
 use Rattle.reading_sums.proofs.Nexts.{right-next, both-next, heads}
 use Rattle.reading_sums.specs.declared.hist.HistSum.{HistSum}
+use Rattle.std.proofs.lemmas.Result.{err_from_is_err_and}
+use Rattle.reading_sums.proofs.LongHists.{firsts-long}
 use Rattle.reading_sums.proofs.hist.next_hist.Goals as goal
 
 pub returns-in_ok-copy_of-in-Right-clause-same : goal.returns-in_ok-copy_of-in-Right-clause-same
@@ -49,3 +51,15 @@ returns-in_ok-both-in-Both-clause-whole c = λ first second.
     (heads (λ (h : HistSum). h.spec) c.args.left.now c.args.right.now c.index-left-0-in-Both.result c.index-right-0-in-Both.result c.in-Both.ensures.0 c.in-Both.ensures.1 c.index-left-0-in-Both.is c.index-right-0-in-Both.is c.in-Both.ensures.3)
     (first-whole c.args.left.now c.index-left-0-in-Both.result c.in-Both.ensures.0 c.index-left-0-in-Both.is first)
     (first-whole c.args.right.now c.index-right-0-in-Both.result c.in-Both.ensures.1 c.index-right-0-in-Both.is second)
+
+pub returns-in_err-both-in-Both-clause-too_many : goal.returns-in_err-both-in-Both-clause-too_many
+returns-in_err-both-in-Both-clause-too_many c =
+    let p = err_from_is_err_and c.from_residual-in_err-both-in-Both.result c.from_residual-in_err-both-in-Both.ensures.1 in
+    let x = c.index-left-0-in-Both.result in
+    let y = c.index-right-0-in-Both.result in
+    let some = c.in-Both.ensures.0 in
+    let more = c.in-Both.ensures.1 in
+    rw (p.1, p.2) (firsts-long _ c.args.left.now c.args.right.now x y some more c.index-left-0-in-Both.is c.index-right-0-in-Both.is
+    (heads (λ (h : HistSum). h.name.items) c.args.left.now c.args.right.now x y some more c.index-left-0-in-Both.is c.index-right-0-in-Both.is c.in-Both.ensures.2)
+    (heads (λ (h : HistSum). h.spec) c.args.left.now c.args.right.now x y some more c.index-left-0-in-Both.is c.index-right-0-in-Both.is c.in-Both.ensures.3)
+    c.in_err-both-in-Both.ensures.too_many)

@@ -3,6 +3,8 @@ use Rattle.std.proofs.Common.{◌≡◌, ◌++◌, ◌∷◌, [], List, drop, su
 use Rattle.reading_sums.specs.declared.key.KeySum.{KeySum}
 use Rattle.reading_sums.specs.Keys.{SameKeys}
 use Rattle.reading_sums.proofs.Keys.{keys-step}
+use Rattle.std.proofs.lemmas.Result.{err_from_is_err_and}
+use Rattle.reading_sums.proofs.LongKeys.{if-many, rest-long, units-step}
 use Rattle.reading_sums.proofs.Ascending.{order-step, order-front}
 use Rattle.reading_sums.specs.Orders.{key_cmp}
 use Rattle.reading_sums.proofs.key.keys_of_both.Goals as goal
@@ -21,8 +23,16 @@ loop-left_rest-preserved c =
           c.loop-left_rest.invariant.0 c.in_ok-key.ensures.same)),
       λ first second. order-step key_cmp _ _ _ _ _ _ _ _ _ c.in_ok-push.ensures.items c.split_at.ensures.back c.split_at-in-loop-left_rest.ensures.back
           c.in_ok-key.ensures.ordered (c.loop-left_rest.invariant.1 first second),
+      units-step _ _ left right _ _ _ c.in_ok-key.of_left c.in_ok-key.of_right _ c.in_ok-push.ensures.items c.split_at.ensures.back c.split_at-in-loop-left_rest.ensures.back
+          c.loop-left_rest.invariant.2 c.in_ok-key.ensures.units,
     )
 
 pub returns-clause-ordered : goal.returns-clause-ordered
 returns-clause-ordered c = λ first second.
     order-front key_cmp c.loop-left_rest.keys.items c.loop-left_rest.left_rest.now (c.loop-left_rest.invariant.1 first second).0
+
+pub returns-in_err-key-clause-too_many : goal.returns-in_err-key-clause-too_many
+returns-in_err-key-clause-too_many c =
+    let p = err_from_is_err_and c.from_residual-in_err-key.result c.from_residual-in_err-key.ensures.1 in
+    rw p.1 (if-many p.0 _ (rest-long c.loop-left_rest.keys.items (c.loop-left_rest.left_rest.now ++ c.loop-left_rest.right_rest.now) (c.args.left.now ++ c.args.right.now)
+    c.loop-left_rest.invariant.0 c.loop-left_rest.invariant.2 c.in_err-key.ensures.too_many))

@@ -1,5 +1,5 @@
 -- The histograms in their order are those of the reading in another.
-use Rattle.std.proofs.Common.{◌≡◌, ◌≤◌, ◌<◌, ◌∷◌, ◌++◌, [], ℕ, List, Bor, nat_cmp, length, map, get_or, ap, sym, ◌∙◌, subst, arith}
+use Rattle.std.proofs.Common.{◌≡◌, ◌≤◌, ◌<◌, ◌∷◌, ◌++◌, [], ℕ, List, Bor, nat_cmp, length, map, get_or, ap, sym, ◌∙◌, subst, arith, IsPermutation}
 use Rattle.std.proofs.lemmas.Simd.{map-map}
 use Rattle.std.proofs.lemmas.List.{map-append, map_more, take_all}
 use Rattle.std.proofs.lemmas.List.Sorted.{IsPermutation-map, IsPermutation-sym}
@@ -49,6 +49,22 @@ returns-clause-same c =
     subst P (map-map (part_from c.args.number) histogram_view c.args.hists.now)
     (same-trans (map part_of c.loop-hist.sums.items) (map (part_from c.args.number) (map view listed)) (map (part_from c.args.number) hists)
     (same-equal (map part_of c.loop-hist.sums.items) (map (part_from c.args.number) (map view listed)) parts) moved)
+
+pub returns-clause-parts : goal.returns-clause-parts
+returns-clause-parts c =
+    let part : Bor HistReading → Part = λ hist. part_from c.args.number (histogram_view hist.now) in
+    let view : Bor HistReading → Histogram = λ hist. histogram_view hist.now in
+    let items : List (Bor HistReading) = c.deref-hist-items.result.now in
+    let listed : List (Bor HistReading) = c.in_ok-ordered.ordered.items in
+    let all : length items ≤ c.loop-hist.hist-index = omega (arith, c.loop-hist-test.false) in
+    let parts : map part_of c.loop-hist.sums.items ≡ map (part_from c.args.number) (map view listed) =
+    c.loop-hist.invariant ∙ (ap (map part) (take_all c.loop-hist.hist-index items all ∙ c.deref-hist-items.ensures.value)
+    ∙ sym (map-map (part_from c.args.number) view listed)) in
+    let hists : List Histogram = map histogram_view c.args.hists.now in
+    let P : List Part → Type 0 = λ z. IsPermutation (map part_of c.loop-hist.sums.items) z in
+    let Q : List Part → Type 0 = λ z. IsPermutation z (map (part_from c.args.number) hists) in
+    subst P (map-map (part_from c.args.number) histogram_view c.args.hists.now)
+    (subst Q (sym parts) (IsPermutation-map (part_from c.args.number) (map view listed) hists c.in_ok-ordered.ensures.same))
 
 pub returns-clause-whole : goal.returns-clause-whole
 returns-clause-whole c = λ once whole.

@@ -1,5 +1,5 @@
 -- What a reading has goes to what the readings before it have.
-use Rattle.std.proofs.Common.{◌+◌, ◌∷◌, ◌++◌, [], ℕ, List, map, refl, ap, subst, sym, ◌∙◌}
+use Rattle.std.proofs.Common.{◌+◌, ◌∷◌, ◌++◌, [], ℕ, List, map, refl, ap, subst, sym, ◌∙◌, IsPermutation}
 use Rattle.bucket_ranges.specs.Reading.{Reading}
 use Rattle.std.proofs.lemmas.Simd.{map-map}
 use Rattle.image_reader.specs.Views.{histogram_view, reading_view}
@@ -12,9 +12,11 @@ use Rattle.reading_sums.specs.Notes.{AreNotesOf, AreNotesOfBoth}
 use Rattle.reading_sums.specs.Sums.{IsSumOver, parts_of_one}
 use Rattle.std.specs.List.{All}
 use Rattle.image_reader.specs.declared.reading.HistReading.{HistReading}
-use Rattle.reading_sums.specs.Whole.{AreWhole, HasNamesOnce, IsWholeHistogram}
+use Rattle.reading_sums.specs.Whole.{AreWhole, HasNamesOnce, IsWholeHistogram, IsWholeReading}
 use Rattle.reading_sums.proofs.Readings.{parts-both, parts-one, notes-both, notes-one}
 use Rattle.reading_sums.proofs.Totals.{same-append, same-refl, same-trans}
+use Rattle.std.proofs.lemmas.Result.{err_from_is_err_and}
+use Rattle.reading_sums.proofs.LongSums.{reading-long}
 use Rattle.reading_sums.proofs.sums.Sums.add.Goals as goal
 
 -- the notes of one image are known
@@ -52,7 +54,7 @@ returns-clause-more c =
           (parts_of c.args.self.now ++ parts_of_one one) both
           (same-append (parts_of c.args.self.now) (parts_of c.args.self.now) (map part_of c.in_ok-one.one.items) (parts_of_one one)
           (same-refl (parts_of c.args.self.now)) parts);
-      notes = notes-more (reading_view c.args.reading.now) c.args.self.now.notes c.notes_of.result c.in_ok-notes.notes c.notes_of.ensures c.in_ok-notes.ensures;
+      notes = notes-more (reading_view c.args.reading.now) c.args.self.now.notes c.notes_of.result c.in_ok-notes.notes c.notes_of.ensures c.in_ok-notes.ensures.both;
     }
 
 pub returns-clause-added : goal.returns-clause-added
@@ -67,3 +69,18 @@ returns-clause-well_formed c = λ before reading.
     let one : AreWhole c.in_ok-one.one.items =
     c.in_ok-one.ensures.whole (subst P (sym c.deref.ensures.value) reading.names) (subst Q (sym c.deref.ensures.value) reading.whole) in
     c.in_ok-hists.ensures.whole (subst AreWhole (sym c.deref-2.ensures.value) before) (subst AreWhole (sym c.deref-3.ensures.value) one)
+
+pub returns-in_err-hists-clause-too_many : goal.returns-in_err-hists-clause-too_many
+returns-in_err-hists-clause-too_many c =
+    let p = err_from_is_err_and c.from_residual-in_err-hists.result c.from_residual-in_err-hists.ensures.1 in
+    let reading : Reading = reading_view c.args.reading.now in
+    let P : List Part → Type 0 = λ z. IsPermutation (map part_of c.in_ok-one.one.items) z in
+    let Q : List HistReading → Type 0 = λ z. HasNamesOnce (map histogram_view z) in
+    let S : List HistReading → Type 0 = λ z. All IsWholeHistogram (map histogram_view z) in
+    let moved : IsPermutation (map part_of c.in_ok-one.one.items) (parts_of_one (c.args.number, reading)) =
+    subst P (ap (map (λ hist. part_from c.args.number (histogram_view hist))) c.deref.ensures.value
+    ∙ sym (map-map (part_from c.args.number) histogram_view c.args.reading.now.hists.items)) c.in_ok-one.ensures.parts in
+    let whole : IsWholeReading reading → AreWhole c.in_ok-one.one.items =
+    λ is. c.in_ok-one.ensures.whole (subst Q (sym c.deref.ensures.value) is.names) (subst S (sym c.deref.ensures.value) is.whole) in
+    rw (p.1, p.2) (reading-long _ c.args.self.now c.args.number reading _ _ c.in_ok-one.one.items c.deref-2.ensures.value c.deref-3.ensures.value moved whole
+    c.in_err-hists.ensures.too_many)

@@ -1,5 +1,5 @@
 -- The parts of the sum, raised, are those of the readings, raised.
-use Rattle.std.proofs.Common.{◌≡◌, List, ℕ, map, ap, subst, sym, ◌∙◌}
+use Rattle.std.proofs.Common.{List, map, ap, subst, sym, ◌∙◌}
 use Rattle.reading_sums.specs.Totals.{Part, SameTotals, raised_part}
 use Rattle.reading_sums.specs.Views.{part_of, parts_of}
 use Rattle.reading_sums.specs.Sums.{parts_in, raised as raised_reading}
@@ -7,7 +7,7 @@ use Rattle.reading_sums.proofs.RaisedSums.{parts-raised, notes-raised}
 use Rattle.reading_sums.proofs.sums.Sums.raised.Goals as goal
 
 pub returns-clause-parts : goal.returns-clause-parts
-returns-clause-parts c = c.in_ok-raised_hists.ensures ∙ ap (λ z. map (raised_part c.args.by) (map part_of z)) c.deref.ensures.value
+returns-clause-parts c = c.in_ok-raised_hists.ensures.raised ∙ ap (λ z. map (raised_part c.args.by) (map part_of z)) c.deref.ensures.value
 
 pub returns-clause-raised : goal.returns-clause-raised
 returns-clause-raised c = λ readings before.

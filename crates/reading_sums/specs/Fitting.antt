@@ -1,0 +1,77 @@
+-- Why a sum is refused: what does not fit.
+use Rattle.std.specs.Prelude.{◌≡◌, ◌⊎◌, ⊤, ℕ, ◌+◌, ◌≤◌, ◌^◌, ℤ, pos, ◌+ℤ◌, ◌≤ℤ◌, FitsSigned, List, ◌++◌, sum_by, if◌then◌else◌}
+use Rattle.std.specs.Int.{w128}
+use Rattle.std.specs.List.{Contains}
+use Rattle.bucket_ranges.specs.declared.spec.Spec.{Spec}
+use Rattle.reading_sums.specs.declared.fault.SumsFault.{SumsFault}
+use Rattle.reading_sums.specs.declared.fault.SumsFault.TheVariants.{NoMemory, TooMany}
+use Rattle.reading_sums.specs.declared.hist.HistSum.{HistSum}
+use Rattle.reading_sums.specs.declared.key.KeySum.{KeySum}
+use Rattle.reading_sums.specs.declared.notes.Notes.{Notes}
+use Rattle.reading_sums.specs.declared.sums.Sums.{Sums}
+use Rattle.reading_sums.specs.Keys.{marks_at}
+use Rattle.reading_sums.specs.Totals.Quantity.{Units, Marks, Amounts, AmountMarks, Redundant, Images}
+use Rattle.reading_sums.specs.Totals.{Part, Quantity, is_of, quantity_of, total}
+use Rattle.reading_sums.specs.Views.{part_of, parts_of}
+use Rattle.reading_sums.specs.Whole.{units_of}
+
+-- what is so where a fault tells of too many; where there was no memory, nothing
+abbrev pub IfTooMany : SumsFault → Type 0 → Type 0
+IfTooMany NoMemory many = ⊤
+IfTooMany TooMany many = many
+
+-- ---- parts
+
+-- a total does not fit: one of amounts 128 bits with a sign, each other one 64 bits
+abbrev pub IsTooMuch : Quantity → ℤ → Type 0
+IsTooMuch (Units key) number = pos (2 ^ 64) ≤ℤ number
+IsTooMuch (Marks key) number = pos (2 ^ 64) ≤ℤ number
+IsTooMuch Amounts number = ¬ FitsSigned w128 number
+IsTooMuch AmountMarks number = ¬ FitsSigned w128 number
+IsTooMuch Redundant number = pos (2 ^ 64) ≤ℤ number
+IsTooMuch Images number = pos (2 ^ 64) ≤ℤ number
+
+-- the units of all keys that the parts of a name and a spec have together
+abbrev pub all_units : List ℕ → Spec → List Part → ℕ
+all_units name spec parts = sum_by (λ part. if is_of name spec part then units_of part.keys else 0) parts
+
+-- parts do not fit together: of some name and spec all units are 2^64 or more, or some total does not fit
+abbrev pub DoNotFit : List Part → Type 0
+DoNotFit parts = (name : List ℕ) × (spec : Spec)
+    × ((2 ^ 64 ≤ all_units name spec parts) ⊎ ((quantity : Quantity) × IsTooMuch quantity (total quantity name spec parts)))
+
+-- some part has a least number that is 2^64 or more when it is so much greater
+abbrev pub HasNumberTooGreat : ℕ → List Part → Type 0
+HasNumberTooGreat by parts = (part : Part) × Contains parts part × (2 ^ 64 ≤ part.least + by)
+
+-- ---- sums
+
+-- the notes of two sums do not fit together: one of the numbers is 2^64 or more
+abbrev pub NotesDoNotFit : Notes → Notes → Type 0
+NotesDoNotFit a b = (2 ^ 64 ≤ a.images + b.images) ⊎ (2 ^ 64 ≤ a.full + b.full) ⊎ (2 ^ 64 ≤ a.corrupt + b.corrupt)
+    ⊎ (2 ^ 64 ≤ a.stopped + b.stopped) ⊎ (2 ^ 64 ≤ a.bad + b.bad)
+
+-- parts and notes do not fit into a sum: its notes and these do not fit together, or its parts and these do not
+abbrev pub DoesNotFit : Sums → List Part → Notes → Type 0
+DoesNotFit sums parts notes = NotesDoNotFit sums.notes notes ⊎ DoNotFit (parts_of sums ++ parts)
+
+-- ---- one name and one spec
+
+-- keys do not fit together: all units are 2^64 or more, or the marks of some value
+abbrev pub KeysDoNotFit : List KeySum → Type 0
+KeysDoNotFit keys = (2 ^ 64 ≤ units_of keys) ⊎ ((value : ℤ) × (2 ^ 64 ≤ marks_at keys value))
+
+-- two parts of one name and one spec do not fit together: all units are 2^64 or more, or some total does not fit
+abbrev pub PairDoesNotFit : Part → Part → Type 0
+PairDoesNotFit a b =
+    (2 ^ 64 ≤ units_of a.keys + units_of b.keys) ⊎ ((quantity : Quantity) × IsTooMuch quantity (quantity_of quantity a +ℤ quantity_of quantity b))
+
+-- each of two lists has a histogram of one name and one spec, and these do not fit together
+pub record HavePairTooGreat (left right : List HistSum) : Type 0 where
+  pub one : HistSum
+  pub other : HistSum
+  pub is_left : Contains left one
+  pub is_right : Contains right other
+  pub name : one.name.items ≡ other.name.items
+  pub spec : one.spec ≡ other.spec
+  pub many : PairDoesNotFit (part_of one) (part_of other)

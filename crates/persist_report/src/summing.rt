@@ -2,7 +2,7 @@
 
 ghost use Rattle.std.specs.Prelude.{◌≡◌, false, length, IfOk, OnErr, ⊤};
 ghost use Rattle.segment_image.specs.Watched.{has_failed};
-ghost use Rattle.sum_commands.specs.Sources.{AddsSome, IsSumOfAll};
+ghost use Rattle.sum_commands.specs.Sources.{AddsSome, IsSumOfAllInputs};
 
 use crate::context::Context;
 use crate::dashes::DASH;
@@ -240,7 +240,7 @@ pub fn sum_of_names<R: Files<File = File> + Clock + Input + Eprint + AllocGlobal
     names: &[Named],
     how: Reading,
 ) -> Result<Summed, CliFault>
-    ensures sum { IfOk result (IsSumOfAll (λ place input. ⊤) how.is_strict (length names.now)) }
+    ensures sum { IfOk result (IsSumOfAllInputs (λ place input. ⊤) how.is_strict (length names.now)) }
 {
     let source = NamedInputs {
         context,

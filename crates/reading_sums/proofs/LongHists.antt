@@ -14,7 +14,7 @@ use Rattle.reading_sums.specs.declared.fault.SumsFault.{SumsFault}
 use Rattle.reading_sums.specs.declared.fault.SumsFault.TheVariants.{NoMemory, TooMany}
 use Rattle.reading_sums.specs.declared.hist.HistSum.{HistSum}
 use Rattle.reading_sums.specs.declared.key.KeySum.{KeySum}
-use Rattle.reading_sums.specs.Fitting.{DoNotFit, HavePairTooGreat, IfTooMany, IsTooMuch, KeysDoNotFit, PairDoesNotFit, all_units}
+use Rattle.reading_sums.specs.Fitting.{DoNotFit, HavePairTooGreat, IfTooMany, TotalDoesNotFit, KeysDoNotFit, PairDoesNotFit, all_units}
 use Rattle.reading_sums.specs.Orders.{hist_cmp}
 use Rattle.reading_sums.specs.Totals.Quantity.{Marks, Redundant, Images}
 use Rattle.reading_sums.specs.Totals.{Part, Quantity, is_of, quantity_of, total}
@@ -168,7 +168,7 @@ parts-long a b xs ys names specs first second many =
       a.spec,
       inr (
         some.0,
-        subst (IsTooMuch some.0)
+        subst (TotalDoesNotFit some.0)
             (sym (total-append some.0 a.name a.spec xs ys ∙ (λ i. alone-total some.0 a xs first i +ℤ other i))) some.1,
       ),
     ))

@@ -9,7 +9,7 @@ use Rattle.reading_sums.specs.declared.fault.SumsFault.TheVariants.{NoMemory, To
 use Rattle.reading_sums.specs.declared.hist.HistSum.{HistSum}
 use Rattle.reading_sums.specs.declared.sums.Sums.{Sums}
 use Rattle.reading_sums.specs.Addends.{notes_of_one}
-use Rattle.reading_sums.specs.Fitting.{DoNotFit, DoesNotFit, HasNumberTooGreat, IfTooMany, IsTooMuch}
+use Rattle.reading_sums.specs.Fitting.{DoNotFit, DoesNotFit, HasNumberTooGreat, IfTooMany, TotalDoesNotFit}
 use Rattle.reading_sums.specs.Sums.{parts_of_one}
 use Rattle.reading_sums.specs.Totals.{Part, is_of}
 use Rattle.reading_sums.specs.Views.{part_of, parts_of}
@@ -30,7 +30,7 @@ moved-long xs ys zs moved many =
       spec,
       ⊎_elim
           (λ long. inl (subst (λ n. 2 ^ 64 ≤ n) units long))
-          (λ some. inr (some.0, subst (IsTooMuch some.0) (same.totals some.0 name spec) some.1))
+          (λ some. inr (some.0, subst (TotalDoesNotFit some.0) (same.totals some.0 name spec) some.1))
           many.2,
     )
 

@@ -23,13 +23,13 @@ IfTooMany TooMany many = many
 -- ---- parts
 
 -- a total does not fit: one of amounts 128 bits with a sign, each other one 64 bits
-abbrev pub IsTooMuch : Quantity → ℤ → Type 0
-IsTooMuch (Units key) number = pos (2 ^ 64) ≤ℤ number
-IsTooMuch (Marks key) number = pos (2 ^ 64) ≤ℤ number
-IsTooMuch Amounts number = ¬ FitsSigned w128 number
-IsTooMuch AmountMarks number = ¬ FitsSigned w128 number
-IsTooMuch Redundant number = pos (2 ^ 64) ≤ℤ number
-IsTooMuch Images number = pos (2 ^ 64) ≤ℤ number
+abbrev pub TotalDoesNotFit : Quantity → ℤ → Type 0
+TotalDoesNotFit (Units key) number = pos (2 ^ 64) ≤ℤ number
+TotalDoesNotFit (Marks key) number = pos (2 ^ 64) ≤ℤ number
+TotalDoesNotFit Amounts number = ¬ FitsSigned w128 number
+TotalDoesNotFit AmountMarks number = ¬ FitsSigned w128 number
+TotalDoesNotFit Redundant number = pos (2 ^ 64) ≤ℤ number
+TotalDoesNotFit Images number = pos (2 ^ 64) ≤ℤ number
 
 -- the units of all keys that the parts of a name and a spec have together
 abbrev pub all_units : List ℕ → Spec → List Part → ℕ
@@ -38,7 +38,7 @@ all_units name spec parts = sum_by (λ part. if is_of name spec part then units_
 -- parts do not fit together: of some name and spec all units are 2^64 or more, or some total does not fit
 abbrev pub DoNotFit : List Part → Type 0
 DoNotFit parts = (name : List ℕ) × (spec : Spec)
-    × ((2 ^ 64 ≤ all_units name spec parts) ⊎ ((quantity : Quantity) × IsTooMuch quantity (total quantity name spec parts)))
+    × ((2 ^ 64 ≤ all_units name spec parts) ⊎ ((quantity : Quantity) × TotalDoesNotFit quantity (total quantity name spec parts)))
 
 -- some part has a least number that is 2^64 or more when it is so much greater
 abbrev pub HasNumberTooGreat : ℕ → List Part → Type 0
@@ -64,7 +64,7 @@ KeysDoNotFit keys = (2 ^ 64 ≤ units_of keys) ⊎ ((value : ℤ) × (2 ^ 64 ≤
 -- two parts of one name and one spec do not fit together: all units are 2^64 or more, or some total does not fit
 abbrev pub PairDoesNotFit : Part → Part → Type 0
 PairDoesNotFit a b =
-    (2 ^ 64 ≤ units_of a.keys + units_of b.keys) ⊎ ((quantity : Quantity) × IsTooMuch quantity (quantity_of quantity a +ℤ quantity_of quantity b))
+    (2 ^ 64 ≤ units_of a.keys + units_of b.keys) ⊎ ((quantity : Quantity) × TotalDoesNotFit quantity (quantity_of quantity a +ℤ quantity_of quantity b))
 
 -- each of two lists has a histogram of one name and one spec, and these do not fit together
 pub record HavePairTooGreat (left right : List HistSum) : Type 0 where

@@ -16,7 +16,7 @@ use Rattle.sum_texts.specs.Endings.{IsSumReport, ending_text}
 use Rattle.sum_commands.specs.declared.fault.InputFault.TheVariants.{Image, BadTotals, TooMany}
 use Rattle.sum_commands.specs.declared.summing.Left.{Left}
 use Rattle.sum_commands.specs.declared.summing.Summed.{Summed}
-use Rattle.sum_commands.specs.Sources.{Input, MayBeTaken, AreTakenFrom, EndsAtFault, IsSumOfAll, IsFixed, HasRoom, AreAlike, addends_in, left_from, are_damaged}
+use Rattle.sum_commands.specs.Sources.{Input, MayBeTaken, AreTakenInputs, EndsAtFault, IsSumOfAllInputs, AreFixedInputs, HasRoom, AreAlike, addends_in, left_from, are_damaged}
 use Rattle.sum_commands.specs.Sources.Input.{Added, LeftOut}
 
 -- ---- the same inputs
@@ -40,12 +40,12 @@ all-fit place (LeftOut fault ∷ xs) fit =
     let here : fault ≢ TooMany = All-head (λ (left : Left). left.fault ≢ TooMany) (record { place = place; fault = fault }) (left_from (place + 1) xs) fit in
     ((λ e. here (cc)), all-fit (place + 1) xs (All-tail (λ (left : Left). left.fault ≢ TooMany) (record { place = place; fault = fault }) (left_from (place + 1) xs) fit))
 
-same-first : (may_be : ℕ → Input → Type 0) (place : ℕ) (x y : Input) → IsFixed may_be → (x ≢ LeftOut TooMany) → (y ≢ LeftOut TooMany)
+same-first : (may_be : ℕ → Input → Type 0) (place : ℕ) (x y : Input) → AreFixedInputs may_be → (x ≢ LeftOut TooMany) → (y ≢ LeftOut TooMany)
     → MayBeTaken (may_be place) x → MayBeTaken (may_be place) y → x ≡ y
 same-first may_be place x y fixed x_fits y_fits x_may y_may = fixed place x y (is-it (may_be place) x x_fits x_may) (is-it (may_be place) y y_fits y_may)
 
 -- as many inputs
-same-many : (may_be : ℕ → Input → Type 0) (place : ℕ) (xs ys : List Input) → IsFixed may_be → AreTakenFrom may_be place xs → AreTakenFrom may_be place ys
+same-many : (may_be : ℕ → Input → Type 0) (place : ℕ) (xs ys : List Input) → AreFixedInputs may_be → AreTakenInputs may_be place xs → AreTakenInputs may_be place ys
     → AllFit xs → AllFit ys → length xs ≡ length ys → xs ≡ ys
 same-many may_be place [] [] fixed first second fit other_fit many = refl
 same-many may_be place [] (y ∷ ys) fixed first second fit other_fit many = absurd (omega (arith, many))
@@ -63,7 +63,7 @@ ends-rest : (place count : ℕ) (is_damaged : Bool) (addend : Addend) (xs : List
 ends-rest place count is_damaged addend xs ends =
     let within = ends.1 in (ends.0, omega (arith, within), λ none. let all = ends.2 none in omega (arith, all))
 
-same-ends : (may_be : ℕ → Input → Type 0) (place count : ℕ) (xs ys : List Input) → IsFixed may_be → AreTakenFrom may_be place xs → AreTakenFrom may_be place ys
+same-ends : (may_be : ℕ → Input → Type 0) (place count : ℕ) (xs ys : List Input) → AreFixedInputs may_be → AreTakenInputs may_be place xs → AreTakenInputs may_be place ys
     → AllFit xs → AllFit ys → EndsSo place count xs → EndsSo place count ys → xs ≡ ys
 same-ends may_be place count [] [] fixed first second fit other_fit ends other_ends = refl
 same-ends may_be place count [] (y ∷ ys) fixed first second fit other_fit ends other_ends =
@@ -125,25 +125,25 @@ same-report a b n m text parts notes many is = record {
   behind = is.behind ∙ (λ i. is.report ++ ending_text (notes i).images is.others (many i));
 }
 
-same-inputs : (may_be : ℕ → Input → Type 0) (is_strict : Bool) (count : ℕ) (a b : Summed) (first : IsSumOfAll may_be is_strict count a)
-    (second : IsSumOfAll may_be is_strict count b) → IsFixed may_be → HasRoom a → HasRoom b → first.sum.inputs ≡ second.sum.inputs
+same-inputs : (may_be : ℕ → Input → Type 0) (is_strict : Bool) (count : ℕ) (a b : Summed) (first : IsSumOfAllInputs may_be is_strict count a)
+    (second : IsSumOfAllInputs may_be is_strict count b) → AreFixedInputs may_be → HasRoom a → HasRoom b → first.sum.inputs ≡ second.sum.inputs
 same-inputs may_be false count a b first second fixed room other_room =
     let xs = first.sum.inputs in
     let ys = second.sum.inputs in
     let one = first.all refl in let other = second.all refl in
     let r = first.sum.reached in let q = second.sum.reached in let f = first.first in let g = second.first in
-    same-many may_be 0 xs ys fixed (subst (λ n. AreTakenFrom may_be n xs) first.first first.sum.taken) (subst (λ n. AreTakenFrom may_be n ys) second.first second.sum.taken)
+    same-many may_be 0 xs ys fixed (subst (λ n. AreTakenInputs may_be n xs) first.first first.sum.taken) (subst (λ n. AreTakenInputs may_be n ys) second.first second.sum.taken)
     (all-fit a.first xs (subst (All (λ (left : Left). left.fault ≢ TooMany)) first.sum.left room))
     (all-fit b.first ys (subst (All (λ (left : Left). left.fault ≢ TooMany)) second.sum.left other_room)) (omega (arith, one, other, r, q, f, g))
 same-inputs may_be true count a b first second fixed room other_room =
     let xs = first.sum.inputs in
     let ys = second.sum.inputs in
-    same-ends may_be 0 count xs ys fixed (subst (λ n. AreTakenFrom may_be n xs) first.first first.sum.taken) (subst (λ n. AreTakenFrom may_be n ys) second.first second.sum.taken)
+    same-ends may_be 0 count xs ys fixed (subst (λ n. AreTakenInputs may_be n xs) first.first first.sum.taken) (subst (λ n. AreTakenInputs may_be n ys) second.first second.sum.taken)
     (all-fit a.first xs (subst (All (λ (left : Left). left.fault ≢ TooMany)) first.sum.left room))
     (all-fit b.first ys (subst (All (λ (left : Left). left.fault ≢ TooMany)) second.sum.left other_room))
     (ends-so may_be count a first) (ends-so may_be count b second)
   where
-    ends-so : (may_be : ℕ → Input → Type 0) (count : ℕ) (s : Summed) (is : IsSumOfAll may_be true count s) → EndsSo 0 count is.sum.inputs
+    ends-so : (may_be : ℕ → Input → Type 0) (count : ℕ) (s : Summed) (is : IsSumOfAllInputs may_be true count s) → EndsSo 0 count is.sum.inputs
     ends-so may_be count s is =
         let zs = is.sum.inputs in
         let r = is.sum.reached in let f = is.first in let w = is.within in (
@@ -154,8 +154,8 @@ same-inputs may_be true count a b first second fixed room other_room =
               let all = is.all (ap (λ (z : List Left). nat_lt 0 (length z)) same ∙ none) in omega (arith, all, r, f),
         )
 
-pub alike : (may_be : ℕ → Input → Type 0) (is_strict : Bool) (count : ℕ) (a b : Summed) → IsFixed may_be → IsSumOfAll may_be is_strict count a
-    → IsSumOfAll may_be is_strict count b → HasRoom a → HasRoom b → AreAlike a b
+pub alike : (may_be : ℕ → Input → Type 0) (is_strict : Bool) (count : ℕ) (a b : Summed) → AreFixedInputs may_be → IsSumOfAllInputs may_be is_strict count a
+    → IsSumOfAllInputs may_be is_strict count b → HasRoom a → HasRoom b → AreAlike a b
 alike may_be is_strict count a b fixed first second room other_room =
     let same : first.sum.inputs ≡ second.sum.inputs = same-inputs may_be is_strict count a b first second fixed room other_room in
     let sums : HaveSameSum a.sums b.sums =

@@ -12,18 +12,18 @@ use Rattle.sum_commands.specs.declared.fault.InputFault.TheVariants.{Image, BadT
 use Rattle.sum_commands.specs.declared.summing.Left.{Left}
 use Rattle.sum_commands.specs.declared.summing.Summed.{Summed}
 use Rattle.sum_commands.specs.declared.working.Run.{Run}
-use Rattle.sum_commands.specs.Sources.{Input, AddsInput, MayBeTaken, AreTakenFrom, EndsAtFault, IsSumOf, IsNoneAt, HasNoted, HasTaken, HasAppended, HasRun, IsRunOf, IsWithin, MayHaveAppended, IsOpenedAt, AreOpenedFrom, Adds, addends_of, addends_in, left_at, left_from, is_damaged_in, are_damaged, has_ended}
+use Rattle.sum_commands.specs.Sources.{Input, AddsInput, MayBeTaken, AreTakenInputs, EndsAtFault, IsSumOfInputs, IsNoneAt, HasNotedInput, HasTakenInput, HasAppended, HasSummedRun, IsOpenedRun, SumEndsWithin, MayHaveAppended, IsOpenedAt, AreOpenedFrom, AddsEach, addends_of, addends_in, left_at, left_from, is_damaged_in, are_damaged, has_ended}
 use Rattle.sum_commands.specs.Sources.Input.{Added, LeftOut}
 use Rattle.sum_commands.proofs.InTurn.{next-in-turn, both-in-turn}
 
 -- ---- lists of inputs, one behind the other
 
-taken-append : (may_be : ℕ → Input → Type 0) (place : ℕ) (xs ys : List Input) → AreTakenFrom may_be place xs → AreTakenFrom may_be (place + length xs) ys
-    → AreTakenFrom may_be place (xs ++ ys)
-taken-append may_be place [] ys first second = let e : place + 0 ≡ place = omega arith in subst (λ n. AreTakenFrom may_be n ys) e second
+taken-append : (may_be : ℕ → Input → Type 0) (place : ℕ) (xs ys : List Input) → AreTakenInputs may_be place xs → AreTakenInputs may_be (place + length xs) ys
+    → AreTakenInputs may_be place (xs ++ ys)
+taken-append may_be place [] ys first second = let e : place + 0 ≡ place = omega arith in subst (λ n. AreTakenInputs may_be n ys) e second
 taken-append may_be place (x ∷ xs) ys first second =
     let e : place + suc (length xs) ≡ (place + 1) + length xs = omega arith in
-    (first.0, taken-append may_be (place + 1) xs ys first.1 (subst (λ n. AreTakenFrom may_be n ys) e second))
+    (first.0, taken-append may_be (place + 1) xs ys first.1 (subst (λ n. AreTakenInputs may_be n ys) e second))
 
 addends-append : (xs ys : List Input) → addends_in (xs ++ ys) ≡ addends_in xs ++ addends_in ys
 addends-append [] ys = refl
@@ -72,7 +72,7 @@ none-left is_strict summed goes_on strict = no-elements summed.left.items (and-t
 
 -- ---- steps
 
-adds-in-turn : (xs : List Addend) (input : Input) (a c : Sums) → IsSumInTurn xs a → Adds (addends_of input) a c → IsSumInTurn (xs ++ addends_of input) c
+adds-in-turn : (xs : List Addend) (input : Input) (a c : Sums) → IsSumInTurn xs a → AddsEach (addends_of input) a c → IsSumInTurn (xs ++ addends_of input) c
 adds-in-turn xs (Added is_damaged addend) a c is adds = next-in-turn xs addend a c is adds
 adds-in-turn xs (LeftOut fault) a c is adds =
     subst (λ z. IsSumInTurn z c) (sym (append-nil xs)) (subst (λ s. IsSumInTurn xs s) (sym adds) is)
@@ -88,13 +88,13 @@ left-behind first place reached before more after xs ys same is first_left more_
     ∙ (sym (left-append place xs ys) ∙ ap (λ n. left_from n (xs ++ ys)) (sym same))))
 
 taken-behind : (may_be : ℕ → Input → Type 0) (first place reached : ℕ) (xs ys : List Input) → first ≡ place → reached ≡ place + length xs
-    → AreTakenFrom may_be place xs → AreTakenFrom may_be reached ys → AreTakenFrom may_be first (xs ++ ys)
+    → AreTakenInputs may_be place xs → AreTakenInputs may_be reached ys → AreTakenInputs may_be first (xs ++ ys)
 taken-behind may_be first place reached xs ys same is before more =
-    subst (λ n. AreTakenFrom may_be n (xs ++ ys)) (sym same)
-    (taken-append may_be place xs ys before (subst (λ n. AreTakenFrom may_be n ys) is more))
+    subst (λ n. AreTakenInputs may_be n (xs ++ ys)) (sym same)
+    (taken-append may_be place xs ys before (subst (λ n. AreTakenInputs may_be n ys) is more))
 
 -- no inputs
-pub none-taken : (may_be : ℕ → Input → Type 0) (is_strict : Bool) (place : ℕ) (summed : Summed) → IsNoneAt place summed → IsSumOf may_be is_strict summed
+pub none-taken : (may_be : ℕ → Input → Type 0) (is_strict : Bool) (place : ℕ) (summed : Summed) → IsNoneAt place summed → IsSumOfInputs may_be is_strict summed
 none-taken may_be is_strict place summed none = record {
   inputs = [];
   taken = tt;
@@ -106,8 +106,8 @@ none-taken may_be is_strict place summed none = record {
 }
 
 -- the next input is taken
-pub next-taken : (may_be : ℕ → Input → Type 0) (is_strict : Bool) (before after : Summed) → IsSumOf may_be is_strict before
-    → has_ended is_strict before ≡ false → HasTaken (may_be before.reached) before after → IsSumOf may_be is_strict after
+pub next-taken : (may_be : ℕ → Input → Type 0) (is_strict : Bool) (before after : Summed) → IsSumOfInputs may_be is_strict before
+    → has_ended is_strict before ≡ false → HasTakenInput (may_be before.reached) before after → IsSumOfInputs may_be is_strict after
 next-taken may_be is_strict before after is goes_on step =
     let xs : List Input = is.inputs in
     let one : Input = step.input in record {
@@ -123,14 +123,14 @@ next-taken may_be is_strict before after is goes_on step =
     }
 
 -- the inputs of another sum are appended
-pub more-taken : (may_be : ℕ → Input → Type 0) (is_strict : Bool) (more before after : Summed) → IsSumOf may_be is_strict before
-    → has_ended is_strict before ≡ false → IsSumOf may_be is_strict more → before.reached ≡ more.first → HasAppended more before after → IsSumOf may_be is_strict after
+pub more-taken : (may_be : ℕ → Input → Type 0) (is_strict : Bool) (more before after : Summed) → IsSumOfInputs may_be is_strict before
+    → has_ended is_strict before ≡ false → IsSumOfInputs may_be is_strict more → before.reached ≡ more.first → HasAppended more before after → IsSumOfInputs may_be is_strict after
 more-taken may_be is_strict more before after is goes_on behind place step =
     let xs : List Input = is.inputs in
     let ys : List Input = behind.inputs in record {
       inputs = xs ++ ys;
       taken = taken-behind may_be after.first before.first before.reached xs ys step.first is.reached is.taken
-          (subst (λ n. AreTakenFrom may_be n ys) (sym place) behind.taken);
+          (subst (λ n. AreTakenInputs may_be n ys) (sym place) behind.taken);
       reached = let e = is.reached in let f = step.first in let r = step.reached in let b = behind.reached in omega (arith, place, length-append xs ys);
       sum = subst (λ z. IsSumInTurn z after.sums) (sym (addends-append xs ys))
           (both-in-turn (addends_in xs) (addends_in ys) before.sums more.sums after.sums is.sum behind.sum step.sum);
@@ -148,7 +148,7 @@ may-more P Q (LeftOut (Image fault)) more may = more (LeftOut (Image fault)) may
 may-more P Q (LeftOut (BadTotals line)) more may = more (LeftOut (BadTotals line)) may
 may-more P Q (LeftOut TooMany) more may = tt
 
-pub taken-more : (P Q : ℕ → Input → Type 0) (place : ℕ) (xs : List Input) → ((at : ℕ) (one : Input) → P at one → Q at one) → AreTakenFrom P place xs → AreTakenFrom Q place xs
+pub taken-more : (P Q : ℕ → Input → Type 0) (place : ℕ) (xs : List Input) → ((at : ℕ) (one : Input) → P at one → Q at one) → AreTakenInputs P place xs → AreTakenInputs Q place xs
 taken-more P Q place [] more are = tt
 taken-more P Q place (x ∷ xs) more are = (may-more (P place) (Q place) x (more place) are.0, taken-more P Q (place + 1) xs more are.1)
 
@@ -171,7 +171,7 @@ opened-append {O} opened_may_be may_be place (x ∷ xs) one are more =
 
 -- a run of opened inputs was added up, each of which may be what its place may have
 pub run-taken : {O : Type 0} (opened_may_be : O → Input → Type 0) (may_be : ℕ → Input → Type 0) (is_strict : Bool) (first : ℕ) (opened : List O) (summed : Summed)
-    → AreOpenedFrom opened_may_be may_be first opened → IsSumOf (IsOpenedAt opened_may_be first opened) is_strict summed → IsSumOf may_be is_strict summed
+    → AreOpenedFrom opened_may_be may_be first opened → IsSumOfInputs (IsOpenedAt opened_may_be first opened) is_strict summed → IsSumOfInputs may_be is_strict summed
 run-taken {O} opened_may_be may_be is_strict first opened summed are is = record {
   inputs = is.inputs;
   taken = taken-more (IsOpenedAt opened_may_be first opened) may_be summed.first is.inputs
@@ -188,8 +188,8 @@ run-taken {O} opened_may_be may_be is_strict first opened summed are is = record
 
 -- the next of the inputs that were opened is taken as what it may be
 pub opened-taken : {O : Type 0} (opened_may_be : O → Input → Type 0) (first : ℕ) (opened front : List O) (one : O) (behind : List O) (before after : Summed)
-    → before.reached ≡ first + length front → opened ≡ front ++ one ∷ behind → HasTaken (opened_may_be one) before after
-    → HasTaken (IsOpenedAt opened_may_be first opened before.reached) before after
+    → before.reached ≡ first + length front → opened ≡ front ++ one ∷ behind → HasTakenInput (opened_may_be one) before after
+    → HasTakenInput (IsOpenedAt opened_may_be first opened before.reached) before after
 opened-taken {O} opened_may_be first opened front one behind before after at split step = record {
   input = step.input;
   taken = may-more (opened_may_be one) (IsOpenedAt opened_may_be first opened before.reached) step.input
@@ -205,7 +205,7 @@ opened-taken {O} opened_may_be first opened front one behind before after at spl
 
 pub noted-taken : (may_be : Input → Type 0) (added : Result Bool InputFault) (before after : Summed) (sums : Sums)
     → IfOk added (λ is_damaged. AddsInput may_be is_damaged before.sums sums) → IfErr added (λ fault. MayBeTaken may_be (LeftOut fault))
-    → OnErr added (sums ≡ before.sums) → HasNoted added (record before { sums = sums }) after → HasTaken may_be before after
+    → OnErr added (sums ≡ before.sums) → HasNotedInput added (record before { sums = sums }) after → HasTakenInput may_be before after
 noted-taken may_be (Ok is_damaged) before after sums adds cause refused noted = record {
   input = Added is_damaged adds.addend;
   taken = adds.is;
@@ -227,11 +227,11 @@ noted-taken may_be (Err fault) before after sums adds cause refused noted = reco
 
 -- ---- sums that workers made
 
-pub may-more-taken : (may_be : ℕ → Input → Type 0) (is_strict : Bool) (more before after : Summed) → IsSumOf may_be is_strict before
-    → IsSumOf may_be is_strict more → MayHaveAppended is_strict more before after → IsSumOf may_be is_strict after
+pub may-more-taken : (may_be : ℕ → Input → Type 0) (is_strict : Bool) (more before after : Summed) → IsSumOfInputs may_be is_strict before
+    → IsSumOfInputs may_be is_strict more → MayHaveAppended is_strict more before after → IsSumOfInputs may_be is_strict after
 may-more-taken may_be is_strict more before after is behind step =
-    elim step as (λ _. IsSumOf may_be is_strict after) [
-      | inl same ↦ subst (IsSumOf may_be is_strict) (sym same) is
+    elim step as (λ _. IsSumOfInputs may_be is_strict after) [
+      | inl same ↦ subst (IsSumOfInputs may_be is_strict) (sym same) is
       | inr goes ↦ more-taken may_be is_strict more before after is goes.1 behind goes.0 goes.2
     ]
 
@@ -249,18 +249,18 @@ may-more-within is_strict more before after most step first second =
 
 -- what the workers of runs have made, each of which is of inputs that end before a place
 pub all-within : {O : Type 0} (opened_may_be : O → Input → Type 0) (may_be : ℕ → Input → Type 0) (end : ℕ) (is_strict : Bool) (runs : List (Run O))
-    (done : List (Result Summed AllocError)) → All (IsRunOf opened_may_be may_be end is_strict) runs → length done ≡ length runs
+    (done : List (Result Summed AllocError)) → All (IsOpenedRun opened_may_be may_be end is_strict) runs → length done ≡ length runs
     → ((k : ℕ) (d : Run O) (e : Result Summed AllocError) → k < length runs
-    → IfOk (slice_index_or done k e) (HasRun opened_may_be (slice_index_or runs k d).first (slice_index_or runs k d).opened.items (slice_index_or runs k d).is_strict))
-    → All (λ one. IfOk one (IsWithin may_be is_strict end)) done
+    → IfOk (slice_index_or done k e) (HasSummedRun opened_may_be (slice_index_or runs k d).first (slice_index_or runs k d).opened.items (slice_index_or runs k d).is_strict))
+    → All (λ one. IfOk one (SumEndsWithin may_be is_strict end)) done
 all-within {O} opened_may_be may_be end is_strict [] done are len each k e lt = absurd (omega (arith, len, lt))
 all-within {O} opened_may_be may_be end is_strict (run ∷ runs) done are len each k e lt =
     let here : k < length (run ∷ runs) = omega (arith, len, lt) in
     let one : Run O = slice_index_or (run ∷ runs) k run in
-    let is : IsRunOf opened_may_be may_be end is_strict one = are k run here in
-    IfOk-weaker (slice_index_or done k e) (HasRun opened_may_be one.first one.opened.items one.is_strict) (IsWithin may_be is_strict end)
+    let is : IsOpenedRun opened_may_be may_be end is_strict one = are k run here in
+    IfOk-weaker (slice_index_or done k e) (HasSummedRun opened_may_be one.first one.opened.items one.is_strict) (SumEndsWithin may_be is_strict end)
     (λ summed has. record {
-      sum = subst (λ b. IsSumOf may_be b summed) is.strict (run-taken opened_may_be may_be one.is_strict one.first one.opened.items summed is.are has.sum);
+      sum = subst (λ b. IsSumOfInputs may_be b summed) is.strict (run-taken opened_may_be may_be one.is_strict one.first one.opened.items summed is.are has.sum);
       within = let w = has.within in let v = is.within in omega arith;
     })
     (each k run e here)

@@ -37,9 +37,9 @@ MayBeTaken may_be (LeftOut TooMany) = ⊤
 -- ---- inputs in their order
 
 -- inputs from a place on, each taken as one that may be at its place
-abbrev pub AreTakenFrom : (ℕ → Input → Type 0) → ℕ → List Input → Type 0
-AreTakenFrom may_be place [] = ⊤
-AreTakenFrom may_be place (input ∷ rest) = MayBeTaken (may_be place) input × AreTakenFrom may_be (place + 1) rest
+abbrev pub AreTakenInputs : (ℕ → Input → Type 0) → ℕ → List Input → Type 0
+AreTakenInputs may_be place [] = ⊤
+AreTakenInputs may_be place (input ∷ rest) = MayBeTaken (may_be place) input × AreTakenInputs may_be (place + 1) rest
 
 -- the addends of an input, and of all
 abbrev pub addends_of : Input → List Addend
@@ -79,9 +79,9 @@ EndsAtFault (LeftOut fault ∷ rest) = rest ≡ []
 -- A sum is that of inputs in their order: from its first place on up to the one that it has reached, each as it may be. The totals
 -- are those of the addends, and it tells which inputs are left out, and whether one is damaged. If the first that is left out is to
 -- end it, none comes behind that.
-pub record IsSumOf (may_be : ℕ → Input → Type 0) (is_strict : Bool) (summed : Summed) : Type 0 where
+pub record IsSumOfInputs (may_be : ℕ → Input → Type 0) (is_strict : Bool) (summed : Summed) : Type 0 where
   pub inputs : List Input
-  pub taken : AreTakenFrom may_be summed.first inputs
+  pub taken : AreTakenInputs may_be summed.first inputs
   pub reached : summed.reached ≡ summed.first + length inputs
   pub sum : IsSumInTurn (addends_in inputs) summed.sums
   pub left : summed.left.items ≡ left_from summed.first inputs
@@ -93,8 +93,8 @@ abbrev pub has_ended : Bool → Summed → Bool
 has_ended is_strict summed = is_strict && nat_lt 0 (length summed.left.items)
 
 -- a sum is that of all inputs, which are so many; or up to the first that is left out, if that is to end it
-pub record IsSumOfAll (may_be : ℕ → Input → Type 0) (is_strict : Bool) (inputs : ℕ) (summed : Summed) : Type 0 where
-  pub sum : IsSumOf may_be is_strict summed
+pub record IsSumOfAllInputs (may_be : ℕ → Input → Type 0) (is_strict : Bool) (inputs : ℕ) (summed : Summed) : Type 0 where
+  pub sum : IsSumOfInputs may_be is_strict summed
   pub first : summed.first ≡ 0
   pub within : summed.reached ≤ inputs
   pub all : has_ended is_strict summed ≡ false → summed.reached ≡ inputs
@@ -102,8 +102,8 @@ pub record IsSumOfAll (may_be : ℕ → Input → Type 0) (is_strict : Bool) (in
 -- ---- the same sum
 
 -- the input at each place can be one thing alone, as that of a file which stays as it is
-abbrev pub IsFixed : (ℕ → Input → Type 0) → Type 0
-IsFixed may_be = (place : ℕ) (one other : Input) → may_be place one → may_be place other → one ≡ other
+abbrev pub AreFixedInputs : (ℕ → Input → Type 0) → Type 0
+AreFixedInputs may_be = (place : ℕ) (one other : Input) → may_be place one → may_be place other → one ≡ other
 
 -- no input was left out because a total would not fit with it
 abbrev pub HasRoom : Summed → Type 0
@@ -133,12 +133,12 @@ damage_in (Ok is_damaged) = is_damaged
 damage_in (Err fault) = false
 
 -- a sum became that of these addends more: of one, or of none
-abbrev pub Adds : List Addend → Sums → Sums → Type 0
-Adds [] before after = after ≡ before
-Adds (addend ∷ rest) before after = AddsAddend addend before after
+abbrev pub AddsEach : List Addend → Sums → Sums → Type 0
+AddsEach [] before after = after ≡ before
+AddsEach (addend ∷ rest) before after = AddsAddend addend before after
 
 -- an input more was noted: how it was added, or why it is left out
-pub record HasNoted (added : Result Bool InputFault) (before after : Summed) : Type 0 where
+pub record HasNotedInput (added : Result Bool InputFault) (before after : Summed) : Type 0 where
   pub first : after.first ≡ before.first
   pub reached : after.reached ≡ before.reached + 1
   pub sums : after.sums ≡ before.sums
@@ -154,12 +154,12 @@ pub record IsNoneAt (place : ℕ) (summed : Summed) : Type 0 where
   pub damaged : summed.is_damaged ≡ false
 
 -- the next input was taken as one that it may be
-pub record HasTaken (may_be : Input → Type 0) (before after : Summed) : Type 0 where
+pub record HasTakenInput (may_be : Input → Type 0) (before after : Summed) : Type 0 where
   pub input : Input
   pub taken : MayBeTaken may_be input
   pub first : after.first ≡ before.first
   pub reached : after.reached ≡ before.reached + 1
-  pub sum : Adds (addends_of input) before.sums after.sums
+  pub sum : AddsEach (addends_of input) before.sums after.sums
   pub left : after.left.items ≡ before.left.items ++ left_at before.reached input
   pub damaged : after.is_damaged ≡ (before.is_damaged || is_damaged_in input)
 
@@ -194,23 +194,23 @@ AreOpenedFrom opened_may_be may_be place (one ∷ rest) =
     ((input : Input) → opened_may_be one input → may_be place input) × AreOpenedFrom opened_may_be may_be (place + 1) rest
 
 -- a run of opened inputs, which ends before a place
-pub record IsRunOf {O : Type 0} (opened_may_be : O → Input → Type 0) (may_be : ℕ → Input → Type 0) (end : ℕ) (is_strict : Bool) (run : Run O) : Type 0 where
+pub record IsOpenedRun {O : Type 0} (opened_may_be : O → Input → Type 0) (may_be : ℕ → Input → Type 0) (end : ℕ) (is_strict : Bool) (run : Run O) : Type 0 where
   pub are : AreOpenedFrom opened_may_be may_be run.first run.opened.items
   pub within : run.first + length run.opened.items ≤ end
   pub strict : run.is_strict ≡ is_strict
 
 -- a run of opened inputs was added up
-pub record HasRun {O : Type 0} (may_be : O → Input → Type 0) (first : ℕ) (opened : List O) (is_strict : Bool) (summed : Summed) : Type 0 where
-  pub sum : IsSumOf (IsOpenedAt may_be first opened) is_strict summed
+pub record HasSummedRun {O : Type 0} (may_be : O → Input → Type 0) (first : ℕ) (opened : List O) (is_strict : Bool) (summed : Summed) : Type 0 where
+  pub sum : IsSumOfInputs (IsOpenedAt may_be first opened) is_strict summed
   pub within : summed.reached ≤ first + length opened
 
 -- a sum of inputs that end before a place
-pub record IsWithin (may_be : ℕ → Input → Type 0) (is_strict : Bool) (end : ℕ) (summed : Summed) : Type 0 where
-  pub sum : IsSumOf may_be is_strict summed
+pub record SumEndsWithin (may_be : ℕ → Input → Type 0) (is_strict : Bool) (end : ℕ) (summed : Summed) : Type 0 where
+  pub sum : IsSumOfInputs may_be is_strict summed
   pub within : summed.reached ≤ end
 
 -- the same from the first input on
-pub record IsBefore (may_be : ℕ → Input → Type 0) (is_strict : Bool) (end : ℕ) (summed : Summed) : Type 0 where
-  pub sum : IsSumOf may_be is_strict summed
+pub record IsSumBefore (may_be : ℕ → Input → Type 0) (is_strict : Bool) (end : ℕ) (summed : Summed) : Type 0 where
+  pub sum : IsSumOfInputs may_be is_strict summed
   pub first : summed.first ≡ 0
   pub within : summed.reached ≤ end

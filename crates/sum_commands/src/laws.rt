@@ -2,7 +2,7 @@
 
 ghost use Rattle.std.specs.Prelude.{ℕ, Bool};
 ghost use Rattle.sum_commands.specs.declared.summing.Summed.{Summed as Sum};
-ghost use Rattle.sum_commands.specs.Sources.{AreAlike, HasRoom, IsFixed, IsSumOfAll};
+ghost use Rattle.sum_commands.specs.Sources.{AreAlike, HasRoom, AreFixedInputs, IsSumOfAllInputs};
 
 use crate::summing::Source;
 
@@ -13,5 +13,5 @@ use crate::summing::Source;
 ///
 /// It does nothing: what it promises is a law of the definitions.
 pub fn workers_are_nothing<S: Source>(_source: &S)
-    ensures alike { (is_strict : Bool) (inputs : ℕ) (a b : Sum) → IsFixed (S.may_be _source.now) → IsSumOfAll (S.may_be _source.now) is_strict inputs a → IsSumOfAll (S.may_be _source.now) is_strict inputs b → HasRoom a → HasRoom b → AreAlike a b }
+    ensures alike { (is_strict : Bool) (inputs : ℕ) (a b : Sum) → AreFixedInputs (S.may_be _source.now) → IsSumOfAllInputs (S.may_be _source.now) is_strict inputs a → IsSumOfAllInputs (S.may_be _source.now) is_strict inputs b → HasRoom a → HasRoom b → AreAlike a b }
 {}

@@ -1,7 +1,7 @@
 //! The sum of inputs, one after the other.
 
 ghost use Rattle.std.specs.Prelude.{◌≡◌, ◌≤◌, ◌<◌, ◌++◌, ◌∷◌, [], ℕ, false, IfOk, IfErr, IfSome, OnOk, OnErr};
-ghost use Rattle.sum_commands.specs.Sources.{Input, AddsInput, MayBeTaken, HasNoted, HasTaken, IsNoneAt, IsSumOf, MayHaveAppended, has_ended};
+ghost use Rattle.sum_commands.specs.Sources.{Input, AddsInput, MayBeTaken, HasNotedInput, HasTakenInput, IsNoneAt, IsSumOfInputs, MayHaveAppended, has_ended};
 ghost use Rattle.sum_commands.specs.Sources.Input.{LeftOut};
 
 use crate::fault::InputFault;
@@ -14,7 +14,7 @@ pub trait OpenInput {
     /// What the input may be.
     ghost may_be: { Self → Input → Type 0 };
 
-    /// Adds the input to a sum, behind its readings, and returns whether it is damaged: what was added is what the input may be
+    /// AddsEach the input to a sum, behind its readings, and returns whether it is damaged: what was added is what the input may be
     /// [added]. An input that is left out has a fault that it may have, or a total would not fit with it, `TooMany` [cause]. The
     /// sum is then as it was [refused].
     fn add_to(self, sums: &mut Sums) -> Result<bool, InputFault>
@@ -36,7 +36,7 @@ pub trait Source {
     fn open(&self, place: usize) -> Option<Self::Opened>
         ensures opened { IfSome result (λ opened. (input : Input) → Self.Opened.may_be opened input → may_be self.now place input) };
 
-    /// Adds the input at a place to a sum, behind its readings, and returns whether it is damaged: what was added is what the input
+    /// AddsEach the input at a place to a sum, behind its readings, and returns whether it is damaged: what was added is what the input
     /// at that place may be [added]. An input that is left out has a fault that it may have, or a total would not fit with it,
     /// `TooMany` [cause]. The sum is then as it was [refused]. It may be asked for an input that was opened before, and for that
     /// more than once.
@@ -146,7 +146,7 @@ impl Summed {
     // Notes how the next input was added, or why it is left out. The one fault is `NoMemory`.
     fn note(&mut self, added: Result<bool, InputFault>) -> Result<(), AllocError>
         requires { self.old.reached < 18446744073709551615 }
-        ensures { OnOk result (HasNoted added self.old self.new) }
+        ensures { OnOk result (HasNotedInput added self.old self.new) }
     {
         match added {
             Ok(is_damaged) => {
@@ -163,25 +163,25 @@ impl Summed {
         Ok(())
     }
 
-    // Adds the next input, which is open.
+    // AddsEach the next input, which is open.
     pub(crate) fn add_opened<O: OpenInput + Drop>(&mut self, opened: O) -> Result<(), AllocError>
         requires { self.old.reached < 18446744073709551615 }
-        ensures { OnOk result (HasTaken (O.may_be opened) self.old self.new) }
+        ensures { OnOk result (HasTakenInput (O.may_be opened) self.old self.new) }
     {
         let added = opened.add_to(&mut self.sums);
         self.note(added)
     }
 
-    // Adds the next input of a source.
+    // AddsEach the next input of a source.
     fn add_next<S: Source>(&mut self, source: &S) -> Result<(), AllocError>
         requires { self.old.reached < 18446744073709551615 }
-        ensures { OnOk result (HasTaken (S.may_be source.now self.old.reached) self.old self.new) }
+        ensures { OnOk result (HasTakenInput (S.may_be source.now self.old.reached) self.old self.new) }
     {
         let added = source.add_input(&mut self.sums, self.reached);
         self.note(added)
     }
 
-    // Adds the inputs of a source up to a place; up to the first that is left out, if that is to end it.
+    // AddsEach the inputs of a source up to a place; up to the first that is left out, if that is to end it.
     pub(crate) fn add_up_to<S: Source, P: Progress>(
         &mut self,
         source: &S,
@@ -189,7 +189,7 @@ impl Summed {
         place: usize,
         is_strict: bool,
     ) -> Result<(), AllocError>
-        ensures sum { OnOk result (IsSumOf (S.may_be source.now) is_strict self.old → IsSumOf (S.may_be source.now) is_strict self.new) }
+        ensures sum { OnOk result (IsSumOfInputs (S.may_be source.now) is_strict self.old → IsSumOfInputs (S.may_be source.now) is_strict self.new) }
         ensures first { OnOk result (self.new.first ≡ self.old.first) }
         ensures within { OnOk result ((most : ℕ) → self.old.reached ≤ most → place ≤ most → self.new.reached ≤ most) }
         ensures all { OnOk result (has_ended is_strict self.new ≡ false → place ≤ self.new.reached) }
@@ -218,7 +218,7 @@ impl Summed {
         Ok(())
     }
 
-    // Adds the inputs of a source that a worker has added up, and those before them. Where a total might not fit, which of them are
+    // AddsEach the inputs of a source that a worker has added up, and those before them. Where a total might not fit, which of them are
     // left out is seen when they are added one by one.
     pub(crate) fn add_summed<S: Source, P: Progress>(
         &mut self,
@@ -227,7 +227,7 @@ impl Summed {
         summed: Summed,
         is_strict: bool,
     ) -> Result<(), AllocError>
-        ensures sum { OnOk result (IsSumOf (S.may_be source.now) is_strict summed → IsSumOf (S.may_be source.now) is_strict self.old → IsSumOf (S.may_be source.now) is_strict self.new) }
+        ensures sum { OnOk result (IsSumOfInputs (S.may_be source.now) is_strict summed → IsSumOfInputs (S.may_be source.now) is_strict self.old → IsSumOfInputs (S.may_be source.now) is_strict self.new) }
         ensures first { OnOk result (self.new.first ≡ self.old.first) }
         ensures within { OnOk result ((most : ℕ) → self.old.reached ≤ most → summed.first ≤ summed.reached → summed.reached ≤ most → self.new.reached ≤ most) }
     {

@@ -13,7 +13,7 @@ use reading_sums::{Sums, SumsFault};
 use std::alloc::Global;
 use sum_texts::totals_of;
 
-/// Adds the readings of another sum to a sum, behind its own: the sum of any readings in their order, the first of which
+/// AddsEach the readings of another sum to a sum, behind its own: the sum of any readings in their order, the first of which
 /// has the number 0, and the next 1, becomes that of these and then those of the other [added]. Any sum gets the totals and the
 /// notes of the other one more, whose images come behind its own [behind]: an input, which may be damaged or not [some].
 ///
@@ -30,7 +30,7 @@ pub fn append_next(sums: &mut Sums, more: &Sums) -> Result<(), SumsFault>
     Ok(())
 }
 
-/// Adds what the image in the words of an input reads as, a closed image or a mapped file, behind the readings of a sum
+/// AddsEach what the image in the words of an input reads as, a closed image or a mapped file, behind the readings of a sum
 /// [added]. Returns what is damaged in it, if something is, of which the sum has all that is valid: so it is an input that is
 /// damaged or not [some].
 ///
@@ -52,7 +52,7 @@ pub fn add_image(
     Ok(damage_of(&reading))
 }
 
-/// Adds the readings of the totals whose text this is to a sum, behind its own [added]: an input that is not damaged [some].
+/// AddsEach the readings of the totals whose text this is to a sum, behind its own [added]: an input that is not damaged [some].
 ///
 /// An input is left out whose bytes are those of no totals, `BadTotals` with a line, or with which a total would not fit,
 /// `TooMany`. The sum is then as it was [refused].

@@ -6,7 +6,7 @@
 
 ghost use Rattle.std.specs.Prelude.{◌≡◌, ◌≤◌, ◌<◌, ◌+◌, ℕ, length, All, IfOk, IfErr, OnOk};
 ghost use Rattle.persist_report_core.specs.declared.fault.CliFault.TheVariants.{NoMemory};
-ghost use Rattle.sum_commands.specs.Sources.{IsBefore, IsRunOf, IsSumOfAll, IsWithin};
+ghost use Rattle.sum_commands.specs.Sources.{IsSumBefore, IsOpenedRun, IsSumOfAllInputs, SumEndsWithin};
 
 use crate::summing::{OpenInput, Progress, Source, Summed};
 use persist_report_core::CliFault;
@@ -40,15 +40,15 @@ struct Run<O> {
 
 impl<O: OpenInput + Drop> Job for Run<O> {
     ghost use Rattle.std.specs.Prelude.{◌<◌, ◌+◌, ◌^◌, length, IfOk};
-    ghost use Rattle.sum_commands.specs.Sources.{HasRun};
+    ghost use Rattle.sum_commands.specs.Sources.{HasSummedRun};
 
     type Output = Result<Summed, AllocError>;
 
     ghost can_run = { λ run. run.first + length run.opened.items < 2 ^ 64 };
 
-    ghost gives = { λ run result. IfOk result (HasRun O.may_be run.first run.opened.items run.is_strict) };
+    ghost gives = { λ run result. IfOk result (HasSummedRun O.may_be run.first run.opened.items run.is_strict) };
 
-    // Adds up the inputs; up to the first that is left out, if that is to end it.
+    // AddsEach up the inputs; up to the first that is left out, if that is to end it.
     fn run(self) -> Result<Summed, AllocError> {
         let mut summed = Summed::none(self.alloc, self.first);
         for opened in self.opened {
@@ -70,7 +70,7 @@ fn open_run<S: Source>(
 ) -> Result<Run<S::Opened>, AllocError>
     requires { part.0 ≤ part.1 }
     ensures first { IfOk result (λ run. run.first ≡ part.0) }
-    ensures run { IfOk result (IsRunOf S.Opened.may_be (S.may_be source.now) part.1 is_strict) }
+    ensures run { IfOk result (IsOpenedRun S.Opened.may_be (S.may_be source.now) part.1 is_strict) }
 {
     let mut opened = Vec::new(alloc);
     for place in part.0..part.1 {
@@ -108,7 +108,7 @@ fn open_round<S: Source>(
     requires left { part.0 < part.1 }
     ensures on { IfOk result (λ round. part.0 < round.1) }
     ensures within { IfOk result (λ round. round.1 ≤ part.1) }
-    ensures runs { IfOk result (λ round. All (IsRunOf S.Opened.may_be (S.may_be source.now) part.1 how.is_strict) round.0.items) }
+    ensures runs { IfOk result (λ round. All (IsOpenedRun S.Opened.may_be (S.may_be source.now) part.1 how.is_strict) round.0.items) }
 {
     let share = share_of(part.1 - part.0, how.workers);
     let mut runs = Vec::new(alloc);
@@ -124,7 +124,7 @@ fn open_round<S: Source>(
     Ok((runs, place))
 }
 
-// Adds what workers have added up to the sum of the inputs before it.
+// AddsEach what workers have added up to the sum of the inputs before it.
 fn add_all<S: Source, P: Progress>(
     all: &mut Summed,
     source: &S,
@@ -132,7 +132,7 @@ fn add_all<S: Source, P: Progress>(
     done: Vec<Result<Summed, AllocError>>,
     is_strict: bool,
 ) -> Result<(), AllocError>
-    ensures sum { (inputs : ℕ) → All (λ one. IfOk one (IsWithin (S.may_be source.now) is_strict inputs)) done.items → OnOk result (IsBefore (S.may_be source.now) is_strict inputs all.old → IsBefore (S.may_be source.now) is_strict inputs all.new) }
+    ensures sum { (inputs : ℕ) → All (λ one. IfOk one (SumEndsWithin (S.may_be source.now) is_strict inputs)) done.items → OnOk result (IsSumBefore (S.may_be source.now) is_strict inputs all.old → IsSumBefore (S.may_be source.now) is_strict inputs all.new) }
 {
     for summed in done {
         all.add_summed(source, progress, summed?, is_strict)?;
@@ -155,7 +155,7 @@ pub fn sum_of_inputs<R: Threads + Wait, S: Source, P: Progress>(
     inputs: usize,
     how: Manner,
 ) -> Result<Summed, CliFault>
-    ensures sum { IfOk result (IsSumOfAll (S.may_be source.now) how.is_strict inputs) }
+    ensures sum { IfOk result (IsSumOfAllInputs (S.may_be source.now) how.is_strict inputs) }
     ensures fault { IfErr result (λ fault. fault ≡ NoMemory) }
 {
     let mut all = Summed::none(alloc, 0);

@@ -1,7 +1,7 @@
 -- Each turn goes on by at least one place.
 use Rattle.std.proofs.Common.{◌<◌, All, length, inl, inr, ap, sym, subst, arith}
 use Rattle.std.proofs.lemmas.List.Elements.{All-nil}
-use Rattle.sum_commands.specs.Sources.{IsRunOf}
+use Rattle.sum_commands.specs.Sources.{IsOpenedRun}
 use Rattle.sum_commands.proofs.working.open_round.Goals as goal
 
 pub loop-place-init : goal.loop-place-init
@@ -10,8 +10,8 @@ loop-place-init g c =
       omega (arith, left),
       omega arith,
       inr (ap length c.new-runs.ensures.items),
-      subst (All (IsRunOf g.S.Opened.OpenInput.may_be (g.S.Source.may_be c.args.source.now) c.args.part.1 c.args.how.is_strict)) (sym c.new-runs.ensures.items)
-          (All-nil (IsRunOf g.S.Opened.OpenInput.may_be (g.S.Source.may_be c.args.source.now) c.args.part.1 c.args.how.is_strict)),
+      subst (All (IsOpenedRun g.S.Opened.OpenInput.may_be (g.S.Source.may_be c.args.source.now) c.args.part.1 c.args.how.is_strict)) (sym c.new-runs.ensures.items)
+          (All-nil (IsOpenedRun g.S.Opened.OpenInput.may_be (g.S.Source.may_be c.args.source.now) c.args.part.1 c.args.how.is_strict)),
     )
 
 pub loop-place-preserved : goal.loop-place-preserved

@@ -83,7 +83,7 @@ def clauses_from(lines: Sequence[str], place: int) -> tuple[list[Clause], int]:
         while text.count("{") > text.count("}"):
             place += 1
             text += " " + lines[place].strip()
-        found.append(Clause(match[1], match[2], text[1:-1].strip()))
+        found.append(Clause(match[1], match[2], text.removesuffix(";")[1:-1].strip()))
         place += 1
     return found, place
 

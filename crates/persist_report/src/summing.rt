@@ -26,8 +26,8 @@ use std::thread::Threads;
 use std::time::Clock;
 use std::{fmt, fs};
 use sum_commands::{
-    InputFault, InputKind, Left, Manner, OpenInput, Source, Summed, add_image, add_totals, pass_over,
-    sum_of_inputs,
+    InputFault, InputKind, Left, Manner, OpenInput, Source, Summed, add_image, add_totals,
+    nothing_is_added, sum_of_inputs,
 };
 
 // A totals has at most so many bytes.
@@ -135,7 +135,10 @@ fn add_named<R: Files<File = File> + Input + AllocGlobal>(
     };
     let (kind, peeked) = Peeked::of(context.alloc(), incoming)?;
     match kind {
-        InputKind::Other if name.what.is_found() => Ok(pass_over(sums)),
+        InputKind::Other if name.what.is_found() => {
+            nothing_is_added(sums);
+            Ok(false)
+        }
         InputKind::Image if is_live && path != DASH => add_look(context, sums, path),
         _ => {
             let mut reader = Watched::new(peeked);
@@ -167,7 +170,8 @@ impl OpenInput for OpenedFile {
         } = self;
         let (kind, peeked) = Peeked::of(alloc, file)?;
         if kind == InputKind::Other && is_found {
-            return Ok(pass_over(sums));
+            nothing_is_added(sums);
+            return Ok(false);
         }
         let mut reader = Watched::new(peeked);
         add_from(alloc, sums, kind, &mut reader)
@@ -216,7 +220,10 @@ impl<R: Files<File = File> + Input + AllocGlobal> Source for NamedInputs<'_, '_,
     fn add_input(&self, sums: &mut Sums, place: usize) -> Result<bool, InputFault> {
         match self.names.get(place) {
             Some(name) => add_named(self.context, sums, name, self.is_live),
-            None => Ok(pass_over(sums)),
+            None => {
+                nothing_is_added(sums);
+                Ok(false)
+            }
         }
     }
 }
@@ -261,7 +268,7 @@ pub fn sum_of_names<R: Files<File = File> + Clock + Input + Eprint + AllocGlobal
         manner,
     );
     line.erase();
-    summed
+    Ok(summed?)
 }
 
 /// Tells which inputs are left out, a line each, on the error stream. If that cannot be written, nothing is said.

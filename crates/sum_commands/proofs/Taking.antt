@@ -12,7 +12,7 @@ use Rattle.sum_commands.specs.declared.fault.InputFault.TheVariants.{Image, BadT
 use Rattle.sum_commands.specs.declared.summing.Left.{Left}
 use Rattle.sum_commands.specs.declared.summing.Summed.{Summed}
 use Rattle.sum_commands.specs.declared.working.Run.{Run}
-use Rattle.sum_commands.specs.Sources.{Input, AddsInput, MayBeTaken, AreTakenInputs, EndsAtFault, IsSumOfInputs, IsNoneAt, HasNotedInput, HasTakenInput, HasAppended, HasSummedRun, IsOpenedRun, SumEndsWithin, MayHaveAppended, IsOpenedAt, AreOpenedFrom, AddsEach, addends_of, addends_in, left_at, left_from, is_damaged_in, are_damaged, has_ended}
+use Rattle.sum_commands.specs.Sources.{Input, AddsInput, MayBeTaken, AreTakenInputs, EndsAtFault, IsSumOfInputs, IsNoneAt, HasNotedInput, HasTakenInput, HasAppended, HasSummedRun, IsOpenedRun, SumEndsWithin, MayHaveAppended, IsOpenedAt, AreOpenedFrom, AddsTaken, MayNotBeAdded, addends_of, addends_in, left_at, left_from, is_damaged_in, are_damaged, has_ended}
 use Rattle.sum_commands.specs.Sources.Input.{Added, LeftOut}
 use Rattle.sum_commands.proofs.InTurn.{next-in-turn, both-in-turn}
 
@@ -72,7 +72,7 @@ none-left is_strict summed goes_on strict = no-elements summed.left.items (and-t
 
 -- ---- steps
 
-adds-in-turn : (xs : List Addend) (input : Input) (a c : Sums) → IsSumInTurn xs a → AddsEach (addends_of input) a c → IsSumInTurn (xs ++ addends_of input) c
+adds-in-turn : (xs : List Addend) (input : Input) (a c : Sums) → IsSumInTurn xs a → AddsTaken input a c → IsSumInTurn (xs ++ addends_of input) c
 adds-in-turn xs (Added is_damaged addend) a c is adds = next-in-turn xs addend a c is adds
 adds-in-turn xs (LeftOut fault) a c is adds =
     subst (λ z. IsSumInTurn z c) (sym (append-nil xs)) (subst (λ s. IsSumInTurn xs s) (sym adds) is)
@@ -204,7 +204,7 @@ opened-taken {O} opened_may_be first opened front one behind before after at spl
 -- ---- an input was added and noted
 
 pub noted-taken : (may_be : Input → Type 0) (added : Result Bool InputFault) (before after : Summed) (sums : Sums)
-    → IfOk added (λ is_damaged. AddsInput may_be is_damaged before.sums sums) → IfErr added (λ fault. MayBeTaken may_be (LeftOut fault))
+    → IfOk added (λ is_damaged. AddsInput may_be is_damaged before.sums sums) → IfErr added (MayNotBeAdded may_be)
     → OnErr added (sums ≡ before.sums) → HasNotedInput added (record before { sums = sums }) after → HasTakenInput may_be before after
 noted-taken may_be (Ok is_damaged) before after sums adds cause refused noted = record {
   input = Added is_damaged adds.addend;
@@ -217,7 +217,7 @@ noted-taken may_be (Ok is_damaged) before after sums adds cause refused noted = 
 }
 noted-taken may_be (Err fault) before after sums adds cause refused noted = record {
   input = LeftOut fault;
-  taken = cause;
+  taken = elim cause as (λ _. MayBeTaken may_be (LeftOut fault)) [ inl none ↦ absurd (noted.goes_on none) | inr may ↦ may ];
   first = noted.first;
   reached = noted.reached;
   sum = noted.sums ∙ refused;

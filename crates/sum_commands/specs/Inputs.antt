@@ -26,7 +26,7 @@ abbrev pub fault_of_totals : TotalsFault → InputFault
 fault_of_totals totals.NoMemory = Image NoMemory
 fault_of_totals (totals.BadTotals line) = BadTotals line
 
--- why an image is left out: for a cause in its bytes, or since a total would not fit
+-- why an image is left out: for a cause in its bytes; of `TooMany` and of a lack of memory nothing is said
 abbrev pub IsCausedByInput : List ℕ → InputFault → Type 0
 IsCausedByInput bytes (Image fault) = IsCausedByImage bytes fault
 IsCausedByInput bytes (BadTotals line) = ⊥

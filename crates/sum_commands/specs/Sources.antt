@@ -1,5 +1,6 @@
 -- What the inputs of a source are, and of which of them a sum is.
-use Rattle.std.specs.Prelude.{◌≡◌, ◌≢◌, ◌⊎◌, Bool, true, false, ◌&&◌, ◌||◌, nat_lt, ℕ, ◌+◌, ◌≤◌, List, [], ◌∷◌, ◌++◌, length, All, Result, Ok, Err, ⊤}
+use Rattle.std.specs.Prelude.{◌≡◌, ◌≢◌, ◌⊎◌, Bool, true, false, ◌&&◌, ◌||◌, nat_lt, ℕ, ◌+◌, ◌≤◌, List, [], ◌∷◌, ◌++◌, length, All, Result, Ok, Err, IfErr, ⊤}
+use Rattle.persist_report_core.specs.declared.fault.CliFault.TheVariants.{NoMemory}
 use Rattle.reading_sums.specs.declared.sums.Sums.{Sums}
 use Rattle.reading_sums.specs.Addends.{Addend, AddsAddend, IsSumInTurn, addend_of}
 use Rattle.reading_sums.specs.Sums.{HaveSameSum}
@@ -27,12 +28,16 @@ pub record AddsInput (may_be : Input → Type 0) (is_damaged : Bool) (before aft
 abbrev pub AddsSome : Bool → Sums → Sums → Type 0
 AddsSome is_damaged before after = AddsInput (λ input. ⊤) is_damaged before after
 
--- an input was taken as what it may be; or it was left out since a total would not fit with it
+-- an input was taken as what it may be; or it was left out with `TooMany`, of which nothing is said
 abbrev pub MayBeTaken : (Input → Type 0) → Input → Type 0
 MayBeTaken may_be (Added is_damaged addend) = may_be (Added is_damaged addend)
 MayBeTaken may_be (LeftOut (Image fault)) = may_be (LeftOut (Image fault))
 MayBeTaken may_be (LeftOut (BadTotals line)) = may_be (LeftOut (BadTotals line))
 MayBeTaken may_be (LeftOut TooMany) = ⊤
+
+-- why an input is not added: memory ran out, or it is left out
+abbrev pub MayNotBeAdded : (Input → Type 0) → InputFault → Type 0
+MayNotBeAdded may_be fault = (fault ≡ Image NoMemory) ⊎ MayBeTaken may_be (LeftOut fault)
 
 -- ---- inputs in their order
 
@@ -88,7 +93,7 @@ pub record IsSumOfInputs (may_be : ℕ → Input → Type 0) (is_strict : Bool) 
   pub damaged : summed.is_damaged ≡ are_damaged inputs
   pub ends : is_strict ≡ true → EndsAtFault inputs
 
--- whether a sum has ended before its last input: at one that is left out
+-- whether a strict sum has ended: an input is left out
 abbrev pub has_ended : Bool → Summed → Bool
 has_ended is_strict summed = is_strict && nat_lt 0 (length summed.left.items)
 
@@ -105,7 +110,7 @@ pub record IsSumOfAllInputs (may_be : ℕ → Input → Type 0) (is_strict : Boo
 abbrev pub AreFixedInputs : (ℕ → Input → Type 0) → Type 0
 AreFixedInputs may_be = (place : ℕ) (one other : Input) → may_be place one → may_be place other → one ≡ other
 
--- no input was left out because a total would not fit with it
+-- no input is left out with `TooMany`
 abbrev pub HasRoom : Summed → Type 0
 HasRoom summed = All (λ left. left.fault ≢ TooMany) summed.left.items
 
@@ -132,20 +137,21 @@ abbrev pub damage_in : Result Bool InputFault → Bool
 damage_in (Ok is_damaged) = is_damaged
 damage_in (Err fault) = false
 
--- a sum became that of these addends more: of one, or of none
-abbrev pub AddsEach : List Addend → Sums → Sums → Type 0
-AddsEach [] before after = after ≡ before
-AddsEach (addend ∷ rest) before after = AddsAddend addend before after
+-- a sum got what an input has, if that is not left out
+abbrev pub AddsTaken : Input → Sums → Sums → Type 0
+AddsTaken (Added is_damaged addend) before after = AddsAddend addend before after
+AddsTaken (LeftOut fault) before after = after ≡ before
 
--- an input more was noted: how it was added, or why it is left out
+-- an input more was noted: how it was added, or why it is left out; memory did not run out
 pub record HasNotedInput (added : Result Bool InputFault) (before after : Summed) : Type 0 where
   pub first : after.first ≡ before.first
   pub reached : after.reached ≡ before.reached + 1
   pub sums : after.sums ≡ before.sums
   pub left : after.left.items ≡ before.left.items ++ left_of before.reached added
   pub damaged : after.is_damaged ≡ (before.is_damaged || damage_in added)
+  pub goes_on : IfErr added (λ fault. fault ≢ Image NoMemory)
 
--- no input before the one at a place
+-- an empty sum, which begins at a place
 pub record IsNoneAt (place : ℕ) (summed : Summed) : Type 0 where
   pub first : summed.first ≡ place
   pub reached : summed.reached ≡ place
@@ -159,7 +165,7 @@ pub record HasTakenInput (may_be : Input → Type 0) (before after : Summed) : T
   pub taken : MayBeTaken may_be input
   pub first : after.first ≡ before.first
   pub reached : after.reached ≡ before.reached + 1
-  pub sum : AddsEach (addends_of input) before.sums after.sums
+  pub sum : AddsTaken input before.sums after.sums
   pub left : after.left.items ≡ before.left.items ++ left_at before.reached input
   pub damaged : after.is_damaged ≡ (before.is_damaged || is_damaged_in input)
 
@@ -178,7 +184,7 @@ MayHaveAppended is_strict more before after =
 
 -- ---- workers
 
--- an input at a place is one that was opened, of those from a place on
+-- an input is what the one that was opened for its place may be; the first that was opened is that of `first`
 pub record IsOpenedAt {O : Type 0} (may_be : O → Input → Type 0) (first : ℕ) (opened : List O) (place : ℕ) (input : Input) : Type 0 where
   pub front : List O
   pub one : O

@@ -15,8 +15,8 @@ pub enum InputFault {
     /// It is the totals of no sum: the line with this number is wrong.
     #[error("BadTotals {0}")]
     BadTotals(u64),
-    /// With it a total would not fit: the units of a histogram together, or one of marks, of redundant counts, of images
-    /// or of their numbers 64 bits, or one of amounts 128.
+    /// With it a total would not fit: 64 bits for all units of a histogram, the marks of a key, redundant counts, images and
+    /// what they say beside their histograms; 128 for amounts.
     #[error("TooMany")]
     TooMany,
 }
@@ -73,8 +73,14 @@ impl From<AllocError> for InputFault {
 }
 
 impl InputFault {
-    /// Returns whether memory ran out.
-    pub fn is_no_memory(&self) -> bool {
+    ghost use Rattle.std.specs.Prelude.{◌≡◌, ◌↔◌, true};
+    ghost use Rattle.sum_commands.specs.declared.fault.InputFault.TheVariants.{Image};
+    ghost use Rattle.persist_report_core.specs.declared.fault.CliFault.TheVariants.{NoMemory};
+
+    /// Returns whether memory ran out [is].
+    pub fn is_no_memory(&self) -> bool
+        ensures is { (result ≡ true) ↔ (self.now ≡ Image NoMemory) }
+    {
         matches!(self, InputFault::Image(CliFault::NoMemory))
     }
 }

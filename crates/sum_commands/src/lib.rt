@@ -2,8 +2,9 @@
 //!
 //! [`kind_of`] tells what an input begins as. [`add_image`] and [`add_totals`] add up one input after the other, in their order: the images
 //! that were read have the numbers from 0 on, those of a totals too. Sums of parts of a list become that of the whole
-//! list, so any number of workers gives one sum: `specs/Inputs.antt` says of which readings a sum is. An input that
-//! cannot be read leaves the sum as it was. [`sum_of_inputs`] does this with all inputs of a [`Source`].
+//! list: `specs/Inputs.antt` says of which readings a sum is. An input that cannot be read leaves the sum unchanged.
+//! [`sum_of_inputs`] does this with all inputs of a [`Source`], by any number of workers, which make no difference
+//! ([`workers_are_nothing`]): `specs/Sources.antt` says of which inputs a sum is.
 #![tactic(auto)]
 
 mod fault;
@@ -17,5 +18,5 @@ pub use fault::InputFault;
 pub use kind::{FRONT, InputKind, kind_of};
 pub use laws::workers_are_nothing;
 pub use summing::{Left, OpenInput, Progress, Source, Summed};
-pub use sums::{add_image, add_totals, append_next, pass_over};
+pub use sums::{add_image, add_totals, append_next, nothing_is_added};
 pub use working::{Manner, sum_of_inputs};

@@ -1,8 +1,7 @@
 //! The sum of inputs, one after the other.
 
 ghost use Rattle.std.specs.Prelude.{◌≡◌, ◌≤◌, ◌<◌, ◌++◌, ◌∷◌, [], ℕ, false, IfOk, IfErr, IfSome, OnOk, OnErr};
-ghost use Rattle.sum_commands.specs.Sources.{Input, AddsInput, MayBeTaken, HasNotedInput, HasTakenInput, IsNoneAt, IsSumOfInputs, MayHaveAppended, has_ended};
-ghost use Rattle.sum_commands.specs.Sources.Input.{LeftOut};
+ghost use Rattle.sum_commands.specs.Sources.{Input, AddsInput, MayNotBeAdded, HasNotedInput, HasTakenInput, IsNoneAt, IsSumOfInputs, MayHaveAppended, has_ended};
 
 use crate::fault::InputFault;
 use crate::sums::append_next;
@@ -14,12 +13,12 @@ pub trait OpenInput {
     /// What the input may be.
     ghost may_be: { Self → Input → Type 0 };
 
-    /// AddsEach the input to a sum, behind its readings, and returns whether it is damaged: what was added is what the input may be
-    /// [added]. An input that is left out has a fault that it may have, or a total would not fit with it, `TooMany` [cause]. The
-    /// sum is then as it was [refused].
+    /// Adds the input to a sum, behind its readings, and returns whether it is damaged: what was added is what the input may be
+    /// [added]. An input that is left out has a fault that it may have, or `TooMany`, where a total would not fit; `NoMemory` comes
+    /// where memory runs out [cause]. The sum is then unchanged [refused].
     fn add_to(self, sums: &mut Sums) -> Result<bool, InputFault>
         ensures added { IfOk result (λ is_damaged. AddsInput (may_be self) is_damaged sums.old sums.new) }
-        ensures cause { IfErr result (λ fault. MayBeTaken (may_be self) (LeftOut fault)) }
+        ensures cause { IfErr result (MayNotBeAdded (may_be self)) }
         ensures refused { OnErr result (sums.new ≡ sums.old) };
 }
 
@@ -36,13 +35,13 @@ pub trait Source {
     fn open(&self, place: usize) -> Option<Self::Opened>
         ensures opened { IfSome result (λ opened. (input : Input) → Self.Opened.may_be opened input → may_be self.now place input) };
 
-    /// AddsEach the input at a place to a sum, behind its readings, and returns whether it is damaged: what was added is what the input
-    /// at that place may be [added]. An input that is left out has a fault that it may have, or a total would not fit with it,
-    /// `TooMany` [cause]. The sum is then as it was [refused]. It may be asked for an input that was opened before, and for that
-    /// more than once.
+    /// Adds the input at a place to a sum, behind its readings, and returns whether it is damaged: what was added is what the input
+    /// at that place may be [added]. An input that is left out has a fault that it may have, or `TooMany`, where a total would not
+    /// fit; `NoMemory` comes where memory runs out [cause]. The sum is then unchanged [refused]. It may be asked for an input that
+    /// was opened before, and for that more than once.
     fn add_input(&self, sums: &mut Sums, place: usize) -> Result<bool, InputFault>
         ensures added { IfOk result (λ is_damaged. AddsInput (may_be self.now place) is_damaged sums.old sums.new) }
-        ensures cause { IfErr result (λ fault. MayBeTaken (may_be self.now place) (LeftOut fault)) }
+        ensures cause { IfErr result (MayNotBeAdded (may_be self.now place)) }
         ensures refused { OnErr result (sums.new ≡ sums.old) };
 }
 
@@ -163,7 +162,7 @@ impl Summed {
         Ok(())
     }
 
-    // AddsEach the next input, which is open.
+    // Adds the next input, which is open.
     pub(crate) fn add_opened<O: OpenInput + Drop>(&mut self, opened: O) -> Result<(), AllocError>
         requires { self.old.reached < 18446744073709551615 }
         ensures { OnOk result (HasTakenInput (O.may_be opened) self.old self.new) }
@@ -172,7 +171,7 @@ impl Summed {
         self.note(added)
     }
 
-    // AddsEach the next input of a source.
+    // Adds the next input of a source.
     fn add_next<S: Source>(&mut self, source: &S) -> Result<(), AllocError>
         requires { self.old.reached < 18446744073709551615 }
         ensures { OnOk result (HasTakenInput (S.may_be source.now self.old.reached) self.old self.new) }
@@ -181,7 +180,7 @@ impl Summed {
         self.note(added)
     }
 
-    // AddsEach the inputs of a source up to a place; up to the first that is left out, if that is to end it.
+    // Adds the inputs of a source up to a place; up to the first that is left out, if that is to end it.
     pub(crate) fn add_up_to<S: Source, P: Progress>(
         &mut self,
         source: &S,
@@ -218,7 +217,7 @@ impl Summed {
         Ok(())
     }
 
-    // AddsEach the inputs of a source that a worker has added up, and those before them. Where a total might not fit, which of them are
+    // Adds the inputs of a source that a worker has added up, and those before them. Where a total might not fit, which of them are
     // left out is seen when they are added one by one.
     pub(crate) fn add_summed<S: Source, P: Progress>(
         &mut self,

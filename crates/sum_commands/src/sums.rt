@@ -13,7 +13,7 @@ use reading_sums::{Sums, SumsFault};
 use std::alloc::Global;
 use sum_texts::totals_of;
 
-/// AddsEach the readings of another sum to a sum, behind its own: the sum of any readings in their order, the first of which
+/// Adds the readings of another sum to a sum, behind its own: the sum of any readings in their order, the first of which
 /// has the number 0, and the next 1, becomes that of these and then those of the other [added]. Any sum gets the totals and the
 /// notes of the other one more, whose images come behind its own [behind]: an input, which may be damaged or not [some].
 ///
@@ -30,12 +30,12 @@ pub fn append_next(sums: &mut Sums, more: &Sums) -> Result<(), SumsFault>
     Ok(())
 }
 
-/// AddsEach what the image in the words of an input reads as, a closed image or a mapped file, behind the readings of a sum
+/// Adds what the image in the words of an input reads as, a closed image or a mapped file, behind the readings of a sum
 /// [added]. Returns what is damaged in it, if something is, of which the sum has all that is valid: so it is an input that is
 /// damaged or not [some].
 ///
-/// An input is left out whose bytes are those of no image, for the first fault of its header, or with which a total would
-/// not fit, `TooMany` [cause]. The sum is then as it was [refused].
+/// An input is left out whose bytes are those of no image, for the first fault of its header [cause], or with which a total would
+/// not fit, `TooMany`. `NoMemory` comes where memory runs out. The sum is then unchanged [refused].
 pub fn add_image(
     alloc: Global,
     sums: &mut Sums,
@@ -52,7 +52,7 @@ pub fn add_image(
     Ok(damage_of(&reading))
 }
 
-/// AddsEach the readings of the totals whose text this is to a sum, behind its own [added]: an input that is not damaged [some].
+/// Adds the readings of the totals whose text this is to a sum, behind its own [added]: an input that is not damaged [some].
 ///
 /// An input is left out whose bytes are those of no totals, `BadTotals` with a line, or with which a total would not fit,
 /// `TooMany`. The sum is then as it was [refused].
@@ -66,10 +66,10 @@ pub fn add_totals(alloc: Global, sums: &mut Sums, text: &[u8]) -> Result<(), Inp
     Ok(())
 }
 
-/// Passes over an input that has nothing for a sum, as a file that is no image and no totals. Returns that it is not damaged: with the
-/// sum as it is, an input that adds nothing was added [some].
-pub fn pass_over(_sums: &Sums) -> bool
-    ensures some { AddsSome result _sums.now _sums.now }
-{
-    false
-}
+/// With a sum as it is, an input was added that has nothing, and is not damaged: as a file that is no image and no totals, and is
+/// passed over [some].
+///
+/// It does nothing: what it promises is a law of the definition.
+pub fn nothing_is_added(_sums: &Sums)
+    ensures some { AddsSome false _sums.now _sums.now }
+{}

@@ -4,12 +4,10 @@
 //! The sums are appended in the order of the inputs, with those that no worker reads between them. All this is done in rounds, since
 //! only so many inputs can be open at once.
 
-ghost use Rattle.std.specs.Prelude.{◌≡◌, ◌≤◌, ◌<◌, ◌+◌, ℕ, length, All, IfOk, IfErr, OnOk};
-ghost use Rattle.persist_report_core.specs.declared.fault.CliFault.TheVariants.{NoMemory};
+ghost use Rattle.std.specs.Prelude.{◌≡◌, ◌≤◌, ◌<◌, ◌+◌, ℕ, length, All, IfOk, OnOk};
 ghost use Rattle.sum_commands.specs.Sources.{IsSumBefore, IsOpenedRun, IsSumOfAllInputs, SumEndsWithin};
 
 use crate::summing::{OpenInput, Progress, Source, Summed};
-use persist_report_core::CliFault;
 use std::alloc::{AllocError, Global};
 use std::sync::Wait;
 use std::thread::Threads;
@@ -18,7 +16,7 @@ use thread_jobs::{Job, run_within};
 /// How inputs are added up.
 #[derive(Clone, Copy)]
 pub struct Manner {
-    /// By how many workers.
+    /// By how many workers; 0 counts as 1.
     pub workers: usize,
     /// Whether the first input that is left out ends it.
     pub is_strict: bool,
@@ -48,7 +46,7 @@ impl<O: OpenInput + Drop> Job for Run<O> {
 
     ghost gives = { λ run result. IfOk result (HasSummedRun O.may_be run.first run.opened.items run.is_strict) };
 
-    // AddsEach up the inputs; up to the first that is left out, if that is to end it.
+    // Adds up the inputs; up to the first that is left out, if that is to end it.
     fn run(self) -> Result<Summed, AllocError> {
         let mut summed = Summed::none(self.alloc, self.first);
         for opened in self.opened {
@@ -124,7 +122,7 @@ fn open_round<S: Source>(
     Ok((runs, place))
 }
 
-// AddsEach what workers have added up to the sum of the inputs before it.
+// Adds what workers have added up to the sum of the inputs before it.
 fn add_all<S: Source, P: Progress>(
     all: &mut Summed,
     source: &S,
@@ -142,11 +140,11 @@ fn add_all<S: Source, P: Progress>(
 
 /// Returns the sum of so many inputs of a source, from the one at 0 on. Workers read and add them up, each in a thread of its own, or
 /// fewer where a thread cannot be started. For any number of them it is the sum of all inputs in their order, each as it may be: the
-/// totals are those of the inputs that are added, those left out are told with their places and faults, in their order, and so is
-/// whether one is damaged. The first that is left out ends it, if it is strict [sum]. With one worker the caller's thread adds them
-/// up one by one.
+/// totals are those of the inputs that are added, `left` lists those left out, in their order, each with its place and fault, and
+/// `is_damaged` says whether one is damaged. The first that is left out ends it, if it is strict [sum]. With one worker the caller's
+/// thread adds them up one by one.
 ///
-/// The one fault is `NoMemory` [fault].
+/// It fails for want of memory alone.
 pub fn sum_of_inputs<R: Threads + Wait, S: Source, P: Progress>(
     rt: &R,
     alloc: Global,
@@ -154,9 +152,8 @@ pub fn sum_of_inputs<R: Threads + Wait, S: Source, P: Progress>(
     progress: &mut P,
     inputs: usize,
     how: Manner,
-) -> Result<Summed, CliFault>
+) -> Result<Summed, AllocError>
     ensures sum { IfOk result (IsSumOfAllInputs (S.may_be source.now) how.is_strict inputs) }
-    ensures fault { IfErr result (λ fault. fault ≡ NoMemory) }
 {
     let mut all = Summed::none(alloc, 0);
     let mut place = 0;

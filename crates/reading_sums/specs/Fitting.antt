@@ -15,7 +15,7 @@ use Rattle.reading_sums.specs.Totals.{Part, Quantity, is_of, quantity_of, total}
 use Rattle.reading_sums.specs.Views.{part_of, parts_of}
 use Rattle.reading_sums.specs.Whole.{units_of}
 
--- the condition that has to hold if the fault is `TooMany`; of `NoMemory` nothing
+-- what is so where a fault tells of too many; where there was no memory, nothing
 abbrev pub IfTooMany : SumsFault → Type 0 → Type 0
 IfTooMany NoMemory many = ⊤
 IfTooMany TooMany many = many
@@ -36,8 +36,8 @@ abbrev pub all_units : List ℕ → Spec → List Part → ℕ
 all_units name spec parts = sum_by (λ part. if is_of name spec part then units_of part.keys else 0) parts
 
 -- parts do not fit together: of some name and spec all units are 2^64 or more, or some total does not fit
-abbrev pub PartsDoNotFit : List Part → Type 0
-PartsDoNotFit parts = (name : List ℕ) × (spec : Spec)
+abbrev pub DoNotFit : List Part → Type 0
+DoNotFit parts = (name : List ℕ) × (spec : Spec)
     × ((2 ^ 64 ≤ all_units name spec parts) ⊎ ((quantity : Quantity) × TotalDoesNotFit quantity (total quantity name spec parts)))
 
 -- some part has a least number that is 2^64 or more when it is so much greater
@@ -52,8 +52,8 @@ NotesDoNotFit a b = (2 ^ 64 ≤ a.images + b.images) ⊎ (2 ^ 64 ≤ a.full + b.
     ⊎ (2 ^ 64 ≤ a.stopped + b.stopped) ⊎ (2 ^ 64 ≤ a.bad + b.bad)
 
 -- parts and notes do not fit into a sum: its notes and these do not fit together, or its parts and these do not
-abbrev pub SumDoesNotFit : Sums → List Part → Notes → Type 0
-SumDoesNotFit sums parts notes = NotesDoNotFit sums.notes notes ⊎ PartsDoNotFit (parts_of sums ++ parts)
+abbrev pub DoesNotFit : Sums → List Part → Notes → Type 0
+DoesNotFit sums parts notes = NotesDoNotFit sums.notes notes ⊎ DoNotFit (parts_of sums ++ parts)
 
 -- ---- one name and one spec
 

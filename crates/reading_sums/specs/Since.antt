@@ -132,14 +132,14 @@ pub record IsGrown (laters earliers : List HistSum) : Type 0 where
   pub other_spec : (name : List ℕ) → ¬ HasChangedSpec laters earliers name
   pub too_many : ¬ HasTooMany laters earliers
 
--- the condition of each fault; of `NoMemory` nothing
+-- what is so for each fault; where there was no memory, nothing
 abbrev pub MatchFault : MinusFault → Type 0 → (List ℕ → Type 0) → (List ℕ → Type 0) → Type 0
 MatchFault NoMemory many fell other = ⊤
 MatchFault TooMany many fell other = many
 MatchFault (Fell name) many fell other = fell name.items
 MatchFault (OtherSpec name) many fell other = other name.items
 
--- the condition of the fault holds
+-- a fault tells what is so
 abbrev pub IsReason : List HistSum → List HistSum → MinusFault → Type 0
 IsReason laters earliers fault =
     MatchFault fault (HasTooMany laters earliers) (HasFallen laters earliers) (HasChangedSpec laters earliers)

@@ -63,7 +63,7 @@ pub record AreWhole (hists : List HistSum) : Type 0 where
   pub ascending : IsStrictlySortedBy hist_cmp hists
   pub whole : All IsWholeHist hists
 
--- a sum whose histograms ascend and are whole
+-- a sum whose histograms are so
 abbrev pub IsWellFormed : Sums → Type 0
 IsWellFormed sums = AreWhole sums.hists.items
 

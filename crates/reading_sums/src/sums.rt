@@ -9,7 +9,7 @@ ghost use Rattle.bucket_ranges.specs.Reading as definition;
 ghost use Rattle.image_reader.specs.Views.{histogram_view, reading_view};
 ghost use Rattle.image_reader.specs.Readable.{IsReadable};
 ghost use Rattle.reading_sums.specs.Addends.{AddsNumbered, notes_of_one};
-ghost use Rattle.reading_sums.specs.Fitting.{SumDoesNotFit, HasNumberTooGreat, IfTooMany};
+ghost use Rattle.reading_sums.specs.Fitting.{DoesNotFit, HasNumberTooGreat, IfTooMany};
 ghost use Rattle.reading_sums.specs.Totals.{part_from, raised_part, SameTotals};
 ghost use Rattle.reading_sums.specs.Views.{part_of, parts_of};
 ghost use Rattle.reading_sums.specs.Shown.{shown_parts, other_parts, IsOtherOf};
@@ -84,20 +84,20 @@ impl Sums {
     }
 
     /// Adds what one image reads as, which has a number. A sum of any list of numbered readings is then the sum of that
-    /// list with this one behind it [added], and any sum gets the totals and the notes of this reading [more].
+    /// list with this one behind it [added], and of any sum it is that with the totals and the notes of this reading more [more].
     /// It is well formed if it was, and the reading is whole: it has each name once, each of a lawful spec with its keys and
     /// with units that together fit 64 bits [well_formed].
     ///
     /// It is refused with `NoMemory` if there is no memory. Where the sum is well formed and the reading whole, it is refused
     /// with `TooMany` only if what both have together does not fit: of some name and spec all units, the marks of a key, the
     /// redundant counts or the images are 2^64 or more, or amounts do not fit 128 bits; or some number of the notes is 2^64 or
-    /// more [too_many]. The sum is then unchanged [refused].
+    /// more [too_many]. The sum is then as it was [refused].
     pub fn add(&mut self, number: u64, reading: &Reading) -> Result<(), SumsFault>
         ensures added { OnOk result ((readings : List (ℕ × definition.Reading)) → IsSumOver readings self.old → IsSumOver (readings ++ (number, reading_view reading.now) ∷ []) self.new) }
         ensures more { OnOk result (AddsNumbered (number, reading_view reading.now) self.old self.new) }
         ensures well_formed { OnOk result (IsWellFormed self.old → IsWholeReading (reading_view reading.now) → IsWellFormed self.new) }
         ensures refused { OnErr result (self.new ≡ self.old) }
-        ensures too_many { IfErr result (λ fault. IfTooMany fault (IsWellFormed self.old → IsWholeReading (reading_view reading.now) → SumDoesNotFit self.old (parts_of_one (number, reading_view reading.now)) (notes_of_one (reading_view reading.now)))) }
+        ensures too_many { IfErr result (λ fault. IfTooMany fault (IsWellFormed self.old → IsWholeReading (reading_view reading.now) → DoesNotFit self.old (parts_of_one (number, reading_view reading.now)) (notes_of_one (reading_view reading.now)))) }
     {
         let notes = notes_of_both(&self.notes, &notes_of(reading))?;
         let one = sums_of_one(self.alloc, number, &reading.hists)?;
@@ -113,13 +113,13 @@ impl Sums {
     /// It is refused with `NoMemory` if there is no memory. Where both sums are well formed, it is refused with `TooMany` only
     /// if what both have together does not fit: of some name and spec all units, the marks of a key, the redundant counts or
     /// the images are 2^64 or more, or amounts do not fit 128 bits; or some number of the notes is 2^64 or more [too_many].
-    /// The sum is then unchanged [refused].
+    /// The sum is then as it was [refused].
     pub fn append(&mut self, other: &Sums) -> Result<(), SumsFault>
         ensures added { OnOk result ((readings more : List (ℕ × definition.Reading)) → IsSumOver readings self.old → IsSumOver more other.now → IsSumOver (readings ++ more) self.new) }
         ensures both { OnOk result (IsSumOfBoth self.old other.now self.new) }
         ensures well_formed { OnOk result (IsWellFormed self.old → IsWellFormed other.now → IsWellFormed self.new) }
         ensures refused { OnErr result (self.new ≡ self.old) }
-        ensures too_many { IfErr result (λ fault. IfTooMany fault (IsWellFormed self.old → IsWellFormed other.now → SumDoesNotFit self.old (parts_of other.now) other.now.notes)) }
+        ensures too_many { IfErr result (λ fault. IfTooMany fault (IsWellFormed self.old → IsWellFormed other.now → DoesNotFit self.old (parts_of other.now) other.now.notes)) }
     {
         let notes = notes_of_both(&self.notes, &other.notes)?;
         let hists = sums_of_both(self.alloc, &self.hists, &other.hists)?;
@@ -128,9 +128,9 @@ impl Sums {
         Ok(())
     }
 
-    /// Returns the sum of the same readings, where the number of each is greater by `by` [raised]: so is the least number of
-    /// each name and spec [parts], and all else is the same [notes]. So the sum of what comes after others can be added to
-    /// theirs.
+    /// Returns the sum of the same readings, where the number of each is so much greater [raised]: the least number of each
+    /// name and spec is so much greater [parts], and all else is the same [notes]. So the sum of what comes behind others can
+    /// be added to theirs.
     ///
     /// It is refused with `NoMemory` if there is no memory, and with `TooMany` only if some least number would be 2^64 or more
     /// [too_many].
@@ -194,7 +194,7 @@ impl Sums {
         self.notes
     }
 
-    /// Returns the histograms of the sum; those of a well-formed one ascend by name and spec.
+    /// Returns the histograms of the sum, which has them ascending by name.
     pub fn hists(&self) -> &[HistSum]
         ensures { result.now ≡ self.now.hists.items }
     {

@@ -315,6 +315,7 @@ public:
     [[nodiscard]] Status try_add(Hist hist, Value value, std::uint32_t count = 1) noexcept {
         if (!is_own(hist)) return why_not();
         const auto status = static_cast<Status>(povundiri_add(&handle_, hist.number_, value.get(), count));
+        if (status == Status::Done) return Status::Done;
         if (status != Status::RefusedNoUnits || !borrow(count)) return status;
         return static_cast<Status>(povundiri_add(&handle_, hist.number_, value.get(), count));
     }

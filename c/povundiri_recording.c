@@ -16,25 +16,26 @@ enum { MOST_RECORDERS = 250 };
 /* How many units a thread borrows at once; how often a sample is tried again in a new segment. */
 enum { LEASE = 1 << 20, MOST_TRIES = 8 };
 
-/* The state of a thread is on lines of the cache of its own. */
-enum { LINE = 64 };
+/* What a thread reads for each sample is on lines of the cache that nobody else writes: processors fetch them two at a time. */
+enum { LINES = 128 };
 
 static const uint64_t SECOND = 1000000000, USUAL_APART = 1000000, USUAL_BYTES = 1 << 20, LARGEST = 8 << 20, USUAL_FOLD_AT = 64;
 
 /* The turn of a thread that has no recorder, and that of a recording that has no segment. No segment has either. */
-static const uint64_t NO_RECORDER = UINT64_MAX, NO_SEGMENT = 0;
+#define NO_RECORDER UINT64_MAX
+static const uint64_t NO_SEGMENT = 0;
 
-/* In place of the number of a histogram that was not asked for in this segment. */
+/* In place of the number of a histogram that was not asked for in this segment. No recorder knows it. */
 static const size_t NOT_ASKED = SIZE_MAX;
 
 /* What a thread has of a recording; or what the threads above the most share. */
 struct local {
     uint64_t turn; /* that of the segment which its recorder is of */
+    size_t known;  /* how many metrics `hists` has room for */
     struct povundiri_handle recorder;
-    size_t *hists; /* by metric */
-    size_t known;
     struct povundiri_owned *owned;
     struct povundiri_recording *recording;
+    size_t hists[]; /* by metric */
 };
 
 /* What a thread has of all. */
@@ -58,25 +59,26 @@ enum state { RECORDS, HAS_ENDED, IS_FORKED };
 enum fit { FITS, IS_TOO_SMALL, MAY_NOT_GROW };
 
 struct povundiri_recording {
-    /* The number of the present segment, counted from 1 on in this process. Only this is read without the mutex. */
+    /* The number of the present segment, counted from 1 on in this process, over all recordings. Each sample reads it, without the mutex. */
     uint64_t turn;
-    size_t place;
-    uint64_t missed[POVUNDIRI_MISSED_REASONS];
 
     /* Set once. */
+    size_t place;
     struct povundiri_recording *next;
     char *folder;
     struct povundiri_recording_options options;
 
+    uint64_t missed[POVUNDIRI_MISSED_REASONS] __attribute__((aligned(LINES)));
+
     pthread_mutex_t mutex; /* for all that follows */
     enum state state;
     struct povundiri_owned *current, *spare, *old;
-    struct local shared;
+    struct local *shared;
     struct metric **metrics;
     size_t count;
     uint64_t bytes;               /* of the next segment, and of the spare */
     struct povundiri_shape shape; /* in so many bytes */
-    uint64_t turns;               /* how many segments there were */
+    uint64_t turns;               /* how many segments it had */
     uint64_t began_at;            /* when the present one was begun, in nanoseconds; 0: by another process */
     enum fit fit;                 /* of the present one */
     uint64_t again_at;            /* when a segment may be made again, after that was refused */
@@ -92,8 +94,14 @@ static pthread_once_t once = PTHREAD_ONCE_INIT;
 static pthread_key_t key;
 static bool is_ready;
 
-/* The state of this thread, found by one load also in a shared object. A thread that has ended its state shares a recorder from then on. */
+/* The number of the segment that was begun last in this process. */
+static uint64_t last_turn;
+
+/* The state of this thread, found by one load also in a shared object: that of the recording which it counted in last, `none` before, and
+ * all. A thread that has ended its state shares a recorder from then on. */
+static struct local none = {NO_RECORDER, 0, {false, NULL}, NULL, NULL};
 #define OWN static __thread __attribute__((tls_model("initial-exec")))
+OWN struct local *latest = &none;
 OWN struct table *own;
 OWN bool is_ending;
 #undef OWN
@@ -187,8 +195,8 @@ static void retire(struct povundiri_recording *recording) {
     if (owned == NULL) return;
     owned->next = recording->old;
     recording->old = owned;
-    if (recording->shared.owned == owned) {
-        give_back(recording, &recording->shared);
+    if (recording->shared->owned == owned) {
+        give_back(recording, recording->shared);
     } else {
         let_go(recording, owned);
     }
@@ -199,7 +207,7 @@ static void make_current(struct povundiri_recording *recording, struct povundiri
     recording->began_at = began_at;
     recording->fit = FITS;
     recording->turns += 1;
-    set_turn(recording, recording->turns);
+    set_turn(recording, __atomic_add_fetch(&last_turn, 1, __ATOMIC_RELAXED));
 }
 
 /* Makes a spare of this shape, with an id of its own. After it was refused none is made before a second has passed. */
@@ -276,6 +284,39 @@ static uint32_t join_in(struct povundiri_recording *recording, struct local *loc
     return status;
 }
 
+/* What a thread has of a recording, with room for so many metrics: no recorder yet; null if there is no memory. */
+static struct local *new_local(struct povundiri_recording *recording, size_t metrics) {
+    const size_t size = (sizeof(struct local) + metrics * sizeof(size_t) + LINES - 1) / LINES * LINES;
+    struct local *local;
+    void *at = NULL;
+    if (posix_memalign(&at, LINES, size) != 0) return NULL;
+    local = (struct local *)at;
+    local->known = (size - sizeof *local) / sizeof(size_t);
+    local->recorder.full = false;
+    local->recorder.at = NULL;
+    local->recording = recording;
+    clear(local);
+    return local;
+}
+
+/* Moves what it has to where there is room for all metrics. False if there is no memory. */
+static bool enlarge(struct povundiri_recording *recording, struct local **local) {
+    struct local *const old = *local, *const larger = new_local(recording, recording->count);
+    if (larger == NULL) return false;
+    larger->turn = old->turn;
+    larger->recorder = old->recorder;
+    larger->owned = old->owned;
+    memcpy(larger->hists, old->hists, old->known * sizeof *old->hists);
+    if (old == recording->shared) {
+        recording->shared = larger;
+    } else {
+        own->locals[recording->place] = latest = larger;
+    }
+    free(old);
+    *local = larger;
+    return true;
+}
+
 /* What this thread has of a recording, which may have no recorder; null if there is no memory, or if the thread ends. */
 static struct local *own_local(struct povundiri_recording *recording) {
     struct local *local;
@@ -299,14 +340,11 @@ static struct local *own_local(struct povundiri_recording *recording) {
     }
     local = own->locals[recording->place];
     if (local == NULL) {
-        void *at = NULL;
-        if (posix_memalign(&at, LINE, (sizeof *local + LINE - 1) / LINE * LINE) != 0) return NULL;
-        local = (struct local *)at;
-        memset(local, 0, sizeof *local);
-        local->recording = recording;
-        clear(local);
+        local = new_local(recording, recording->count);
+        if (local == NULL) return NULL;
         own->locals[recording->place] = local;
     }
+    latest = local;
     return local;
 }
 
@@ -319,26 +357,20 @@ static uint32_t local_in(struct povundiri_recording *recording, uint32_t count, 
         if (status != POVUNDIRI_REFUSED_TOO_MANY) return status;
     }
     if (*local != NULL) give_back(recording, *local);
-    *local = &recording->shared;
+    *local = recording->shared;
     return (*local)->turn == recording->turn ? (uint32_t)POVUNDIRI_DONE : join_in(recording, *local, count);
 }
 
 /* ---- Counting: the mutex is held ---- */
 
 /* Finds the histogram of a metric in the present segment, once for a recorder. */
-static uint32_t find(struct povundiri_recording *recording, struct local *local, size_t metric) {
+static uint32_t find(struct povundiri_recording *recording, struct local **local, size_t metric) {
     const struct metric *const asked = recording->metrics[metric];
-    if (metric >= local->known) {
-        const size_t count = recording->count;
-        size_t *const hists = (size_t *)realloc(local->hists, count * sizeof *hists);
-        size_t i;
-        if (hists == NULL) return POVUNDIRI_NO_MEMORY;
-        for (i = local->known; i < count; i += 1) hists[i] = NOT_ASKED;
-        local->hists = hists;
-        local->known = count;
-    }
-    if (local->hists[metric] != NOT_ASKED) return POVUNDIRI_DONE;
-    return povundiri_hist(&local->recorder, asked->name, asked->length, asked->spec, asked->values, asked->count, &local->hists[metric]);
+    size_t *hist;
+    if (metric >= (*local)->known && !enlarge(recording, local)) return POVUNDIRI_NO_MEMORY;
+    hist = &(*local)->hists[metric];
+    if (*hist != NOT_ASKED) return POVUNDIRI_DONE;
+    return povundiri_hist(&(*local)->recorder, asked->name, asked->length, asked->spec, asked->values, asked->count, hist);
 }
 
 /* Lends a recorder what a sample needs. False if the segment has too few. */
@@ -351,7 +383,7 @@ static bool lend(struct povundiri_recording *recording, struct local *local, uin
 }
 
 static uint32_t count_in(struct povundiri_recording *recording, struct local *local, size_t metric, int32_t value, uint32_t count) {
-    uint32_t status = find(recording, local, metric);
+    uint32_t status = find(recording, &local, metric);
     if (status != POVUNDIRI_DONE) return status;
     status = povundiri_add(&local->recorder, local->hists[metric], value, count);
     if (status != POVUNDIRI_REFUSED_NO_UNITS || !lend(recording, local, count)) return status;
@@ -458,6 +490,7 @@ static void thread_ends(void *at) {
     const int kept = errno;
     size_t i;
     is_ending = true;
+    latest = &none;
     own = NULL;
     for (i = 0; i < table->count; i += 1) {
         struct local *const local = table->locals[i];
@@ -465,7 +498,6 @@ static void thread_ends(void *at) {
         pthread_mutex_lock(&local->recording->mutex);
         if (local->recording->state != IS_FORKED) give_back(local->recording, local);
         pthread_mutex_unlock(&local->recording->mutex);
-        free(local->hists);
         free(local);
     }
     free(table->locals);
@@ -496,8 +528,7 @@ static void in_child(void) {
         each->is_preparing = false;
         set_turn(each, NO_SEGMENT);
         memset(each->missed, 0, sizeof each->missed);
-        each->shared.owned = NULL;
-        clear(&each->shared);
+        clear(each->shared);
     }
     for (i = 0; own != NULL && i < own->count; i += 1) {
         if (own->locals[i] != NULL) clear(own->locals[i]);
@@ -513,10 +544,14 @@ static void make_ready(void) {
 
 /* ---- Samples ---- */
 
+/* What this thread has of a recording, or null. */
+static struct local *found_local(const struct povundiri_recording *recording) {
+    return own != NULL && recording->place < own->count ? own->locals[recording->place] : NULL;
+}
+
 static void leave(struct povundiri_recording *recording) {
-    if (own != NULL && recording->place < own->count && own->locals[recording->place] != NULL) {
-        give_back(recording, own->locals[recording->place]);
-    }
+    struct local *const local = found_local(recording);
+    if (local != NULL) give_back(recording, local);
 }
 
 /* What the usual sample is not: the mutex is taken. */
@@ -535,18 +570,26 @@ static bool add_slowly(struct povundiri_recording *recording, size_t metric, int
     return counted;
 }
 
-bool povundiri_recording_add(struct povundiri_recording *recording, size_t metric, int32_t value, uint32_t count) {
-    const struct table *const table = own;
+/* No segment of another recording has this turn. Where a histogram was not asked for, it is the recorder that refuses the sample. Its call
+ * comes last, so that no register is saved for it. */
+uint32_t povundiri_recording_add_usual(struct povundiri_recording *recording, size_t metric, int32_t value, uint32_t count) {
+    struct local *local = latest;
+    uint64_t turn;
+    if (recording == NULL) return POVUNDIRI_NULL;
+    turn = __atomic_load_n(&recording->turn, __ATOMIC_RELAXED);
+    if (__builtin_expect(local->turn != turn, 0)) {
+        local = found_local(recording);
+        if (local == NULL || local->turn != turn) return POVUNDIRI_UNKNOWN;
+        latest = local;
+    }
+    if (metric >= local->known) return POVUNDIRI_UNKNOWN;
+    return povundiri_add(&local->recorder, local->hists[metric], value, count);
+}
+
+bool povundiri_recording_add_other(struct povundiri_recording *recording, size_t metric, int32_t value, uint32_t count) {
     int kept, state;
     bool counted;
     if (recording == NULL) return false;
-    if (table != NULL && recording->place < table->count) {
-        struct local *const local = table->locals[recording->place];
-        if (local != NULL && local->turn == __atomic_load_n(&recording->turn, __ATOMIC_RELAXED) && metric < local->known &&
-            local->hists[metric] != NOT_ASKED && povundiri_add(&local->recorder, local->hists[metric], value, count) == POVUNDIRI_DONE) {
-            return true;
-        }
-    }
     kept = errno;
     pthread_setcancelstate(PTHREAD_CANCEL_DISABLE, &state);
     counted = add_slowly(recording, metric, value, count);
@@ -554,6 +597,8 @@ bool povundiri_recording_add(struct povundiri_recording *recording, size_t metri
     errno = kept;
     return counted;
 }
+
+extern inline bool povundiri_recording_add(struct povundiri_recording *recording, size_t metric, int32_t value, uint32_t count);
 
 void povundiri_recording_leave(struct povundiri_recording *recording) {
     int state;
@@ -624,7 +669,7 @@ static uint32_t ask(struct povundiri_recording *recording, size_t metric) {
     if (recording->metrics[metric]->is_too_large) return POVUNDIRI_REFUSED_TOO_LARGE;
     if (recording->state != RECORDS || recording->current == NULL) return POVUNDIRI_DONE;
     status = local_in(recording, 0, &local);
-    if (status == POVUNDIRI_DONE) status = find(recording, local, metric);
+    if (status == POVUNDIRI_DONE) status = find(recording, &local, metric);
     return is_spent(status) ? (uint32_t)POVUNDIRI_DONE : status;
 }
 
@@ -686,8 +731,16 @@ uint64_t povundiri_recording_fold_at(const struct povundiri_recording *recording
 /* ---- Beginning and end ---- */
 
 static struct povundiri_recording *new_recording(const struct povundiri_recording_options *options) {
-    struct povundiri_recording *const recording = (struct povundiri_recording *)calloc(1, sizeof *recording);
-    if (recording == NULL) return NULL;
+    struct povundiri_recording *recording;
+    void *at = NULL;
+    if (posix_memalign(&at, LINES, sizeof *recording) != 0) return NULL;
+    recording = (struct povundiri_recording *)at;
+    memset(recording, 0, sizeof *recording);
+    recording->shared = new_local(recording, 0);
+    if (recording->shared == NULL) {
+        free(recording);
+        return NULL;
+    }
     if (options != NULL) recording->options = *options;
     if (recording->options.bytes == 0) recording->options.bytes = USUAL_BYTES;
     if (recording->options.fold_at == 0) recording->options.fold_at = USUAL_FOLD_AT;
@@ -695,8 +748,6 @@ static struct povundiri_recording *new_recording(const struct povundiri_recordin
     recording->bytes = recording->options.bytes;
     recording->shape = shape_for(recording->bytes);
     recording->turn = NO_SEGMENT;
-    recording->shared.recording = recording;
-    clear(&recording->shared);
     pthread_mutex_init(&recording->mutex, NULL);
     return recording;
 }
@@ -759,6 +810,7 @@ uint32_t povundiri_recording_open(const char *folder, const struct povundiri_rec
     } else {
         pthread_mutex_destroy(&made->mutex);
         free(made->folder);
+        free(made->shared);
         free(made);
     }
     return status;

@@ -148,6 +148,10 @@ void povundiri_recording_end(struct povundiri_recording *recording);
 
 /* ---- Samples ---- */
 
+/* For povundiri_recording_add alone: what the usual sample takes, and what to do where that is not DONE. */
+uint32_t povundiri_recording_add_usual(struct povundiri_recording *recording, size_t metric, int32_t value, uint32_t count);
+bool povundiri_recording_add_other(struct povundiri_recording *recording, size_t metric, int32_t value, uint32_t count);
+
 /* A metric: the number of a histogram for all threads, by its name and its spec (povundiri_hist): the same number for the same, until the
  * process ends. The histogram is made in the present segment, if it is not there and has room. Ask once, and not for each sample.
  *
@@ -171,7 +175,10 @@ uint32_t povundiri_recording_scale(struct povundiri_recording *recording, const 
  * `recording` is null. With a count of 0 nothing is counted or missed. Any thread may call it at any time, also in a destructor as it ends.
  * errno stays as it was.
  * Keep: process. */
-bool povundiri_recording_add(struct povundiri_recording *recording, size_t metric, int32_t value, uint32_t count);
+inline bool povundiri_recording_add(struct povundiri_recording *recording, size_t metric, int32_t value, uint32_t count) {
+    return povundiri_recording_add_usual(recording, metric, value, count) == POVUNDIRI_DONE ||
+           povundiri_recording_add_other(recording, metric, value, count);
+}
 
 /* Gives back what this thread has of the recording. It is for a thread that has counted a sample, or asked for a histogram, and will count
  * none for long: when others begin the next segment, it holds the old one, which no fold takes then. Its next sample begins anew. With a

@@ -1,6 +1,7 @@
 // Recordings in one process and its children: 'recorded FOLDER [threads]'. Each group works in a folder of its own below that. With
 // 'threads' only those are run that have threads and no children: for the thread sanitizer. It is linked with -Wl,--wrap=clock_gettime and
 // -Wl,--wrap=posix_fallocate.
+#include <pthread.h>
 #include <sys/resource.h>
 
 #include <atomic>
@@ -299,32 +300,127 @@ class Gate {
     bool is_open_ = false;
 };
 
-// Above 250 threads at once, further ones share a recorder.
+// Above 250 threads at once, further ones share a recorder. They count in many histograms, too.
 void many_threads() {
-    constexpr int kThreads = 1000, kSamples = 50;
+    constexpr int kThreads = 1000, kSamples = 50, kMetrics = 40;
     constexpr std::uint32_t kMost = 4'000'000'000;
     Recording recording;
     HOLDS(opens(folder("threads"), recording));
     const Metric metric = metric_of(recording, "b");
+    std::vector<Metric> metrics;
+    for (int i = 0; i < kMetrics; ++i) metrics.push_back(metric_of(recording, ("m" + std::to_string(i)).c_str()));
     std::atomic<int> counted{0};
     Gate gate;
     std::vector<std::thread> threads;
     for (int i = 0; i < kThreads; ++i) {
-        threads.emplace_back([&] {
+        threads.emplace_back([&, i] {
             counted += metric.add(1);
             gate.wait();
             for (int sample = 1; sample < kSamples; ++sample) counted += metric.add(sample % 2);
+            HOLDS(metrics[i % kMetrics].add(1));
         });
     }
     gate.open_for(kThreads);
     for (std::thread& thread : threads) thread.join();
     HOLDS(counted == kThreads * kSamples && recording.missed() == 0);
     HOLDS(units_in(recording.report(), "b") == kThreads * kSamples);
+    for (int i = 0; i < kMetrics; ++i) HOLDS(units_in(recording.report(), "m" + std::to_string(i)) == kThreads / kMetrics);
     // None of them holds the first segment any more, when another is begun.
     std::uint64_t segments = 0;
     HOLDS(metric.add(1, kMost) && metric.add(1, kMost) && recording.fold() == 1);
     HOLDS(povundiri_folder_count(folder("threads").c_str(), &segments) == 0 && segments == 1);
     HOLDS(units_in(recording.report(), "b") == kThreads * kSamples + 2LL * kMost);
+}
+
+// Threads count by turns in two recordings that roll, with ever more metrics: no sample comes to the other one, also when one of them was
+// left or has ended.
+void by_turns() {
+    constexpr int kThreads = 4, kMetrics = 60, kRounds = 200;
+    constexpr std::uint32_t kMany = 40'000'000;
+    RecordingOptions options = small();
+    options.bytes = 65'536;
+    Recording one, other;
+    HOLDS(opens(folder("one"), one, options) && opens(folder("other"), other, options));
+    std::vector<std::thread> threads;
+    for (int i = 0; i < kThreads; ++i) {
+        threads.emplace_back([&] {
+            std::vector<Metric> ones, others;
+            for (int round = 0; round < kRounds; ++round) {
+                if (round < kMetrics) {
+                    const std::string name = "m" + std::to_string(round);
+                    ones.push_back(metric_of(one, name.c_str()));
+                    if (round % 2 == 0) others.push_back(metric_of(other, name.c_str()));
+                }
+                HOLDS(ones[round % ones.size()].add(1) && others[round % others.size()].add(1, 2));
+                HOLDS(ones[0].add(0, kMany) && others[0].add(0, kMany));
+                if (round % 50 == 49) one.leave();
+            }
+        });
+    }
+    for (std::thread& thread : threads) thread.join();
+    HOLDS(one.missed() == 0 && other.missed() == 0);
+    for (const bool is_one : {true, false}) {
+        const std::string report = (is_one ? one : other).report();
+        const int metrics = is_one ? kMetrics : kMetrics / 2;
+        long long units = 0;
+        for (int i = 0; i < metrics; ++i) units += units_in(report, "m" + std::to_string(is_one ? i : 2 * i));
+        HOLDS(units == kThreads * kRounds * (kMany + (is_one ? 1LL : 2LL)));
+        HOLDS(units_in(report, "m1") == (is_one ? units_in(report, "m3") : -1));
+    }
+    // Numbers of metrics that only the other one has; and one that has ended.
+    Recording third;
+    povundiri_recording* own = nullptr;
+    povundiri_began began;
+    std::size_t number = 9;
+    HOLDS(povundiri_recording_open(folder("own").c_str(), nullptr, &own, &began) == 0);
+    HOLDS(povundiri_recording_hist(own, "b", 1, {POVUNDIRI_BOOLEAN, 0, 0, 0}, nullptr, 0, &number) == 0 && number == 0);
+    HOLDS(opens(folder("third"), third));
+    Metric last;
+    for (int i = 0; i < 20; ++i) last = metric_of(third, ("m" + std::to_string(i)).c_str());
+    for (std::size_t i = 0; i < 30; ++i) HOLDS(last.add(1) && povundiri_recording_add(own, i, 1, 1) == (i == 0) && last.add(1));
+    povundiri_recording_end(own);
+    HOLDS(last.add(1) && !povundiri_recording_add(own, 0, 1, 3) && last.add(1));
+    HOLDS(povundiri_recording_missed(own, POVUNDIRI_MISSED_ENDED) == 3 && third.missed() == 0);
+    HOLDS(units_in(third.report(), "m19") == 62 && third.fold() == 0);
+    third.end();
+    HOLDS(!last.add(1));
+}
+
+// A key whose destructor counts a sample, as often as it is told. Destructors are called in the order of the keys, several times over.
+Metric counted_at_end;
+std::atomic<int> samples_at_end{0};
+
+template <int number>
+pthread_key_t ending_key() {
+    static pthread_key_t key;
+    static const bool is_made = pthread_key_create(&key, [](void* left) {
+        samples_at_end += counted_at_end.add(1);
+        int* const times = static_cast<int*>(left);
+        if (--*times > 0) pthread_setspecific(key, times);
+    }) == 0;
+    HOLDS(is_made);
+    return key;
+}
+
+// Samples in destructors of a thread, before and after what the recordings of the process do there: they are counted, and the thread holds
+// no segment.
+void ending_threads() {
+    constexpr int kThreads = 20, kTimes = 3;
+    constexpr std::uint32_t kMost = 4'000'000'000;
+    Recording recording;
+    HOLDS(opens(folder("ending"), recording));
+    counted_at_end = metric_of(recording, "b");
+    int times[kThreads][2];
+    for (auto& each : times) {
+        each[0] = each[1] = kTimes;
+        std::thread([&] {
+            HOLDS(counted_at_end.add(1));
+            HOLDS(pthread_setspecific(ending_key<0>(), &each[0]) == 0 && pthread_setspecific(ending_key<1>(), &each[1]) == 0);
+        }).join();
+    }
+    HOLDS(samples_at_end == 2 * kTimes * kThreads && recording.missed() == 0);
+    HOLDS(units_in(recording.report(), "b") == samples_at_end + kThreads);
+    HOLDS(counted_at_end.add(1, kMost) && counted_at_end.add(1, kMost) && recording.fold() == 1);
 }
 
 // Threads that come and go beside rolls, folds and readers: nothing is missed, no reader sees a number fall. A segment has units for 21
@@ -585,6 +681,8 @@ void exits() {
 int run(bool only_threads) {
     int failed = group("threads beside rolls and folds", beside);
     failed += group("many threads", many_threads);
+    failed += group("two recordings by turns", by_turns);
+    failed += group("samples as threads end", ending_threads);
     failed += group("an idle thread", idle);
     failed += group("segments that grow", growth_of_segments);
     failed += group("segments of the largest size", largest);
@@ -613,5 +711,6 @@ int run(bool only_threads) {
 int main(int count, char** words) {
     if (count != 2 && count != 3) return 2;
     home = words[1];
+    ending_key<0>();
     return run(count == 3) != 0;
 }

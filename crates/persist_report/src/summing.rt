@@ -27,7 +27,7 @@ use std::time::Clock;
 use std::{fmt, fs};
 use sum_commands::{
     InputFault, InputKind, Left, Manner, OpenInput, Source, Summed, add_image, add_totals,
-    nothing_is_added, sum_of_inputs,
+    any_fault_may_come, nothing_is_added, sum_of_inputs,
 };
 
 // A totals has at most so many bytes.
@@ -156,13 +156,12 @@ struct OpenedFile {
     is_found: bool,
 }
 
-impl OpenInput for OpenedFile {
-    ghost use Rattle.std.specs.Prelude.{⊤};
-
-    // Nothing is known of what is in a file.
-    ghost may_be = { λ _ _. ⊤ };
-
-    fn add_to(self, sums: &mut Sums) -> Result<bool, InputFault> {
+impl OpenedFile {
+    // Adds it to a sum. Returns whether it is damaged.
+    fn add(self, sums: &mut Sums) -> Result<bool, InputFault>
+        ensures added { IfOk result (λ is_damaged. AddsSome is_damaged sums.old sums.new) }
+        ensures refused { OnErr result (sums.new ≡ sums.old) }
+    {
         let OpenedFile {
             alloc,
             file,
@@ -175,6 +174,19 @@ impl OpenInput for OpenedFile {
         }
         let mut reader = Watched::new(peeked);
         add_from(alloc, sums, kind, &mut reader)
+    }
+}
+
+impl OpenInput for OpenedFile {
+    ghost use Rattle.std.specs.Prelude.{⊤};
+
+    // Nothing is known of what is in a file.
+    ghost may_be = { λ _ _. ⊤ };
+
+    fn add_to(self, sums: &mut Sums) -> Result<bool, InputFault> {
+        let added = self.add(sums);
+        any_fault_may_come(&added);
+        added
     }
 }
 
@@ -191,6 +203,20 @@ fn is_regular<R: Files>(rt: &R, path: &str) -> bool {
     match fs::metadata(rt, path) {
         Ok(found) => path != DASH && found.is_file(),
         Err(_) => false,
+    }
+}
+
+impl<R: Files<File = File> + Input + AllocGlobal> NamedInputs<'_, '_, R> {
+    // Adds the input at a place to a sum. Returns whether it is damaged.
+    fn add(&self, sums: &mut Sums, place: usize) -> Result<bool, InputFault>
+        ensures added { IfOk result (λ is_damaged. AddsSome is_damaged sums.old sums.new) }
+        ensures refused { OnErr result (sums.new ≡ sums.old) }
+    {
+        let Some(name) = self.names.get(place) else {
+            nothing_is_added(sums);
+            return Ok(false);
+        };
+        add_named(self.context, sums, name, self.is_live)
     }
 }
 
@@ -218,13 +244,9 @@ impl<R: Files<File = File> + Input + AllocGlobal> Source for NamedInputs<'_, '_,
     }
 
     fn add_input(&self, sums: &mut Sums, place: usize) -> Result<bool, InputFault> {
-        match self.names.get(place) {
-            Some(name) => add_named(self.context, sums, name, self.is_live),
-            None => {
-                nothing_is_added(sums);
-                Ok(false)
-            }
-        }
+        let added = self.add(sums, place);
+        any_fault_may_come(&added);
+        added
     }
 }
 

@@ -1,6 +1,6 @@
 -- Inputs that are taken in their order.
 use Rattle.std.proofs.Common.{◌≡◌, Bool, true, false, ◌&&◌, ◌||◌, nat_lt, ℕ, ◌+◌, ◌<◌, ◌≤◌, List, [], ◌∷◌, ◌++◌, length, suc, All, slice_index_or, Result, Ok, Err, inl, inr, refl, ap, sym, subst, ◌∙◌, arith, append_assoc}
-use Rattle.std.specs.Prelude.{IfOk, IfErr, OnErr}
+use Rattle.std.specs.Prelude.{IfOk, IfErr, OnErr, ⊤}
 use Rattle.std.proofs.lemmas.Bool.Decides.{nat_tests}
 use Rattle.std.proofs.lemmas.List.{length-append, append-nil}
 use Rattle.std.proofs.lemmas.Result.{IfOk-weaker}
@@ -264,3 +264,14 @@ all-within {O} opened_may_be may_be end is_strict (run ∷ runs) done are len ea
       within = let w = has.within in let v = is.within in omega arith;
     })
     (each k run e here)
+
+-- ---- inputs of which nothing is known
+
+any-left : (fault : InputFault) → MayBeTaken (λ input. ⊤) (LeftOut fault)
+any-left (Image fault) = tt
+any-left (BadTotals line) = tt
+any-left TooMany = tt
+
+pub any-fault : (added : Result Bool InputFault) → IfErr added (MayNotBeAdded (λ input. ⊤))
+any-fault (Ok is_damaged) = tt
+any-fault (Err fault) = inr (any-left fault)

@@ -18,5 +18,5 @@ pub use fault::InputFault;
 pub use kind::{FRONT, InputKind, kind_of};
 pub use laws::workers_are_nothing;
 pub use summing::{Left, OpenInput, Progress, Source, Summed};
-pub use sums::{add_image, add_totals, append_next, nothing_is_added};
+pub use sums::{add_image, add_totals, any_fault_may_come, append_next, nothing_is_added};
 pub use working::{Manner, sum_of_inputs};

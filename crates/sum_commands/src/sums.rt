@@ -1,9 +1,9 @@
 //! Sums of inputs, one after the other.
 
-ghost use Rattle.std.specs.Prelude.{◌≡◌, Bool, false, is_some, IfErr, IfOk, OnOk, OnErr};
+ghost use Rattle.std.specs.Prelude.{◌≡◌, Bool, false, is_some, IfErr, IfOk, OnOk, OnErr, ⊤};
 ghost use Rattle.segment_image.specs.Words.{bytes_of_words};
 ghost use Rattle.reading_sums.specs.Addends.{AddsAddend, addend_of};
-ghost use Rattle.sum_commands.specs.Sources.{AddsSome};
+ghost use Rattle.sum_commands.specs.Sources.{AddsSome, MayNotBeAdded};
 ghost use Rattle.sum_commands.specs.Inputs.{AddsReading, AddsBehind, AddsTotals, IsCausedByInput};
 
 use crate::fault::InputFault;
@@ -72,4 +72,11 @@ pub fn add_totals(alloc: Global, sums: &mut Sums, text: &[u8]) -> Result<(), Inp
 /// It does nothing: what it promises is a law of the definition.
 pub fn nothing_is_added(_sums: &Sums)
     ensures some { AddsSome false _sums.now _sums.now }
+{}
+
+/// Of an input of which nothing is known any fault may come [cause].
+///
+/// It does nothing: what it promises is a law of the definition.
+pub fn any_fault_may_come(_added: &Result<bool, InputFault>)
+    ensures cause { IfErr _added.now (MayNotBeAdded (λ input. ⊤)) }
 {}

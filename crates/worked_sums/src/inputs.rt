@@ -1,5 +1,8 @@
 //! What inputs begin as, and sums by any number of workers.
 
+ghost use Rattle.std.specs.Prelude.{◌≡◌, IfOk, OnErr};
+ghost use Rattle.sum_commands.specs.Sources.{AddsSome};
+
 use reading_sums::Sums;
 use segment_image::layout::SEGMENT_COOKIE;
 use std::alloc::{AllocError, Global};
@@ -7,8 +10,8 @@ use std::sync::Wait;
 use std::test::Fail;
 use std::thread::Threads;
 use sum_commands::{
-    FRONT, InputFault, InputKind, Manner, OpenInput, Progress, Source, add_totals, kind_of,
-    sum_of_inputs,
+    FRONT, InputFault, InputKind, Manner, OpenInput, Progress, Source, add_totals,
+    any_fault_may_come, kind_of, sum_of_inputs,
 };
 use sum_texts::{Totals, totals_text};
 
@@ -46,14 +49,24 @@ struct OpenText<'r> {
     text: &'r [u8],
 }
 
+// Adds a totals text to a sum.
+fn add_text(alloc: Global, sums: &mut Sums, text: &[u8]) -> Result<bool, InputFault>
+    ensures added { IfOk result (λ is_damaged. AddsSome is_damaged sums.old sums.new) }
+    ensures refused { OnErr result (sums.new ≡ sums.old) }
+{
+    add_totals(alloc, sums, text)?;
+    Ok(false)
+}
+
 impl OpenInput for OpenText<'_> {
     ghost use Rattle.std.specs.Prelude.{⊤};
 
     ghost may_be = { λ _ _. ⊤ };
 
     fn add_to(self, sums: &mut Sums) -> Result<bool, InputFault> {
-        add_totals(self.alloc, sums, self.text)?;
-        Ok(false)
+        let added = add_text(self.alloc, sums, self.text);
+        any_fault_may_come(&added);
+        added
     }
 }
 
@@ -77,10 +90,10 @@ impl<'r, R: AllocGlobal> Source for Texts<'r, R> {
     }
 
     fn add_input(&self, sums: &mut Sums, place: usize) -> Result<bool, InputFault> {
-        if let Some(text) = self.texts.get(place) {
-            add_totals(self.rt.alloc(), sums, text)?;
-        }
-        Ok(false)
+        let text = self.texts.get(place).copied().unwrap_or_default();
+        let added = add_text(self.rt.alloc(), sums, text);
+        any_fault_may_come(&added);
+        added
     }
 }
 

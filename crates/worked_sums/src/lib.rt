@@ -4,6 +4,7 @@
 //! They stand above the libraries that they try, so that none of these is proved once more for its tests.
 #![tactic(auto)]
 
+mod fixed;
 #[cfg(test)]
 mod folders;
 #[cfg(test)]
@@ -14,3 +15,5 @@ mod jobs;
 mod sums;
 #[cfg(test)]
 mod totals;
+
+pub use fixed::{OneReading, Readings, readings_are_fixed};

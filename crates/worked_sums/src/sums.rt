@@ -7,7 +7,7 @@ use std::alloc::{AllocError, Global};
 use std::test::Fail;
 
 // A histogram of these keys, with marks of 1, the sum 7 and its mark 2, and the redundant count 3.
-fn hist(
+pub(crate) fn hist(
     alloc: Global,
     name: &[u8],
     spec: Spec,
@@ -42,7 +42,7 @@ fn reading(hists: Vec<HistReading>, alloc: Global) -> Reading {
 }
 
 // A reading of one histogram.
-fn of_one(alloc: Global, hist: HistReading) -> Result<Reading, AllocError> {
+pub(crate) fn of_one(alloc: Global, hist: HistReading) -> Result<Reading, AllocError> {
     let mut hists = Vec::with_capacity(alloc, 1)?;
     hists.push(hist)?;
     Ok(reading(hists, alloc))

@@ -1,0 +1,116 @@
+//! Readings in memory as a source: each input can be one thing alone, so their sum is the same for any number of workers.
+
+ghost use Rattle.std.specs.Prelude.{◌≡◌, IfErr, IfOk, OnErr};
+ghost use Rattle.sum_commands.specs.Sources.{AddsInput, AreFixedInputs, MayNotBeAdded};
+ghost use Rattle.worked_sums.specs.Fixed.{IsReadingAt, IsThatReading};
+
+use image_reader::Reading;
+use reading_sums::Sums;
+use sum_commands::{InputFault, OpenInput, Source};
+
+/// Readings in memory.
+#[derive(Drop)]
+pub struct Readings<'r> {
+    pub readings: &'r [Reading],
+}
+
+/// One of them, for a worker.
+#[derive(Drop)]
+pub struct OneReading<'r> {
+    reading: &'r Reading,
+}
+
+// Adds a reading to a sum.
+fn add_reading(sums: &mut Sums, reading: &Reading) -> Result<bool, InputFault>
+    ensures added { IfOk result (λ is_damaged. AddsInput (IsThatReading reading.now) is_damaged sums.old sums.new) }
+    ensures cause { IfErr result (MayNotBeAdded (IsThatReading reading.now)) }
+    ensures refused { OnErr result (sums.new ≡ sums.old) }
+{
+    let number = sums.notes().images;
+    sums.add(number, reading)?;
+    Ok(false)
+}
+
+impl OpenInput for OneReading<'_> {
+    ghost use Rattle.worked_sums.specs.Fixed.{IsThatReading};
+
+    ghost may_be = { λ one input. IsThatReading one.reading.now input };
+
+    fn add_to(self, sums: &mut Sums) -> Result<bool, InputFault> {
+        add_reading(sums, self.reading)
+    }
+}
+
+impl<'r> Source for Readings<'r> {
+    ghost use Rattle.worked_sums.specs.Fixed.{IsReadingAt};
+
+    type Opened = OneReading<'r>;
+
+    ghost may_be = { λ source place input. IsReadingAt source.readings.now place input };
+
+    fn open(&self, place: usize) -> Option<OneReading<'r>> {
+        match self.readings.get(place) {
+            Some(reading) => Some(OneReading { reading }),
+            None => None,
+        }
+    }
+
+    // Behind the last one there is none, which is left out.
+    fn add_input(&self, sums: &mut Sums, place: usize) -> Result<bool, InputFault> {
+        match self.readings.get(place) {
+            Some(reading) => add_reading(sums, reading),
+            None => Err(InputFault::TooMany),
+        }
+    }
+}
+
+/// Each input of readings in memory can be one thing alone, so `workers_are_nothing` speaks of them [fixed].
+///
+/// It does nothing: what it promises is a law of the definition.
+pub fn readings_are_fixed(_source: &Readings)
+    ensures fixed { AreFixedInputs (IsReadingAt _source.now.readings.now) }
+{}
+
+#[cfg(test)]
+mod tests {
+    use super::Readings;
+    use crate::sums::{hist, of_one};
+    use bucket_ranges::Spec;
+    use reading_sums::Sums;
+    use std::test::Fail;
+    use sum_commands::{Manner, Progress, sum_of_inputs};
+
+    // Nobody who is told.
+    #[derive(Drop)]
+    struct Nobody;
+
+    impl Progress for Nobody {
+        fn reached(&mut self, _place: usize, _sums: &Sums) {}
+    }
+
+    #[test]
+    fn readings_by_workers(rt: HostRuntime) -> Result<(), Fail> {
+        let alloc = rt.alloc();
+        let mut readings = Vec::new(alloc);
+        for value in 0..9 {
+            let one = hist(alloc, b"a", Spec::Sparse, &[(value / 2, 5)])?;
+            readings.push(of_one(alloc, one)?)?;
+        }
+        let source = Readings {
+            readings: &readings,
+        };
+        for workers in [1, 2, 3, 9, 16] {
+            let how = Manner {
+                workers,
+                is_strict: false,
+            };
+            let summed = sum_of_inputs(&rt, alloc, &source, &mut Nobody, readings.len(), how)?;
+            assert_eq!(rt; (summed.sums.notes().images, summed.reached), (9, 9));
+            let hists = summed.sums.hists();
+            assert_eq!(rt; hists.len(), 1);
+            let units: Vec<u64> = hists[0].keys.iter().map(|key| key.units).collect(alloc)?;
+            assert_eq!(rt; units.as_slice(), [10, 10, 10, 10, 5].as_slice());
+        }
+        Ok(())
+    }
+}

@@ -340,7 +340,7 @@ void by_turns() {
     RecordingOptions options = small();
     options.bytes = 65'536;
     Recording one, other;
-    HOLDS(opens(folder("one"), one, options) && opens(folder("other"), other, options));
+    HOLDS(opens(folder("turns-one"), one, options) && opens(folder("turns-other"), other, options));
     std::vector<std::thread> threads;
     for (int i = 0; i < kThreads; ++i) {
         threads.emplace_back([&] {

@@ -14,7 +14,7 @@ use Rattle.reading_sums.specs.declared.fault.SumsFault.{SumsFault}
 use Rattle.reading_sums.specs.declared.fault.SumsFault.TheVariants.{NoMemory, TooMany}
 use Rattle.reading_sums.specs.declared.hist.HistSum.{HistSum}
 use Rattle.reading_sums.specs.declared.key.KeySum.{KeySum}
-use Rattle.reading_sums.specs.Fitting.{DoNotFit, HavePairTooGreat, IfTooMany, TotalDoesNotFit, KeysDoNotFit, PairDoesNotFit, all_units}
+use Rattle.reading_sums.specs.Fitting.{PartsDoNotFit, HavePairTooGreat, IfTooMany, TotalDoesNotFit, KeysDoNotFit, PairDoesNotFit, all_units}
 use Rattle.reading_sums.specs.Orders.{hist_cmp}
 use Rattle.reading_sums.specs.Totals.Quantity.{Marks, Redundant, Images}
 use Rattle.reading_sums.specs.Totals.{Part, Quantity, is_of, quantity_of, total}
@@ -151,7 +151,7 @@ alone-units part parts alone =
 both-pass : (a b x y n : ℕ) → a ≡ x → b ≡ y → n ≤ x + y → n ≤ a + b
 both-pass a b x y n first second long = omega (arith, first, second, long)
 
-parts-long : (a b : Part) (xs ys : List Part) → a.name ≡ b.name → a.spec ≡ b.spec → IsAlone a xs → IsAlone b ys → PairDoesNotFit a b → DoNotFit (xs ++ ys)
+parts-long : (a b : Part) (xs ys : List Part) → a.name ≡ b.name → a.spec ≡ b.spec → IsAlone a xs → IsAlone b ys → PairDoesNotFit a b → PartsDoNotFit (xs ++ ys)
 parts-long a b xs ys names specs first second many =
     let f : Part → ℕ = λ p. if is_of a.name a.spec p then units_of p.keys else 0 in
     ⊎_elim
@@ -174,7 +174,7 @@ parts-long a b xs ys names specs first second many =
     ))
     many
 
-pair-long : (left right : List HistSum) → HavePairTooGreat left right → AreWhole left → AreWhole right → DoNotFit (map part_of left ++ map part_of right)
+pair-long : (left right : List HistSum) → HavePairTooGreat left right → AreWhole left → AreWhole right → PartsDoNotFit (map part_of left ++ map part_of right)
 pair-long left right pair one other =
     parts-long (part_of pair.one) (part_of pair.other) (map part_of left) (map part_of right) pair.name pair.spec
     (stands-alone pair.one left one pair.is_left) (stands-alone pair.other right other pair.is_right) pair.many
@@ -182,7 +182,7 @@ pair-long left right pair one other =
 -- and this tells a fault of lists that are among them
 pub lists-long : (fault : SumsFault) (left right here there : List HistSum) → ((x : HistSum) → Contains here x → Contains left x)
     → ((x : HistSum) → Contains there x → Contains right x) → IfTooMany fault (HavePairTooGreat here there)
-    → IfTooMany fault (AreWhole left → AreWhole right → DoNotFit (map part_of left ++ map part_of right))
+    → IfTooMany fault (AreWhole left → AreWhole right → PartsDoNotFit (map part_of left ++ map part_of right))
 lists-long NoMemory left right here there first second told = tt
 lists-long TooMany left right here there first second told = λ one other.
     pair-long left right (pair-among left right here there first second told) one other

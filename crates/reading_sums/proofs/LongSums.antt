@@ -9,7 +9,7 @@ use Rattle.reading_sums.specs.declared.fault.SumsFault.TheVariants.{NoMemory, To
 use Rattle.reading_sums.specs.declared.hist.HistSum.{HistSum}
 use Rattle.reading_sums.specs.declared.sums.Sums.{Sums}
 use Rattle.reading_sums.specs.Addends.{notes_of_one}
-use Rattle.reading_sums.specs.Fitting.{DoNotFit, DoesNotFit, HasNumberTooGreat, IfTooMany, TotalDoesNotFit}
+use Rattle.reading_sums.specs.Fitting.{PartsDoNotFit, SumDoesNotFit, HasNumberTooGreat, IfTooMany, TotalDoesNotFit}
 use Rattle.reading_sums.specs.Sums.{parts_of_one}
 use Rattle.reading_sums.specs.Totals.{Part, is_of}
 use Rattle.reading_sums.specs.Views.{part_of, parts_of}
@@ -18,7 +18,7 @@ use Rattle.reading_sums.proofs.Readings.{same-permutation}
 use Rattle.reading_sums.proofs.Totals.{same-append, same-refl}
 
 -- parts in another order
-moved-long : (xs ys zs : List Part) → IsPermutation ys zs → DoNotFit (xs ++ ys) → DoNotFit (xs ++ zs)
+moved-long : (xs ys zs : List Part) → IsPermutation ys zs → PartsDoNotFit (xs ++ ys) → PartsDoNotFit (xs ++ zs)
 moved-long xs ys zs moved many =
     let name = many.0 in
     let spec = many.1 in
@@ -49,20 +49,20 @@ number-long TooMany hists k x by within is told = number-here hists k x by withi
 
 -- a sum and another
 pub sums-long : (fault : SumsFault) (before other : Sums) (here there : List HistSum) → here ≡ before.hists.items → there ≡ other.hists.items
-    → IfTooMany fault (AreWhole here → AreWhole there → DoNotFit (map part_of here ++ map part_of there))
-    → IfTooMany fault (IsWellFormed before → IsWellFormed other → DoesNotFit before (parts_of other) other.notes)
+    → IfTooMany fault (AreWhole here → AreWhole there → PartsDoNotFit (map part_of here ++ map part_of there))
+    → IfTooMany fault (IsWellFormed before → IsWellFormed other → SumDoesNotFit before (parts_of other) other.notes)
 sums-long NoMemory before other here there first second told = tt
 sums-long TooMany before other here there first second told = λ one more.
-    inr (subst DoNotFit (λ i. map part_of (first i) ++ map part_of (second i))
+    inr (subst PartsDoNotFit (λ i. map part_of (first i) ++ map part_of (second i))
     (told (subst AreWhole (sym first) one) (subst AreWhole (sym second) more)))
 
 -- a sum and one reading more
 pub reading-long : (fault : SumsFault) (before : Sums) (number : ℕ) (reading : Reading) (here there listed : List HistSum) → here ≡ before.hists.items → there ≡ listed
     → IsPermutation (map part_of listed) (parts_of_one (number, reading)) → (IsWholeReading reading → AreWhole listed)
-    → IfTooMany fault (AreWhole here → AreWhole there → DoNotFit (map part_of here ++ map part_of there))
-    → IfTooMany fault (IsWellFormed before → IsWholeReading reading → DoesNotFit before (parts_of_one (number, reading)) (notes_of_one reading))
+    → IfTooMany fault (AreWhole here → AreWhole there → PartsDoNotFit (map part_of here ++ map part_of there))
+    → IfTooMany fault (IsWellFormed before → IsWholeReading reading → SumDoesNotFit before (parts_of_one (number, reading)) (notes_of_one reading))
 reading-long NoMemory before number reading here there listed first second moved whole told = tt
 reading-long TooMany before number reading here there listed first second moved whole told = λ one more.
     inr (moved-long (parts_of before) (map part_of listed) (parts_of_one (number, reading)) moved
-    (subst DoNotFit (λ i. map part_of (first i) ++ map part_of (second i))
+    (subst PartsDoNotFit (λ i. map part_of (first i) ++ map part_of (second i))
     (told (subst AreWhole (sym first) one) (subst AreWhole (sym second) (whole more)))))

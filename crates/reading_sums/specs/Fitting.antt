@@ -9,13 +9,14 @@ use Rattle.reading_sums.specs.declared.hist.HistSum.{HistSum}
 use Rattle.reading_sums.specs.declared.key.KeySum.{KeySum}
 use Rattle.reading_sums.specs.declared.notes.Notes.{Notes}
 use Rattle.reading_sums.specs.declared.sums.Sums.{Sums}
+use Rattle.reading_sums.specs.Addends.{Addend, parts_in_turn}
 use Rattle.reading_sums.specs.Keys.{marks_at}
 use Rattle.reading_sums.specs.Totals.Quantity.{Units, Marks, Amounts, AmountMarks, Redundant, Images}
 use Rattle.reading_sums.specs.Totals.{Part, Quantity, is_of, quantity_of, total}
 use Rattle.reading_sums.specs.Views.{part_of, parts_of}
 use Rattle.reading_sums.specs.Whole.{units_of}
 
--- what is so where a fault tells of too many; where there was no memory, nothing
+-- a condition that holds where the fault is `TooMany`; of a lack of memory nothing is said
 abbrev pub IfTooMany : SumsFault → Type 0 → Type 0
 IfTooMany NoMemory many = ⊤
 IfTooMany TooMany many = many
@@ -36,11 +37,11 @@ abbrev pub all_units : List ℕ → Spec → List Part → ℕ
 all_units name spec parts = sum_by (λ part. if is_of name spec part then units_of part.keys else 0) parts
 
 -- parts do not fit together: of some name and spec all units are 2^64 or more, or some total does not fit
-abbrev pub DoNotFit : List Part → Type 0
-DoNotFit parts = (name : List ℕ) × (spec : Spec)
+abbrev pub PartsDoNotFit : List Part → Type 0
+PartsDoNotFit parts = (name : List ℕ) × (spec : Spec)
     × ((2 ^ 64 ≤ all_units name spec parts) ⊎ ((quantity : Quantity) × TotalDoesNotFit quantity (total quantity name spec parts)))
 
--- some part has a least number that is 2^64 or more when it is so much greater
+-- some part has a least number that is 2^64 or more when it is raised by so much
 abbrev pub HasNumberTooGreat : ℕ → List Part → Type 0
 HasNumberTooGreat by parts = (part : Part) × Contains parts part × (2 ^ 64 ≤ part.least + by)
 
@@ -52,8 +53,8 @@ NotesDoNotFit a b = (2 ^ 64 ≤ a.images + b.images) ⊎ (2 ^ 64 ≤ a.full + b.
     ⊎ (2 ^ 64 ≤ a.stopped + b.stopped) ⊎ (2 ^ 64 ≤ a.bad + b.bad)
 
 -- parts and notes do not fit into a sum: its notes and these do not fit together, or its parts and these do not
-abbrev pub DoesNotFit : Sums → List Part → Notes → Type 0
-DoesNotFit sums parts notes = NotesDoNotFit sums.notes notes ⊎ DoNotFit (parts_of sums ++ parts)
+abbrev pub SumDoesNotFit : Sums → List Part → Notes → Type 0
+SumDoesNotFit sums parts notes = NotesDoNotFit sums.notes notes ⊎ PartsDoNotFit (parts_of sums ++ parts)
 
 -- ---- one name and one spec
 
@@ -75,3 +76,15 @@ pub record HavePairTooGreat (left right : List HistSum) : Type 0 where
   pub name : one.name.items ≡ other.name.items
   pub spec : one.spec ≡ other.spec
   pub many : PairDoesNotFit (part_of one) (part_of other)
+
+-- ---- addends in their order
+
+-- the notes of addends do not fit together: one of the numbers is 2^64 or more
+abbrev pub NotesInTurnDoNotFit : List Addend → Type 0
+NotesInTurnDoNotFit addends = (2 ^ 64 ≤ sum_by (λ (addend : Addend). addend.notes.images) addends)
+    ⊎ (2 ^ 64 ≤ sum_by (λ (addend : Addend). addend.notes.full) addends) ⊎ (2 ^ 64 ≤ sum_by (λ (addend : Addend). addend.notes.corrupt) addends)
+    ⊎ (2 ^ 64 ≤ sum_by (λ (addend : Addend). addend.notes.stopped) addends) ⊎ (2 ^ 64 ≤ sum_by (λ (addend : Addend). addend.notes.bad) addends)
+
+-- addends do not fit together: their notes or their parts do not
+abbrev pub AddendsDoNotFit : List Addend → Type 0
+AddendsDoNotFit addends = NotesInTurnDoNotFit addends ⊎ PartsDoNotFit (parts_in_turn 0 addends)

@@ -1,5 +1,6 @@
 -- Which histograms are whole, and which sums are well formed.
-use Rattle.std.specs.Prelude.{◌≡◌, ℕ, ◌<◌, ◌^◌, ℤ, pos, List, ◌∷◌, map, take, sum_by, None, ⊤}
+use Rattle.std.specs.Prelude.{◌≡◌, ℕ, ◌<◌, ◌^◌, ℤ, pos, FitsSigned, List, ◌∷◌, map, take, sum_by, None, ⊤}
+use Rattle.std.specs.Int.{w128}
 use Rattle.std.specs.Ordering.{nat_cmp}
 use Rattle.std.specs.Str.{bytes_eq}
 use Rattle.std.specs.List.{All, IsDistinct}
@@ -58,10 +59,19 @@ pub record HasItsBuckets (hist : HistSum) : Type 0 where
   pub lawful : spec_fault hist.spec ≡ None
   pub buckets : AreBuckets hist.spec hist.keys.items
 
+-- the numbers of a histogram of a sum have 64 bits, and its amounts 128 bits with a sign: so it is of each one in memory
+pub record IsInRange (hist : HistSum) : Type 0 where
+  pub marks : All (λ key. key.marks < 2 ^ 64) hist.keys.items
+  pub sum : FitsSigned w128 hist.sum
+  pub sum_mark : FitsSigned w128 hist.sum_mark
+  pub redundant : hist.redundant < 2 ^ 64
+  pub images : hist.images < 2 ^ 64
+
 -- histograms that ascend by name and spec, each of them whole: so each name and spec is there once
 pub record AreWhole (hists : List HistSum) : Type 0 where
   pub ascending : IsStrictlySortedBy hist_cmp hists
   pub whole : All IsWholeHist hists
+  pub range : All IsInRange hists
 
 -- a sum whose histograms are so
 abbrev pub IsWellFormed : Sums → Type 0

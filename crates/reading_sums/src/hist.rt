@@ -4,7 +4,7 @@ ghost use Rattle.std.specs.Prelude.{◌≡◌, ◌∷◌, ◌++◌, ◌+◌, ◌
 ghost use Rattle.std.specs.Int.{w128};
 ghost use Rattle.std.specs.Ordering.{is_eq};
 ghost use Rattle.image_reader.specs.Views.{histogram_view};
-ghost use Rattle.reading_sums.specs.Fitting.{DoNotFit, HavePairTooGreat, IfTooMany, PairDoesNotFit};
+ghost use Rattle.reading_sums.specs.Fitting.{PartsDoNotFit, HavePairTooGreat, IfTooMany, PairDoesNotFit};
 ghost use Rattle.reading_sums.specs.Totals.{part_from, IsBoth, SameTotals};
 ghost use Rattle.std.specs.List.{All};
 ghost use Rattle.reading_sums.specs.Orders.{hist_cmp, ComesNext};
@@ -181,7 +181,7 @@ pub(crate) fn sums_of_both(
 ) -> Result<Vec<HistSum>, SumsFault>
     ensures same { IfOk result (λ hists. SameTotals (map part_of hists.items) (map part_of left.now ++ map part_of right.now)) }
     ensures whole { IfOk result (λ hists. AreWhole left.now → AreWhole right.now → AreWhole hists.items) }
-    ensures too_many { IfErr result (λ fault. IfTooMany fault (AreWhole left.now → AreWhole right.now → DoNotFit (map part_of left.now ++ map part_of right.now))) }
+    ensures too_many { IfErr result (λ fault. IfTooMany fault (AreWhole left.now → AreWhole right.now → PartsDoNotFit (map part_of left.now ++ map part_of right.now))) }
 {
     let mut hists = Vec::with_capacity(alloc, left.len().max(right.len()))?;
     let (mut left_rest, mut right_rest) = (left, right);

@@ -9,7 +9,7 @@ ghost use Rattle.bucket_ranges.specs.Reading as definition;
 ghost use Rattle.image_reader.specs.Views.{histogram_view, reading_view};
 ghost use Rattle.image_reader.specs.Readable.{IsReadable};
 ghost use Rattle.reading_sums.specs.Addends.{AddsNumbered, notes_of_one};
-ghost use Rattle.reading_sums.specs.Fitting.{DoesNotFit, HasNumberTooGreat, IfTooMany};
+ghost use Rattle.reading_sums.specs.Fitting.{SumDoesNotFit, HasNumberTooGreat, IfTooMany};
 ghost use Rattle.reading_sums.specs.Totals.{part_from, raised_part, SameTotals};
 ghost use Rattle.reading_sums.specs.Views.{part_of, parts_of};
 ghost use Rattle.reading_sums.specs.Shown.{shown_parts, other_parts, IsOtherOf};
@@ -97,7 +97,7 @@ impl Sums {
         ensures more { OnOk result (AddsNumbered (number, reading_view reading.now) self.old self.new) }
         ensures well_formed { OnOk result (IsWellFormed self.old → IsWholeReading (reading_view reading.now) → IsWellFormed self.new) }
         ensures refused { OnErr result (self.new ≡ self.old) }
-        ensures too_many { IfErr result (λ fault. IfTooMany fault (IsWellFormed self.old → IsWholeReading (reading_view reading.now) → DoesNotFit self.old (parts_of_one (number, reading_view reading.now)) (notes_of_one (reading_view reading.now)))) }
+        ensures too_many { IfErr result (λ fault. IfTooMany fault (IsWellFormed self.old → IsWholeReading (reading_view reading.now) → SumDoesNotFit self.old (parts_of_one (number, reading_view reading.now)) (notes_of_one (reading_view reading.now)))) }
     {
         let notes = notes_of_both(&self.notes, &notes_of(reading))?;
         let one = sums_of_one(self.alloc, number, &reading.hists)?;
@@ -119,7 +119,7 @@ impl Sums {
         ensures both { OnOk result (IsSumOfBoth self.old other.now self.new) }
         ensures well_formed { OnOk result (IsWellFormed self.old → IsWellFormed other.now → IsWellFormed self.new) }
         ensures refused { OnErr result (self.new ≡ self.old) }
-        ensures too_many { IfErr result (λ fault. IfTooMany fault (IsWellFormed self.old → IsWellFormed other.now → DoesNotFit self.old (parts_of other.now) other.now.notes)) }
+        ensures too_many { IfErr result (λ fault. IfTooMany fault (IsWellFormed self.old → IsWellFormed other.now → SumDoesNotFit self.old (parts_of other.now) other.now.notes)) }
     {
         let notes = notes_of_both(&self.notes, &other.notes)?;
         let hists = sums_of_both(self.alloc, &self.hists, &other.hists)?;

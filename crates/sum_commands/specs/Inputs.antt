@@ -1,12 +1,16 @@
 -- Of which readings a sum of inputs is, and why an input is left out.
-use Rattle.std.specs.Prelude.{◌≡◌, ℕ, List, [], ◌∷◌, ◌++◌, ⊤}
+use Rattle.std.specs.Prelude.{◌≡◌, ◌⊎◌, ℕ, ◌+◌, ◌≤◌, ◌^◌, List, [], ◌∷◌, ◌++◌, sum_by, ⊤}
+use Rattle.std.specs.List.{Contains}
 use Rattle.bucket_ranges.specs.Reading.{Reading}
 use Rattle.persist_report_core.specs.declared.fault.CliFault.TheVariants.{NoMemory}
 use Rattle.reading_sums.specs.declared.fault.SumsFault.{SumsFault}
 use Rattle.reading_sums.specs.declared.fault.SumsFault.TheVariants as sums
 use Rattle.reading_sums.specs.declared.sums.Sums.{Sums}
-use Rattle.reading_sums.specs.Addends.{AddsAddend, addend_of, addend_of_reading}
+use Rattle.reading_sums.specs.Addends.{Addend, AddsAddend, addend_of, addend_of_reading}
+use Rattle.reading_sums.specs.Fitting.{AddendsDoNotFit, SumDoesNotFit}
 use Rattle.reading_sums.specs.Sums.{IsSumInOrder}
+use Rattle.reading_sums.specs.Totals.{Part}
+use Rattle.reading_sums.specs.Whole.{IsWellFormed}
 use Rattle.persist_report_core.specs.Report.{IsReadingOf, IsCausedByImage}
 use Rattle.sum_texts.specs.declared.fault.TotalsFault.{TotalsFault}
 use Rattle.sum_texts.specs.declared.fault.TotalsFault.TheVariants as totals
@@ -26,11 +30,51 @@ abbrev pub fault_of_totals : TotalsFault → InputFault
 fault_of_totals totals.NoMemory = Image NoMemory
 fault_of_totals (totals.BadTotals line) = BadTotals line
 
--- why an image is left out: for a cause in its bytes; of `TooMany` and of a lack of memory nothing is said
-abbrev pub IsCausedByInput : List ℕ → InputFault → Type 0
-IsCausedByInput bytes (Image fault) = IsCausedByImage bytes fault
-IsCausedByInput bytes (BadTotals line) = ⊥
-IsCausedByInput bytes TooMany = ⊤
+-- ---- what does not fit
+
+-- numbers do not fit behind so many images: one is 2^62 or more, or 2^64 or more when it is raised by these
+abbrev pub NumbersDoNotFit : ℕ → List Part → Type 0
+NumbersDoNotFit images parts = (part : Part) × Contains parts part × ((2 ^ 62 ≤ part.least) ⊎ (2 ^ 64 ≤ part.least + images))
+
+-- an addend does not fit behind a sum: what both have together does not fit, or the addend's numbers do not
+abbrev pub DoesNotFitBehind : Sums → Addend → Type 0
+DoesNotFitBehind sums addend = SumDoesNotFit sums addend.parts addend.notes ⊎ NumbersDoNotFit sums.notes.images addend.parts
+
+-- how many images addends have
+abbrev pub images_of : List Addend → ℕ
+images_of addends = sum_by (λ (addend : Addend). addend.notes.images) addends
+
+-- an addend does not fit behind others
+abbrev pub DoesNotFitAfter : List Addend → Addend → Type 0
+DoesNotFitAfter before addend = AddendsDoNotFit (before ++ addend ∷ []) ⊎ NumbersDoNotFit (images_of before) addend.parts
+
+-- ---- why an input is left out
+
+-- a reading of these bytes does not fit behind a well-formed sum
+pub record ReadingDoesNotFit (bytes : List ℕ) (before : Sums) : Type 0 where
+  pub reading : Reading
+  pub reading_is : IsReadingOf bytes reading
+  pub many : IsWellFormed before → DoesNotFitBehind before (addend_of_reading reading)
+
+-- why an image is left out: for a cause in its bytes, or since it does not fit; of a lack of memory nothing is said
+abbrev pub IsCausedByInput : List ℕ → Sums → InputFault → Type 0
+IsCausedByInput bytes before (Image fault) = IsCausedByImage bytes fault
+IsCausedByInput bytes before (BadTotals line) = ⊥
+IsCausedByInput bytes before TooMany = ReadingDoesNotFit bytes before
+
+-- the totals of this text do not fit behind a well-formed sum
+pub record TotalsDoNotFit (text : List ℕ) (before : Sums) : Type 0 where
+  pub totals : Totals
+  pub text_is : text ≡ totals_text (whole_of totals)
+  pub many : IsWellFormed before → DoesNotFitBehind before (addend_of totals.sums)
+
+-- why totals are left out: a line is wrong, or they do not fit; and memory may run out
+abbrev pub IsCausedByTotals : List ℕ → Sums → InputFault → Type 0
+IsCausedByTotals text before (Image fault) = fault ≡ NoMemory
+IsCausedByTotals text before (BadTotals line) = ⊤
+IsCausedByTotals text before TooMany = TotalsDoNotFit text before
+
+-- ---- what is added
 
 -- a sum became that of one reading more, which is what these bytes read as
 pub record AddsReading (bytes : List ℕ) (before after : Sums) : Type 0 where
@@ -38,6 +82,8 @@ pub record AddsReading (bytes : List ℕ) (before after : Sums) : Type 0 where
   pub reading_is : IsReadingOf bytes reading
   pub added : (readings : List Reading) → IsSumInOrder readings before → IsSumInOrder (readings ++ reading ∷ []) after
   pub behind : AddsAddend (addend_of_reading reading) before after
+  pub well_formed : IsWellFormed before → IsWellFormed after
+  pub fits : IsWellFormed before → ¬ DoesNotFitBehind before (addend_of_reading reading)
 
 -- a sum became that of the readings of another one more, behind its own
 abbrev pub AddsBehind : Sums → Sums → Sums → Type 0
@@ -50,3 +96,5 @@ pub record AddsTotals (text : List ℕ) (before after : Sums) : Type 0 where
   pub text_is : text ≡ totals_text (whole_of totals)
   pub added : AddsBehind totals.sums before after
   pub behind : AddsAddend (addend_of totals.sums) before after
+  pub well_formed : IsWellFormed before → IsWellFormed after
+  pub fits : IsWellFormed before → ¬ DoesNotFitBehind before (addend_of totals.sums)

@@ -1,11 +1,14 @@
 //! The sum of inputs, one after the other.
 
-ghost use Rattle.std.specs.Prelude.{◌≡◌, ◌≤◌, ◌<◌, ◌++◌, ◌∷◌, [], ℕ, false, IfOk, IfErr, IfSome, OnOk, OnErr};
-ghost use Rattle.sum_commands.specs.Sources.{Input, AddsInput, MayNotBeAdded, HasNotedInput, HasTakenInput, IsNoneAt, IsSumOfInputs, MayHaveAppended, has_ended};
+ghost use Rattle.std.specs.Prelude.{◌≡◌, ◌≢◌, ◌≤◌, ◌<◌, ◌^◌, ◌++◌, ◌∷◌, [], ℕ, true, false, IfOk, IfErr, IfSome, OnOk, OnErr};
+ghost use Rattle.std.specs.Int.{unsigned_abs};
+ghost use Rattle.std.specs.List.{All};
+ghost use Rattle.sum_commands.specs.declared.fault.InputFault.TheVariants.{TooMany};
+ghost use Rattle.sum_commands.specs.Sources.{Input, AddsInput, MayNotBeAdded, HasNotedInput, HasTakenInput, IsNoneAt, IsSmallSum, IsSumOfRun, IsSumSoFar, MayHaveAppended, has_ended};
 
 use crate::fault::InputFault;
 use crate::sums::append_next;
-use reading_sums::Sums;
+use reading_sums::{HistSum, Sums};
 use std::alloc::{AllocError, Global};
 
 /// An input that is open, of which nothing was read yet.
@@ -13,12 +16,17 @@ pub trait OpenInput {
     /// What the input may be.
     ghost may_be: { Self → Input → Type 0 };
 
-    /// Adds the input to a sum, behind its readings, and returns whether it is damaged: what was added is what the input may be
-    /// [added]. An input that is left out has a fault that it may have, or `TooMany`, where a total would not fit; `NoMemory` comes
-    /// where memory runs out [cause]. The sum is then unchanged [refused].
+    /// Whether the input is known to be whole: a well-formed sum stays so with it, and it is left out with `TooMany` only where it
+    /// does not fit.
+    ghost is_whole: { Self → Type 0 };
+
+    /// Adds the input to a sum, behind its readings, and returns whether it is damaged: what was added is what the input may be, and
+    /// fits if the input is whole and the sum well formed [added]. An input that is left out has a fault that it may have, or
+    /// `TooMany`: then it would not fit, if it is whole and the sum well formed. `NoMemory` comes where memory runs out [cause].
+    /// The sum is then unchanged [refused].
     fn add_to(self, sums: &mut Sums) -> Result<bool, InputFault>
-        ensures added { IfOk result (λ is_damaged. AddsInput (may_be self) is_damaged sums.old sums.new) }
-        ensures cause { IfErr result (MayNotBeAdded (may_be self)) }
+        ensures added { IfOk result (λ is_damaged. AddsInput (is_whole self) (may_be self) is_damaged sums.old sums.new) }
+        ensures cause { IfErr result (MayNotBeAdded (is_whole self) (may_be self) sums.old) }
         ensures refused { OnErr result (sums.new ≡ sums.old) };
 }
 
@@ -30,18 +38,24 @@ pub trait Source {
     /// What the input at a place may be.
     ghost may_be: { Self → ℕ → Input → Type 0 };
 
-    /// Opens the input at a place for a worker: it may then be what the input at that place may be [opened]. None where no worker
-    /// is to read it, or where it cannot be opened: it is then added by [`add_input`](Source::add_input).
+    /// Whether all inputs are known to be whole, as [`OpenInput`] says.
+    ghost are_whole: { Self → Type 0 };
+
+    /// Opens the input at a place for a worker: it may then be what the input at that place may be [opened], and is whole if all
+    /// are [whole]. None where no worker is to read it, or where it cannot be opened: it is then added by
+    /// [`add_input`](Source::add_input).
     fn open(&self, place: usize) -> Option<Self::Opened>
-        ensures opened { IfSome result (λ opened. (input : Input) → Self.Opened.may_be opened input → may_be self.now place input) };
+        ensures opened { IfSome result (λ opened. (input : Input) → Self.Opened.may_be opened input → may_be self.now place input) }
+        ensures whole { IfSome result (λ opened. are_whole self.now → Self.Opened.is_whole opened) };
 
     /// Adds the input at a place to a sum, behind its readings, and returns whether it is damaged: what was added is what the input
-    /// at that place may be [added]. An input that is left out has a fault that it may have, or `TooMany`, where a total would not
-    /// fit; `NoMemory` comes where memory runs out [cause]. The sum is then unchanged [refused]. It may be asked for an input that
-    /// was opened before, and for that more than once.
+    /// at that place may be, and fits if the inputs are whole and the sum well formed [added]. An input that is left out has a fault
+    /// that it may have, or `TooMany`: then it would not fit, if the inputs are whole and the sum well formed. `NoMemory` comes
+    /// where memory runs out [cause]. The sum is then unchanged [refused]. It may be asked for an input that was opened before,
+    /// and for that more than once.
     fn add_input(&self, sums: &mut Sums, place: usize) -> Result<bool, InputFault>
-        ensures added { IfOk result (λ is_damaged. AddsInput (may_be self.now place) is_damaged sums.old sums.new) }
-        ensures cause { IfErr result (MayNotBeAdded (may_be self.now place)) }
+        ensures added { IfOk result (λ is_damaged. AddsInput (are_whole self.now) (may_be self.now place) is_damaged sums.old sums.new) }
+        ensures cause { IfErr result (MayNotBeAdded (are_whole self.now) (may_be self.now place) sums.old) }
         ensures refused { OnErr result (sums.new ≡ sums.old) };
 }
 
@@ -70,23 +84,35 @@ pub struct Summed {
     pub first: usize,
     /// The place behind the last one.
     pub reached: usize,
-    // Whether an amount was so large at some input that those of other inputs may not fit beside it.
+    // Whether an amount or a number was so large at some input that those of other inputs may not fit beside it.
     was_large: bool,
 }
 
 // Two amounts fit together that are nearer to 0 than this. No number of images has as much, but totals may say so.
-const LARGE: i128 = 1 << 126;
+const LARGE_AMOUNT: u128 = 1 << 126;
 
-// Whether an amount is large.
-fn is_large(amount: i128) -> bool {
-    amount >= LARGE || amount <= -LARGE
+// Numbers of images fit together, and with those of totals, that are below this.
+const LARGE_NUMBER: u64 = 1 << 62;
+
+// Whether an amount of a histogram is large.
+fn is_large(hist: &HistSum) -> bool
+    ensures sum { result ≡ false → unsigned_abs hist.now.sum < 2 ^ 126 }
+    ensures sum_mark { result ≡ false → unsigned_abs hist.now.sum_mark < 2 ^ 126 }
+{
+    hist.sum.unsigned_abs() >= LARGE_AMOUNT || hist.sum_mark.unsigned_abs() >= LARGE_AMOUNT
 }
 
-// Whether a sum has large amounts. Unlike units they can fall again, so a total may not fit amid inputs, and fit behind them.
-fn has_large(sums: &Sums) -> bool {
-    sums.hists()
-        .iter()
-        .any(|hist| is_large(hist.sum) || is_large(hist.sum_mark))
+// Whether a sum has a large amount, or many images. Unlike units amounts can fall again, so a total may not fit amid inputs, and fit
+// behind them.
+fn has_large(sums: &Sums) -> bool
+    ensures { result ≡ false → IsSmallSum sums.now }
+{
+    for hist in sums.hists() {
+        if is_large(hist) {
+            return true;
+        }
+    }
+    sums.notes().images >= LARGE_NUMBER
 }
 
 // Puts an input that is left out behind others.
@@ -130,15 +156,24 @@ impl Summed {
     }
 
     // Whether an input was left out with which a total would not fit.
-    fn has_too_many(&self) -> bool {
-        self.left
-            .iter()
-            .any(|left| matches!(left.fault, InputFault::TooMany))
+    fn has_too_many(&self) -> bool
+        ensures { result ≡ false → All (λ left. left.fault ≢ TooMany) self.now.left.items }
+    {
+        for left in &self.left {
+            if matches!(left.fault, InputFault::TooMany) {
+                return true;
+            }
+        }
+        false
     }
 
-    // Whether its inputs can be appended to those of another sum with the same outcome as one by one: no amount was so large
+    // Whether its inputs can be appended to those of another sum with the same outcome as one by one: nothing was so large
     // that a total might not fit amid them, and none was left out for that.
-    fn fits_behind(&self, other: &Summed) -> bool {
+    fn fits_behind(&self, other: &Summed) -> bool
+        ensures small { result ≡ true → self.now.was_large ≡ false }
+        ensures other_small { result ≡ true → other.now.was_large ≡ false }
+        ensures room { result ≡ true → All (λ left. left.fault ≢ TooMany) self.now.left.items }
+    {
         !self.was_large && !other.was_large && !self.has_too_many()
     }
 
@@ -165,7 +200,7 @@ impl Summed {
     // Adds the next input, which is open.
     pub(crate) fn add_opened<O: OpenInput + Drop>(&mut self, opened: O) -> Result<(), AllocError>
         requires { self.old.reached < 18446744073709551615 }
-        ensures { OnOk result (HasTakenInput (O.may_be opened) self.old self.new) }
+        ensures { OnOk result (HasTakenInput (O.is_whole opened) (O.may_be opened) self.old self.new) }
     {
         let added = opened.add_to(&mut self.sums);
         self.note(added)
@@ -174,7 +209,7 @@ impl Summed {
     // Adds the next input of a source.
     fn add_next<S: Source>(&mut self, source: &S) -> Result<(), AllocError>
         requires { self.old.reached < 18446744073709551615 }
-        ensures { OnOk result (HasTakenInput (S.may_be source.now self.old.reached) self.old self.new) }
+        ensures { OnOk result (HasTakenInput (S.are_whole source.now) (S.may_be source.now self.old.reached) self.old self.new) }
     {
         let added = source.add_input(&mut self.sums, self.reached);
         self.note(added)
@@ -188,7 +223,7 @@ impl Summed {
         place: usize,
         is_strict: bool,
     ) -> Result<(), AllocError>
-        ensures sum { OnOk result (IsSumOfInputs (S.may_be source.now) is_strict self.old → IsSumOfInputs (S.may_be source.now) is_strict self.new) }
+        ensures sum { OnOk result (IsSumSoFar (S.are_whole source.now) (S.may_be source.now) is_strict self.old → IsSumSoFar (S.are_whole source.now) (S.may_be source.now) is_strict self.new) }
         ensures first { OnOk result (self.new.first ≡ self.old.first) }
         ensures within { OnOk result ((most : ℕ) → self.old.reached ≤ most → place ≤ most → self.new.reached ≤ most) }
         ensures all { OnOk result (has_ended is_strict self.new ≡ false → place ≤ self.new.reached) }
@@ -226,7 +261,7 @@ impl Summed {
         summed: Summed,
         is_strict: bool,
     ) -> Result<(), AllocError>
-        ensures sum { OnOk result (IsSumOfInputs (S.may_be source.now) is_strict summed → IsSumOfInputs (S.may_be source.now) is_strict self.old → IsSumOfInputs (S.may_be source.now) is_strict self.new) }
+        ensures sum { OnOk result (IsSumOfRun (S.are_whole source.now) (S.may_be source.now) is_strict summed → IsSumSoFar (S.are_whole source.now) (S.may_be source.now) is_strict self.old → IsSumSoFar (S.are_whole source.now) (S.may_be source.now) is_strict self.new) }
         ensures first { OnOk result (self.new.first ≡ self.old.first) }
         ensures within { OnOk result ((most : ℕ) → self.old.reached ≤ most → summed.first ≤ summed.reached → summed.reached ≤ most → self.new.reached ≤ most) }
     {

@@ -1,10 +1,16 @@
 //! Sums of inputs, one after the other.
 
-ghost use Rattle.std.specs.Prelude.{◌≡◌, Bool, false, is_some, IfErr, IfOk, OnOk, OnErr, ⊤};
+ghost use Rattle.std.specs.Prelude.{◌≡◌, ◌≤◌, ◌<◌, ◌^◌, Bool, true, false, is_some, IfErr, IfOk, OnOk, OnErr};
+ghost use Rattle.std.specs.List.{All, Contains};
 ghost use Rattle.segment_image.specs.Words.{bytes_of_words};
+ghost use Rattle.reading_sums.specs.declared.sums.Sums as sum_type;
 ghost use Rattle.reading_sums.specs.Addends.{AddsAddend, addend_of};
-ghost use Rattle.sum_commands.specs.Sources.{AddsSome, MayNotBeAdded};
-ghost use Rattle.sum_commands.specs.Inputs.{AddsReading, AddsBehind, AddsTotals, IsCausedByInput};
+ghost use Rattle.reading_sums.specs.Fitting.{IfTooMany};
+ghost use Rattle.reading_sums.specs.Totals.{Part};
+ghost use Rattle.reading_sums.specs.Views.{parts_of};
+ghost use Rattle.reading_sums.specs.Whole.{IsWellFormed};
+ghost use Rattle.sum_commands.specs.Sources.{AddsSome, SomeMayNotBeAdded};
+ghost use Rattle.sum_commands.specs.Inputs.{AddsReading, AddsBehind, AddsTotals, DoesNotFitBehind, IsCausedByInput, IsCausedByTotals};
 
 use crate::fault::InputFault;
 use image_reader::Reading;
@@ -13,29 +19,54 @@ use reading_sums::{Sums, SumsFault};
 use std::alloc::Global;
 use sum_texts::totals_of;
 
+// A sum whose numbers are below this can be put behind any that has images: so whether inputs fit does not depend on how they are
+// appended.
+const NUMBER_LIMIT: u64 = 1 << 62;
+
+// Whether some number of a sum is that great.
+fn has_great_number(sums: &Sums) -> bool
+    ensures some { result ≡ true → (part : Part) × Contains (parts_of sums.now) part × (2 ^ 62 ≤ part.least) }
+    ensures none { result ≡ false → All (λ (part : Part). part.least < 2 ^ 62) (parts_of sums.now) }
+{
+    for hist in sums.hists() {
+        if hist.least >= NUMBER_LIMIT {
+            return true;
+        }
+    }
+    false
+}
+
 /// Adds the readings of another sum to a sum, behind its own: the sum of any readings in their order, the first of which
 /// has the number 0, and the next 1, becomes that of these and then those of the other [added]. Any sum gets the totals and the
-/// notes of the other one more, whose images come behind its own [behind]: an input, which may be damaged or not [some].
+/// notes of the other one more, whose images come behind its own [behind]: an input, which may be damaged or not [some]. Well-formed
+/// sums become a well-formed one [well_formed].
 ///
-/// It is refused if a total or a number would not fit, `TooMany`, or if there is no memory, `NoMemory`. The sum is then as
-/// it was [refused].
+/// Of well-formed sums it is accepted only if the other one fits behind the first [fits], and refused with `TooMany` only if it does
+/// not: a total would not fit, or a number of the other one is 2^62 or more, or 2^64 or more when it is raised by how many images
+/// there were [too_many]. `NoMemory` comes where there is no memory. The sum is then as it was [refused].
 pub fn append_next(sums: &mut Sums, more: &Sums) -> Result<(), SumsFault>
     ensures added { OnOk result (AddsBehind more.now sums.old sums.new) }
     ensures behind { OnOk result (AddsAddend (addend_of more.now) sums.old sums.new) }
     ensures some { OnOk result ((is_damaged : Bool) → AddsSome is_damaged sums.old sums.new) }
+    ensures well_formed { OnOk result (IsWellFormed sums.old → IsWellFormed more.now → IsWellFormed sums.new) }
+    ensures fits { OnOk result (IsWellFormed sums.old → IsWellFormed more.now → ¬ DoesNotFitBehind sums.old (addend_of more.now)) }
     ensures refused { OnErr result (sums.new ≡ sums.old) }
+    ensures too_many { IfErr result (λ fault. IfTooMany fault (IsWellFormed sums.old → IsWellFormed more.now → DoesNotFitBehind sums.old (addend_of more.now))) }
 {
+    if has_great_number(more) {
+        return Err(SumsFault::TooMany);
+    }
     let raised = more.raised(sums.notes().images)?;
     sums.append(&raised)?;
     Ok(())
 }
 
-/// Adds what the image in the words of an input reads as, a closed image or a mapped file, behind the readings of a sum
-/// [added]. Returns what is damaged in it, if something is, of which the sum has all that is valid: so it is an input that is
-/// damaged or not [some].
+/// Adds what the image in the words of an input reads as, a closed image or a mapped file, behind the readings of a sum: a
+/// well-formed sum stays so, and the reading fits behind it [added]. Returns what is damaged in it, if something is, of which the sum
+/// has all that is valid: so it is an input that is damaged or not [some].
 ///
-/// An input is left out whose bytes are those of no image, for the first fault of its header [cause], or with which a total would
-/// not fit, `TooMany`. `NoMemory` comes where memory runs out. The sum is then unchanged [refused].
+/// An input is left out whose bytes are those of no image, for the first fault of its header, and with `TooMany` one that does not
+/// fit behind a well-formed sum [cause]. `NoMemory` comes where memory runs out. The sum is then unchanged [refused].
 pub fn add_image(
     alloc: Global,
     sums: &mut Sums,
@@ -43,7 +74,7 @@ pub fn add_image(
 ) -> Result<Option<CliFault>, InputFault>
     ensures added { OnOk result (AddsReading (bytes_of_words words.now) sums.old sums.new) }
     ensures some { IfOk result (λ damage. AddsSome (is_some damage) sums.old sums.new) }
-    ensures cause { IfErr result (IsCausedByInput (bytes_of_words words.now)) }
+    ensures cause { IfErr result (IsCausedByInput (bytes_of_words words.now) sums.old) }
     ensures refused { OnErr result (sums.new ≡ sums.old) }
 {
     let reading = read_image(alloc, words)?;
@@ -52,13 +83,15 @@ pub fn add_image(
     Ok(damage_of(&reading))
 }
 
-/// Adds the readings of the totals whose text this is to a sum, behind its own [added]: an input that is not damaged [some].
+/// Adds the readings of the totals whose text this is to a sum, behind its own: a well-formed sum stays so, and the totals fit behind
+/// it [added]. It is an input that is not damaged [some].
 ///
-/// An input is left out whose bytes are those of no totals, `BadTotals` with a line, or with which a total would not fit,
-/// `TooMany`. The sum is then as it was [refused].
+/// An input is left out whose bytes are those of no totals, `BadTotals` with a line, and with `TooMany` one that does not fit behind a
+/// well-formed sum; `NoMemory` comes where memory runs out [cause]. The sum is then as it was [refused].
 pub fn add_totals(alloc: Global, sums: &mut Sums, text: &[u8]) -> Result<(), InputFault>
     ensures added { OnOk result (AddsTotals text.now sums.old sums.new) }
     ensures some { OnOk result (AddsSome false sums.old sums.new) }
+    ensures cause { IfErr result (IsCausedByTotals text.now sums.old) }
     ensures refused { OnErr result (sums.new ≡ sums.old) }
 {
     let totals = totals_of(alloc, text)?;
@@ -74,9 +107,9 @@ pub fn nothing_is_added(_sums: &Sums)
     ensures some { AddsSome false _sums.now _sums.now }
 {}
 
-/// Of an input of which nothing is known any fault may come [cause].
+/// Of an input of which nothing is known any fault may come, whatever sum it was to be added to [cause].
 ///
 /// It does nothing: what it promises is a law of the definition.
 pub fn any_fault_may_come(_added: &Result<bool, InputFault>)
-    ensures cause { IfErr _added.now (MayNotBeAdded (λ input. ⊤)) }
+    ensures cause { (before : sum_type.Sums) → IfErr _added.now (SomeMayNotBeAdded before) }
 {}

@@ -44,7 +44,7 @@ impl<O: OpenInput + Drop> Job for Run<O> {
 
     ghost can_run = { λ run. run.first + length run.opened.items < 2 ^ 64 };
 
-    ghost gives = { λ run result. IfOk result (HasSummedRun O.may_be run.first run.opened.items run.is_strict) };
+    ghost gives = { λ run result. IfOk result (HasSummedRun O.is_whole O.may_be run.first run.opened.items run.is_strict) };
 
     // Adds up the inputs; up to the first that is left out, if that is to end it.
     fn run(self) -> Result<Summed, AllocError> {
@@ -68,7 +68,7 @@ fn open_run<S: Source>(
 ) -> Result<Run<S::Opened>, AllocError>
     requires { part.0 ≤ part.1 }
     ensures first { IfOk result (λ run. run.first ≡ part.0) }
-    ensures run { IfOk result (IsOpenedRun S.Opened.may_be (S.may_be source.now) part.1 is_strict) }
+    ensures run { IfOk result (IsOpenedRun S.Opened.is_whole S.Opened.may_be (S.are_whole source.now) (S.may_be source.now) part.1 is_strict) }
 {
     let mut opened = Vec::new(alloc);
     for place in part.0..part.1 {
@@ -106,7 +106,7 @@ fn open_round<S: Source>(
     requires left { part.0 < part.1 }
     ensures on { IfOk result (λ round. part.0 < round.1) }
     ensures within { IfOk result (λ round. round.1 ≤ part.1) }
-    ensures runs { IfOk result (λ round. All (IsOpenedRun S.Opened.may_be (S.may_be source.now) part.1 how.is_strict) round.0.items) }
+    ensures runs { IfOk result (λ round. All (IsOpenedRun S.Opened.is_whole S.Opened.may_be (S.are_whole source.now) (S.may_be source.now) part.1 how.is_strict) round.0.items) }
 {
     let share = share_of(part.1 - part.0, how.workers);
     let mut runs = Vec::new(alloc);
@@ -130,7 +130,7 @@ fn add_all<S: Source, P: Progress>(
     done: Vec<Result<Summed, AllocError>>,
     is_strict: bool,
 ) -> Result<(), AllocError>
-    ensures sum { (inputs : ℕ) → All (λ one. IfOk one (SumEndsWithin (S.may_be source.now) is_strict inputs)) done.items → OnOk result (IsSumBefore (S.may_be source.now) is_strict inputs all.old → IsSumBefore (S.may_be source.now) is_strict inputs all.new) }
+    ensures sum { (inputs : ℕ) → All (λ one. IfOk one (SumEndsWithin (S.are_whole source.now) (S.may_be source.now) is_strict inputs)) done.items → OnOk result (IsSumBefore (S.are_whole source.now) (S.may_be source.now) is_strict inputs all.old → IsSumBefore (S.are_whole source.now) (S.may_be source.now) is_strict inputs all.new) }
 {
     for summed in done {
         all.add_summed(source, progress, summed?, is_strict)?;
@@ -153,7 +153,7 @@ pub fn sum_of_inputs<R: Threads + Wait, S: Source, P: Progress>(
     inputs: usize,
     how: Manner,
 ) -> Result<Summed, AllocError>
-    ensures sum { IfOk result (IsSumOfAllInputs (S.may_be source.now) how.is_strict inputs) }
+    ensures sum { IfOk result (IsSumOfAllInputs (S.are_whole source.now) (S.may_be source.now) how.is_strict inputs) }
 {
     let mut all = Summed::none(alloc, 0);
     let mut place = 0;

@@ -1,6 +1,5 @@
 -- What the inputs of a source are, and of which of them a sum is.
-use Rattle.std.specs.Prelude.{◌≡◌, ◌≢◌, ◌⊎◌, Bool, true, false, ◌&&◌, ◌||◌, nat_lt, ℕ, ◌+◌, ◌<◌, ◌≤◌, ◌^◌, List, [], ◌∷◌, ◌++◌, length, All, Result, Ok, Err, IfOk, IfErr, ⊤}
-use Rattle.std.specs.Int.{unsigned_abs}
+use Rattle.std.specs.Prelude.{◌≡◌, ◌≢◌, ◌⊎◌, Bool, true, false, ◌&&◌, ◌||◌, nat_lt, ℕ, ◌+◌, ◌<◌, ◌≤◌, ◌^◌, List, [], ◌∷◌, ◌++◌, length, All, unsigned_abs, Result, Ok, Err, IfOk, IfErr, ⊤}
 use Rattle.persist_report_core.specs.declared.fault.CliFault.TheVariants.{NoMemory}
 use Rattle.reading_sums.specs.declared.sums.Sums.{Sums}
 use Rattle.reading_sums.specs.declared.hist.HistSum.{HistSum}

@@ -1,7 +1,6 @@
 //! The sum of inputs, one after the other.
 
 ghost use Rattle.std.specs.Prelude.{◌≡◌, ◌≢◌, ◌≤◌, ◌<◌, ◌^◌, ◌++◌, ◌∷◌, [], ℕ, true, false, unsigned_abs, IfOk, IfErr, IfSome, OnOk, OnErr};
-
 ghost use Rattle.std.specs.List.{All};
 ghost use Rattle.sum_commands.specs.declared.fault.InputFault.TheVariants.{TooMany};
 ghost use Rattle.sum_commands.specs.Sources.{Input, AddsInput, MayNotBeAdded, HasNotedInput, HasTakenInput, IsNoneAt, IsSmallSum, IsSumOfRun, IsSumSoFar, MayHaveAppended, has_ended};

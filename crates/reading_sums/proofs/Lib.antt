@@ -34,3 +34,4 @@ pub mod WholeKeys
 pub mod WholeWords
 pub mod OneSum
 pub mod SameUnits
+pub mod FitInTurn

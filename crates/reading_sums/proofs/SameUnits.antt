@@ -9,7 +9,6 @@ use Rattle.reading_sums.specs.Fitting.{PartsDoNotFit, TotalDoesNotFit, all_units
 use Rattle.reading_sums.specs.Keys.{units_at}
 use Rattle.reading_sums.specs.Totals.Quantity.{Units}
 use Rattle.reading_sums.specs.Totals.{Part, Quantity, is_of, total}
-use Rattle.reading_sums.specs.Whole.{units_of}
 
 -- two lists of parts have the same numbers: of each name and spec everything that is added up
 abbrev pub SameNumbers : List Part → List Part → Type 0

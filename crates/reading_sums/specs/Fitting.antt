@@ -1,5 +1,5 @@
 -- Why a sum is refused: what does not fit.
-use Rattle.std.specs.Prelude.{◌≡◌, ◌⊎◌, ⊤, ℕ, ◌+◌, ◌<◌, ◌≤◌, ◌^◌, ℤ, pos, ◌+ℤ◌, ◌≤ℤ◌, FitsSigned, unsigned_abs, List, ◌++◌, sum_by, if◌then◌else◌}
+use Rattle.std.specs.Prelude.{◌≡◌, ◌⊎◌, ⊤, ℕ, ◌+◌, ◌≤◌, ◌^◌, ℤ, pos, ◌<◌, ◌+ℤ◌, ◌≤ℤ◌, FitsSigned, unsigned_abs, List, ◌++◌, sum_by, if◌then◌else◌}
 use Rattle.std.specs.Int.{w128}
 use Rattle.std.specs.List.{Contains}
 use Rattle.bucket_ranges.specs.declared.spec.Spec.{Spec}

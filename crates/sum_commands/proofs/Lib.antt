@@ -1,3 +1,4 @@
 pub mod Alike
 pub mod InTurn
+pub mod Fits
 pub mod Taking

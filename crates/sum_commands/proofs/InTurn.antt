@@ -11,10 +11,7 @@ use Rattle.reading_sums.specs.Totals.{Part, SameTotals, part_from, raised_part}
 use Rattle.reading_sums.specs.Views.{parts_of}
 use Rattle.reading_sums.proofs.RaisedSums.{same-raised}
 use Rattle.reading_sums.proofs.Totals.{same-append, same-equal, same-trans}
-
--- the images of addends
-abbrev images_of : List Addend → ℕ
-images_of addends = sum_by (λ (addend : Addend). addend.notes.images) addends
+use Rattle.sum_commands.specs.Inputs.{images_of}
 
 -- ---- the parts of addends that come behind others
 

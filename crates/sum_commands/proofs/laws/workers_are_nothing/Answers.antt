@@ -3,4 +3,6 @@ use Rattle.sum_commands.proofs.Alike.{alike}
 use Rattle.sum_commands.proofs.laws.workers_are_nothing.Goals as goal
 
 pub returns : goal.returns
-returns g c = record { alike = λ is_strict inputs a b. alike (g.S.Source.may_be c.args._source.now) is_strict inputs a b }
+returns g c = record {
+  alike = λ whole is_strict inputs a b. alike (g.S.Source.are_whole c.args._source.now) (g.S.Source.may_be c.args._source.now) is_strict inputs a b whole;
+}

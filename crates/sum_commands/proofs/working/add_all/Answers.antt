@@ -12,7 +12,7 @@ loop-summed-init g c = (
   tt,
   tt,
   λ inputs are. (
-    subst (All (λ one. IfOk one (SumEndsWithin (g.S.Source.may_be c.args.source.now) c.args.is_strict inputs)))
+    subst (All (λ one. IfOk one (SumEndsWithin (g.S.Source.are_whole c.args.source.now) (g.S.Source.may_be c.args.source.now) c.args.is_strict inputs)))
         (sym c.into_iter-summed-iterator.ensures.into_iter_gives.0) are,
     λ before. before,
   ),
@@ -25,17 +25,17 @@ loop-summed-preserved g c = (
   λ inputs are.
       let at = c.loop-summed.invariant.2 inputs are in
       let rest : List (Result Summed AllocError) = into_iter_items c.next.new.self in
-      let left : All (λ one. IfOk one (SumEndsWithin (g.S.Source.may_be c.args.source.now) c.args.is_strict inputs)) (c.in-Some.summed ∷ rest) =
-      subst (All (λ one. IfOk one (SumEndsWithin (g.S.Source.may_be c.args.source.now) c.args.is_strict inputs))) c.in-Some.ensures.steps.0 at.0 in
-      let here : SumEndsWithin (g.S.Source.may_be c.args.source.now) c.args.is_strict inputs c.in_ok-summed.field-0 =
-      subst (λ one. IfOk one (SumEndsWithin (g.S.Source.may_be c.args.source.now) c.args.is_strict inputs)) c.in_ok-summed.was
-      (All-head (λ one. IfOk one (SumEndsWithin (g.S.Source.may_be c.args.source.now) c.args.is_strict inputs)) c.in-Some.summed rest left) in (
-        All-tail (λ one. IfOk one (SumEndsWithin (g.S.Source.may_be c.args.source.now) c.args.is_strict inputs)) c.in-Some.summed rest left,
+      let left : All (λ one. IfOk one (SumEndsWithin (g.S.Source.are_whole c.args.source.now) (g.S.Source.may_be c.args.source.now) c.args.is_strict inputs)) (c.in-Some.summed ∷ rest) =
+      subst (All (λ one. IfOk one (SumEndsWithin (g.S.Source.are_whole c.args.source.now) (g.S.Source.may_be c.args.source.now) c.args.is_strict inputs))) c.in-Some.ensures.steps.0 at.0 in
+      let here : SumEndsWithin (g.S.Source.are_whole c.args.source.now) (g.S.Source.may_be c.args.source.now) c.args.is_strict inputs c.in_ok-summed.field-0 =
+      subst (λ one. IfOk one (SumEndsWithin (g.S.Source.are_whole c.args.source.now) (g.S.Source.may_be c.args.source.now) c.args.is_strict inputs)) c.in_ok-summed.was
+      (All-head (λ one. IfOk one (SumEndsWithin (g.S.Source.are_whole c.args.source.now) (g.S.Source.may_be c.args.source.now) c.args.is_strict inputs)) c.in-Some.summed rest left) in (
+        All-tail (λ one. IfOk one (SumEndsWithin (g.S.Source.are_whole c.args.source.now) (g.S.Source.may_be c.args.source.now) c.args.is_strict inputs)) c.in-Some.summed rest left,
         λ first.
-            let before : IsSumBefore (g.S.Source.may_be c.args.source.now) c.args.is_strict inputs c.loop-summed.all = at.1 first in record {
+            let before : IsSumBefore (g.S.Source.are_whole c.args.source.now) (g.S.Source.may_be c.args.source.now) c.args.is_strict inputs c.loop-summed.all = at.1 first in record {
               sum = c.in_ok-add_summed.ensures.sum here.sum before.sum;
               first = c.in_ok-add_summed.ensures.first ∙ before.first;
-              within = let reached = here.sum.reached in
+              within = let reached = here.sum.sum.reached in
                   let order : c.in_ok-summed.field-0.first ≤ c.in_ok-summed.field-0.reached = omega (arith, reached) in
                   c.in_ok-add_summed.ensures.within inputs before.within order here.within;
             },

@@ -10,8 +10,8 @@ loop-place-init g c =
       omega (arith, left),
       omega arith,
       inr (ap length c.new-runs.ensures.items),
-      subst (All (IsOpenedRun g.S.Opened.OpenInput.may_be (g.S.Source.may_be c.args.source.now) c.args.part.1 c.args.how.is_strict)) (sym c.new-runs.ensures.items)
-          (All-nil (IsOpenedRun g.S.Opened.OpenInput.may_be (g.S.Source.may_be c.args.source.now) c.args.part.1 c.args.how.is_strict)),
+      subst (All (IsOpenedRun g.S.Opened.OpenInput.is_whole g.S.Opened.OpenInput.may_be (g.S.Source.are_whole c.args.source.now) (g.S.Source.may_be c.args.source.now) c.args.part.1 c.args.how.is_strict)) (sym c.new-runs.ensures.items)
+          (All-nil (IsOpenedRun g.S.Opened.OpenInput.is_whole g.S.Opened.OpenInput.may_be (g.S.Source.are_whole c.args.source.now) (g.S.Source.may_be c.args.source.now) c.args.part.1 c.args.how.is_strict)),
     )
 
 pub loop-place-preserved : goal.loop-place-preserved

@@ -9,7 +9,7 @@ returns-clause-sum g c =
     on_ok_weaker c.add_up_to-2.result
     (λ last behind before.
     last
-    (may-more-taken (g.S.Source.may_be c.args.source.now) c.args.is_strict c.args.summed c.add_up_to.new.self c.append.new.self
+    (may-more-taken (g.S.Source.are_whole c.args.source.now) (g.S.Source.may_be c.args.source.now) c.args.is_strict c.args.summed c.add_up_to.new.self c.append.new.self
     (c.in_ok-add_up_to.ensures.sum before) behind c.in_ok-append.ensures)) c.add_up_to-2.ensures.sum
 
 pub returns-clause-first : goal.returns-clause-first

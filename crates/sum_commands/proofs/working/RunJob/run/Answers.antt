@@ -1,16 +1,16 @@
 -- Each turn takes the next input that was opened.
-use Rattle.std.proofs.Common.{◌≡◌, ◌++◌, ◌∷◌, [], List, length, false, ap, sym, subst, ◌∙◌, arith, append_assoc}
+use Rattle.std.proofs.Common.{◌≡◌, ◌++◌, ◌∷◌, [], List, All, length, false, ap, sym, subst, ◌∙◌, arith, append_assoc}
 use Rattle.std.specs.Vec.Iter.{into_iter_items}
 use Rattle.std.proofs.lemmas.List.{length-append}
 use Rattle.sum_commands.specs.Sources.{IsOpenedAt, has_ended}
-use Rattle.sum_commands.proofs.Taking.{none-taken, next-taken, opened-taken}
+use Rattle.sum_commands.proofs.Taking.{none-of-run, next-of-run, opened-taken}
 use Rattle.sum_commands.proofs.working.RunJob.run.Goals as goal
 
 pub loop-opened-init : goal.loop-opened-init
 loop-opened-init g c = (
   tt,
   tt,
-  none-taken (IsOpenedAt g.O.OpenInput.may_be c.args.self.first c.args.self.opened.items) c.args.self.is_strict c.args.self.first c.none-summed.result c.none-summed.ensures,
+  none-of-run (All g.O.OpenInput.is_whole c.args.self.opened.items) (IsOpenedAt g.O.OpenInput.may_be c.args.self.first c.args.self.opened.items) c.args.self.is_strict c.args.self.first c.none-summed.result c.none-summed.ensures,
   ([], c.into_iter-opened-iterator.ensures.into_iter_gives.0, let reached = c.none-summed.ensures.reached in omega (arith, reached)),
 )
 
@@ -31,8 +31,8 @@ loop-opened-preserved g c =
     let goes_on : has_ended c.args.self.is_strict c.loop-opened.summed ≡ false = cc in (
       at.0,
       at.1,
-      next-taken (IsOpenedAt g.O.OpenInput.may_be c.args.self.first c.args.self.opened.items) c.args.self.is_strict c.loop-opened.summed c.add_opened.new.self at.2 goes_on
-          (opened-taken g.O.OpenInput.may_be c.args.self.first c.args.self.opened.items done one rest c.loop-opened.summed c.add_opened.new.self at.3.2 (sym split)
+      next-of-run (All g.O.OpenInput.is_whole c.args.self.opened.items) (IsOpenedAt g.O.OpenInput.may_be c.args.self.first c.args.self.opened.items) c.args.self.is_strict c.loop-opened.summed c.add_opened.new.self at.2 goes_on
+          (opened-taken g.O.OpenInput.is_whole g.O.OpenInput.may_be c.args.self.first c.args.self.opened.items done one rest c.loop-opened.summed c.add_opened.new.self at.3.2 (sym split)
           c.in_ok-add_opened.ensures),
       (
         done ++ one ∷ [],

@@ -276,6 +276,48 @@ def many(program: pathlib.Path, top: pathlib.Path, seed: int | str) -> Iterator[
             yield f"{title}, few files open", difference(report, came)
 
 
+def near_limits(chance: random.Random) -> plain_sums.Sum:
+    """A sum as totals may say it: numbers and amounts that fit alone, and mostly not beside others."""
+    part = plain_sums.Part({}, {}, 0, 0, 0, 1, 0)
+    for key in chance.sample(range(4), 2):
+        part.units[key] = chance.choice([0, 1, 2**62, 2**63 - 1])
+        part.marks[key] = chance.choice([0, 1, 2**63, 2**64 - 1])
+    part.amounts, part.taken = (
+        chance.choice([1, -1]) * chance.choice([0, 1, 2**126 - 1, 2**126, 2**127 - 1]) for _ in range(2)
+    )
+    part.redundant, part.images = (chance.choice([0, 1, 2, 2**62, 2**63, 2**64 - 1]) for _ in range(2))
+    part.least = chance.choice([0, 0, 1, 2**62 - 1, 2**62, 2**64 - 1])
+    name = chance.choice([b"a", b"b"])
+    notes = (chance.choice([1, 1, 2, 2**62 - 1, 2**62, 2**64 - 2]), *(chance.choice([0, 1, 2**63]) for _ in range(4)))
+    return plain_sums.Sum({(name, (plain_sums.SPARSE,)): part}, *notes)
+
+
+def limits(program: pathlib.Path, top: pathlib.Path, seed: int | str) -> Iterator[Case]:
+    """Totals that do not fit beside others: which are left out does not depend on the workers."""
+    tried = 0
+    for number in range(4 * FOLDERS):
+        chance = random.Random(f"limits {seed} {number}")
+        inputs = []
+        few = chance.random() < 0.5
+        for place in range(chance.randint(3, 12)):
+            data = lawful_of(chance) if chance.random() < 0.3 else plain_sums.totals_text(near_limits(chance))
+            if few and place > 2:
+                data = lawful_of(chance)
+            path = top / f"limits {number} {place}"
+            path.write_bytes(data)
+            inputs.append((path, data))
+        whole, left = plain_sums.sum_of(inputs)
+        tried += any(why == "TooMany" for _, why in left)
+        wanted = wanted_of(plain_sums.report_of(whole, len(left)), left)
+        totals_wanted = wanted_of(plain_sums.totals_text(whole), left)
+        for workers in WORKERS:
+            words: list[Word] = ["report", *(path for path, _ in inputs), "--workers", str(workers)]
+            title = f"limits {number} of seed {seed}, {workers} workers"
+            yield title, difference(wanted, answer(program, words))
+            yield f"{title}, totals", difference(totals_wanted, answer(program, [*words, "--totals"]))
+    yield "totals that do not fit", None if tried > FOLDERS else f"only {tried} lists had some"
+
+
 def files(program: pathlib.Path, top: pathlib.Path) -> Iterator[Case]:
     """Files that are named twice, that are missing, on standard input; an empty folder; one image as ever."""
     crash, example = CRASH.read_bytes(), EXAMPLE.read_bytes()
@@ -480,7 +522,7 @@ def usage(program: pathlib.Path, top: pathlib.Path) -> Iterator[Case]:
 
 
 def cases(program: pathlib.Path, options: argparse.Namespace) -> Iterator[Case]:
-    for part in (folders, trees, earlier, many):
+    for part in (folders, trees, earlier, many, limits):
         with tempfile.TemporaryDirectory() as name:
             yield from part(program, pathlib.Path(name).resolve(), options.seed)
     for more in (files, unreadable, told_meanwhile, usage):

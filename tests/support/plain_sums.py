@@ -22,6 +22,9 @@ T = TypeVar("T")
 TOTALS = b"totals,1\n"
 COOKIE = SEGMENT_COOKIE.to_bytes(8, "little")
 MOST = 2**64 - 1
+
+# Numbers of images are below this in what is put behind other inputs.
+NUMBER_LIMIT = 2**62
 # The kinds by the numbers that records have.
 LINEAR, BOOLEAN, CUSTOM, SPARSE = 1, 2, 3, 4
 NUMBERS = {word: number for number, word in plain_reader.KINDS.items()}
@@ -197,6 +200,8 @@ def added(one: Sum, other: Sum) -> Sum:
     """The sum of both, one behind the other; raises that a total does not fit."""
     parts = dict(one.parts)
     for key, part in other.parts.items():
+        if part.least >= NUMBER_LIMIT or part.least + one.images > MOST:
+            raise Wrong("TooMany")
         none = Part({}, {}, 0, 0, 0, 0, part.least + one.images)
         parts[key] = both(parts.get(key, none), part, one.images)
         if not fits(parts[key]):

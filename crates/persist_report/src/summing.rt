@@ -183,6 +183,8 @@ impl OpenInput for OpenedFile {
     // Nothing is known of what is in a file.
     ghost may_be = { λ _ _. ⊤ };
 
+    ghost is_whole = { λ _. ⊥ };
+
     fn add_to(self, sums: &mut Sums) -> Result<bool, InputFault> {
         let added = self.add(sums);
         any_fault_may_come(&added);
@@ -227,6 +229,8 @@ impl<R: Files<File = File> + Input + AllocGlobal> Source for NamedInputs<'_, '_,
 
     // Nothing is known of what is in a file.
     ghost may_be = { λ _ _ _. ⊤ };
+
+    ghost are_whole = { λ _. ⊥ };
 
     // Workers read regular files. Standard input, pipes and devices are read in their turn.
     fn open(&self, place: usize) -> Option<OpenedFile> {

@@ -108,7 +108,7 @@ raised-behind by more raised before after images parts notes both = record {
   notes = subst (λ z. AreNotesOfBoth before.notes z after.notes) notes both.notes;
 }
 
-hists-raised : (by : ℕ) (hists : List Histogram) → map (part_from by) hists ≡ map (raised_part by) (map (part_from 0) hists)
+pub hists-raised : (by : ℕ) (hists : List Histogram) → map (part_from by) hists ≡ map (raised_part by) (map (part_from 0) hists)
 hists-raised by [] = refl
 hists-raised by (hist ∷ rest) =
     let e : by ≡ 0 + by = omega arith in λ i. (record (part_from by hist) { least = e i }) ∷ hists-raised by rest i

@@ -1,4 +1,5 @@
 pub mod Alike
 pub mod InTurn
 pub mod Fits
+pub mod Behind
 pub mod Taking

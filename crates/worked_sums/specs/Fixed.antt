@@ -1,17 +1,26 @@
 -- A source of readings in memory, each of which can be one input alone.
-use Rattle.std.specs.Prelude.{◌≡◌, false, ℕ, Option, Some, List, slice_get}
+use Rattle.std.specs.Prelude.{◌≡◌, false, ℕ, Option, None, Some, List, slice_get}
 use Rattle.image_reader.specs.declared.reading.Reading.{Reading}
 use Rattle.image_reader.specs.Views.{reading_view}
 use Rattle.reading_sums.specs.Addends.{addend_of_reading}
+use Rattle.reading_sums.specs.Whole.{IsWholeReading}
+use Rattle.sum_commands.specs.declared.fault.InputFault.TheVariants.{TooMany}
 use Rattle.sum_commands.specs.Sources.{Input}
-use Rattle.sum_commands.specs.Sources.Input.{Added}
+use Rattle.sum_commands.specs.Sources.Input.{Added, LeftOut}
 
 -- an input is a reading, and not damaged
 abbrev pub IsThatReading : Reading → Input → Type 0
 IsThatReading reading input = input ≡ Added false (addend_of_reading (reading_view reading))
 
--- the input at a place is the reading there
-pub record IsReadingAt (readings : List Reading) (place : ℕ) (input : Input) : Type 0 where
-  pub reading : Reading
-  pub there : slice_get readings place ≡ Some reading
-  pub is : IsThatReading reading input
+-- it is that reading; where there is none, it is left out
+abbrev pub IsReadingOrNone : Option Reading → Input → Type 0
+IsReadingOrNone (Some reading) input = IsThatReading reading input
+IsReadingOrNone None input = input ≡ LeftOut TooMany
+
+-- the input at a place is the reading there; behind the last one there is none
+abbrev pub IsReadingAt : List Reading → ℕ → Input → Type 0
+IsReadingAt readings place input = IsReadingOrNone (slice_get readings place) input
+
+-- a reading in memory is whole
+abbrev pub IsWholeInMemory : Reading → Type 0
+IsWholeInMemory reading = IsWholeReading (reading_view reading)

@@ -1,8 +1,10 @@
 //! Readings in memory as a source: each input can be one thing alone, so their sum is the same for any number of workers.
 
-ghost use Rattle.std.specs.Prelude.{◌≡◌, IfErr, IfOk, OnErr};
-ghost use Rattle.sum_commands.specs.Sources.{AddsInput, AreFixedInputs, MayNotBeAdded};
-ghost use Rattle.worked_sums.specs.Fixed.{IsReadingAt, IsThatReading};
+ghost use Rattle.std.specs.Prelude.{◌≡◌, Bool, ℕ, IfErr, IfOk, OnErr};
+ghost use Rattle.std.specs.List.{All};
+ghost use Rattle.sum_commands.specs.declared.summing.Summed as summed;
+ghost use Rattle.sum_commands.specs.Sources.{AddsInput, AreAlike, AreFixedInputs, IsSumOfAllInputs, MayNotBeAdded};
+ghost use Rattle.worked_sums.specs.Fixed.{IsReadingAt, IsThatReading, IsWholeInMemory};
 
 use image_reader::Reading;
 use reading_sums::Sums;
@@ -22,8 +24,8 @@ pub struct OneReading<'r> {
 
 // Adds a reading to a sum.
 fn add_reading(sums: &mut Sums, reading: &Reading) -> Result<bool, InputFault>
-    ensures added { IfOk result (λ is_damaged. AddsInput (IsThatReading reading.now) is_damaged sums.old sums.new) }
-    ensures cause { IfErr result (MayNotBeAdded (IsThatReading reading.now)) }
+    ensures added { IfOk result (λ is_damaged. AddsInput (IsWholeInMemory reading.now) (IsThatReading reading.now) is_damaged sums.old sums.new) }
+    ensures cause { IfErr result (MayNotBeAdded (IsWholeInMemory reading.now) (IsThatReading reading.now) sums.old) }
     ensures refused { OnErr result (sums.new ≡ sums.old) }
 {
     let number = sums.notes().images;
@@ -32,9 +34,11 @@ fn add_reading(sums: &mut Sums, reading: &Reading) -> Result<bool, InputFault>
 }
 
 impl OpenInput for OneReading<'_> {
-    ghost use Rattle.worked_sums.specs.Fixed.{IsThatReading};
+    ghost use Rattle.worked_sums.specs.Fixed.{IsThatReading, IsWholeInMemory};
 
     ghost may_be = { λ one input. IsThatReading one.reading.now input };
+
+    ghost is_whole = { λ one. IsWholeInMemory one.reading.now };
 
     fn add_to(self, sums: &mut Sums) -> Result<bool, InputFault> {
         add_reading(sums, self.reading)
@@ -42,11 +46,14 @@ impl OpenInput for OneReading<'_> {
 }
 
 impl<'r> Source for Readings<'r> {
-    ghost use Rattle.worked_sums.specs.Fixed.{IsReadingAt};
+    ghost use Rattle.std.specs.List.{All};
+    ghost use Rattle.worked_sums.specs.Fixed.{IsReadingAt, IsWholeInMemory};
 
     type Opened = OneReading<'r>;
 
     ghost may_be = { λ source place input. IsReadingAt source.readings.now place input };
+
+    ghost are_whole = { λ source. All IsWholeInMemory source.readings.now };
 
     fn open(&self, place: usize) -> Option<OneReading<'r>> {
         match self.readings.get(place) {
@@ -64,11 +71,13 @@ impl<'r> Source for Readings<'r> {
     }
 }
 
-/// Each input of readings in memory can be one thing alone, so `workers_are_nothing` speaks of them [fixed].
+/// Each input of readings in memory can be one thing alone [fixed]. So the sums of whole readings are alike, by any number of workers
+/// and also where some readings do not fit beside those before them [alike].
 ///
 /// It does nothing: what it promises is a law of the definition.
 pub fn readings_are_fixed(_source: &Readings)
     ensures fixed { AreFixedInputs (IsReadingAt _source.now.readings.now) }
+    ensures alike { All IsWholeInMemory _source.now.readings.now → (is_strict : Bool) (inputs : ℕ) (a b : summed.Summed) → IsSumOfAllInputs (All IsWholeInMemory _source.now.readings.now) (IsReadingAt _source.now.readings.now) is_strict inputs a → IsSumOfAllInputs (All IsWholeInMemory _source.now.readings.now) (IsReadingAt _source.now.readings.now) is_strict inputs b → AreAlike a b }
 {}
 
 #[cfg(test)]

@@ -63,6 +63,8 @@ impl OpenInput for OpenText<'_> {
 
     ghost may_be = { λ _ _. ⊤ };
 
+    ghost is_whole = { λ _. ⊥ };
+
     fn add_to(self, sums: &mut Sums) -> Result<bool, InputFault> {
         let added = add_text(self.alloc, sums, self.text);
         any_fault_may_come(&added);
@@ -76,6 +78,8 @@ impl<'r, R: AllocGlobal> Source for Texts<'r, R> {
     type Opened = OpenText<'r>;
 
     ghost may_be = { λ _ _ _. ⊤ };
+
+    ghost are_whole = { λ _. ⊥ };
 
     fn open(&self, place: usize) -> Option<OpenText<'r>> {
         let bit = 1u64 << (place % 64);

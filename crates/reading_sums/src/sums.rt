@@ -129,8 +129,8 @@ impl Sums {
     }
 
     /// Returns the sum of the same readings, where the number of each is so much greater [raised]: the least number of each
-    /// name and spec is so much greater [parts], and all else is the same [notes]. So the sum of what comes behind others can
-    /// be added to theirs.
+    /// name and spec is so much greater [parts], and all else is the same [notes]. It is well formed if this sum is
+    /// [well_formed]. So the sum of what comes behind others can be added to theirs.
     ///
     /// It is refused with `NoMemory` if there is no memory, and with `TooMany` only if some least number would be 2^64 or more
     /// [too_many].
@@ -138,6 +138,7 @@ impl Sums {
         ensures raised { IfOk result (λ sums. (readings : List (ℕ × definition.Reading)) → IsSumOver readings self.now → IsSumOver (map (raised by) readings) sums) }
         ensures parts { IfOk result (λ sums. parts_of sums ≡ map (raised_part by) (parts_of self.now)) }
         ensures notes { IfOk result (λ sums. sums.notes ≡ self.now.notes) }
+        ensures well_formed { IfOk result (λ sums. IsWellFormed self.now → IsWellFormed sums) }
         ensures too_many { IfErr result (λ fault. IfTooMany fault (HasNumberTooGreat by (parts_of self.now))) }
     {
         Ok(Sums {

@@ -96,6 +96,7 @@ impl Sums {
         ensures added { OnOk result ((readings : List (ℕ × definition.Reading)) → IsSumOver readings self.old → IsSumOver (readings ++ (number, reading_view reading.now) ∷ []) self.new) }
         ensures more { OnOk result (AddsNumbered (number, reading_view reading.now) self.old self.new) }
         ensures well_formed { OnOk result (IsWellFormed self.old → IsWholeReading (reading_view reading.now) → IsWellFormed self.new) }
+        ensures fits { OnOk result (IsWellFormed self.old → IsWholeReading (reading_view reading.now) → ¬ SumDoesNotFit self.old (parts_of_one (number, reading_view reading.now)) (notes_of_one (reading_view reading.now))) }
         ensures refused { OnErr result (self.new ≡ self.old) }
         ensures too_many { IfErr result (λ fault. IfTooMany fault (IsWellFormed self.old → IsWholeReading (reading_view reading.now) → SumDoesNotFit self.old (parts_of_one (number, reading_view reading.now)) (notes_of_one (reading_view reading.now)))) }
     {
@@ -118,6 +119,7 @@ impl Sums {
         ensures added { OnOk result ((readings more : List (ℕ × definition.Reading)) → IsSumOver readings self.old → IsSumOver more other.now → IsSumOver (readings ++ more) self.new) }
         ensures both { OnOk result (IsSumOfBoth self.old other.now self.new) }
         ensures well_formed { OnOk result (IsWellFormed self.old → IsWellFormed other.now → IsWellFormed self.new) }
+        ensures fits { OnOk result (IsWellFormed self.old → IsWellFormed other.now → ¬ SumDoesNotFit self.old (parts_of other.now) other.now.notes) }
         ensures refused { OnErr result (self.new ≡ self.old) }
         ensures too_many { IfErr result (λ fault. IfTooMany fault (IsWellFormed self.old → IsWellFormed other.now → SumDoesNotFit self.old (parts_of other.now) other.now.notes)) }
     {

@@ -25,6 +25,9 @@ pub returns-clause-well_formed : goal.returns-clause-well_formed
 returns-clause-well_formed c = λ first second.
     c.in_ok-hists.ensures.whole (subst AreWhole (sym c.deref.ensures.value) first) (subst AreWhole (sym c.deref-2.ensures.value) second)
 
+pub returns-clause-fits : goal.returns-clause-fits
+returns-clause-fits c = λ first second. ?
+
 pub returns-in_err-hists-clause-too_many : goal.returns-in_err-hists-clause-too_many
 returns-in_err-hists-clause-too_many c =
     let p = err_from_is_err_and c.from_residual-in_err-hists.result c.from_residual-in_err-hists.ensures.1 in

@@ -34,3 +34,5 @@ pub mod Alone
 pub mod WholeKeys
 pub mod WholeWords
 pub mod OneSum
+pub mod SameUnits
+pub mod FitInTurn

@@ -1,5 +1,5 @@
 -- Why a sum is refused: what does not fit.
-use Rattle.std.specs.Prelude.{◌≡◌, ◌⊎◌, ⊤, ℕ, ◌+◌, ◌≤◌, ◌^◌, ℤ, pos, ◌+ℤ◌, ◌≤ℤ◌, FitsSigned, List, ◌++◌, sum_by, if◌then◌else◌}
+use Rattle.std.specs.Prelude.{◌≡◌, ◌⊎◌, ⊤, ℕ, ◌+◌, ◌≤◌, ◌^◌, ℤ, pos, ◌<◌, ◌+ℤ◌, ◌≤ℤ◌, FitsSigned, unsigned_abs, List, ◌++◌, sum_by, if◌then◌else◌}
 use Rattle.std.specs.Int.{w128}
 use Rattle.std.specs.List.{Contains}
 use Rattle.bucket_ranges.specs.declared.spec.Spec.{Spec}
@@ -88,3 +88,8 @@ NotesInTurnDoNotFit addends = (2 ^ 64 ≤ sum_by (λ (addend : Addend). addend.n
 -- addends do not fit together: their notes or their parts do not
 abbrev pub AddendsDoNotFit : List Addend → Type 0
 AddendsDoNotFit addends = NotesInTurnDoNotFit addends ⊎ PartsDoNotFit (parts_in_turn 0 addends)
+
+-- of no name and spec the amounts together, or those that deltas have taken, are as much as 2^126
+abbrev pub HasSmallAmounts : List Part → Type 0
+HasSmallAmounts parts = (name : List ℕ) (spec : Spec)
+    → (unsigned_abs (total Amounts name spec parts) < 2 ^ 126) × (unsigned_abs (total AmountMarks name spec parts) < 2 ^ 126)

@@ -1,5 +1,5 @@
 -- What a reading has goes to what the readings before it have.
-use Rattle.std.proofs.Common.{◌+◌, ◌∷◌, ◌++◌, [], ℕ, List, map, refl, ap, subst, sym, ◌∙◌, IsPermutation}
+use Rattle.std.proofs.Common.{⊎_elim, ◌∷◌, ◌++◌, [], ℕ, List, map, ap, subst, sym, ◌∙◌, IsPermutation}
 use Rattle.bucket_ranges.specs.Reading.{Reading}
 use Rattle.std.proofs.lemmas.Simd.{map-map}
 use Rattle.image_reader.specs.Views.{histogram_view, reading_view}
@@ -12,6 +12,8 @@ use Rattle.reading_sums.specs.Sums.{IsSumOver, parts_of_one}
 use Rattle.std.specs.List.{All}
 use Rattle.image_reader.specs.declared.reading.HistReading.{HistReading}
 use Rattle.reading_sums.specs.Whole.{AreWhole, HasNamesOnce, IsWholeHistogram, IsWholeReading}
+use Rattle.reading_sums.specs.Fitting.{NotesDoNotFit}
+use Rattle.reading_sums.proofs.FitInTurn.{whole-parts-fit}
 use Rattle.reading_sums.proofs.Readings.{parts-both, parts-one, notes-both, notes-one}
 use Rattle.reading_sums.proofs.Totals.{same-append, same-refl, same-trans}
 use Rattle.std.proofs.lemmas.Result.{err_from_is_err_and}
@@ -59,7 +61,14 @@ returns-clause-well_formed c = λ before reading.
     c.in_ok-hists.ensures.whole (subst AreWhole (sym c.deref-2.ensures.value) before) (subst AreWhole (sym c.deref-3.ensures.value) one)
 
 pub returns-clause-fits : goal.returns-clause-fits
-returns-clause-fits c = λ before reading. ?
+returns-clause-fits c = λ before reading does_not.
+    let one : ℕ × Reading = (c.args.number, reading_view c.args.reading.now) in
+    ⊎_elim
+    (λ notes. subst (λ z. ¬ NotesDoNotFit c.args.self.now.notes z) c.notes_of.ensures c.in_ok-notes.ensures.fits notes)
+    (λ parts.
+    whole-parts-fit c.in_ok-hists.hists.items (parts_of c.args.self.now ++ parts_of_one one) (returns-clause-well_formed c before reading)
+    (returns-clause-more c).hists.totals parts)
+    does_not
 
 pub returns-in_err-hists-clause-too_many : goal.returns-in_err-hists-clause-too_many
 returns-in_err-hists-clause-too_many c =

@@ -177,7 +177,7 @@ whole-kept laters hists kept whole range are = record {
   range = range;
 }
 
--- ---- what is said of lists is so of equal ones
+-- ---- what is said of lists holds of equal ones
 
 pub same-lists : (P : List HistSum → List HistSum → Type 0) (a b here there : List HistSum) → here ≡ a → there ≡ b → P here there → P a b
 same-lists P a b here there first second is = subst (λ z. P a z) second (subst (λ z. P z there) first is)

@@ -77,7 +77,7 @@ pub record AreWhole (hists : List HistSum) : Type 0 where
   pub whole : All IsWholeHist hists
   pub range : All IsInRange hists
 
--- a sum whose histograms are so
+-- a sum of such histograms
 abbrev pub IsWellFormed : Sums → Type 0
 IsWellFormed sums = AreWhole sums.hists.items
 

@@ -1,6 +1,5 @@
 -- What is taken in a step goes behind what was taken before.
-use Rattle.std.proofs.Common.{◌<◌, ◌≤◌, ◌^◌, length, subst, arith}
-use Rattle.std.proofs.lemmas.List.{take_all}
+use Rattle.std.proofs.Common.{◌<◌, ◌^◌, arith}
 use Rattle.reading_sums.specs.declared.key.KeySum.{KeySum}
 use Rattle.reading_sums.specs.Orders.{key_cmp}
 use Rattle.reading_sums.proofs.KeysSince.{keys-walk, fallen-whole}

@@ -78,7 +78,8 @@ fn has_its_buckets(alloc: Global, hist: &HistSum) -> Result<bool, AllocError>
     }
 }
 
-// Numbers of a histogram are in the ranges of their types. It does nothing: this is known of each number that is passed.
+// That numbers of a histogram are in the ranges of their types. It does nothing: a proof knows it of each number that is
+// passed.
 fn are_in_range(sum: i128, sum_mark: i128, redundant: u64, images: u64)
     ensures sum { FitsSigned w128 sum }
     ensures sum_mark { FitsSigned w128 sum_mark }

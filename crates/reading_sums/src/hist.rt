@@ -65,7 +65,7 @@ pub(crate) fn sum_of(alloc: Global, number: u64, hist: &HistReading) -> Result<H
     ensures part { IfOk result (λ sum. part_of sum ≡ part_from number (histogram_view hist.now)) }
     ensures range { IfOk result IsInRange }
 {
-    // It is read by itself, so that its range is known of it.
+    // A proof knows the range of a number that is read into a variable.
     let redundant = hist.redundant;
     Ok(HistSum {
         name: Vec::from_slice(alloc, &hist.name)?,

@@ -10,7 +10,7 @@ use crate::hist::{HistSum, copy_of};
 use crate::notes::number_of_both;
 use std::alloc::Global;
 
-// A histogram of a sum, where the numbers of its images are raised by a number, if they fit 64 bits.
+// A histogram of a sum, the numbers of its images raised by `by`, if they fit 64 bits.
 fn raised_hist(alloc: Global, hist: &HistSum, by: u64) -> Result<HistSum, SumsFault>
     ensures raised { IfOk result (λ raised. part_of raised ≡ raised_part by (part_of hist.now)) }
     ensures too_many { IfErr result (λ fault. IfTooMany fault (2 ^ 64 ≤ hist.now.least + by)) }
@@ -21,7 +21,7 @@ fn raised_hist(alloc: Global, hist: &HistSum, by: u64) -> Result<HistSum, SumsFa
     })
 }
 
-/// The histograms of a sum, where the numbers of its images are raised by a number, if they fit 64 bits.
+/// The histograms of a sum, the numbers of their images raised by `by`, if they fit 64 bits.
 pub(crate) fn raised_hists(
     alloc: Global,
     hists: &[HistSum],

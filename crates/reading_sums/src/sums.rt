@@ -131,9 +131,9 @@ impl Sums {
         Ok(())
     }
 
-    /// Returns the sum of the same readings, where the number of each is raised by this one [raised]: the least number of
-    /// each name and spec is raised by it [parts], and all else is the same [notes]. It is well formed if this sum is
-    /// [well_formed]. So the sum of what comes behind others can be added to theirs.
+    /// Returns the sum of the same readings, the number of each raised by `by` [raised]: the least number of each name and
+    /// spec is raised by it [parts], and all else is the same [notes]. It is well formed if this sum is [well_formed]. So
+    /// the sum of what comes behind others can be added to theirs.
     ///
     /// It is refused with `NoMemory` if there is no memory, and with `TooMany` only if some least number would be 2^64 or more
     /// [too_many].

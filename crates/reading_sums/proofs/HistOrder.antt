@@ -12,7 +12,7 @@ use Rattle.reading_sums.specs.declared.hist.HistSum.{HistSum}
 use Rattle.reading_sums.specs.Orders.{hist_cmp, spec_numbers, ComesNext}
 use Rattle.reading_sums.specs.Totals.{Part}
 use Rattle.reading_sums.specs.Views.{part_of}
-use Rattle.reading_sums.specs.Whole.{AreWhole, IsWholeList, IsWholeHist}
+use Rattle.reading_sums.specs.Whole.{AreWhole, IsInRange, IsWholeList, IsWholeHist}
 use Rattle.reading_sums.proofs.Ascending.{left-next, right-next, both-next}
 
 pub hist-total : IsTotalOrder hist_cmp
@@ -60,26 +60,26 @@ first-above (u ∷ us) (v ∷ vs) x y some more first second above d = turned u 
 
 -- ---- whole ones
 
--- the first of a list that are all whole
-pub first-whole : (a : List HistSum) (x : HistSum) → 0 < length a → x ≡ get_or a 0 x → All IsWholeHist a → IsWholeHist x
-first-whole [] x some is all = absurd (omega arith)
-first-whole (y ∷ ys) x some is all = subst IsWholeHist (sym is) (All-head IsWholeHist y ys all)
+-- what all of a list are, its first is
+pub first-has : (P : HistSum → Type 0) (a : List HistSum) (x : HistSum) → 0 < length a → x ≡ get_or a 0 x → All P a → P x
+first-has P [] x some is all = absurd (omega arith)
+first-has P (y ∷ ys) x some is all = subst P (sym is) (All-head P y ys all)
 
 -- a copy of one that is whole
 pub copy-whole : (e x : HistSum) → part_of e ≡ part_of x → IsWholeHist x → IsWholeHist e
 copy-whole e x same whole = subst (λ (p : Part). IsWholeList p.spec p.keys) (sym same) whole
 
-pub whole-step : (done new a b a_new b_new : List HistSum) (e : HistSum) (i j : ℕ) → new ≡ done ++ e ∷ [] → a_new ≡ drop i a → b_new ≡ drop j b
-    → (All IsWholeHist a → All IsWholeHist b → IsWholeHist e) → All IsWholeHist done × All IsWholeHist a × All IsWholeHist b
-    → All IsWholeHist new × All IsWholeHist a_new × All IsWholeHist b_new
-whole-step done new a b a_new b_new e i j pushed cut_a cut_b next before = (
-  subst (All IsWholeHist) (sym pushed) (All-push IsWholeHist done e before.0 (next before.1 before.2)),
-  subst (All IsWholeHist) (sym cut_a) (All-drop IsWholeHist i a before.1),
-  subst (All IsWholeHist) (sym cut_b) (All-drop IsWholeHist j b before.2),
+-- what all of both lists are, what comes next is; and so all are of which the step leaves both lists
+pub all-step : (P : HistSum → Type 0) (done new a b a_new b_new : List HistSum) (e : HistSum) (i j : ℕ) → new ≡ done ++ e ∷ [] → a_new ≡ drop i a
+    → b_new ≡ drop j b → (All P a → All P b → P e) → All P done × All P a × All P b → All P new × All P a_new × All P b_new
+all-step P done new a b a_new b_new e i j pushed cut_a cut_b next before = (
+  subst (All P) (sym pushed) (All-push P done e before.0 (next before.1 before.2)),
+  subst (All P) (sym cut_a) (All-drop P i a before.1),
+  subst (All P) (sym cut_b) (All-drop P j b before.2),
 )
 
 -- no histograms
 pub none-whole : (hists : List HistSum) → hists ≡ [] → AreWhole hists
 unfolding IsStrictlySortedBy
-none-whole [] none = record { ascending = tt; whole = All-nil IsWholeHist }
+none-whole [] none = record { ascending = tt; whole = All-nil IsWholeHist; range = All-nil IsInRange }
 none-whole (x ∷ xs) none = absurd (cc)

@@ -19,7 +19,7 @@ use Rattle.reading_sums.specs.Orders.{hist_cmp, spec_cmp}
 use Rattle.reading_sums.specs.Since.{Frame, frame_of, AreSince, HasLess, HasSomething, HasLongAmount, HasHistNamed, HasFallen, HasChangedSpec, HasTooMany, ArePair, IsWithoutLater, IsGrown, IsReason, IsNoReason}
 use Rattle.reading_sums.specs.Totals.{Part, total}
 use Rattle.reading_sums.specs.Views.{part_of}
-use Rattle.reading_sums.specs.Whole.{AreWhole, IsWholeHist}
+use Rattle.reading_sums.specs.Whole.{AreWhole, IsInRange, IsWholeHist}
 use Rattle.reading_sums.proofs.HistOrder.{alike}
 use Rattle.reading_sums.proofs.HistsWalk.{reasons}
 use Rattle.reading_sums.proofs.Totals.{total-append}
@@ -59,12 +59,6 @@ hists-walk laters earliers left rest hists more new i j m n cut_left cut_rest pu
     let S : List Part → Type 0 = λ z. AreSince (map part_of (take i laters) ++ map part_of (take m left)) (map part_of (take j earliers) ++ map part_of (take n rest)) z in
     subst P front (subst Q other (subst S all
     (parts-append (map part_of (take i laters)) (map part_of (take j earliers)) (map part_of hists) (map part_of (take m left)) (map part_of (take n rest)) (map part_of more) before step)))
-
-pub whole-walk : (laters left hists more new : List HistSum) (i : ℕ) → left ≡ drop i laters → new ≡ hists ++ more
-    → (All IsWholeHist left → All IsWholeHist more) → (All IsWholeHist laters → All IsWholeHist hists) → All IsWholeHist laters → All IsWholeHist new
-whole-walk laters left hists more new i cut put step before whole =
-    subst (All IsWholeHist) (sym put)
-    (All-append IsWholeHist hists more (before whole) (step (subst (All IsWholeHist) (sym cut) (All-drop IsWholeHist i laters whole))))
 
 -- both lists from a place on, as the step sees them
 front-whole : (laters front left : List HistSum) (i : ℕ) → front ≡ take i laters → left ≡ drop i laters → front ++ left ≡ laters
@@ -113,6 +107,7 @@ refused-walk laters earliers front left rest i j fault begins cut_left cut_rest 
     let walked : AreWhole (take i laters ++ drop j earliers) = record {
       ascending = ordered one.ascending other.ascending;
       whole = All-append IsWholeHist (take i laters) (drop j earliers) (All-take IsWholeHist i laters one.whole) (All-drop IsWholeHist j earliers other.whole);
+      range = All-append IsInRange (take i laters) (drop j earliers) (All-take IsInRange i laters one.range) (All-drop IsInRange j earliers other.range);
     } in
     let here = subst AreWhole (sym (front-rest laters earliers front rest i j begins cut_rest)) walked in
     more-reason laters earliers rest j fault cut_rest
@@ -172,15 +167,17 @@ frame_cmp : Frame → Frame → Ordering
 frame_cmp a b = ordering_then (slice_cmp nat_cmp a.name b.name) (spec_cmp a.spec b.spec)
 
 -- what whole histograms have more than others is whole
-pub whole-kept : (laters hists : List HistSum) → map frame_of (map part_of hists) ≡ map frame_of (map part_of laters) → All IsWholeHist hists → AreWhole laters → AreWhole hists
+pub whole-kept : (laters hists : List HistSum) → map frame_of (map part_of hists) ≡ map frame_of (map part_of laters) → All IsWholeHist hists → All IsInRange hists
+    → AreWhole laters → AreWhole hists
 unfolding frame_cmp
-whole-kept laters hists kept whole are = record {
+whole-kept laters hists kept whole range are = record {
   ascending = alike-ascend frame_cmp (λ (h : HistSum). frame_of (part_of h)) hists laters
       (sym (map-map frame_of part_of hists) ∙ (kept ∙ map-map frame_of part_of laters)) are.ascending;
   whole = whole;
+  range = range;
 }
 
--- ---- what is said of lists is so of equal ones
+-- ---- what is said of lists holds of equal ones
 
 pub same-lists : (P : List HistSum → List HistSum → Type 0) (a b here there : List HistSum) → here ≡ a → there ≡ b → P here there → P a b
 same-lists P a b here there first second is = subst (λ z. P a z) second (subst (λ z. P z there) first is)

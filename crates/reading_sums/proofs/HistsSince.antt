@@ -38,7 +38,7 @@ less-key later earlier fallen =
       | inr less ↦ (Marks fallen.0, tt, omega (arith, ints, less))
     ]
 
--- what is said of lists is so of equal ones
+-- what is said of lists holds of equal ones
 pub fallen-same : (later earlier here there : List KeySum) → here ≡ later → there ≡ earlier
     → (IsStrictlySortedBy key_cmp here → IsStrictlySortedBy key_cmp there → HasKeyFallen here there)
     → IsStrictlySortedBy key_cmp later → IsStrictlySortedBy key_cmp earlier → HasKeyFallen later earlier

@@ -17,6 +17,7 @@ pub mod Buckets
 pub mod RaisedSums
 pub mod Numbered
 pub mod Walk
+pub mod Alike
 pub mod KeysSince
 pub mod HistsSince
 pub mod Between

@@ -51,7 +51,7 @@ units-step done new left right left_new right_new key i j all pushed cut_left cu
     ap units_of (λ k. pushed k ++ (cut_left k ++ cut_right k))
     ∙ sum-step (λ key. key.units) done (left ++ right) (drop i left ++ drop j right) key all before here
 
--- what is so anyway, is so for each fault
+-- what holds anyway, holds for each fault
 pub if-many : (fault : SumsFault) (many : Type 0) → many → IfTooMany fault many
 if-many NoMemory many is = tt
 if-many TooMany many is = is

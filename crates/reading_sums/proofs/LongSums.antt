@@ -1,38 +1,25 @@
 -- Sums that do not fit together.
-use Rattle.std.proofs.Common.{◌≡◌, ◌<◌, ◌≤◌, ◌^◌, ◌+◌, ⊎_elim, inl, inr, ℕ, List, ◌++◌, map, length, get_or, sum_by, if◌then◌else◌, ap, sym, subst, ◌∙◌, arith, IsPermutation}
+use Rattle.std.proofs.Common.{◌≡◌, ◌<◌, ◌≤◌, ◌^◌, ◌+◌, inr, ℕ, List, ◌++◌, map, length, get_or, ap, sym, subst, ◌∙◌, arith, IsPermutation}
 use Rattle.std.proofs.lemmas.List.{get_or-map, length-map}
-use Rattle.std.proofs.lemmas.List.Sorted.{sum_by-IsPermutation}
-use Rattle.std.proofs.lemmas.List.Sums.{sum_by-append}
 use Rattle.bucket_ranges.specs.Reading.{Reading}
 use Rattle.reading_sums.specs.declared.fault.SumsFault.{SumsFault}
 use Rattle.reading_sums.specs.declared.fault.SumsFault.TheVariants.{NoMemory, TooMany}
 use Rattle.reading_sums.specs.declared.hist.HistSum.{HistSum}
 use Rattle.reading_sums.specs.declared.sums.Sums.{Sums}
 use Rattle.reading_sums.specs.Addends.{notes_of_one}
-use Rattle.reading_sums.specs.Fitting.{PartsDoNotFit, SumDoesNotFit, HasNumberTooGreat, IfTooMany, TotalDoesNotFit}
+use Rattle.reading_sums.specs.Fitting.{PartsDoNotFit, SumDoesNotFit, HasNumberTooGreat, IfTooMany}
 use Rattle.reading_sums.specs.Sums.{parts_of_one}
-use Rattle.reading_sums.specs.Totals.{Part, is_of}
+use Rattle.reading_sums.specs.Totals.{Part}
 use Rattle.reading_sums.specs.Views.{part_of, parts_of}
-use Rattle.reading_sums.specs.Whole.{AreWhole, IsWellFormed, IsWholeReading, units_of}
+use Rattle.reading_sums.specs.Whole.{AreWhole, IsWellFormed, IsWholeReading}
 use Rattle.reading_sums.proofs.Readings.{same-permutation}
+use Rattle.reading_sums.proofs.SameUnits.{parts-moved}
 use Rattle.reading_sums.proofs.Totals.{same-append, same-refl}
 
 -- parts in another order
 moved-long : (xs ys zs : List Part) → IsPermutation ys zs → PartsDoNotFit (xs ++ ys) → PartsDoNotFit (xs ++ zs)
 moved-long xs ys zs moved many =
-    let name = many.0 in
-    let spec = many.1 in
-    let f : Part → ℕ = λ p. if is_of name spec p then units_of p.keys else 0 in
-    let units : sum_by f (xs ++ ys) ≡ sum_by f (xs ++ zs) =
-    sum_by-append f xs ys ∙ (ap (λ n. sum_by f xs + n) (sym (sum_by-IsPermutation f ys zs moved)) ∙ sym (sum_by-append f xs zs)) in
-    let same = same-append xs xs ys zs (same-refl xs) (same-permutation ys zs moved) in (
-      name,
-      spec,
-      ⊎_elim
-          (λ long. inl (subst (λ n. 2 ^ 64 ≤ n) units long))
-          (λ some. inr (some.0, subst (TotalDoesNotFit some.0) (same.totals some.0 name spec) some.1))
-          many.2,
-    )
+    parts-moved (xs ++ ys) (xs ++ zs) (same-append xs xs ys zs (same-refl xs) (same-permutation ys zs moved)).totals many
 
 -- a least number that does not fit when it is greater
 number-here : (hists : List HistSum) (k : ℕ) (x : HistSum) (by : ℕ) → k < length hists → x ≡ get_or hists k x → 2 ^ 64 ≤ x.least + by

@@ -1,5 +1,5 @@
 -- Two well-formed sums with the same totals have the same parts.
-use Rattle.std.proofs.Common.{◌≡◌, true, false, ℕ, List, [], ◌∷◌, map, refl, ap, sym, subst, ◌∙◌, nat_cmp}
+use Rattle.std.proofs.Common.{◌≡◌, true, false, List, [], ◌∷◌, map, refl, sym, subst, ◌∙◌, nat_cmp}
 use Rattle.std.specs.Cmp.Lexicographic.{slice_cmp}
 use Rattle.std.specs.List.{All, AllByRecursion}
 use Rattle.std.specs.List.Sorted.{IsStrictlySortedBy}
@@ -12,7 +12,7 @@ use Rattle.reading_sums.specs.declared.hist.HistSum.{HistSum}
 use Rattle.reading_sums.specs.declared.sums.Sums.{Sums}
 use Rattle.reading_sums.specs.Orders.{hist_cmp, spec_cmp, spec_numbers}
 use Rattle.reading_sums.specs.Sums.{HaveSameSum}
-use Rattle.reading_sums.specs.Totals.{Part, SameTotals, is_had}
+use Rattle.reading_sums.specs.Totals.{Part, SameTotals}
 use Rattle.reading_sums.specs.Totals.Feature.{IsUpTo}
 use Rattle.reading_sums.specs.Views.{part_of, parts_of}
 use Rattle.reading_sums.specs.Whole.{IsWellFormed, IsWholeHist}

@@ -10,7 +10,8 @@ use Rattle.bucket_ranges.specs.declared.spec.Spec.{Spec}
 use Rattle.bucket_ranges.specs.Reading.{Reading}
 use Rattle.reading_sums.specs.declared.notes.Notes.{Notes}
 use Rattle.reading_sums.specs.declared.sums.Sums.{Sums}
-use Rattle.reading_sums.specs.Notes.{AreNotesOf, AreNotesOfBoth, one_if}
+use Rattle.reading_sums.specs.Addends.{notes_of_one}
+use Rattle.reading_sums.specs.Notes.{AreNotesOfBoth, one_if}
 use Rattle.reading_sums.specs.Totals.{Part, Quantity, SameTotals, has_feature, total, share_of, is_of}
 use Rattle.reading_sums.specs.Sums.{AreNotesIn, HaveSameSum, IsSumOver, IsSumOfBoth, parts_in, parts_of_one}
 use Rattle.reading_sums.specs.Views.{parts_of}
@@ -78,14 +79,8 @@ notes-both xs ys a b c first second both = record {
   bad = both.bad ∙ ((λ i. first.bad i + second.bad i) ∙ sym (sum_by-append (λ numbered. length numbered.1.bad) xs ys));
 }
 
-pub notes-one : (number : ℕ) (reading : Reading) (notes : Notes) → AreNotesOf reading notes → AreNotesIn ((number, reading) ∷ []) notes
-notes-one number reading notes are = record {
-  images = are.images;
-  full = omega (arith, are.full);
-  corrupt = omega (arith, are.corrupt);
-  stopped = omega (arith, are.stopped);
-  bad = omega (arith, are.bad);
-}
+pub notes-one : (number : ℕ) (reading : Reading) → AreNotesIn ((number, reading) ∷ []) (notes_of_one reading)
+notes-one number reading = record { images = refl; full = omega arith; corrupt = omega arith; stopped = omega arith; bad = omega arith }
 
 -- ---- laws
 

@@ -3,10 +3,11 @@ use Rattle.std.proofs.Common.{◌≡◌, ◌<◌, ◌+◌, ℕ, List, [], ◌∷
 use Rattle.std.specs.Cmp.{IsTotalOrder}
 use Rattle.std.specs.declared.cmp.Ordering.{Ordering}
 use Rattle.std.specs.declared.cmp.Ordering.TheVariants.{Less, Equal}
-use Rattle.std.specs.List.{AllByRecursion}
+use Rattle.std.specs.List.{All, AllByRecursion}
 use Rattle.std.specs.List.Sorted.{IsStrictlySortedBy}
 use Rattle.std.proofs.lemmas.Cmp.{tied_itself}
 use Rattle.std.proofs.lemmas.List.{append-nil, take-append-drop, drop-drop}
+use Rattle.std.proofs.lemmas.List.Elements.{All-append, All-drop}
 use Rattle.std.proofs.Math.Seq.{take-add}
 use Rattle.reading_sums.specs.Since.{GoesOnAscending}
 use Rattle.reading_sums.proofs.Ascending.{all-front, all-behind, all-both, alike-put, left-next}
@@ -75,6 +76,12 @@ walk-on {K = K} R laters earliers left rest i j m n cut_left cut_rest goes befor
     let front : take i laters ++ take m left ≡ take (i + m) laters = ap (λ z. take i laters ++ take m z) cut_left ∙ sym (take-add i m laters) in
     let behind : drop n rest ≡ drop (j + n) earliers = ap (drop n) cut_rest ∙ drop-drop n j earliers in
     subst (IsStrictlySortedBy R) (λ k. front k ++ behind k) (goes (take i laters) here there)
+
+-- what all of the later list are, all are that came so far
+pub all-walk : {K : Type 0} (P : K → Type 0) (laters left hists more new : List K) (i : ℕ) → left ≡ drop i laters → new ≡ hists ++ more
+    → (All P left → All P more) → (All P laters → All P hists) → All P laters → All P new
+all-walk P laters left hists more new i cut put step before all =
+    subst (All P) (sym put) (All-append P hists more (before all) (step (subst (All P) (sym cut) (All-drop P i laters all))))
 
 -- ---- by what is seen of each
 

@@ -23,7 +23,7 @@ notes_of_one reading = record {
   bad = length reading.bad;
 }
 
--- an image that reads so, as an addend
+-- an image that reads as this, as an addend
 abbrev pub addend_of_reading : Reading → Addend
 addend_of_reading reading = record { parts = parts_of_one (0, reading); notes = notes_of_one reading }
 

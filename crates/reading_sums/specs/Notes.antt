@@ -1,19 +1,10 @@
 -- What images say beside their histograms.
-use Rattle.std.specs.Prelude.{◌≡◌, Bool, if◌then◌else◌, ℕ, ◌+◌, length, is_some}
-use Rattle.bucket_ranges.specs.Reading.{Reading}
+use Rattle.std.specs.Prelude.{◌≡◌, Bool, if◌then◌else◌, ℕ, ◌+◌}
 use Rattle.reading_sums.specs.declared.notes.Notes.{Notes}
 
 -- 1 where it holds
 abbrev pub one_if : Bool → ℕ
 one_if holds = if holds then 1 else 0
-
--- the notes of one image
-pub record AreNotesOf (reading : Reading) (notes : Notes) : Type 0 where
-  pub images : notes.images ≡ 1
-  pub full : notes.full ≡ one_if reading.full
-  pub corrupt : notes.corrupt ≡ one_if reading.corrupt
-  pub stopped : notes.stopped ≡ one_if (is_some reading.stopped)
-  pub bad : notes.bad ≡ length reading.bad
 
 -- the notes of two sums together
 pub record AreNotesOfBoth (a b both : Notes) : Type 0 where

@@ -29,7 +29,7 @@ shown_at index part = record {
   redundant = part.redundant;
 }
 
--- what is told of a part that is not shown: its name, how many images have it, and its units as far as 64 bits go
+-- what is reported of a part that is not shown: its name, how many images have it, and its units as far as 64 bits go
 pub record IsOtherOf (part : Part) (other : OtherSpec) : Type 0 where
   pub name : other.name.items ≡ part.name
   pub images : other.images ≡ part.images

@@ -132,14 +132,14 @@ pub record IsGrown (laters earliers : List HistSum) : Type 0 where
   pub other_spec : (name : List ℕ) → ¬ HasChangedSpec laters earliers name
   pub too_many : ¬ HasTooMany laters earliers
 
--- what is so for each fault; where there was no memory, nothing
+-- a condition for each fault, on the name that it has; where there was no memory, none
 abbrev pub MatchFault : MinusFault → Type 0 → (List ℕ → Type 0) → (List ℕ → Type 0) → Type 0
 MatchFault NoMemory many fell other = ⊤
 MatchFault TooMany many fell other = many
 MatchFault (Fell name) many fell other = fell name.items
 MatchFault (OtherSpec name) many fell other = other name.items
 
--- a fault tells what is so
+-- a fault reports a reason that there is
 abbrev pub IsReason : List HistSum → List HistSum → MinusFault → Type 0
 IsReason laters earliers fault =
     MatchFault fault (HasTooMany laters earliers) (HasFallen laters earliers) (HasChangedSpec laters earliers)

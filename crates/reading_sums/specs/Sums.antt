@@ -40,7 +40,7 @@ pub record IsSumOfBoth (a b both : Sums) : Type 0 where
   pub hists : SameTotals (parts_of both) (parts_of a ++ parts_of b)
   pub notes : AreNotesOfBoth a.notes b.notes both.notes
 
--- a reading whose number is so much greater
+-- a reading, its number raised
 abbrev pub raised : ℕ → ℕ × Reading → ℕ × Reading
 raised by numbered = (numbered.0 + by, numbered.1)
 

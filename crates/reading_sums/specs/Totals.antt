@@ -33,7 +33,7 @@ part_from number hist = record {
   least = number;
 }
 
--- a part of images whose numbers are so much greater
+-- a part, the numbers of its images raised
 abbrev pub raised_part : ℕ → Part → Part
 raised_part by part = record part { least = part.least + by }
 

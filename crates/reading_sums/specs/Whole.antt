@@ -59,9 +59,13 @@ pub record HasItsBuckets (hist : HistSum) : Type 0 where
   pub lawful : spec_fault hist.spec ≡ None
   pub buckets : AreBuckets hist.spec hist.keys.items
 
+-- the marks of keys have 64 bits
+abbrev pub AreMarksInRange : List KeySum → Type 0
+AreMarksInRange keys = All (λ key. key.marks < 2 ^ 64) keys
+
 -- the numbers of a histogram of a sum have 64 bits, and its amounts 128 bits with a sign: so it is of each one in memory
 pub record IsInRange (hist : HistSum) : Type 0 where
-  pub marks : All (λ key. key.marks < 2 ^ 64) hist.keys.items
+  pub marks : AreMarksInRange hist.keys.items
   pub sum : FitsSigned w128 hist.sum
   pub sum_mark : FitsSigned w128 hist.sum_mark
   pub redundant : hist.redundant < 2 ^ 64
@@ -73,7 +77,7 @@ pub record AreWhole (hists : List HistSum) : Type 0 where
   pub whole : All IsWholeHist hists
   pub range : All IsInRange hists
 
--- a sum whose histograms are so
+-- a sum of such histograms
 abbrev pub IsWellFormed : Sums → Type 0
 IsWellFormed sums = AreWhole sums.hists.items
 

@@ -1,11 +1,12 @@
 //! Whether histograms are those of a sum: in order, and each with the keys of its spec.
 
-ghost use Rattle.std.specs.Prelude.{◌≡◌, ◌↔◌, ◌∷◌, ◌<◌, ◌+◌, ◌-◌, true, pos, length, map, take, IfOk};
+ghost use Rattle.std.specs.Prelude.{◌≡◌, ◌↔◌, ◌∷◌, ◌<◌, ◌+◌, ◌-◌, ◌^◌, FitsSigned, true, pos, length, map, take, IfOk};
+ghost use Rattle.std.specs.Int.{w128};
 ghost use Rattle.std.specs.Ordering.{nat_cmp};
 ghost use Rattle.std.specs.List.{All};
 ghost use Rattle.std.specs.List.Sorted.{IsStrictlySortedBy};
 ghost use Rattle.reading_sums.specs.Orders.{hist_cmp, key_cmp};
-ghost use Rattle.reading_sums.specs.Whole.{values_of, AreWhole, HasItsBuckets, IsInForm, IsWholeHist};
+ghost use Rattle.reading_sums.specs.Whole.{values_of, AreWhole, HasItsBuckets, IsInForm, IsInRange, IsWholeHist};
 
 use crate::hist::{HistSum, by_name_and_spec};
 use crate::key::{KeySum, units_fit};
@@ -77,10 +78,21 @@ fn has_its_buckets(alloc: Global, hist: &HistSum) -> Result<bool, AllocError>
     }
 }
 
+// That numbers of a histogram are in the ranges of their types. It does nothing: a proof knows it of each number that is
+// passed.
+fn are_in_range(sum: i128, sum_mark: i128, redundant: u64, images: u64)
+    ensures sum { FitsSigned w128 sum }
+    ensures sum_mark { FitsSigned w128 sum_mark }
+    ensures redundant { redundant < 2 ^ 64 }
+    ensures images { images < 2 ^ 64 }
+{}
+
 // Whether a histogram has a lawful spec, the keys of it, and units that together fit 64 bits.
 fn is_whole(alloc: Global, hist: &HistSum) -> Result<bool, AllocError>
-    ensures { IfOk result (λ is. (is ≡ true) ↔ IsWholeHist hist.now) }
+    ensures whole { IfOk result (λ is. (is ≡ true) ↔ IsWholeHist hist.now) }
+    ensures range { IfOk result (λ is. is ≡ true → IsInRange hist.now) }
 {
+    are_in_range(hist.sum, hist.sum_mark, hist.redundant, hist.images);
     if is_in_form(&hist.spec) && keys_ascend(&hist.keys) && units_fit(&hist.keys) {
         has_its_buckets(alloc, hist)
     } else {
@@ -102,7 +114,8 @@ fn hists_ascend(hists: &[HistSum]) -> bool
 
 // Whether each of the histograms is whole.
 fn all_whole(alloc: Global, hists: &[HistSum]) -> Result<bool, AllocError>
-    ensures { IfOk result (λ are. (are ≡ true) ↔ All IsWholeHist hists.now) }
+    ensures whole { IfOk result (λ are. (are ≡ true) ↔ All IsWholeHist hists.now) }
+    ensures range { IfOk result (λ are. are ≡ true → All IsInRange hists.now) }
 {
     for i in 0..hists.len() {
         if !is_whole(alloc, &hists[i])? {

@@ -9,7 +9,7 @@ ghost use Rattle.reading_sums.specs.Totals.{part_from, IsBoth, SameTotals};
 ghost use Rattle.std.specs.List.{All};
 ghost use Rattle.reading_sums.specs.Orders.{hist_cmp, ComesNext};
 ghost use Rattle.reading_sums.specs.Views.{part_of, IsSideOf};
-ghost use Rattle.reading_sums.specs.Whole.{AreWhole, IsWholeHist};
+ghost use Rattle.reading_sums.specs.Whole.{AreWhole, IsInRange, IsWholeHist};
 
 use crate::fault::SumsFault;
 use crate::key::{KeySum, fitting_keys_of_both, keys_of};
@@ -62,15 +62,18 @@ pub(crate) fn copy_of_spec(alloc: Global, spec: &Spec) -> Result<Spec, AllocErro
 
 /// What the histogram of one image has, where the image has a number.
 pub(crate) fn sum_of(alloc: Global, number: u64, hist: &HistReading) -> Result<HistSum, AllocError>
-    ensures { IfOk result (λ sum. part_of sum ≡ part_from number (histogram_view hist.now)) }
+    ensures part { IfOk result (λ sum. part_of sum ≡ part_from number (histogram_view hist.now)) }
+    ensures range { IfOk result IsInRange }
 {
+    // A proof knows the range of a number that is read into a variable.
+    let redundant = hist.redundant;
     Ok(HistSum {
         name: Vec::from_slice(alloc, &hist.name)?,
         spec: copy_of_spec(alloc, &hist.spec)?,
         keys: keys_of(alloc, &hist.counts, &hist.marks)?,
         sum: hist.sum,
         sum_mark: hist.sum_mark,
-        redundant: hist.redundant,
+        redundant,
         images: 1,
         least: number,
     })
@@ -105,6 +108,7 @@ fn amount_of_both(left: &i128, right: &i128) -> Result<i128, SumsFault>
 fn both(alloc: Global, left: &HistSum, right: &HistSum) -> Result<HistSum, SumsFault>
     ensures both { IfOk result (λ sum. IsBoth (part_of left.now) (part_of right.now) (part_of sum)) }
     ensures whole { IfOk result (λ sum. left.now.spec ≡ right.now.spec → IsWholeHist left.now → IsWholeHist right.now → IsWholeHist sum) }
+    ensures range { IfOk result IsInRange }
     ensures too_many { IfErr result (λ fault. IfTooMany fault (PairDoesNotFit (part_of left.now) (part_of right.now))) }
 {
     Ok(HistSum {
@@ -163,6 +167,7 @@ fn next_hist(
     ensures same { IfOk result (λ next. SameTotals (part_of next.0 ∷ (map part_of (drop next.1 left.now) ++ map part_of (drop next.2 right.now))) (map part_of left.now ++ map part_of right.now)) }
     ensures ordered { IfOk result (λ next. ComesNext hist_cmp next.0 next.1 next.2 left.now right.now) }
     ensures whole { IfOk result (λ next. All IsWholeHist left.now → All IsWholeHist right.now → IsWholeHist next.0) }
+    ensures range { IfOk result (λ next. All IsInRange left.now → All IsInRange right.now → IsInRange next.0) }
     ensures too_many { IfErr result (λ fault. IfTooMany fault (HavePairTooGreat left.now right.now)) }
 {
     match side_of(left, right) {

@@ -1,12 +1,12 @@
 //! The keys of histograms, and their sums.
 
-ghost use Rattle.std.specs.Prelude.{◌≡◌, ◌∷◌, ◌++◌, ◌+◌, ◌<◌, ◌≤◌, ◌^◌, ◌↔◌, true, min, drop, length, slice_index, IfOk, IfErr, OnErr, ◌⊎◌};
+ghost use Rattle.std.specs.Prelude.{◌≡◌, ◌∷◌, ◌++◌, ◌+◌, ◌<◌, ◌≤◌, ◌^◌, ◌↔◌, true, min, drop, length, slice_index, IfOk, IfErr, IfSome, IfNone, OnErr, ◌⊎◌};
 ghost use Rattle.std.specs.List.Sorted.{IsStrictlySortedBy};
 ghost use Rattle.reading_sums.specs.Fitting.{IfTooMany, KeysDoNotFit};
 ghost use Rattle.reading_sums.specs.Keys.{keys_from, IsKeyOfBoth, SameKeys, IsSide};
 ghost use Rattle.reading_sums.specs.Orders.{key_cmp, ComesNext};
 ghost use Rattle.reading_sums.specs.Shown.{counts_of, marks_of};
-ghost use Rattle.reading_sums.specs.Whole.{units_of};
+ghost use Rattle.reading_sums.specs.Whole.{units_of, AreMarksInRange};
 
 use crate::fault::SumsFault;
 use crate::order::Side;
@@ -36,7 +36,8 @@ pub(crate) fn keys_of(
     counts: &[(i32, u64)],
     marks: &[u64],
 ) -> Result<Vec<KeySum>, AllocError>
-    ensures { IfOk result (λ keys. keys.items ≡ keys_from counts.now marks.now) }
+    ensures keys { IfOk result (λ keys. keys.items ≡ keys_from counts.now marks.now) }
+    ensures range { IfOk result (λ keys. AreMarksInRange keys.items) }
 {
     let mut keys = Vec::with_capacity(alloc, counts.len())?;
     for i in 0..counts.len() {
@@ -122,13 +123,24 @@ fn keys_of_both(alloc: Global, left: &[KeySum], right: &[KeySum]) -> Result<Vec<
     Ok(keys)
 }
 
+// Units and those of a key together, where they fit 64 bits.
+fn units_with(units: u64, key: KeySum) -> Option<u64>
+    ensures sum { IfSome result (λ sum. sum ≡ units + key.units) }
+    ensures fits { IfSome result (λ sum. sum < 2 ^ 64) }
+    ensures many { IfNone result (2 ^ 64 ≤ units + key.units) }
+    ensures range { key.marks < 2 ^ 64 }
+{
+    units.checked_add(key.units)
+}
+
 /// Whether the units of all keys together fit 64 bits.
 pub(crate) fn units_fit(keys: &[KeySum]) -> bool
-    ensures { (result ≡ true) ↔ (units_of keys.now < 2 ^ 64) }
+    ensures fit { (result ≡ true) ↔ (units_of keys.now < 2 ^ 64) }
+    ensures range { result ≡ true → AreMarksInRange keys.now }
 {
     let mut units: u64 = 0;
     for key in keys {
-        match units.checked_add(key.units) {
+        match units_with(units, *key) {
             Some(more) => units = more,
             None => return false,
         }
@@ -145,6 +157,7 @@ pub(crate) fn fitting_keys_of_both(
     ensures same { IfOk result (λ keys. SameKeys keys.items (left.now ++ right.now)) }
     ensures ordered { IfOk result (λ keys. IsStrictlySortedBy key_cmp left.now → IsStrictlySortedBy key_cmp right.now → IsStrictlySortedBy key_cmp keys.items) }
     ensures small { IfOk result (λ keys. units_of keys.items < 2 ^ 64) }
+    ensures range { IfOk result (λ keys. AreMarksInRange keys.items) }
     ensures too_many { IfErr result (λ fault. IfTooMany fault (KeysDoNotFit (left.now ++ right.now))) }
 {
     let keys = keys_of_both(alloc, left, right)?;

@@ -1,9 +1,10 @@
 //! What images say beside their histograms.
 
-ghost use Rattle.std.specs.Prelude.{◌≡◌, ◌+◌, ◌≤◌, ◌^◌, IfOk, OnErr};
+ghost use Rattle.std.specs.Prelude.{◌≡◌, ◌+◌, ◌<◌, ◌≤◌, ◌^◌, IfOk, OnOk, OnErr};
 ghost use Rattle.image_reader.specs.Views.{reading_view};
+ghost use Rattle.reading_sums.specs.Addends.{notes_of_one};
 ghost use Rattle.reading_sums.specs.Fitting.{NotesDoNotFit};
-ghost use Rattle.reading_sums.specs.Notes.{AreNotesOfBoth, AreNotesOf};
+ghost use Rattle.reading_sums.specs.Notes.{AreNotesOfBoth};
 
 use crate::fault::SumsFault;
 use image_reader::Reading;
@@ -25,7 +26,7 @@ pub struct Notes {
 
 /// Those of one image.
 pub(crate) fn notes_of(reading: &Reading) -> Notes
-    ensures { AreNotesOf (reading_view reading.now) result }
+    ensures { result ≡ notes_of_one (reading_view reading.now) }
 {
     Notes {
         images: 1,
@@ -39,6 +40,7 @@ pub(crate) fn notes_of(reading: &Reading) -> Notes
 /// The sum of two numbers, where it fits 64 bits.
 pub(crate) fn number_of_both(left: u64, right: u64) -> Result<u64, SumsFault>
     ensures sum { IfOk result (λ sum. sum ≡ left + right) }
+    ensures fits { IfOk result (λ sum. sum < 2 ^ 64) }
     ensures too_many { OnErr result (2 ^ 64 ≤ left + right) }
 {
     left.checked_add(right).ok_or(SumsFault::TooMany)
@@ -47,6 +49,7 @@ pub(crate) fn number_of_both(left: u64, right: u64) -> Result<u64, SumsFault>
 /// Those of two sums together, where each number fits 64 bits.
 pub(crate) fn notes_of_both(left: &Notes, right: &Notes) -> Result<Notes, SumsFault>
     ensures both { IfOk result (AreNotesOfBoth left.now right.now) }
+    ensures fits { OnOk result (¬ NotesDoNotFit left.now right.now) }
     ensures too_many { OnErr result (NotesDoNotFit left.now right.now) }
 {
     Ok(Notes {

@@ -6,28 +6,22 @@ ghost use Rattle.reading_sums.specs.Totals.{raised_part};
 ghost use Rattle.reading_sums.specs.Views.{part_of};
 
 use crate::fault::SumsFault;
-use crate::hist::{HistSum, copy_of_spec};
+use crate::hist::{HistSum, copy_of};
 use crate::notes::number_of_both;
 use std::alloc::Global;
 
-// What a histogram of a sum is where the numbers of its images are so much greater, if they fit 64 bits.
+// A histogram of a sum, the numbers of its images raised by `by`, if they fit 64 bits.
 fn raised_hist(alloc: Global, hist: &HistSum, by: u64) -> Result<HistSum, SumsFault>
     ensures raised { IfOk result (λ raised. part_of raised ≡ raised_part by (part_of hist.now)) }
     ensures too_many { IfErr result (λ fault. IfTooMany fault (2 ^ 64 ≤ hist.now.least + by)) }
 {
     Ok(HistSum {
-        name: Vec::from_slice(alloc, &hist.name)?,
-        spec: copy_of_spec(alloc, &hist.spec)?,
-        keys: Vec::from_slice(alloc, &hist.keys)?,
-        sum: hist.sum,
-        sum_mark: hist.sum_mark,
-        redundant: hist.redundant,
-        images: hist.images,
         least: number_of_both(hist.least, by)?,
+        ..copy_of(alloc, hist)?
     })
 }
 
-/// What the histograms of a sum are where the numbers of its images are so much greater, if they fit 64 bits.
+/// The histograms of a sum, the numbers of their images raised by `by`, if they fit 64 bits.
 pub(crate) fn raised_hists(
     alloc: Global,
     hists: &[HistSum],

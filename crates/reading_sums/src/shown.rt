@@ -86,7 +86,7 @@ pub(crate) fn readings_of(alloc: Global, hists: &[HistSum]) -> Result<Vec<HistRe
     Ok(readings)
 }
 
-// What is told of a histogram that is not shown.
+// What is reported of a histogram that is not shown.
 fn other_of(alloc: Global, hist: &HistSum) -> Result<OtherSpec, AllocError>
     ensures { IfOk result (IsOtherOf (part_of hist.now)) }
 {
@@ -97,7 +97,7 @@ fn other_of(alloc: Global, hist: &HistSum) -> Result<OtherSpec, AllocError>
     })
 }
 
-// Puts what is told of histograms behind others.
+// Puts what is reported of histograms behind others.
 fn put_all(alloc: Global, others: &mut Vec<OtherSpec>, hists: &[HistSum]) -> Result<(), AllocError>
     ensures { OnOk result ((parts : List _) → AllZip IsOtherOf parts others.old.items → AllZip IsOtherOf (parts ++ map part_of hists.now) others.new.items) }
 {
@@ -107,7 +107,7 @@ fn put_all(alloc: Global, others: &mut Vec<OtherSpec>, hists: &[HistSum]) -> Res
     Ok(())
 }
 
-// Puts what is told of the histograms of one name behind others, but for the one that is shown.
+// Puts what is reported of the histograms of one name behind others, but for the one that is shown.
 fn put_others(alloc: Global, others: &mut Vec<OtherSpec>, run: &[HistSum]) -> Result<(), AllocError>
     requires { 0 < length run.now }
     ensures { OnOk result ((group : Group) → members_of group ≡ map part_of run.now → (parts : List _) → AllZip IsOtherOf parts others.old.items → AllZip IsOtherOf (parts ++ left_out_of group) others.new.items) }
@@ -117,7 +117,7 @@ fn put_others(alloc: Global, others: &mut Vec<OtherSpec>, run: &[HistSum]) -> Re
     put_all(alloc, others, behind.split_at(1).1)
 }
 
-/// What is told of the histograms of a sum that are not shown, by their names.
+/// What is reported of the histograms of a sum that are not shown, by their names.
 pub(crate) fn others_of(alloc: Global, hists: &[HistSum]) -> Result<Vec<OtherSpec>, AllocError>
     ensures { IfOk result (λ others. AllZip IsOtherOf (other_parts (map part_of hists.now)) others.items) }
 {

@@ -1,6 +1,6 @@
 //! What came to the histograms of a sum since an earlier one.
 
-ghost use Rattle.std.specs.Prelude.{◌≡◌, ◌≢◌, ◌⊎◌, ℤ, true, false, ◌-◌, ◌+ℤ◌, ◌∷◌, ◌++◌, [], ◌+◌, ◌<◌, ◌≤◌, ◌-ℤ◌, FitsSigned, List, slice_index_or, length, take, map, IfOk, IfErr, IfSome, IfNone, OnOk};
+ghost use Rattle.std.specs.Prelude.{◌≡◌, ◌≢◌, ◌⊎◌, ℤ, true, false, ◌-◌, ◌+ℤ◌, ◌∷◌, ◌++◌, [], ◌+◌, ◌^◌, ◌<◌, ◌≤◌, ◌-ℤ◌, FitsSigned, List, slice_index_or, length, take, map, IfOk, IfErr, IfSome, IfNone, OnOk};
 ghost use Rattle.std.specs.Option.{option_to_list};
 ghost use Rattle.std.specs.List.Sorted.{IsStrictlySortedBy};
 ghost use Rattle.std.specs.List.{All};
@@ -10,7 +10,7 @@ ghost use Rattle.reading_sums.specs.Keys.{units_at, marks_at, IsKeyOfBoth};
 ghost use Rattle.reading_sums.specs.Orders.{key_cmp, hist_cmp};
 ghost use Rattle.reading_sums.specs.Since.{AreKeysSince, HasKeyFallen, IsSince, AreSince, HasLess, HasSomething, HasLongAmount, HasHistNamed, IsGrown, MatchFault, IsReason, IsNoReason, StandsBetween, GoesOnAscending};
 ghost use Rattle.reading_sums.specs.Views.{part_of};
-ghost use Rattle.reading_sums.specs.Whole.{AreWhole, IsWholeHist};
+ghost use Rattle.reading_sums.specs.Whole.{AreMarksInRange, AreWhole, IsInRange, IsWholeHist};
 
 use crate::fault::MinusFault;
 use crate::hist::{HistSum, copy_of, copy_of_spec};
@@ -24,6 +24,7 @@ fn key_since(later: &KeySum, earlier: &KeySum) -> Option<KeySum>
     requires { later.now.value ≡ earlier.now.value }
     ensures value { IfSome result (λ since. since.value ≡ later.now.value) }
     ensures both { IfSome result (λ since. IsKeyOfBoth earlier.now since later.now) }
+    ensures range { IfSome result (λ since. later.now.marks < 2 ^ 64 → since.marks < 2 ^ 64) }
     ensures fell { IfNone result ((later.now.units < earlier.now.units) ⊎ (later.now.marks < earlier.now.marks)) }
 {
     let units = later.units.checked_sub(earlier.units);
@@ -47,6 +48,7 @@ fn next_key_since(later: &[KeySum], earlier: &[KeySum]) -> Option<(Option<KeySum
     ensures some { IfSome result (λ next. 0 < next.1 + next.2) }
     ensures since { IfSome result (λ next. AreKeysSince (take next.1 later.now) (take next.2 earlier.now) (option_to_list next.0)) }
     ensures ordered { IfSome result (λ next. GoesOnAscending key_cmp next.1 next.2 later.now earlier.now) }
+    ensures range { IfSome result (λ next. AreMarksInRange later.now → AreMarksInRange (option_to_list next.0)) }
     ensures fell { IfNone result ((done : List _) → IsStrictlySortedBy key_cmp (done ++ later.now) → IsStrictlySortedBy key_cmp (done ++ earlier.now) → HasKeyFallen (done ++ later.now) earlier.now) }
 {
     match key::side_of(later, earlier) {
@@ -82,6 +84,7 @@ fn keys_since(
     earlier: &[KeySum],
 ) -> Result<Option<Vec<KeySum>>, AllocError>
     ensures since { IfOk result (λ found. IfSome found (λ keys. AreKeysSince later.now earlier.now keys.items)) }
+    ensures range { IfOk result (λ found. IfSome found (λ keys. AreMarksInRange later.now → AreMarksInRange keys.items)) }
     ensures fell { IfOk result (λ found. IfNone found (IsStrictlySortedBy key_cmp later.now → IsStrictlySortedBy key_cmp earlier.now → HasKeyFallen later.now earlier.now)) }
 {
     let mut keys = Vec::with_capacity(alloc, later.len())?;
@@ -132,6 +135,7 @@ fn amount_since(later: &i128, earlier: &i128) -> Result<i128, MinusFault>
 fn hist_since(alloc: Global, later: &HistSum, earlier: &HistSum) -> Result<HistSum, MinusFault>
     ensures since { IfOk result (λ since. IsSince (part_of later.now) (part_of earlier.now) (part_of since)) }
     ensures whole { IfOk result (λ since. IsWholeHist later.now → IsWholeHist since) }
+    ensures range { IfOk result (λ since. IsInRange later.now → IsInRange since) }
     ensures short { IfOk result (λ since. ¬ HasLongAmount (part_of later.now) (part_of earlier.now)) }
     ensures refused { IfErr result (λ fault. IsWholeHist later.now → IsWholeHist earlier.now → MatchFault fault (HasLongAmount (part_of later.now) (part_of earlier.now)) (λ told. (told ≡ later.now.name.items) × HasLess (part_of later.now) (part_of earlier.now)) (λ told. ⊥)) }
 {
@@ -238,6 +242,7 @@ fn next_hist_since(
     ensures since { IfOk result (λ next. AreSince (map part_of (take next.1 later.now)) (map part_of (take next.2 earlier.now)) (map part_of (option_to_list next.0))) }
     ensures ordered { IfOk result (λ next. GoesOnAscending hist_cmp next.1 next.2 later.now earlier.now) }
     ensures whole { IfOk result (λ next. All IsWholeHist later.now → All IsWholeHist (option_to_list next.0)) }
+    ensures range { IfOk result (λ next. All IsInRange later.now → All IsInRange (option_to_list next.0)) }
     ensures settled { IfOk result (λ next. IsStrictlySortedBy hist_cmp (before.now ++ later.now) → IsStrictlySortedBy hist_cmp (before.now ++ earlier.now) → All (IsNoReason (before.now ++ later.now)) (take next.2 earlier.now)) }
     ensures refused { IfErr result (λ fault. AreWhole (before.now ++ later.now) → AreWhole (before.now ++ earlier.now) → IsReason (before.now ++ later.now) earlier.now fault) }
 {

@@ -88,14 +88,16 @@ impl Sums {
     /// It is well formed if it was, and the reading is whole: it has each name once, each of a lawful spec with its keys and
     /// with units that together fit 64 bits [well_formed].
     ///
-    /// It is refused with `NoMemory` if there is no memory. Where the sum is well formed and the reading whole, it is refused
-    /// with `TooMany` only if what both have together does not fit: of some name and spec all units, the marks of a key, the
-    /// redundant counts or the images are 2^64 or more, or amounts do not fit 128 bits; or some number of the notes is 2^64 or
-    /// more [too_many]. The sum is then as it was [refused].
+    /// Where the sum is well formed and the reading whole, it is refused with `TooMany` only if what both have together does
+    /// not fit: of some name and spec all units, the marks of a key, the redundant counts or the images are 2^64 or more, or
+    /// amounts do not fit 128 bits; or some number of the notes is 2^64 or more [too_many]. And it is accepted only if all of
+    /// that fits [fits]. It is refused with `NoMemory` if there is no memory. Where it is refused, the sum is as it was
+    /// [refused].
     pub fn add(&mut self, number: u64, reading: &Reading) -> Result<(), SumsFault>
         ensures added { OnOk result ((readings : List (ℕ × definition.Reading)) → IsSumOver readings self.old → IsSumOver (readings ++ (number, reading_view reading.now) ∷ []) self.new) }
         ensures more { OnOk result (AddsNumbered (number, reading_view reading.now) self.old self.new) }
         ensures well_formed { OnOk result (IsWellFormed self.old → IsWholeReading (reading_view reading.now) → IsWellFormed self.new) }
+        ensures fits { OnOk result (IsWellFormed self.old → IsWholeReading (reading_view reading.now) → ¬ SumDoesNotFit self.old (parts_of_one (number, reading_view reading.now)) (notes_of_one (reading_view reading.now))) }
         ensures refused { OnErr result (self.new ≡ self.old) }
         ensures too_many { IfErr result (λ fault. IfTooMany fault (IsWellFormed self.old → IsWholeReading (reading_view reading.now) → SumDoesNotFit self.old (parts_of_one (number, reading_view reading.now)) (notes_of_one (reading_view reading.now)))) }
     {
@@ -110,14 +112,15 @@ impl Sums {
     /// Adds another sum. Sums of any two lists of numbered readings become the sum of both lists, one behind the other
     /// [added], and any two sums what both have together [both], well formed if both are [well_formed]. The other sum stays.
     ///
-    /// It is refused with `NoMemory` if there is no memory. Where both sums are well formed, it is refused with `TooMany` only
-    /// if what both have together does not fit: of some name and spec all units, the marks of a key, the redundant counts or
-    /// the images are 2^64 or more, or amounts do not fit 128 bits; or some number of the notes is 2^64 or more [too_many].
-    /// The sum is then as it was [refused].
+    /// Where both sums are well formed, it is refused with `TooMany` only if what both have together does not fit: of some
+    /// name and spec all units, the marks of a key, the redundant counts or the images are 2^64 or more, or amounts do not
+    /// fit 128 bits; or some number of the notes is 2^64 or more [too_many]. And it is accepted only if all of that fits
+    /// [fits]. It is refused with `NoMemory` if there is no memory. Where it is refused, the sum is as it was [refused].
     pub fn append(&mut self, other: &Sums) -> Result<(), SumsFault>
         ensures added { OnOk result ((readings more : List (ℕ × definition.Reading)) → IsSumOver readings self.old → IsSumOver more other.now → IsSumOver (readings ++ more) self.new) }
         ensures both { OnOk result (IsSumOfBoth self.old other.now self.new) }
         ensures well_formed { OnOk result (IsWellFormed self.old → IsWellFormed other.now → IsWellFormed self.new) }
+        ensures fits { OnOk result (IsWellFormed self.old → IsWellFormed other.now → ¬ SumDoesNotFit self.old (parts_of other.now) other.now.notes) }
         ensures refused { OnErr result (self.new ≡ self.old) }
         ensures too_many { IfErr result (λ fault. IfTooMany fault (IsWellFormed self.old → IsWellFormed other.now → SumDoesNotFit self.old (parts_of other.now) other.now.notes)) }
     {
@@ -128,9 +131,9 @@ impl Sums {
         Ok(())
     }
 
-    /// Returns the sum of the same readings, where the number of each is so much greater [raised]: the least number of each
-    /// name and spec is so much greater [parts], and all else is the same [notes]. So the sum of what comes behind others can
-    /// be added to theirs.
+    /// Returns the sum of the same readings, the number of each raised by `by` [raised]: the least number of each name and
+    /// spec is raised by it [parts], and all else is the same [notes]. It is well formed if this sum is [well_formed]. So
+    /// the sum of what comes behind others can be added to theirs.
     ///
     /// It is refused with `NoMemory` if there is no memory, and with `TooMany` only if some least number would be 2^64 or more
     /// [too_many].
@@ -138,6 +141,7 @@ impl Sums {
         ensures raised { IfOk result (λ sums. (readings : List (ℕ × definition.Reading)) → IsSumOver readings self.now → IsSumOver (map (raised by) readings) sums) }
         ensures parts { IfOk result (λ sums. parts_of sums ≡ map (raised_part by) (parts_of self.now)) }
         ensures notes { IfOk result (λ sums. sums.notes ≡ self.now.notes) }
+        ensures well_formed { IfOk result (λ sums. IsWellFormed self.now → IsWellFormed sums) }
         ensures too_many { IfErr result (λ fault. IfTooMany fault (HasNumberTooGreat by (parts_of self.now))) }
     {
         Ok(Sums {
@@ -194,7 +198,7 @@ impl Sums {
         self.notes
     }
 
-    /// Returns the histograms of the sum, which has them ascending by name.
+    /// Returns the histograms of the sum. A well-formed sum has them ascending by name and spec.
     pub fn hists(&self) -> &[HistSum]
         ensures { result.now ≡ self.now.hists.items }
     {

@@ -1,8 +1,10 @@
 -- The least of both lists has what is taken of them.
 use Rattle.reading_sums.specs.Views.{part_of}
-use Rattle.reading_sums.proofs.HistOrder.{left-hist, right-hist, both-hist, first-whole, copy-whole}
+use Rattle.reading_sums.proofs.HistOrder.{left-hist, right-hist, both-hist, first-has, copy-whole}
 use Rattle.reading_sums.proofs.Nexts.{right-next, both-next, heads}
 use Rattle.reading_sums.specs.declared.hist.HistSum.{HistSum}
+use Rattle.reading_sums.specs.Whole.{IsInRange, IsWholeHist}
+use Rattle.reading_sums.proofs.Alike.{copy-range}
 use Rattle.std.proofs.lemmas.Result.{err_from_is_err_and}
 use Rattle.reading_sums.proofs.LongHists.{firsts-long}
 use Rattle.reading_sums.proofs.hist.next_hist.Goals as goal
@@ -38,19 +40,29 @@ returns-in_ok-both-in-Both-clause-ordered c =
 pub returns-in_ok-copy_of-in-Left-clause-whole : goal.returns-in_ok-copy_of-in-Left-clause-whole
 returns-in_ok-copy_of-in-Left-clause-whole c = λ first second.
     copy-whole c.in_ok-copy_of-in-Left.field-0 c.index-left-0.result c.in_ok-copy_of-in-Left.ensures
-    (first-whole c.args.left.now c.index-left-0.result c.in-Left.ensures.0 c.index-left-0.is first)
+    (first-has IsWholeHist c.args.left.now c.index-left-0.result c.in-Left.ensures.0 c.index-left-0.is first)
 
 pub returns-in_ok-copy_of-in-Right-clause-whole : goal.returns-in_ok-copy_of-in-Right-clause-whole
 returns-in_ok-copy_of-in-Right-clause-whole c = λ first second.
     copy-whole c.in_ok-copy_of-in-Right.field-0 c.index-right-0.result c.in_ok-copy_of-in-Right.ensures
-    (first-whole c.args.right.now c.index-right-0.result c.in-Right.ensures.0 c.index-right-0.is second)
+    (first-has IsWholeHist c.args.right.now c.index-right-0.result c.in-Right.ensures.0 c.index-right-0.is second)
 
 pub returns-in_ok-both-in-Both-clause-whole : goal.returns-in_ok-both-in-Both-clause-whole
 returns-in_ok-both-in-Both-clause-whole c = λ first second.
     c.in_ok-both-in-Both.ensures.whole
     (heads (λ (h : HistSum). h.spec) c.args.left.now c.args.right.now c.index-left-0-in-Both.result c.index-right-0-in-Both.result c.in-Both.ensures.0 c.in-Both.ensures.1 c.index-left-0-in-Both.is c.index-right-0-in-Both.is c.in-Both.ensures.3)
-    (first-whole c.args.left.now c.index-left-0-in-Both.result c.in-Both.ensures.0 c.index-left-0-in-Both.is first)
-    (first-whole c.args.right.now c.index-right-0-in-Both.result c.in-Both.ensures.1 c.index-right-0-in-Both.is second)
+    (first-has IsWholeHist c.args.left.now c.index-left-0-in-Both.result c.in-Both.ensures.0 c.index-left-0-in-Both.is first)
+    (first-has IsWholeHist c.args.right.now c.index-right-0-in-Both.result c.in-Both.ensures.1 c.index-right-0-in-Both.is second)
+
+pub returns-in_ok-copy_of-in-Left-clause-range : goal.returns-in_ok-copy_of-in-Left-clause-range
+returns-in_ok-copy_of-in-Left-clause-range c = λ first second.
+    copy-range c.in_ok-copy_of-in-Left.field-0 c.index-left-0.result c.in_ok-copy_of-in-Left.ensures
+    (first-has IsInRange c.args.left.now c.index-left-0.result c.in-Left.ensures.0 c.index-left-0.is first)
+
+pub returns-in_ok-copy_of-in-Right-clause-range : goal.returns-in_ok-copy_of-in-Right-clause-range
+returns-in_ok-copy_of-in-Right-clause-range c = λ first second.
+    copy-range c.in_ok-copy_of-in-Right.field-0 c.index-right-0.result c.in_ok-copy_of-in-Right.ensures
+    (first-has IsInRange c.args.right.now c.index-right-0.result c.in-Right.ensures.0 c.index-right-0.is second)
 
 pub returns-in_err-both-in-Both-clause-too_many : goal.returns-in_err-both-in-Both-clause-too_many
 returns-in_err-both-in-Both-clause-too_many c =

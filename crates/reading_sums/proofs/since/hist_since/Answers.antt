@@ -1,5 +1,7 @@
 -- What a histogram has more than an earlier one, and why it has not.
-use Rattle.std.proofs.Common.{◌<◌, arith}
+use Rattle.std.proofs.Common.{◌<◌, List, subst, arith, rules}
+use Rattle.reading_sums.specs.declared.key.KeySum.{KeySum}
+use Rattle.reading_sums.specs.Whole.{AreMarksInRange}
 use Rattle.reading_sums.specs.Since.{HasKeyFallen, HasLess, HasLongAmount}
 use Rattle.reading_sums.specs.Views.{part_of}
 use Rattle.reading_sums.proofs.HistsSince.{fallen-same, less-key, less-redundant, told-fell, whole-since}
@@ -21,6 +23,16 @@ returns-in_default-checked_sub-clause-refused c = λ later earlier.
     (λ told. HasLess (part_of c.args.later.now) (part_of c.args.earlier.now)) (λ told. ⊥)
     c.deref-in_default-checked_sub.ensures.value (less-redundant (part_of c.args.later.now) (part_of c.args.earlier.now) less)
     c.fell-in_default-checked_sub.ensures
+
+pub returns-clause-range : goal.returns-clause-range
+returns-clause-range c = λ later.
+    let P : List KeySum → Type 0 = λ z. AreMarksInRange z → AreMarksInRange c.in-Some.keys.items in record {
+      marks = subst P c.deref.ensures.value (rw c.in-Some.is at c.in_ok-keys.ensures.range) later.marks;
+      sum = search rules;
+      sum_mark = search rules;
+      redundant = search rules;
+      images = later.images;
+    }
 
 pub returns-clause-whole : goal.returns-clause-whole
 returns-clause-whole c = λ later.

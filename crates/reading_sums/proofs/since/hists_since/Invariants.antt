@@ -4,7 +4,7 @@ use Rattle.std.specs.List.Sorted.{IsStrictlySortedBy}
 use Rattle.reading_sums.specs.Orders.{hist_cmp}
 use Rattle.reading_sums.specs.Since.{AreSince, IsNoReason}
 use Rattle.reading_sums.specs.Views.{part_of}
-use Rattle.reading_sums.specs.Whole.{IsWholeHist}
+use Rattle.reading_sums.specs.Whole.{IsInRange, IsWholeHist}
 use Rattle.reading_sums.proofs.since.hists_since.Given as goal
 
 -- the histograms so far are what the later ones so far have more than the earlier ones so far, which are settled; and the
@@ -17,6 +17,7 @@ invariant-loop-i l = record {
   ordered : IsStrictlySortedBy hist_cmp l.later → IsStrictlySortedBy hist_cmp l.earlier
       → IsStrictlySortedBy hist_cmp (take l.i l.later ++ drop l.j l.earlier);
   whole : All IsWholeHist l.later → All IsWholeHist l.hists.items;
+  range : All IsInRange l.later → All IsInRange l.hists.items;
   settled : IsStrictlySortedBy hist_cmp l.later → IsStrictlySortedBy hist_cmp l.earlier → All (IsNoReason l.later) (take l.j l.earlier);
 }
 

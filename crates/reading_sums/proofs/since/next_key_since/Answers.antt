@@ -1,5 +1,6 @@
 -- What is taken goes on ascending; and a key that fell has fewer units or fewer marks than before.
-use Rattle.std.proofs.Common.{ℕ, pos, inl, inr, ⊎_elim}
+use Rattle.std.proofs.Common.{◌<◌, ◌^◌, [], ℕ, pos, inl, inr, ⊎_elim}
+use Rattle.std.proofs.lemmas.List.Elements.{All-nil, All-cons, All-get_or}
 use Rattle.reading_sums.specs.declared.key.KeySum.{KeySum}
 use Rattle.reading_sums.specs.Orders.{key_cmp}
 use Rattle.reading_sums.proofs.KeysSince.{alone-fallen, pair-fallen, later-key, both-keys}
@@ -9,6 +10,18 @@ use Rattle.reading_sums.proofs.since.next_key_since.Goals.{else-earlier-eq0-via-
 
 zero : KeySum
 zero = record { value = pos 0; units = 0; marks = 0 }
+
+pub returns-in-Left-clause-range : goal.returns-in-Left-clause-range
+unfolding zero
+returns-in-Left-clause-range c = λ range.
+    let P : KeySum → Type 0 = λ key. key.marks < 2 ^ 64 in
+    All-cons P _ [] (All-get_or P c.args.later.now 0 zero c.in-Left.ensures.0 range) (All-nil P)
+
+pub returns-in-Some-clause-range : goal.returns-in-Some-clause-range
+unfolding zero
+returns-in-Some-clause-range c = λ range.
+    let P : KeySum → Type 0 = λ key. key.marks < 2 ^ 64 in
+    All-cons P _ [] (c.in-Some.ensures.range (All-get_or P c.args.later.now 0 zero c.in-Both.ensures.0 range)) (All-nil P)
 
 pub returns-in-Left-clause-ordered : goal.returns-in-Left-clause-ordered
 returns-in-Left-clause-ordered c = later-key c.args.later.now c.args.earlier.now c.in-Left.ensures.0 c.in-Left.ensures.1

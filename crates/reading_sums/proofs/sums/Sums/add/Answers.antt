@@ -1,34 +1,24 @@
 -- What a reading has goes to what the readings before it have.
-use Rattle.std.proofs.Common.{◌+◌, ◌∷◌, ◌++◌, [], ℕ, List, map, refl, ap, subst, sym, ◌∙◌, IsPermutation}
+use Rattle.std.proofs.Common.{⊎_elim, ◌∷◌, ◌++◌, [], ℕ, List, map, ap, subst, sym, ◌∙◌, IsPermutation}
 use Rattle.bucket_ranges.specs.Reading.{Reading}
 use Rattle.std.proofs.lemmas.Simd.{map-map}
 use Rattle.image_reader.specs.Views.{histogram_view, reading_view}
 use Rattle.reading_sums.specs.Totals.{Part, SameTotals, part_from}
 use Rattle.reading_sums.specs.Views.{part_of, parts_of}
-use Rattle.reading_sums.specs.declared.notes.Notes.{Notes}
 use Rattle.reading_sums.specs.declared.sums.Sums.{Sums}
 use Rattle.reading_sums.specs.Addends.{AddsNumbered, notes_of_one}
-use Rattle.reading_sums.specs.Notes.{AreNotesOf, AreNotesOfBoth}
+use Rattle.reading_sums.specs.Notes.{AreNotesOfBoth}
 use Rattle.reading_sums.specs.Sums.{IsSumOver, parts_of_one}
 use Rattle.std.specs.List.{All}
 use Rattle.image_reader.specs.declared.reading.HistReading.{HistReading}
 use Rattle.reading_sums.specs.Whole.{AreWhole, HasNamesOnce, IsWholeHistogram, IsWholeReading}
+use Rattle.reading_sums.specs.Fitting.{NotesDoNotFit}
+use Rattle.reading_sums.proofs.FitInTurn.{whole-parts-fit}
 use Rattle.reading_sums.proofs.Readings.{parts-both, parts-one, notes-both, notes-one}
 use Rattle.reading_sums.proofs.Totals.{same-append, same-refl, same-trans}
 use Rattle.std.proofs.lemmas.Result.{err_from_is_err_and}
 use Rattle.reading_sums.proofs.LongSums.{reading-long}
 use Rattle.reading_sums.proofs.sums.Sums.add.Goals as goal
-
--- the notes of one image are known
-notes-more : (reading : Reading) (before one after : Notes) → AreNotesOf reading one → AreNotesOfBoth before one after
-    → AreNotesOfBoth before (notes_of_one reading) after
-notes-more reading before one after are both = record {
-  images = both.images ∙ ap (λ n. before.images + n) are.images;
-  full = both.full ∙ ap (λ n. before.full + n) are.full;
-  corrupt = both.corrupt ∙ ap (λ n. before.corrupt + n) are.corrupt;
-  stopped = both.stopped ∙ ap (λ n. before.stopped + n) are.stopped;
-  bad = both.bad ∙ ap (λ n. before.bad + n) are.bad;
-}
 
 -- a sum with one numbered reading more is that of the readings with this one behind them
 added-behind : (readings : List (ℕ × Reading)) (one : ℕ × Reading) (before after : Sums) → IsSumOver readings before
@@ -37,7 +27,7 @@ added-behind readings one before after is more = record {
   hists = parts-both readings (one ∷ []) (parts_of before) (parts_of_one one) (parts_of after) is.hists
       (parts-one one (parts_of_one one) (same-refl (parts_of_one one))) more.hists;
   notes = notes-both readings (one ∷ []) before.notes (notes_of_one one.1) after.notes is.notes
-      (notes-one one.0 one.1 (notes_of_one one.1) (record { images = refl; full = refl; corrupt = refl; stopped = refl; bad = refl })) more.notes;
+      (notes-one one.0 one.1) more.notes;
 }
 
 pub returns-clause-more : goal.returns-clause-more
@@ -54,7 +44,7 @@ returns-clause-more c =
           (parts_of c.args.self.now ++ parts_of_one one) both
           (same-append (parts_of c.args.self.now) (parts_of c.args.self.now) (map part_of c.in_ok-one.one.items) (parts_of_one one)
           (same-refl (parts_of c.args.self.now)) parts);
-      notes = notes-more (reading_view c.args.reading.now) c.args.self.now.notes c.notes_of.result c.in_ok-notes.notes c.notes_of.ensures c.in_ok-notes.ensures.both;
+      notes = subst (λ notes. AreNotesOfBoth c.args.self.now.notes notes c.in_ok-notes.notes) c.notes_of.ensures c.in_ok-notes.ensures.both;
     }
 
 pub returns-clause-added : goal.returns-clause-added
@@ -69,6 +59,16 @@ returns-clause-well_formed c = λ before reading.
     let one : AreWhole c.in_ok-one.one.items =
     c.in_ok-one.ensures.whole (subst P (sym c.deref.ensures.value) reading.names) (subst Q (sym c.deref.ensures.value) reading.whole) in
     c.in_ok-hists.ensures.whole (subst AreWhole (sym c.deref-2.ensures.value) before) (subst AreWhole (sym c.deref-3.ensures.value) one)
+
+pub returns-clause-fits : goal.returns-clause-fits
+returns-clause-fits c = λ before reading does_not.
+    let one : ℕ × Reading = (c.args.number, reading_view c.args.reading.now) in
+    ⊎_elim
+    (λ notes. subst (λ z. ¬ NotesDoNotFit c.args.self.now.notes z) c.notes_of.ensures c.in_ok-notes.ensures.fits notes)
+    (λ parts.
+    whole-parts-fit c.in_ok-hists.hists.items (parts_of c.args.self.now ++ parts_of_one one) (returns-clause-well_formed c before reading)
+    (returns-clause-more c).hists.totals parts)
+    does_not
 
 pub returns-in_err-hists-clause-too_many : goal.returns-in_err-hists-clause-too_many
 returns-in_err-hists-clause-too_many c =

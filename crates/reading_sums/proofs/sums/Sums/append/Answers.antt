@@ -1,9 +1,10 @@
 -- What both have together is the sum of both lists.
-use Rattle.std.proofs.Common.{◌++◌, List, map, subst, sym}
+use Rattle.std.proofs.Common.{⊎_elim, ◌++◌, List, map, subst, sym}
 use Rattle.reading_sums.specs.declared.sums.Sums.{Sums}
 use Rattle.reading_sums.specs.Totals.{Part, SameTotals}
-use Rattle.reading_sums.specs.Views.{part_of}
+use Rattle.reading_sums.specs.Views.{part_of, parts_of}
 use Rattle.reading_sums.specs.Whole.{AreWhole}
+use Rattle.reading_sums.proofs.FitInTurn.{whole-parts-fit}
 use Rattle.reading_sums.proofs.Readings.{sum-both}
 use Rattle.std.proofs.lemmas.Result.{err_from_is_err_and}
 use Rattle.reading_sums.proofs.LongSums.{sums-long}
@@ -24,6 +25,15 @@ returns-clause-added c = λ readings more first second.
 pub returns-clause-well_formed : goal.returns-clause-well_formed
 returns-clause-well_formed c = λ first second.
     c.in_ok-hists.ensures.whole (subst AreWhole (sym c.deref.ensures.value) first) (subst AreWhole (sym c.deref-2.ensures.value) second)
+
+pub returns-clause-fits : goal.returns-clause-fits
+returns-clause-fits c = λ first second does_not.
+    ⊎_elim
+    (λ notes. c.in_ok-notes.ensures.fits notes)
+    (λ parts.
+    whole-parts-fit c.in_ok-hists.hists.items (parts_of c.args.self.now ++ parts_of c.args.other.now) (returns-clause-well_formed c first second)
+    (returns-clause-both c).hists.totals parts)
+    does_not
 
 pub returns-in_err-hists-clause-too_many : goal.returns-in_err-hists-clause-too_many
 returns-in_err-hists-clause-too_many c =

@@ -3,6 +3,7 @@ use Rattle.std.proofs.Common.{List, map, ap, subst, sym, ◌∙◌}
 use Rattle.reading_sums.specs.Totals.{Part, SameTotals, raised_part}
 use Rattle.reading_sums.specs.Views.{part_of, parts_of}
 use Rattle.reading_sums.specs.Sums.{parts_in, raised as raised_reading}
+use Rattle.reading_sums.proofs.Alike.{raised-whole}
 use Rattle.reading_sums.proofs.RaisedSums.{parts-raised, notes-raised}
 use Rattle.reading_sums.proofs.sums.Sums.raised.Goals as goal
 
@@ -15,3 +16,7 @@ returns-clause-raised c = λ readings before.
       hists = subst P (sym (returns-clause-parts c)) (parts-raised (parts_of c.args.self.now) c.args.by readings before.hists);
       notes = notes-raised c.args.by readings c.args.self.now.notes before.notes;
     }
+
+pub returns-clause-well_formed : goal.returns-clause-well_formed
+returns-clause-well_formed c =
+    raised-whole c.args.by c.args.self.now.hists.items c.in_ok-raised_hists.field-0.items (returns-clause-parts c)

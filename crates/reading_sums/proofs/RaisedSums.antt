@@ -14,6 +14,12 @@ use Rattle.reading_sums.specs.Totals.{Part, Quantity, Feature, SameTotals, part_
 use Rattle.reading_sums.specs.Sums.{AreNotesIn, parts_in, parts_of_one, raised}
 use Rattle.reading_sums.proofs.Totals.{same-trans, same-equal}
 
+-- ---- parts that are not raised
+
+pub not-raised : (parts : List Part) → map (raised_part 0) parts ≡ parts
+not-raised [] = refl
+not-raised (part ∷ rest) = let e : part.least + 0 ≡ part.least = omega arith in λ i. (record part { least = e i }) ∷ not-raised rest i
+
 -- ---- what is added up stays
 
 share-raised : (quantity : Quantity) (name : List ℕ) (spec : Spec) (by : ℕ) (part : Part)

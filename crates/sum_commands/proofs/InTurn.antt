@@ -9,7 +9,7 @@ use Rattle.reading_sums.specs.Notes.{AreNotesOfBoth}
 use Rattle.reading_sums.specs.Sums.{IsSumOfBoth}
 use Rattle.reading_sums.specs.Totals.{Part, SameTotals, part_from, raised_part}
 use Rattle.reading_sums.specs.Views.{parts_of}
-use Rattle.reading_sums.proofs.RaisedSums.{same-raised}
+use Rattle.reading_sums.proofs.RaisedSums.{not-raised, same-raised}
 use Rattle.reading_sums.proofs.Totals.{same-append, same-equal, same-trans}
 use Rattle.sum_commands.specs.Inputs.{images_of}
 
@@ -20,10 +20,6 @@ twice-raised by first [] = refl
 twice-raised by first (part ∷ rest) =
     let e : (part.least + first) + by ≡ part.least + (first + by) = omega arith in
     λ i. (record part { least = e i }) ∷ twice-raised by first rest i
-
-not-raised : (parts : List Part) → map (raised_part 0) parts ≡ parts
-not-raised [] = refl
-not-raised (part ∷ rest) = let e : part.least + 0 ≡ part.least = omega arith in λ i. (record part { least = e i }) ∷ not-raised rest i
 
 turn-raised : (by first : ℕ) (addends : List Addend) → map (raised_part by) (parts_in_turn first addends) ≡ parts_in_turn (first + by) addends
 turn-raised by first [] = refl

@@ -14,44 +14,15 @@ use Rattle.reading_sums.specs.declared.hist.HistSum.{HistSum}
 use Rattle.reading_sums.specs.Orders.{hist_cmp, spec_cmp}
 use Rattle.reading_sums.specs.Totals.{Part}
 use Rattle.reading_sums.specs.Views.{part_of}
-use Rattle.reading_sums.specs.Whole.{AreWhole, IsWholeHist, IsWholeList}
-use Rattle.reading_sums.proofs.OneReading.{all-values}
+use Rattle.reading_sums.specs.Whole.{AreWhole, IsInRange, IsWholeHist}
+use Rattle.reading_sums.proofs.Alike.{raised-whole}
+use Rattle.reading_sums.proofs.RaisedSums.{not-raised}
 use Rattle.sum_texts.specs.Lines.{Whole, key_fields, line_bytes, line_text, lines_of, part_lines, segment_fields, fold_lines, end_fields, totals_text}
 use Rattle.sum_texts.specs.Writable.{AreFormed, line_count, name_line}
 
--- the order of histograms, of their parts
-abbrev pub part_cmp : Part → Part → Ordering
-part_cmp a b = ordering_then (slice_cmp nat_cmp a.name b.name) (spec_cmp a.spec b.spec)
-
-all-parts : (x : HistSum) (xs : List HistSum) → AllByRecursion (λ y. hist_cmp x y ≡ Less) xs → AllByRecursion (λ y. part_cmp (part_of x) y ≡ Less) (map part_of xs)
-all-parts x [] all = tt
-all-parts x (y ∷ ys) all = (all.0, all-parts x ys all.1)
-
-all-hists : (x : HistSum) (xs : List HistSum) → AllByRecursion (λ y. part_cmp (part_of x) y ≡ Less) (map part_of xs) → AllByRecursion (λ y. hist_cmp x y ≡ Less) xs
-all-hists x [] all = tt
-all-hists x (y ∷ ys) all = (all.0, all-hists x ys all.1)
-
--- histograms ascend where their parts do
-parts-ascend : (hists : List HistSum) → IsStrictlySortedBy hist_cmp hists → IsStrictlySortedBy part_cmp (map part_of hists)
-unfolding IsStrictlySortedBy
-parts-ascend [] up = tt
-parts-ascend (x ∷ xs) up = (all-parts x xs up.0, parts-ascend xs up.1)
-
-hists-ascend : (hists : List HistSum) → IsStrictlySortedBy part_cmp (map part_of hists) → IsStrictlySortedBy hist_cmp hists
-unfolding IsStrictlySortedBy
-hists-ascend [] up = tt
-hists-ascend (x ∷ xs) up = (all-hists x xs up.0, hists-ascend xs up.1)
-
--- a part that is whole
-abbrev pub IsWholePart : Part → Type 0
-IsWholePart part = IsWholeList part.spec part.keys
-
 -- histograms are those of a well-formed sum where others of the same parts are
 pub formed-alike : (a b : List HistSum) → map part_of a ≡ map part_of b → AreWhole b → AreWhole a
-formed-alike a b same whole = record {
-  ascending = hists-ascend a (subst (IsStrictlySortedBy part_cmp) (sym same) (parts-ascend b whole.ascending));
-  whole = all-values IsWholePart part_of a (subst (All IsWholePart) (sym same) (All-map IsWholePart part_of b whole.whole));
-}
+formed-alike a b same whole = raised-whole 0 b a (same ∙ sym (not-raised (map part_of b))) whole
 
 -- ---- parts
 
@@ -66,7 +37,7 @@ formed-answer b hists parts same answer = (
 -- parts of no names are those of a well-formed sum
 pub none-formed : AreFormed []
 unfolding IsStrictlySortedBy
-none-formed = record { hists = []; same = refl; whole = record { ascending = tt; whole = All-nil IsWholeHist } }
+none-formed = record { hists = []; same = refl; whole = record { ascending = tt; whole = All-nil IsWholeHist; range = All-nil IsInRange } }
 
 -- the lines of names, by the histograms
 pub counted : (hists : List HistSum) → sum_by line_count (map part_of hists) ≡ sum_by (λ (hist : HistSum). length hist.keys.items + 1) hists

@@ -1,29 +1,25 @@
--- Histograms of which the same is known but for their least numbers.
-use Rattle.std.proofs.Common.{◌≡◌, ◌<◌, ◌^◌, ℕ, List, [], ◌∷◌, map, FitsSigned, nat_cmp, sym, subst, ap, ◌∙◌}
+-- Histograms that are the same but for their least numbers.
+use Rattle.std.proofs.Common.{◌≡◌, ◌<◌, ◌^◌, ℕ, List, map, FitsSigned, nat_cmp, sym, subst, ap, ◌∙◌}
 use Rattle.std.specs.Int.{w128}
 use Rattle.std.specs.Ordering.{ordering_then}
 use Rattle.std.specs.Cmp.Lexicographic.{slice_cmp}
 use Rattle.std.specs.List.{All}
 use Rattle.std.specs.declared.cmp.Ordering.{Ordering}
 use Rattle.std.proofs.lemmas.Simd.{map-map}
-use Rattle.std.proofs.lemmas.List.Elements.{All-nil, All-cons, All-head, All-tail, All-map, All-weaker}
+use Rattle.std.proofs.lemmas.List.Elements.{All-map, All-weaker}
 use Rattle.reading_sums.specs.declared.hist.HistSum.{HistSum}
 use Rattle.reading_sums.specs.declared.key.KeySum.{KeySum}
 use Rattle.reading_sums.specs.Orders.{spec_cmp}
 use Rattle.reading_sums.specs.Totals.{Part, raised_part}
 use Rattle.reading_sums.specs.Views.{part_of}
 use Rattle.reading_sums.specs.Whole.{AreWhole, IsInRange, IsWholeList}
+use Rattle.reading_sums.proofs.OneReading.{all-values}
 use Rattle.reading_sums.proofs.Walk.{alike-ascend}
 
 -- ---- what all have by what is seen of each
 
-all-of-map : {X Y : Type 0} (P : Y → Type 0) (f : X → Y) (xs : List X) → All P (map f xs) → All (λ x. P (f x)) xs
-all-of-map P f [] all = All-nil (λ x. P (f x))
-all-of-map P f (x ∷ xs) all =
-    All-cons (λ z. P (f z)) x xs (All-head P (f x) (map f xs) all) (all-of-map P f xs (All-tail P (f x) (map f xs) all))
-
 alike-all : {X Y : Type 0} (P : Y → Type 0) (f : X → Y) (xs ys : List X) → map f xs ≡ map f ys → All (λ x. P (f x)) ys → All (λ x. P (f x)) xs
-alike-all P f xs ys same all = all-of-map P f xs (subst (All P) (sym same) (All-map P f ys all))
+alike-all P f xs ys same all = all-values P f xs (subst (All P) (sym same) (All-map P f ys all))
 
 -- ---- numbers in range
 
@@ -43,7 +39,7 @@ range-part hist range = record { marks = range.0; sum = range.1; sum_mark = rang
 pub copy-range : (e x : HistSum) → part_of e ≡ part_of x → IsInRange x → IsInRange e
 copy-range e x same range = range-part e (subst IsPartInRange (sym same) (part-range x range))
 
--- ---- raised ones
+-- ---- histograms of a well-formed sum
 
 unnumbered : Part → Part
 unnumbered part = record part { least = 0 }
@@ -51,16 +47,23 @@ unnumbered part = record part { least = 0 }
 part_cmp : Part → Part → Ordering
 part_cmp a b = ordering_then (slice_cmp nat_cmp a.name b.name) (spec_cmp a.spec b.spec)
 
--- those of a well-formed sum, with the numbers of their images raised, are those of a well-formed sum
-pub raised-whole : (by : ℕ) (hists raised : List HistSum) → map part_of raised ≡ map (raised_part by) (map part_of hists) → AreWhole hists → AreWhole raised
+seen-whole : (a b : List HistSum) → map unnumbered (map part_of a) ≡ map unnumbered (map part_of b) → AreWhole b → AreWhole a
 unfolding unnumbered part_cmp
-raised-whole by hists raised is are =
+seen-whole a b known are =
     let seen : HistSum → Part = λ hist. unnumbered (part_of hist) in
-    let same : map seen raised ≡ map seen hists =
-    sym (map-map unnumbered part_of raised)
-    ∙ (ap (map unnumbered) is ∙ (map-map unnumbered (raised_part by) (map part_of hists) ∙ map-map unnumbered part_of hists)) in record {
-      ascending = alike-ascend part_cmp seen raised hists same are.ascending;
-      whole = alike-all (λ (part : Part). IsWholeList part.spec part.keys) seen raised hists same are.whole;
-      range = All-weaker (λ hist. IsPartInRange (seen hist)) IsInRange range-part raised
-          (alike-all IsPartInRange seen raised hists same (All-weaker IsInRange (λ hist. IsPartInRange (seen hist)) part-range hists are.range));
+    let same : map seen a ≡ map seen b = sym (map-map unnumbered part_of a) ∙ (known ∙ map-map unnumbered part_of b) in record {
+      ascending = alike-ascend part_cmp seen a b same are.ascending;
+      whole = alike-all (λ (part : Part). IsWholeList part.spec part.keys) seen a b same are.whole;
+      range = All-weaker (λ hist. IsPartInRange (seen hist)) IsInRange range-part a
+          (alike-all IsPartInRange seen a b same (All-weaker IsInRange (λ hist. IsPartInRange (seen hist)) part-range b are.range));
     }
+
+-- those of the same parts as others are
+pub alike-whole : (a b : List HistSum) → map part_of a ≡ map part_of b → AreWhole b → AreWhole a
+alike-whole a b same are = seen-whole a b (ap (map unnumbered) same) are
+
+-- those of a sum, with the numbers of their images raised, are where the sum is well formed
+pub raised-whole : (by : ℕ) (hists raised : List HistSum) → map part_of raised ≡ map (raised_part by) (map part_of hists) → AreWhole hists → AreWhole raised
+unfolding unnumbered
+raised-whole by hists raised is are =
+    seen-whole raised hists (ap (map unnumbered) is ∙ map-map unnumbered (raised_part by) (map part_of hists)) are

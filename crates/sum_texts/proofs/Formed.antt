@@ -1,28 +1,18 @@
 -- Well-formed sums by their parts: what is well formed stays so where the parts are the same.
 use Rattle.std.proofs.Common.{◌≡◌, ◌∙◌, ◌∷◌, ◌++◌, ◌+◌, ◌≤◌, ◌↔◌, Bool, true, false, Option, None, is_some, ℕ, List, [], map, take, length, sum_by, nat_cmp, length-append, refl, ap, sym, subst, arith}
-use Rattle.std.specs.declared.cmp.Ordering.{Ordering}
-use Rattle.std.specs.declared.cmp.Ordering.TheVariants.{Less}
-use Rattle.std.specs.Ordering.{ordering_then}
-use Rattle.std.specs.Cmp.Lexicographic.{slice_cmp}
-use Rattle.std.specs.List.{All, AllByRecursion, flat_map}
+use Rattle.std.specs.List.{flat_map}
 use Rattle.std.specs.List.Sorted.{IsStrictlySortedBy}
 use Rattle.std.proofs.lemmas.List.{length-map}
-use Rattle.std.proofs.lemmas.List.Elements.{All-map, All-nil}
+use Rattle.std.proofs.lemmas.List.Elements.{All-nil}
 use Rattle.std.proofs.lemmas.List.Concat.{length-flat_map}
 use Rattle.std.proofs.lemmas.List.Sums.{sum_by-cons, sum_by-take-le}
 use Rattle.reading_sums.specs.declared.hist.HistSum.{HistSum}
-use Rattle.reading_sums.specs.Orders.{hist_cmp, spec_cmp}
 use Rattle.reading_sums.specs.Totals.{Part}
 use Rattle.reading_sums.specs.Views.{part_of}
 use Rattle.reading_sums.specs.Whole.{AreWhole, IsInRange, IsWholeHist}
-use Rattle.reading_sums.proofs.Alike.{raised-whole}
-use Rattle.reading_sums.proofs.RaisedSums.{not-raised}
+use Rattle.reading_sums.proofs.Alike.{alike-whole}
 use Rattle.sum_texts.specs.Lines.{Whole, key_fields, line_bytes, line_text, lines_of, part_lines, segment_fields, fold_lines, end_fields, totals_text}
 use Rattle.sum_texts.specs.Writable.{AreFormed, line_count, name_line}
-
--- histograms are those of a well-formed sum where others of the same parts are
-pub formed-alike : (a b : List HistSum) → map part_of a ≡ map part_of b → AreWhole b → AreWhole a
-formed-alike a b same whole = raised-whole 0 b a (same ∙ sym (not-raised (map part_of b))) whole
 
 -- ---- parts
 
@@ -31,7 +21,7 @@ pub formed-answer : (b : Bool) (hists : List HistSum) (parts : List Part) → ma
     → (b ≡ true) ↔ AreFormed parts
 formed-answer b hists parts same answer = (
   (λ yes. record { hists = hists; same = same; whole = answer.0 yes }),
-  (λ formed. answer.1 (formed-alike hists formed.hists (same ∙ sym formed.same) formed.whole)),
+  (λ formed. answer.1 (alike-whole hists formed.hists (same ∙ sym formed.same) formed.whole)),
 )
 
 -- parts of no names are those of a well-formed sum

@@ -4,7 +4,8 @@ use Rattle.reading_sums.specs.Views.{part_of, parts_of}
 use Rattle.sum_texts.specs.declared.fault.TotalsFault.TheVariants.{NoMemory}
 use Rattle.sum_texts.specs.Views.{whole_of}
 use Rattle.sum_texts.specs.Writable.{AreFormed, IsWrongLine}
-use Rattle.sum_texts.proofs.Formed.{formed-alike, unformed}
+use Rattle.reading_sums.proofs.Alike.{alike-whole}
+use Rattle.sum_texts.proofs.Formed.{unformed}
 use Rattle.sum_texts.proofs.Wholes.{whole_same}
 use Rattle.sum_texts.proofs.reading_back.totals_of.Goals as goal
 
@@ -35,13 +36,13 @@ returns-in_ok-wrong_line-in-None-clause-only c totals writable is =
     let said = c.in_ok-notes.ensures.back (whole_of totals) writable.fits is in
     let parts : map part_of c.in_ok-notes.field-0.hists.items ≡ parts_of totals.sums = ap (λ w. w.parts) said in
     absurd (unformed c.in_ok-sums.field-0 c.in_ok-notes.field-0.hists.items c.in-None.is c.in_ok-sums.ensures.whole
-    (formed-alike c.in_ok-notes.field-0.hists.items totals.sums.hists.items parts writable.formed))
+    (alike-whole c.in_ok-notes.field-0.hists.items totals.sums.hists.items parts writable.formed))
 
 pub returns-in_ok-wrong_line-in-None-clause-line : goal.returns-in_ok-wrong_line-in-None-clause-line
 returns-in_ok-wrong_line-in-None-clause-line c whole fits is line same =
     let said = c.in_ok-notes.ensures.back whole fits is in
     let parts : map part_of c.in_ok-notes.field-0.hists.items ≡ whole.parts = ap (λ w. w.parts) said in
     let not : AreFormed whole.parts → ⊥ = λ formed. unformed c.in_ok-sums.field-0 c.in_ok-notes.field-0.hists.items c.in-None.is c.in_ok-sums.ensures.whole
-    (formed-alike c.in_ok-notes.field-0.hists.items formed.hists (parts ∙ sym formed.same) formed.whole) in
+    (alike-whole c.in_ok-notes.field-0.hists.items formed.hists (parts ∙ sym formed.same) formed.whole) in
     let number : c.in_ok-wrong_line-in-None.field-0 ≡ line = cc same in
     subst (IsWrongLine whole.parts) number (c.in_ok-wrong_line-in-None.ensures.line whole fits is not)

@@ -1,5 +1,5 @@
 -- Inputs that are taken in their order.
-use Rattle.std.proofs.Common.{◌≡◌, ◌≢◌, ¬, ◌×◌, ◌++◌, Bool, true, false, ◌&&◌, ◌||◌, nat_lt, ℕ, ◌+◌, ◌<◌, ◌≤◌, List, [], ◌∷◌, length, suc, All, slice_index_or, Result, Ok, Err, inl, inr, refl, ap, sym, subst, ◌∙◌, arith, append_assoc, ◌⊎◌, ⊎_elim}
+use Rattle.std.proofs.Common.{◌≡◌, ◌≢◌, ◌++◌, Bool, true, false, ◌&&◌, ◌||◌, nat_lt, ℕ, ◌+◌, ◌<◌, ◌≤◌, List, [], ◌∷◌, length, suc, All, slice_index_or, Result, Ok, Err, inl, inr, refl, ap, sym, subst, ◌∙◌, arith, append_assoc, ◌⊎◌, ⊎_elim}
 use Rattle.std.specs.Prelude.{IfOk, IfErr, OnErr, ⊤}
 use Rattle.std.proofs.lemmas.Bool.Decides.{nat_tests}
 use Rattle.std.proofs.lemmas.List.{length-append, append-nil}
@@ -34,9 +34,11 @@ taken-append whole may_be before place [] ys first second =
 taken-append whole may_be before place (x ∷ xs) ys first second =
     let e : place + suc (length xs) ≡ (place + 1) + length xs = omega arith in
     let behind : AreTakenInputs whole may_be ((before ++ addends_of x) ++ addends_in xs) (place + suc (length xs)) ys =
-    subst (λ z. AreTakenInputs whole may_be z (place + suc (length xs)) ys) (sym (append_assoc before (addends_of x) (addends_in xs))) second in
-    (first.0, taken-append whole may_be (before ++ addends_of x) (place + 1) xs ys first.1
-    (subst (λ n. AreTakenInputs whole may_be ((before ++ addends_of x) ++ addends_in xs) n ys) e behind))
+    subst (λ z. AreTakenInputs whole may_be z (place + suc (length xs)) ys) (sym (append_assoc before (addends_of x) (addends_in xs))) second in (
+      first.0,
+      taken-append whole may_be (before ++ addends_of x) (place + 1) xs ys first.1
+          (subst (λ n. AreTakenInputs whole may_be ((before ++ addends_of x) ++ addends_in xs) n ys) e behind),
+    )
 
 addends-append : (xs ys : List Input) → addends_in (xs ++ ys) ≡ addends_in xs ++ addends_in ys
 addends-append [] ys = refl
@@ -405,7 +407,7 @@ all-within {O} is_whole opened_may_be whole may_be end is_strict (run ∷ runs) 
     (SumEndsWithin whole may_be is_strict end)
     (λ summed has. record {
       sum = subst (λ b. IsSumOfRun whole may_be b summed) is.strict
-          (run-taken is_whole opened_may_be whole may_be one.is_strict one.first one.opened.items summed is.are is.whole has.sum);
+          (run-taken is_whole opened_may_be whole may_be one.is_strict one.first one.opened.items summed is.are is.each has.sum);
       within = let w = has.within in let v = is.within in omega arith;
     })
     (each k run e here)

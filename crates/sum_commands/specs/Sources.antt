@@ -254,7 +254,7 @@ AreOpenedFrom opened_may_be may_be place (one ∷ rest) =
 -- a run of opened inputs, which ends before a place
 pub record IsOpenedRun {O : Type 0} (is_whole : O → Type 0) (opened_may_be : O → Input → Type 0) (whole : Type 0) (may_be : ℕ → Input → Type 0) (end : ℕ) (is_strict : Bool) (run : Run O) : Type 0 where
   pub are : AreOpenedFrom opened_may_be may_be run.first run.opened.items
-  pub whole : whole → All is_whole run.opened.items
+  pub each : whole → All is_whole run.opened.items
   pub within : run.first + length run.opened.items ≤ end
   pub strict : run.is_strict ≡ is_strict
 

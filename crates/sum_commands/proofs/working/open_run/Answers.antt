@@ -33,7 +33,7 @@ pub returns-clause-run : goal.returns-clause-run
 returns-clause-run g c =
     let at = c.loop-place.invariant in record {
       are = at.1;
-      whole = at.2;
+      each = at.2;
       within = let before = at.0 in let end = c.loop-place.auto.place-end in let order = c.requires in omega (arith, before, end, order);
       strict = refl;
     }

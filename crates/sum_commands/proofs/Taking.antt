@@ -252,7 +252,7 @@ more-taken whole may_be is_strict more before after so_far goes_on run place ste
 
 -- ---- inputs that were opened
 
-may-more : (whole known : Type 0) (P Q : Input → Type 0) (D : Addend → Type 0) (input : Input) → (known → whole) → ((one : Input) → P one → Q one)
+pub may-more : (whole known : Type 0) (P Q : Input → Type 0) (D : Addend → Type 0) (input : Input) → (known → whole) → ((one : Input) → P one → Q one)
     → MayBeTaken whole P D input → MayBeTaken known Q D input
 may-more whole known P Q D (Added is_damaged addend) is more may = (more (Added is_damaged addend) may.0, λ k. may.1 (is k))
 may-more whole known P Q D (LeftOut (Image fault)) is more may = more (LeftOut (Image fault)) may

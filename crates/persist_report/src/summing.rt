@@ -265,15 +265,16 @@ pub struct Reading {
     pub workers: usize,
 }
 
-/// Returns the sum of inputs, each once and in their order, but for those that are left out, which it tells; up to the first of these
-/// if it is strict. It is so for any number of workers [sum]. Where it takes long and the error stream is a terminal, a line there tells
-/// how far it is.
+/// Returns the sum of inputs in their order, but for those that are left out, which it lists; up to the first of these if it is
+/// strict. It is so for any number of workers. Of what is in the inputs nothing is known, so this says how many were reached and which
+/// were left out [sum]; that each counts once `sum_of_inputs` promises for any source. Where it takes long and the error stream is a
+/// terminal, a line there says how far it is.
 pub fn sum_of_names<R: Files<File = File> + Clock + Input + Eprint + AllocGlobal + Threads + Wait>(
     context: &Context<'_, R>,
     names: &[Named],
     how: Reading,
 ) -> Result<Summed, CliFault>
-    ensures sum { IfOk result (IsSumOfAllInputs (λ place input. ⊤) how.is_strict (length names.now)) }
+    ensures sum { IfOk result (IsSumOfAllInputs ⊥ (λ place input. ⊤) how.is_strict (length names.now)) }
 {
     let source = NamedInputs {
         context,

@@ -63,7 +63,8 @@ pub record HasItsBuckets (hist : HistSum) : Type 0 where
 abbrev pub AreMarksInRange : List KeySum → Type 0
 AreMarksInRange keys = All (λ key. key.marks < 2 ^ 64) keys
 
--- the numbers of a histogram of a sum have 64 bits, and its amounts 128 bits with a sign: so it is of each one in memory
+-- the marks of a histogram of a sum, its redundant count and how many images have it have 64 bits, and its amounts 128 bits with a
+-- sign: so it is of each one in memory
 pub record IsInRange (hist : HistSum) : Type 0 where
   pub marks : AreMarksInRange hist.keys.items
   pub sum : FitsSigned w128 hist.sum
@@ -71,7 +72,7 @@ pub record IsInRange (hist : HistSum) : Type 0 where
   pub redundant : hist.redundant < 2 ^ 64
   pub images : hist.images < 2 ^ 64
 
--- histograms that ascend by name and spec, each of them whole: so each name and spec is there once
+-- histograms that ascend by name and spec, so each name and spec is there once; each of them is whole, and its numbers are in range
 pub record AreWhole (hists : List HistSum) : Type 0 where
   pub ascending : IsStrictlySortedBy hist_cmp hists
   pub whole : All IsWholeHist hists

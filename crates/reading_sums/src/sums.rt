@@ -135,8 +135,8 @@ impl Sums {
     /// spec is raised by it [parts], and all else is the same [notes]. It is well formed if this sum is [well_formed]. So
     /// the sum of what comes behind others can be added to theirs.
     ///
-    /// It is refused with `NoMemory` if there is no memory, and with `TooMany` exactly if some least number would be 2^64 or more
-    /// [too_many] [fits].
+    /// It is refused with `NoMemory` if there is no memory, and with `TooMany` only if some least number would be 2^64 or more
+    /// [too_many]. It is accepted only if none would [fits].
     pub fn raised(&self, by: u64) -> Result<Sums, SumsFault>
         ensures raised { IfOk result (λ sums. (readings : List (ℕ × definition.Reading)) → IsSumOver readings self.now → IsSumOver (map (raised by) readings) sums) }
         ensures parts { IfOk result (λ sums. parts_of sums ≡ map (raised_part by) (parts_of self.now)) }

@@ -1,5 +1,5 @@
 -- All inputs have one sum, where each can be one thing alone.
-use Rattle.std.proofs.Common.{◌≡◌, ◌≢◌, Bool, true, false, nat_lt, ℕ, ◌+◌, ◌≤◌, List, [], ◌∷◌, ◌++◌, length, zero, suc, ⊎_elim, refl, ap, sym, subst, ◌∙◌, arith}
+use Rattle.std.proofs.Common.{◌≡◌, ◌≢◌, Bool, true, false, nat_lt, ℕ, ◌+◌, ◌≤◌, List, [], ◌∷◌, ◌++◌, length, zero, suc, All, ◌⊎◌, ⊎_elim, inl, inr, refl, ap, sym, subst, ◌∙◌, arith}
 use Rattle.reading_sums.specs.declared.notes.Notes.{Notes}
 use Rattle.reading_sums.specs.declared.sums.Sums.{Sums}
 use Rattle.reading_sums.specs.Addends.{Addend, IsSumInTurn, parts_in_turn}
@@ -17,68 +17,80 @@ use Rattle.sum_commands.specs.declared.fault.InputFault.TheVariants.{Image, BadT
 use Rattle.sum_commands.specs.declared.summing.Left.{Left}
 use Rattle.sum_commands.specs.declared.summing.Summed.{Summed}
 use Rattle.sum_commands.specs.Inputs.{DoesNotFitAfter}
-use Rattle.sum_commands.specs.Sources.{Input, MayBeTaken, AreTakenInputs, EndsAtFault, IsSumOfAllInputs, AreFixedInputs, AreAlike, addends_in, addends_of, left_from, are_damaged}
+use Rattle.sum_commands.specs.Sources.{Input, MayBeTaken, MayBeTooMany, AreTakenInputs, EndsAtFault, IsSumOfAllInputs, IsSumOfInputs, AreFixedInputs, HasRoom, AreAlike, addends_in, addends_of, left_from, are_damaged}
 use Rattle.sum_commands.specs.Sources.Input.{Added, LeftOut}
-use Rattle.sum_commands.proofs.Taking.{sum-known}
+use Rattle.sum_commands.proofs.Fits.{AllFit, all-fit}
 
 -- ---- the same inputs
 
--- an input that was left out for any other fault is what it may be
-left-is : (may_be : Input → Type 0) (D : Addend → Type 0) (fault : InputFault) → (fault ≢ TooMany) → MayBeTaken ⊤ may_be D (LeftOut fault) → may_be (LeftOut fault)
-left-is may_be D (Image fault) other may = may
-left-is may_be D (BadTotals line) other may = may
-left-is may_be D TooMany other may = absurd (other refl)
+-- what an input is taken as, is known where it is fixed, and it is whole or not left out with `TooMany`
+abbrev IsSure : Type 0 → Input → Type 0
+IsSure whole input = whole ⊎ (input ≢ LeftOut TooMany)
+
+-- an input that is left out for a fault that it may have, or because an addend that it may be does not fit
+left-is : (whole : Type 0) (may_be : Input → Type 0) (D : Addend → Type 0) (fault : InputFault) → MayBeTaken whole may_be D (LeftOut fault)
+    → ((fault ≢ TooMany) × may_be (LeftOut fault)) ⊎ ((fault ≡ TooMany) × MayBeTooMany whole may_be D)
+left-is whole may_be D (Image fault) may = inl ((λ e. absurd (cc)), may)
+left-is whole may_be D (BadTotals line) may = inl ((λ e. absurd (cc)), may)
+left-is whole may_be D TooMany may = inr (refl, may)
 
 -- of one input not both are so: that it is added, and that it is left out
-not-both : (may_be : Input → Type 0) (D : Addend → Type 0) (is_damaged : Bool) (addend : Addend) (fault : InputFault) → ((one other : Input) → may_be one → may_be other → one ≡ other)
-    → MayBeTaken ⊤ may_be D (Added is_damaged addend) → MayBeTaken ⊤ may_be D (LeftOut fault) → ⊥
-not-both may_be D is_damaged addend (Image fault) fixed added left = let wrong = fixed (Added is_damaged addend) (LeftOut (Image fault)) added.0 left in absurd (cc)
-not-both may_be D is_damaged addend (BadTotals line) fixed added left = let wrong = fixed (Added is_damaged addend) (LeftOut (BadTotals line)) added.0 left in absurd (cc)
-not-both may_be D is_damaged addend TooMany fixed added left =
-    ⊎_elim (λ may. let wrong = fixed (Added is_damaged addend) (LeftOut TooMany) added.0 may in absurd (cc))
+not-both : (whole : Type 0) (may_be : Input → Type 0) (D : Addend → Type 0) (is_damaged : Bool) (addend : Addend) (fault : InputFault)
+    → ((one other : Input) → may_be one → may_be other → one ≡ other) → IsSure whole (LeftOut fault)
+    → MayBeTaken whole may_be D (Added is_damaged addend) → MayBeTaken whole may_be D (LeftOut fault) → ⊥
+not-both whole may_be D is_damaged addend fault fixed sure added left =
+    ⊎_elim (λ may. let wrong = fixed (Added is_damaged addend) (LeftOut fault) added.0 may.1 in absurd (cc))
     (λ many.
-    let same : addend ≡ many.addend = let e = fixed (Added is_damaged addend) (Added many.is_damaged many.addend) added.0 many.is in cc in
-    added.1 tt (subst D (sym same) (many.many tt))) left
+    let same : addend ≡ many.1.addend = let e = fixed (Added is_damaged addend) (Added many.1.is_damaged many.1.addend) added.0 many.1.is in cc in
+    ⊎_elim (λ w. added.1 w (subst D (sym same) (many.1.many w))) (λ other. other (ap LeftOut many.0)) sure)
+    (left-is whole may_be D fault left)
 
--- nor that it is left out for two faults, of which one is `TooMany`
-not-two : (may_be : Input → Type 0) (D : Addend → Type 0) (fault : InputFault) → ((one other : Input) → may_be one → may_be other → one ≡ other)
-    → MayBeTaken ⊤ may_be D (LeftOut TooMany) → may_be (LeftOut fault) → TooMany ≡ fault
-not-two may_be D fault fixed many left =
-    ⊎_elim (λ may. let e = fixed (LeftOut TooMany) (LeftOut fault) may left in cc)
-    (λ long. let wrong = fixed (Added long.is_damaged long.addend) (LeftOut fault) long.is left in absurd (cc)) many
+-- nor that it is left out for two faults
+same-fault : (whole : Type 0) (may_be : Input → Type 0) (D : Addend → Type 0) (one other : InputFault)
+    → ((one other : Input) → may_be one → may_be other → one ≡ other) → MayBeTaken whole may_be D (LeftOut one) → MayBeTaken whole may_be D (LeftOut other) → one ≡ other
+same-fault whole may_be D one other fixed first second =
+    ⊎_elim
+    (λ may.
+    ⊎_elim (λ also. let e = fixed (LeftOut one) (LeftOut other) may.1 also.1 in cc)
+    (λ many. let wrong = fixed (LeftOut one) (Added many.1.is_damaged many.1.addend) may.1 many.1.is in absurd (cc)) (left-is whole may_be D other second))
+    (λ many.
+    ⊎_elim (λ may. let wrong = fixed (LeftOut other) (Added many.1.is_damaged many.1.addend) may.1 many.1.is in absurd (cc))
+    (λ also. many.0 ∙ sym also.0) (left-is whole may_be D other second)) (left-is whole may_be D one first)
 
-same-fault : (may_be : Input → Type 0) (D : Addend → Type 0) (one other : InputFault) → ((one other : Input) → may_be one → may_be other → one ≡ other)
-    → MayBeTaken ⊤ may_be D (LeftOut one) → MayBeTaken ⊤ may_be D (LeftOut other) → one ≡ other
-same-fault may_be D TooMany TooMany fixed first second = refl
-same-fault may_be D TooMany (Image fault) fixed first second = not-two may_be D (Image fault) fixed first second
-same-fault may_be D TooMany (BadTotals line) fixed first second = not-two may_be D (BadTotals line) fixed first second
-same-fault may_be D (Image fault) TooMany fixed first second = sym (not-two may_be D (Image fault) fixed second first)
-same-fault may_be D (BadTotals line) TooMany fixed first second = sym (not-two may_be D (BadTotals line) fixed second first)
-same-fault may_be D (Image fault) (Image other) fixed first second = let e = fixed (LeftOut (Image fault)) (LeftOut (Image other)) first second in cc
-same-fault may_be D (Image fault) (BadTotals line) fixed first second = let e = fixed (LeftOut (Image fault)) (LeftOut (BadTotals line)) first second in cc
-same-fault may_be D (BadTotals line) (Image fault) fixed first second = let e = fixed (LeftOut (BadTotals line)) (LeftOut (Image fault)) first second in cc
-same-fault may_be D (BadTotals line) (BadTotals other) fixed first second = let e = fixed (LeftOut (BadTotals line)) (LeftOut (BadTotals other)) first second in cc
-
--- what an input is taken as, is known
-same-first : (may_be : Input → Type 0) (D : Addend → Type 0) (x y : Input) → ((one other : Input) → may_be one → may_be other → one ≡ other)
-    → MayBeTaken ⊤ may_be D x → MayBeTaken ⊤ may_be D y → x ≡ y
-same-first may_be D (Added is_damaged addend) (Added other_damaged other) fixed first second =
+same-first : (whole : Type 0) (may_be : Input → Type 0) (D : Addend → Type 0) (x y : Input) → ((one other : Input) → may_be one → may_be other → one ≡ other)
+    → IsSure whole x → IsSure whole y → MayBeTaken whole may_be D x → MayBeTaken whole may_be D y → x ≡ y
+same-first whole may_be D (Added is_damaged addend) (Added other_damaged other) fixed sure also first second =
     fixed (Added is_damaged addend) (Added other_damaged other) first.0 second.0
-same-first may_be D (Added is_damaged addend) (LeftOut fault) fixed first second = absurd (not-both may_be D is_damaged addend fault fixed first second)
-same-first may_be D (LeftOut fault) (Added is_damaged addend) fixed first second = absurd (not-both may_be D is_damaged addend fault fixed second first)
-same-first may_be D (LeftOut fault) (LeftOut other) fixed first second = ap LeftOut (same-fault may_be D fault other fixed first second)
+same-first whole may_be D (Added is_damaged addend) (LeftOut fault) fixed sure also first second =
+    absurd (not-both whole may_be D is_damaged addend fault fixed also first second)
+same-first whole may_be D (LeftOut fault) (Added is_damaged addend) fixed sure also first second =
+    absurd (not-both whole may_be D is_damaged addend fault fixed sure second first)
+same-first whole may_be D (LeftOut fault) (LeftOut other) fixed sure also first second = ap LeftOut (same-fault whole may_be D fault other fixed first second)
+
+-- so it is of each of some inputs
+abbrev AreSure : Type 0 → List Input → Type 0
+AreSure whole [] = ⊤
+AreSure whole (input ∷ rest) = IsSure whole input × AreSure whole rest
+
+whole-sure : (whole : Type 0) (xs : List Input) → whole → AreSure whole xs
+whole-sure whole [] w = tt
+whole-sure whole (x ∷ xs) w = (inl w, whole-sure whole xs w)
+
+fit-sure : (whole : Type 0) (xs : List Input) → AllFit xs → AreSure whole xs
+fit-sure whole [] fit = tt
+fit-sure whole (x ∷ xs) fit = (inr fit.0, fit-sure whole xs fit.1)
 
 -- as many inputs
-same-many : (may_be : ℕ → Input → Type 0) (before : List Addend) (place : ℕ) (xs ys : List Input) → AreFixedInputs may_be
-    → AreTakenInputs ⊤ may_be before place xs → AreTakenInputs ⊤ may_be before place ys → length xs ≡ length ys → xs ≡ ys
-same-many may_be before place [] [] fixed first second many = refl
-same-many may_be before place [] (y ∷ ys) fixed first second many = absurd (omega (arith, many))
-same-many may_be before place (x ∷ xs) [] fixed first second many = absurd (omega (arith, many))
-same-many may_be before place (x ∷ xs) (y ∷ ys) fixed first second many =
-    let here : x ≡ y = same-first (may_be place) (DoesNotFitAfter before) x y (fixed place) first.0 second.0 in
-    let other : AreTakenInputs ⊤ may_be (before ++ addends_of x) (place + 1) ys =
-    subst (λ z. AreTakenInputs ⊤ may_be (before ++ addends_of z) (place + 1) ys) (sym here) second.1 in
-    let rest : xs ≡ ys = same-many may_be (before ++ addends_of x) (place + 1) xs ys fixed first.1 other (omega (arith, many)) in
+same-many : (whole : Type 0) (may_be : ℕ → Input → Type 0) (before : List Addend) (place : ℕ) (xs ys : List Input) → AreFixedInputs may_be
+    → AreSure whole xs → AreSure whole ys → AreTakenInputs whole may_be before place xs → AreTakenInputs whole may_be before place ys → length xs ≡ length ys → xs ≡ ys
+same-many whole may_be before place [] [] fixed sure also first second many = refl
+same-many whole may_be before place [] (y ∷ ys) fixed sure also first second many = absurd (omega (arith, many))
+same-many whole may_be before place (x ∷ xs) [] fixed sure also first second many = absurd (omega (arith, many))
+same-many whole may_be before place (x ∷ xs) (y ∷ ys) fixed sure also first second many =
+    let here : x ≡ y = same-first whole (may_be place) (DoesNotFitAfter before) x y (fixed place) sure.0 also.0 first.0 second.0 in
+    let other : AreTakenInputs whole may_be (before ++ addends_of x) (place + 1) ys =
+    subst (λ z. AreTakenInputs whole may_be (before ++ addends_of z) (place + 1) ys) (sym here) second.1 in
+    let rest : xs ≡ ys = same-many whole may_be (before ++ addends_of x) (place + 1) xs ys fixed sure.1 also.1 first.1 other (omega (arith, many)) in
     λ i. here i ∷ rest i
 
 -- inputs up to the first that is left out, or all of so many
@@ -89,33 +101,35 @@ ends-rest : (place count : ℕ) (is_damaged : Bool) (addend : Addend) (xs : List
 ends-rest place count is_damaged addend xs ends =
     let within = ends.1 in (ends.0, omega (arith, within), λ none. let all = ends.2 none in omega (arith, all))
 
-same-ends : (may_be : ℕ → Input → Type 0) (before : List Addend) (place count : ℕ) (xs ys : List Input) → AreFixedInputs may_be
-    → AreTakenInputs ⊤ may_be before place xs → AreTakenInputs ⊤ may_be before place ys → EndsSo place count xs → EndsSo place count ys → xs ≡ ys
-same-ends may_be before place count [] [] fixed first second ends other_ends = refl
-same-ends may_be before place count [] (y ∷ ys) fixed first second ends other_ends =
+same-ends : (whole : Type 0) (may_be : ℕ → Input → Type 0) (before : List Addend) (place count : ℕ) (xs ys : List Input) → AreFixedInputs may_be
+    → AreSure whole xs → AreSure whole ys → AreTakenInputs whole may_be before place xs → AreTakenInputs whole may_be before place ys
+    → EndsSo place count xs → EndsSo place count ys → xs ≡ ys
+same-ends whole may_be before place count [] [] fixed sure also first second ends other_ends = refl
+same-ends whole may_be before place count [] (y ∷ ys) fixed sure also first second ends other_ends =
     let all = ends.2 refl in let within = other_ends.1 in absurd (omega (arith, all, within))
-same-ends may_be before place count (x ∷ xs) [] fixed first second ends other_ends =
+same-ends whole may_be before place count (x ∷ xs) [] fixed sure also first second ends other_ends =
     let all = other_ends.2 refl in let within = ends.1 in absurd (omega (arith, all, within))
-same-ends may_be before place zero (x ∷ xs) (y ∷ ys) fixed first second ends other_ends =
+same-ends whole may_be before place zero (x ∷ xs) (y ∷ ys) fixed sure also first second ends other_ends =
     let within = ends.1 in absurd (omega (arith, within))
-same-ends may_be before place (suc count) (Added is_damaged addend ∷ xs) (Added other_damaged other ∷ ys) fixed first second ends other_ends =
+same-ends whole may_be before place (suc count) (Added is_damaged addend ∷ xs) (Added other_damaged other ∷ ys) fixed sure also first second ends other_ends =
     let x : Input = Added is_damaged addend in
     let y : Input = Added other_damaged other in
-    let here : x ≡ y = same-first (may_be place) (DoesNotFitAfter before) x y (fixed place) first.0 second.0 in
-    let behind : AreTakenInputs ⊤ may_be (before ++ addends_of x) (place + 1) ys =
-    subst (λ z. AreTakenInputs ⊤ may_be (before ++ addends_of z) (place + 1) ys) (sym here) second.1 in
+    let here : x ≡ y = same-first whole (may_be place) (DoesNotFitAfter before) x y (fixed place) sure.0 also.0 first.0 second.0 in
+    let behind : AreTakenInputs whole may_be (before ++ addends_of x) (place + 1) ys =
+    subst (λ z. AreTakenInputs whole may_be (before ++ addends_of z) (place + 1) ys) (sym here) second.1 in
     let e : suc count ≡ count + 1 = omega arith in
     let rest : xs ≡ ys =
-    same-ends may_be (before ++ addends_of x) (place + 1) count xs ys fixed first.1 behind
+    same-ends whole may_be (before ++ addends_of x) (place + 1) count xs ys fixed sure.1 also.1 first.1 behind
     (ends-rest place count is_damaged addend xs (subst (λ n. EndsSo place n (x ∷ xs)) e ends))
     (ends-rest place count other_damaged other ys (subst (λ n. EndsSo place n (y ∷ ys)) e other_ends)) in
     λ i. here i ∷ rest i
-same-ends may_be before place (suc count) (Added is_damaged addend ∷ xs) (LeftOut fault ∷ ys) fixed first second ends other_ends =
-    absurd (not-both (may_be place) (DoesNotFitAfter before) is_damaged addend fault (fixed place) first.0 second.0)
-same-ends may_be before place (suc count) (LeftOut fault ∷ xs) (Added is_damaged addend ∷ ys) fixed first second ends other_ends =
-    absurd (not-both (may_be place) (DoesNotFitAfter before) is_damaged addend fault (fixed place) second.0 first.0)
-same-ends may_be before place (suc count) (LeftOut fault ∷ xs) (LeftOut other ∷ ys) fixed first second ends other_ends =
-    let here : LeftOut fault ≡ LeftOut other = same-first (may_be place) (DoesNotFitAfter before) (LeftOut fault) (LeftOut other) (fixed place) first.0 second.0 in
+same-ends whole may_be before place (suc count) (Added is_damaged addend ∷ xs) (LeftOut fault ∷ ys) fixed sure also first second ends other_ends =
+    absurd (not-both whole (may_be place) (DoesNotFitAfter before) is_damaged addend fault (fixed place) also.0 first.0 second.0)
+same-ends whole may_be before place (suc count) (LeftOut fault ∷ xs) (Added is_damaged addend ∷ ys) fixed sure also first second ends other_ends =
+    absurd (not-both whole (may_be place) (DoesNotFitAfter before) is_damaged addend fault (fixed place) sure.0 second.0 first.0)
+same-ends whole may_be before place (suc count) (LeftOut fault ∷ xs) (LeftOut other ∷ ys) fixed sure also first second ends other_ends =
+    let here : LeftOut fault ≡ LeftOut other =
+    same-first whole (may_be place) (DoesNotFitAfter before) (LeftOut fault) (LeftOut other) (fixed place) sure.0 also.0 first.0 second.0 in
     let rest : xs ≡ ys = ends.0 ∙ sym other_ends.0 in
     λ i. here i ∷ rest i
 
@@ -156,8 +170,8 @@ same-report a b n m text parts notes many is = record {
 
 -- ---- all inputs
 
-ends-so : (may_be : ℕ → Input → Type 0) (count : ℕ) (s : Summed) (is : IsSumOfAllInputs ⊤ may_be true count s) → EndsSo 0 count is.sum.inputs
-ends-so may_be count s is =
+ends-so : (whole : Type 0) (may_be : ℕ → Input → Type 0) (count : ℕ) (s : Summed) (is : IsSumOfAllInputs whole may_be true count s) → EndsSo 0 count is.sum.inputs
+ends-so whole may_be count s is =
     let zs = is.sum.inputs in
     let r = is.sum.reached in let f = is.first in let w = is.within in (
       is.sum.ends refl,
@@ -167,46 +181,42 @@ ends-so may_be count s is =
           let all = is.all (ap (λ (z : List Left). nat_lt 0 (length z)) same ∙ none) in omega (arith, all, r, f),
     )
 
-same-inputs : (may_be : ℕ → Input → Type 0) (is_strict : Bool) (count : ℕ) (a b : Summed) (first : IsSumOfAllInputs ⊤ may_be is_strict count a)
-    (second : IsSumOfAllInputs ⊤ may_be is_strict count b) → AreFixedInputs may_be → first.sum.inputs ≡ second.sum.inputs
-same-inputs may_be false count a b first second fixed =
+same-inputs : (whole : Type 0) (may_be : ℕ → Input → Type 0) (is_strict : Bool) (count : ℕ) (a b : Summed) (first : IsSumOfAllInputs whole may_be is_strict count a)
+    (second : IsSumOfAllInputs whole may_be is_strict count b) → AreFixedInputs may_be → AreSure whole first.sum.inputs → AreSure whole second.sum.inputs
+    → first.sum.inputs ≡ second.sum.inputs
+same-inputs whole may_be false count a b first second fixed sure also =
     let xs = first.sum.inputs in
     let ys = second.sum.inputs in
     let one = first.all refl in let other = second.all refl in
     let r = first.sum.reached in let q = second.sum.reached in let f = first.first in let g = second.first in
-    same-many may_be [] 0 xs ys fixed (subst (λ n. AreTakenInputs ⊤ may_be [] n xs) first.first first.sum.taken)
-    (subst (λ n. AreTakenInputs ⊤ may_be [] n ys) second.first second.sum.taken) (omega (arith, one, other, r, q, f, g))
-same-inputs may_be true count a b first second fixed =
+    same-many whole may_be [] 0 xs ys fixed sure also (subst (λ n. AreTakenInputs whole may_be [] n xs) first.first first.sum.taken)
+    (subst (λ n. AreTakenInputs whole may_be [] n ys) second.first second.sum.taken) (omega (arith, one, other, r, q, f, g))
+same-inputs whole may_be true count a b first second fixed sure also =
     let xs = first.sum.inputs in
     let ys = second.sum.inputs in
-    same-ends may_be [] 0 count xs ys fixed (subst (λ n. AreTakenInputs ⊤ may_be [] n xs) first.first first.sum.taken)
-    (subst (λ n. AreTakenInputs ⊤ may_be [] n ys) second.first second.sum.taken) (ends-so may_be count a first) (ends-so may_be count b second)
+    same-ends whole may_be [] 0 count xs ys fixed sure also (subst (λ n. AreTakenInputs whole may_be [] n xs) first.first first.sum.taken)
+    (subst (λ n. AreTakenInputs whole may_be [] n ys) second.first second.sum.taken) (ends-so whole may_be count a first) (ends-so whole may_be count b second)
 
--- what is known of inputs that are whole
-known : (whole : Type 0) (may_be : ℕ → Input → Type 0) (is_strict : Bool) (count : ℕ) (s : Summed) → whole → IsSumOfAllInputs whole may_be is_strict count s
-    → IsSumOfAllInputs ⊤ may_be is_strict count s
-known whole may_be is_strict count s w is = record {
-  sum = sum-known whole ⊤ may_be may_be is_strict s (λ t. w) (λ place input may. may) is.sum;
-  first = is.first;
-  within = is.within;
-  all = is.all;
-}
+sum-sure : (whole : Type 0) (may_be : ℕ → Input → Type 0) (is_strict : Bool) (s : Summed) (is : IsSumOfInputs whole may_be is_strict s) → whole ⊎ HasRoom s → AreSure whole is.inputs
+sum-sure whole may_be is_strict s is sure =
+    ⊎_elim (whole-sure whole is.inputs)
+    (λ room. fit-sure whole is.inputs (all-fit s.first is.inputs (subst (All (λ (left : Left). left.fault ≢ TooMany)) is.left room))) sure
 
-pub alike : (whole : Type 0) (may_be : ℕ → Input → Type 0) (is_strict : Bool) (count : ℕ) (a b : Summed) → whole → AreFixedInputs may_be
-    → IsSumOfAllInputs whole may_be is_strict count a → IsSumOfAllInputs whole may_be is_strict count b → AreAlike a b
-alike whole may_be is_strict count a b w fixed first_is second_is =
-    let first = known whole may_be is_strict count a w first_is in
-    let second = known whole may_be is_strict count b w second_is in
-    let same : first.sum.inputs ≡ second.sum.inputs = same-inputs may_be is_strict count a b first second fixed in
+pub alike : (whole : Type 0) (may_be : ℕ → Input → Type 0) (is_strict : Bool) (count : ℕ) (a b : Summed) → AreFixedInputs may_be
+    → whole ⊎ (HasRoom a × HasRoom b) → IsSumOfAllInputs whole may_be is_strict count a → IsSumOfAllInputs whole may_be is_strict count b → AreAlike a b
+alike whole may_be is_strict count a b fixed sure first second =
+    let same : first.sum.inputs ≡ second.sum.inputs =
+    same-inputs whole may_be is_strict count a b first second fixed
+    (sum-sure whole may_be is_strict a first.sum (⊎_elim (λ w. inl w) (λ room. inr room.0) sure))
+    (sum-sure whole may_be is_strict b second.sum (⊎_elim (λ w. inl w) (λ room. inr room.1) sure)) in
     let sums : HaveSameSum a.sums b.sums =
     same-sum (addends_in second.sum.inputs) a.sums b.sums (subst (λ z. IsSumInTurn (addends_in z) a.sums) same first.sum.sum) second.sum.sum in
     let left : a.left.items ≡ b.left.items =
-    first.sum.left ∙ ((λ i. left_from ((first.first ∙ sym second.first) i) (same i)) ∙ sym second.sum.left) in
-    let hists : parts_of a.sums ≡ parts_of b.sums = one-sum a.sums b.sums (first.sum.well_formed tt) (second.sum.well_formed tt) sums in record {
+    first.sum.left ∙ ((λ i. left_from ((first.first ∙ sym second.first) i) (same i)) ∙ sym second.sum.left) in record {
       sums = sums;
       reached = first.sum.reached ∙ ((λ i. (first.first ∙ sym second.first) i + length (same i)) ∙ sym second.sum.reached);
       left = left;
       damaged = first.sum.damaged ∙ (ap are_damaged same ∙ sym second.sum.damaged);
-      hists = hists;
-      report = λ text. same-report a.sums b.sums (length a.left.items) (length b.left.items) text hists sums.notes (ap length left);
+      hists = λ one other. one-sum a.sums b.sums one other sums;
+      report = λ one other text. same-report a.sums b.sums (length a.left.items) (length b.left.items) text (one-sum a.sums b.sums one other sums) sums.notes (ap length left);
     }

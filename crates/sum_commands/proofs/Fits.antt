@@ -34,14 +34,12 @@ pub taken-after : (whole : Type 0) (may_be : Input → Type 0) (sums : Sums) (xs
 taken-after whole may_be sums xs (Added is_damaged addend) formed is taken = (taken.0, λ w. fits-after sums xs addend is (taken.1 (w, formed w)))
 taken-after whole may_be sums xs (LeftOut (Image fault)) formed is taken = taken
 taken-after whole may_be sums xs (LeftOut (BadTotals line)) formed is taken = taken
-taken-after whole may_be sums xs (LeftOut TooMany) formed is taken =
-    ⊎_elim (λ may. inl may)
-    (λ many. inr (record {
-      is_damaged = many.is_damaged;
-      addend = many.addend;
-      is = many.is;
-      many = λ w. behind-after sums xs many.addend is (many.many (w, formed w));
-    })) taken
+taken-after whole may_be sums xs (LeftOut TooMany) formed is taken = record {
+  is_damaged = taken.is_damaged;
+  addend = taken.addend;
+  is = taken.is;
+  many = λ w. behind-after sums xs taken.addend is (taken.many (w, formed w));
+}
 
 -- ---- inputs of which none is left out with `TooMany`
 

@@ -7,7 +7,7 @@ use Rattle.std.proofs.lemmas.List.Elements.{All-head, All-tail}
 use Rattle.std.proofs.lemmas.Result.{IfOk-weaker}
 use Rattle.std.specs.declared.alloc.AllocError.{AllocError}
 use Rattle.reading_sums.specs.declared.sums.Sums.{Sums}
-use Rattle.reading_sums.specs.Addends.{Addend, AddsAddend, IsSumInTurn, addend_of}
+use Rattle.reading_sums.specs.Addends.{Addend, AddsAddend, IsSumInTurn, addend_of, no_addend}
 use Rattle.reading_sums.specs.Fitting.{AddendsDoNotFit}
 use Rattle.reading_sums.specs.Views.{parts_of}
 use Rattle.reading_sums.specs.Whole.{IsWellFormed}
@@ -257,14 +257,12 @@ pub may-more : (whole known : Type 0) (P Q : Input → Type 0) (D : Addend → T
 may-more whole known P Q D (Added is_damaged addend) is more may = (more (Added is_damaged addend) may.0, λ k. may.1 (is k))
 may-more whole known P Q D (LeftOut (Image fault)) is more may = more (LeftOut (Image fault)) may
 may-more whole known P Q D (LeftOut (BadTotals line)) is more may = more (LeftOut (BadTotals line)) may
-may-more whole known P Q D (LeftOut TooMany) is more may =
-    ⊎_elim (λ one. inl (more (LeftOut TooMany) one))
-    (λ many. inr (record {
-      is_damaged = many.is_damaged;
-      addend = many.addend;
-      is = more (Added many.is_damaged many.addend) many.is;
-      many = λ k. many.many (is k);
-    })) may
+may-more whole known P Q D (LeftOut TooMany) is more may = record {
+  is_damaged = may.is_damaged;
+  addend = may.addend;
+  is = more (Added may.is_damaged may.addend) may.is;
+  many = λ k. may.many (is k);
+}
 
 taken-more : (whole known : Type 0) (P Q : ℕ → Input → Type 0) (before : List Addend) (place : ℕ) (xs : List Input) → (known → whole)
     → ((at : ℕ) (one : Input) → P at one → Q at one) → AreTakenInputs whole P before place xs → AreTakenInputs known Q before place xs
@@ -290,7 +288,7 @@ opened-append {O} opened_may_be may_be place (x ∷ xs) one are more =
     (are.0, opened-append opened_may_be may_be (place + 1) xs one are.1 (λ input is. subst (λ n. may_be n input) e (more input is)))
 
 -- a sum of inputs of which more is known
-pub sum-known : (whole known : Type 0) (P Q : ℕ → Input → Type 0) (is_strict : Bool) (summed : Summed) → (known → whole)
+sum-known : (whole known : Type 0) (P Q : ℕ → Input → Type 0) (is_strict : Bool) (summed : Summed) → (known → whole)
     → ((at : ℕ) (one : Input) → P at one → Q at one) → IsSumOfInputs whole P is_strict summed → IsSumOfInputs known Q is_strict summed
 sum-known whole known P Q is_strict summed each more is = record {
   inputs = is.inputs;
@@ -417,7 +415,7 @@ all-within {O} is_whole opened_may_be whole may_be end is_strict (run ∷ runs) 
 any-left : (before : Sums) (fault : InputFault) → IsTakenBehind ⊥ (λ input. ⊤) before (LeftOut fault)
 any-left before (Image fault) = tt
 any-left before (BadTotals line) = tt
-any-left before TooMany = inl tt
+any-left before TooMany = record { is_damaged = false; addend = no_addend; is = tt; many = λ known. absurd known.0 }
 
 pub any-fault : (before : Sums) (added : Result Bool InputFault) → IfErr added (SomeMayNotBeAdded before)
 any-fault before (Ok is_damaged) = tt

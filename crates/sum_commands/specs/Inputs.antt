@@ -17,6 +17,7 @@ use Rattle.sum_texts.specs.declared.fault.TotalsFault.TheVariants as totals
 use Rattle.sum_texts.specs.declared.totals.Totals.{Totals}
 use Rattle.sum_texts.specs.Lines.{totals_text}
 use Rattle.sum_texts.specs.Views.{whole_of}
+use Rattle.sum_texts.specs.Writable.{IsWritable}
 use Rattle.sum_commands.specs.declared.fault.InputFault.{InputFault}
 use Rattle.sum_commands.specs.declared.fault.InputFault.TheVariants.{Image, BadTotals, TooMany}
 
@@ -32,7 +33,7 @@ fault_of_totals (totals.BadTotals line) = BadTotals line
 
 -- ---- what does not fit
 
--- numbers do not fit behind so many images: one is 2^62 or more, or 2^64 or more when it is raised by these
+-- least numbers do not fit behind so many images: one is 2^62 or more, or 2^64 or more when it is raised by these
 abbrev pub NumbersDoNotFit : ℕ → List Part → Type 0
 NumbersDoNotFit images parts = (part : Part) × Contains parts part × ((2 ^ 62 ≤ part.least) ⊎ (2 ^ 64 ≤ part.least + images))
 
@@ -68,10 +69,10 @@ pub record TotalsDoNotFit (text : List ℕ) (before : Sums) : Type 0 where
   pub text_is : text ≡ totals_text (whole_of totals)
   pub many : IsWellFormed before → DoesNotFitBehind before (addend_of totals.sums)
 
--- why totals are left out: a line is wrong, or they do not fit; and memory may run out
+-- why totals are left out: the text is that of no totals, or they do not fit; and memory may run out
 abbrev pub IsCausedByTotals : List ℕ → Sums → InputFault → Type 0
 IsCausedByTotals text before (Image fault) = fault ≡ NoMemory
-IsCausedByTotals text before (BadTotals line) = ⊤
+IsCausedByTotals text before (BadTotals line) = (totals : Totals) → IsWritable totals → text ≡ totals_text (whole_of totals) → ⊥
 IsCausedByTotals text before TooMany = TotalsDoNotFit text before
 
 -- ---- what is added

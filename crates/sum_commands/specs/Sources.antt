@@ -29,14 +29,14 @@ pub record MayBeTooMany (whole : Type 0) (may_be : Input → Type 0) (does_not_f
   pub many : whole → does_not_fit addend
 
 -- An input is taken as what it may be: an addend, which fits, or a fault for which it is left out. With `TooMany` it is left out
--- also where an addend that it may be does not fit. What fits is only said of inputs that are whole.
+-- where an addend that it may be does not fit. What fits is only said of inputs that are whole.
 abbrev pub MayBeTaken : Type 0 → (Input → Type 0) → (Addend → Type 0) → Input → Type 0
 MayBeTaken whole may_be does_not_fit (Added is_damaged addend) = may_be (Added is_damaged addend) × (whole → ¬ does_not_fit addend)
 MayBeTaken whole may_be does_not_fit (LeftOut (Image fault)) = may_be (LeftOut (Image fault))
 MayBeTaken whole may_be does_not_fit (LeftOut (BadTotals line)) = may_be (LeftOut (BadTotals line))
-MayBeTaken whole may_be does_not_fit (LeftOut TooMany) = may_be (LeftOut TooMany) ⊎ MayBeTooMany whole may_be does_not_fit
+MayBeTaken whole may_be does_not_fit (LeftOut TooMany) = MayBeTooMany whole may_be does_not_fit
 
--- it is taken so behind a sum, which is well formed
+-- it is taken so behind a sum; what fits is only said if that is well formed
 abbrev pub IsTakenBehind : Type 0 → (Input → Type 0) → Sums → Input → Type 0
 IsTakenBehind whole may_be before input = MayBeTaken (whole × IsWellFormed before) may_be (DoesNotFitBehind before) input
 
@@ -124,11 +124,11 @@ abbrev pub has_ended : Bool → Summed → Bool
 has_ended is_strict summed = is_strict && nat_lt 0 (length summed.left.items)
 
 -- a sum is that of all inputs, which are so many; or up to the first that is left out, if that is to end it
-pub record IsSumOfAllInputs (whole : Type 0) (may_be : ℕ → Input → Type 0) (is_strict : Bool) (inputs : ℕ) (summed : Summed) : Type 0 where
+pub record IsSumOfAllInputs (whole : Type 0) (may_be : ℕ → Input → Type 0) (is_strict : Bool) (count : ℕ) (summed : Summed) : Type 0 where
   pub sum : IsSumOfInputs whole may_be is_strict summed
   pub first : summed.first ≡ 0
-  pub within : summed.reached ≤ inputs
-  pub all : has_ended is_strict summed ≡ false → summed.reached ≡ inputs
+  pub within : summed.reached ≤ count
+  pub all : has_ended is_strict summed ≡ false → summed.reached ≡ count
 
 -- ---- the same sum
 
@@ -136,15 +136,20 @@ pub record IsSumOfAllInputs (whole : Type 0) (may_be : ℕ → Input → Type 0)
 abbrev pub AreFixedInputs : (ℕ → Input → Type 0) → Type 0
 AreFixedInputs may_be = (place : ℕ) (one other : Input) → may_be place one → may_be place other → one ≡ other
 
--- two sums have the same totals, notes and histograms, leave out the same inputs for the same faults, and are damaged alike; each
--- text that is the report of one is that of the other
+-- no input is left out with `TooMany`
+abbrev pub HasRoom : Summed → Type 0
+HasRoom summed = All (λ left. left.fault ≢ TooMany) summed.left.items
+
+-- two sums have the same totals and notes, leave out the same inputs for the same faults, and are damaged alike; if they are well
+-- formed, they have the same histograms, and each text that is the report of one is that of the other
 pub record AreAlike (a b : Summed) : Type 0 where
   pub sums : HaveSameSum a.sums b.sums
   pub reached : a.reached ≡ b.reached
   pub left : a.left.items ≡ b.left.items
   pub damaged : a.is_damaged ≡ b.is_damaged
-  pub hists : parts_of a.sums ≡ parts_of b.sums
-  pub report : (text : List ℕ) → IsSumReport a.sums (length a.left.items) text → IsSumReport b.sums (length b.left.items) text
+  pub hists : IsWellFormed a.sums → IsWellFormed b.sums → parts_of a.sums ≡ parts_of b.sums
+  pub report : IsWellFormed a.sums → IsWellFormed b.sums → (text : List ℕ) → IsSumReport a.sums (length a.left.items) text
+      → IsSumReport b.sums (length b.left.items) text
 
 -- ---- small sums
 
@@ -158,7 +163,7 @@ pub record AreSmallAddends (addends : List Addend) : Type 0 where
   pub images : images_of addends < 2 ^ 62
   pub amounts : HasSmallAmounts (parts_in_turn 0 addends)
 
--- and so do addends with those of inputs behind them, up to each of the inputs
+-- and so do addends with those of the first inputs behind them, of one of these, of two, and so on
 abbrev pub AreSmallInputs : List Addend → List Input → Type 0
 AreSmallInputs before [] = ⊤
 AreSmallInputs before (input ∷ rest) = AreSmallAddends (before ++ addends_of input) × AreSmallInputs (before ++ addends_of input) rest
@@ -245,7 +250,7 @@ pub record IsOpenedAt {O : Type 0} (may_be : O → Input → Type 0) (first : �
   pub at : place ≡ first + length front
   pub is : may_be one input
 
--- inputs that were opened from a place on: each may be what its place may have
+-- inputs that were opened from a place on: each is only what the input at its place may be
 abbrev pub AreOpenedFrom : {O : Type 0} → (O → Input → Type 0) → (ℕ → Input → Type 0) → ℕ → List O → Type 0
 AreOpenedFrom opened_may_be may_be place [] = ⊤
 AreOpenedFrom opened_may_be may_be place (one ∷ rest) =

@@ -16,7 +16,7 @@ pub enum InputFault {
     #[error("BadTotals {0}")]
     BadTotals(u64),
     /// With it a total would not fit: 64 bits for all units of a histogram, the marks of a key, redundant counts, images and
-    /// what they say beside their histograms; 128 for amounts.
+    /// what they say beside their histograms; 128 for amounts. Or it has a least number of 2^62 or more.
     #[error("TooMany")]
     TooMany,
 }

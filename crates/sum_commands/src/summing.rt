@@ -6,7 +6,7 @@ ghost use Rattle.sum_commands.specs.declared.fault.InputFault.TheVariants.{TooMa
 ghost use Rattle.sum_commands.specs.Sources.{Input, AddsInput, MayNotBeAdded, HasNotedInput, HasTakenInput, IsNoneAt, IsSmallSum, IsSumOfRun, IsSumSoFar, MayHaveAppended, has_ended};
 
 use crate::fault::InputFault;
-use crate::sums::append_next;
+use crate::sums::{NUMBER_LIMIT, append_next};
 use reading_sums::{HistSum, Sums};
 use std::alloc::{AllocError, Global};
 
@@ -15,14 +15,14 @@ pub trait OpenInput {
     /// What the input may be.
     ghost may_be: { Self → Input → Type 0 };
 
-    /// Whether the input is known to be whole: a well-formed sum stays so with it, and it is left out with `TooMany` only where it
-    /// does not fit.
+    /// Whether the input is known to be whole, the condition under which a well-formed sum stays so and what fits is said. Where
+    /// nothing is known of it, as of a file, it never holds: such an input may be left out with `TooMany` for any reason.
     ghost is_whole: { Self → Type 0 };
 
-    /// Adds the input to a sum, behind its readings, and returns whether it is damaged: what was added is what the input may be, and
-    /// fits if the input is whole and the sum well formed [added]. An input that is left out has a fault that it may have, or
-    /// `TooMany`: then it would not fit, if it is whole and the sum well formed. `NoMemory` comes where memory runs out [cause].
-    /// The sum is then unchanged [refused].
+    /// Adds the input to a sum, behind its readings, and returns whether it is damaged: what was added is what the input may be. If
+    /// the input is whole and the sum well formed, it fits, and the sum stays well formed [added]. An input that is left out has a
+    /// fault that it may have, or `TooMany`: then something that it may be does not fit, if it is whole and the sum well formed.
+    /// `NoMemory` comes where memory runs out [cause]. The sum is then unchanged [refused].
     fn add_to(self, sums: &mut Sums) -> Result<bool, InputFault>
         ensures added { IfOk result (λ is_damaged. AddsInput (is_whole self) (may_be self) is_damaged sums.old sums.new) }
         ensures cause { IfErr result (MayNotBeAdded (is_whole self) (may_be self) sums.old) }
@@ -48,10 +48,10 @@ pub trait Source {
         ensures whole { IfSome result (λ opened. are_whole self.now → Self.Opened.is_whole opened) };
 
     /// Adds the input at a place to a sum, behind its readings, and returns whether it is damaged: what was added is what the input
-    /// at that place may be, and fits if the inputs are whole and the sum well formed [added]. An input that is left out has a fault
-    /// that it may have, or `TooMany`: then it would not fit, if the inputs are whole and the sum well formed. `NoMemory` comes
-    /// where memory runs out [cause]. The sum is then unchanged [refused]. It may be asked for an input that was opened before,
-    /// and for that more than once.
+    /// at that place may be. If the inputs are whole and the sum well formed, it fits, and the sum stays well formed [added]. An
+    /// input that is left out has a fault that it may have, or `TooMany`: then something that it may be does not fit, if the inputs
+    /// are whole and the sum well formed. `NoMemory` comes where memory runs out [cause]. The sum is then unchanged [refused]. It
+    /// may be asked for an input that was opened before, and for that more than once.
     fn add_input(&self, sums: &mut Sums, place: usize) -> Result<bool, InputFault>
         ensures added { IfOk result (λ is_damaged. AddsInput (are_whole self.now) (may_be self.now place) is_damaged sums.old sums.new) }
         ensures cause { IfErr result (MayNotBeAdded (are_whole self.now) (may_be self.now place) sums.old) }
@@ -90,9 +90,6 @@ pub struct Summed {
 // Two amounts fit together that are nearer to 0 than this. No number of images has as much, but totals may say so.
 const LARGE_AMOUNT: u128 = 1 << 126;
 
-// Numbers of images fit together, and with those of totals, that are below this.
-const LARGE_NUMBER: u64 = 1 << 62;
-
 // Whether an amount of a histogram is large.
 fn is_large(hist: &HistSum) -> bool
     ensures sum { result ≡ false → unsigned_abs hist.now.sum < 2 ^ 126 }
@@ -111,7 +108,7 @@ fn has_large(sums: &Sums) -> bool
             return true;
         }
     }
-    sums.notes().images >= LARGE_NUMBER
+    sums.notes().images >= NUMBER_LIMIT
 }
 
 // Puts an input that is left out behind others.
@@ -241,6 +238,7 @@ impl Summed {
         if self.reached != summed.first || self.is_ended(is_strict) || !summed.fits_behind(self) {
             return Ok(());
         }
+        // Refused, also for want of memory: the caller adds these inputs one by one.
         if append_next(&mut self.sums, &summed.sums).is_err() {
             return Ok(());
         }

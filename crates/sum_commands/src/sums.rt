@@ -19,11 +19,10 @@ use reading_sums::{Sums, SumsFault};
 use std::alloc::Global;
 use sum_texts::totals_of;
 
-// A sum whose numbers are below this can be put behind any that has images: so whether inputs fit does not depend on how they are
-// appended.
-const NUMBER_LIMIT: u64 = 1 << 62;
+/// Least numbers below this fit behind fewer than so many images, however these are appended.
+pub(crate) const NUMBER_LIMIT: u64 = 1 << 62;
 
-// Whether some number of a sum is that great.
+// Whether some least number of a sum is that great.
 fn has_great_number(sums: &Sums) -> bool
     ensures some { result ≡ true → (part : Part) × Contains (parts_of sums.now) part × (2 ^ 62 ≤ part.least) }
     ensures none { result ≡ false → All (λ (part : Part). part.least < 2 ^ 62) (parts_of sums.now) }
@@ -42,8 +41,8 @@ fn has_great_number(sums: &Sums) -> bool
 /// sums become a well-formed one [well_formed].
 ///
 /// Of well-formed sums it is accepted only if the other one fits behind the first [fits], and refused with `TooMany` only if it does
-/// not: a total would not fit, or a number of the other one is 2^62 or more, or 2^64 or more when it is raised by how many images
-/// there were [too_many]. `NoMemory` comes where there is no memory. The sum is then as it was [refused].
+/// not: a total would not fit, or a least number of the other one is 2^62 or more, or 2^64 or more when it is raised by how many
+/// images there were [too_many]. `NoMemory` comes where there is no memory. The sum is then as it was [refused].
 pub fn append_next(sums: &mut Sums, more: &Sums) -> Result<(), SumsFault>
     ensures added { OnOk result (AddsBehind more.now sums.old sums.new) }
     ensures behind { OnOk result (AddsAddend (addend_of more.now) sums.old sums.new) }

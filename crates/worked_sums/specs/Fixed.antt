@@ -4,7 +4,8 @@ use Rattle.image_reader.specs.declared.reading.Reading.{Reading}
 use Rattle.image_reader.specs.Views.{reading_view}
 use Rattle.reading_sums.specs.Addends.{addend_of_reading}
 use Rattle.reading_sums.specs.Whole.{IsWholeReading}
-use Rattle.sum_commands.specs.declared.fault.InputFault.TheVariants.{TooMany}
+use Rattle.persist_report_core.specs.declared.fault.CliFault.TheVariants.{Read}
+use Rattle.sum_commands.specs.declared.fault.InputFault.TheVariants.{Image}
 use Rattle.sum_commands.specs.Sources.{Input}
 use Rattle.sum_commands.specs.Sources.Input.{Added, LeftOut}
 
@@ -12,10 +13,10 @@ use Rattle.sum_commands.specs.Sources.Input.{Added, LeftOut}
 abbrev pub IsThatReading : Reading → Input → Type 0
 IsThatReading reading input = input ≡ Added false (addend_of_reading (reading_view reading))
 
--- it is that reading; where there is none, it is left out
+-- it is that reading; where there is none, it cannot be read
 abbrev pub IsReadingOrNone : Option Reading → Input → Type 0
 IsReadingOrNone (Some reading) input = IsThatReading reading input
-IsReadingOrNone None input = input ≡ LeftOut TooMany
+IsReadingOrNone None input = input ≡ LeftOut (Image Read)
 
 -- the input at a place is the reading there; behind the last one there is none
 abbrev pub IsReadingAt : List Reading → ℕ → Input → Type 0

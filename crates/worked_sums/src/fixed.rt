@@ -7,6 +7,7 @@ ghost use Rattle.sum_commands.specs.Sources.{AddsInput, AreAlike, AreFixedInputs
 ghost use Rattle.worked_sums.specs.Fixed.{IsReadingAt, IsThatReading, IsWholeInMemory};
 
 use image_reader::Reading;
+use persist_report_core::CliFault;
 use reading_sums::Sums;
 use sum_commands::{InputFault, OpenInput, Source};
 
@@ -56,17 +57,15 @@ impl<'r> Source for Readings<'r> {
     ghost are_whole = { λ source. All IsWholeInMemory source.readings.now };
 
     fn open(&self, place: usize) -> Option<OneReading<'r>> {
-        match self.readings.get(place) {
-            Some(reading) => Some(OneReading { reading }),
-            None => None,
-        }
+        let reading = self.readings.get(place)?;
+        Some(OneReading { reading })
     }
 
-    // Behind the last one there is none, which is left out.
+    // A place behind the last reading has no input: it cannot be read.
     fn add_input(&self, sums: &mut Sums, place: usize) -> Result<bool, InputFault> {
         match self.readings.get(place) {
             Some(reading) => add_reading(sums, reading),
-            None => Err(InputFault::TooMany),
+            None => Err(InputFault::Image(CliFault::Read)),
         }
     }
 }
@@ -87,7 +86,7 @@ mod tests {
     use bucket_ranges::Spec;
     use reading_sums::Sums;
     use std::test::Fail;
-    use sum_commands::{Manner, Progress, sum_of_inputs};
+    use sum_commands::{InputFault, Manner, Progress, sum_of_inputs};
 
     // Nobody who is told.
     #[derive(Drop)]
@@ -119,6 +118,31 @@ mod tests {
             assert_eq!(rt; hists.len(), 1);
             let units: Vec<u64> = hists[0].keys.iter().map(|key| key.units).collect(alloc)?;
             assert_eq!(rt; units.as_slice(), [10, 10, 10, 10, 5].as_slice());
+        }
+        Ok(())
+    }
+
+    #[test]
+    fn a_reading_that_does_not_fit(rt: HostRuntime) -> Result<(), Fail> {
+        let alloc = rt.alloc();
+        let mut readings = Vec::new(alloc);
+        for units in [5, u64::MAX, 7] {
+            let one = hist(alloc, b"a", Spec::Sparse, &[(1, units)])?;
+            readings.push(of_one(alloc, one)?)?;
+        }
+        let source = Readings {
+            readings: &readings,
+        };
+        // Whether the first that is left out ends it, how many inputs are reached, and how many units there are.
+        for (is_strict, reached, units) in [(false, 3, 12), (true, 2, 5)] {
+            for workers in [1, 2, 3, 16] {
+                let how = Manner { workers, is_strict };
+                let summed = sum_of_inputs(&rt, alloc, &source, &mut Nobody, readings.len(), how)?;
+                assert_eq!(rt; (summed.reached, summed.left.len()), (reached, 1));
+                assert_eq!(rt; summed.left[0].place, 1);
+                assert_eq!(rt; summed.left[0].fault, InputFault::TooMany);
+                assert_eq!(rt; summed.sums.hists()[0].keys[0].units, units);
+            }
         }
         Ok(())
     }

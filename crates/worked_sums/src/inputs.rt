@@ -144,7 +144,7 @@ fn total_by<R: AllocGlobal + Threads + Wait>(
     Ok((text, told))
 }
 
-// Of the second and the third one fits beside the first, and the last has less than nothing.
+// Neither the second nor the third fits beside the first, and the last has a negative amount.
 const TEXTS: [&[u8]; 5] = [
     b"totals,1\nimages,1,0,0,0,0\nhist,A,1,0,1,0,0,sparse\nkey,5,9223372036854775808,0\nend,1\n",
     b"totals,1\nimages,1,0,0,0,0\nhist,A,1,0,7,0,0,sparse\nkey,5,9223372036854775808,0\nend,1\n",

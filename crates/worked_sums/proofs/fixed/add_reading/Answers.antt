@@ -35,12 +35,12 @@ refused-so : (fault : SumsFault) (before : Sums) (number : ℕ) (reading : Readi
     → IfTooMany fault (IsWellFormed before → IsWholeReading reading → SumDoesNotFit before (parts_of_one (number, reading)) (notes_of_one reading))
     → MayNotBeAdded (IsWholeReading reading) (λ (input : Input). input ≡ Added false (addend_of_reading reading)) before (fault_of_sums fault)
 refused-so sums.NoMemory before number reading many = inl refl
-refused-so sums.TooMany before number reading many = inr (inr (record {
+refused-so sums.TooMany before number reading many = inr (record {
   is_damaged = false;
   addend = addend_of_reading reading;
   is = refl;
   many = λ both. reading-many before number reading (many both.1 both.0);
-}))
+})
 
 pub returns-in_err-add-clause-cause : goal.returns-in_err-add-clause-cause
 returns-in_err-add-clause-cause c =

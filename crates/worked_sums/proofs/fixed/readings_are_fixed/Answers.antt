@@ -1,5 +1,5 @@
 -- At a place there is one reading, or none.
-use Rattle.std.proofs.Common.{◌≡◌, ℕ, Option, None, Some, slice_get, sym, ◌∙◌}
+use Rattle.std.proofs.Common.{◌≡◌, ℕ, Option, None, Some, slice_get, inl, sym, ◌∙◌}
 use Rattle.image_reader.specs.declared.reading.Reading.{Reading}
 use Rattle.sum_commands.specs.Sources.{Input}
 use Rattle.sum_commands.proofs.Alike.{alike}
@@ -16,4 +16,4 @@ returns-clause-fixed c = λ place one other. one-reading (slice_get c.args._sour
 
 pub returns-clause-alike : goal.returns-clause-alike
 returns-clause-alike c = λ whole is_strict inputs a b.
-    alike (All IsWholeInMemory c.args._source.now.readings.now) (IsReadingAt c.args._source.now.readings.now) is_strict inputs a b whole (returns-clause-fixed c)
+    alike (All IsWholeInMemory c.args._source.now.readings.now) (IsReadingAt c.args._source.now.readings.now) is_strict inputs a b (returns-clause-fixed c) (inl whole)

@@ -9,7 +9,8 @@ use Rattle.image_reader.specs.declared.reading.Reading.{Reading}
 use Rattle.reading_sums.specs.declared.sums.Sums.{Sums}
 use Rattle.reading_sums.specs.Whole.{IsWellFormed}
 use Rattle.sum_commands.specs.declared.fault.InputFault.{InputFault}
-use Rattle.sum_commands.specs.declared.fault.InputFault.TheVariants.{TooMany}
+use Rattle.persist_report_core.specs.declared.fault.CliFault.TheVariants.{Read}
+use Rattle.sum_commands.specs.declared.fault.InputFault.TheVariants.{Image}
 use Rattle.sum_commands.specs.Inputs.{DoesNotFitBehind}
 use Rattle.sum_commands.specs.Sources.{Input, AddsInput, MayNotBeAdded}
 use Rattle.sum_commands.specs.Sources.Input.{LeftOut}
@@ -64,4 +65,4 @@ pub returns-in-None-clause-cause : goal.returns-in-None-clause-cause
 returns-in-None-clause-cause c =
     let readings : List Reading = c.args.self.now.readings.now in
     let past : length readings ≤ c.args.place = ltb-false c.args.place (length readings) (sym c.in-None.ensures.lookup.0) in
-    inr (inl (subst (λ o. IsReadingOrNone o (LeftOut TooMany)) (sym (slice_get_past readings c.args.place past)) refl))
+    inr (subst (λ o. IsReadingOrNone o (LeftOut (Image Read))) (sym (slice_get_past readings c.args.place past)) refl)

@@ -5,6 +5,7 @@ a sum is."""
 from __future__ import annotations
 
 import argparse
+import collections
 import os
 import pathlib
 import random
@@ -276,38 +277,43 @@ def many(program: pathlib.Path, top: pathlib.Path, seed: int | str) -> Iterator[
             yield f"{title}, few files open", difference(report, came)
 
 
-def near_limits(chance: random.Random) -> plain_sums.Sum:
-    """A sum as totals may say it: numbers and amounts that fit alone, and mostly not beside others."""
+def near_limits(chance: random.Random, is_small: bool) -> plain_sums.Sum:
+    """A sum as totals may say it: numbers and amounts that fit alone, and mostly not beside others. A small one has small
+    amounts and few images, so that a worker's sum is appended."""
     part = plain_sums.Part({}, {}, 0, 0, 0, 1, 0)
     for key in chance.sample(range(4), 2):
         part.units[key] = chance.choice([0, 1, 2**62, 2**63 - 1])
         part.marks[key] = chance.choice([0, 1, 2**63, 2**64 - 1])
-    part.amounts, part.taken = (
-        chance.choice([1, -1]) * chance.choice([0, 1, 2**126 - 1, 2**126, 2**127 - 1]) for _ in range(2)
-    )
     part.redundant, part.images = (chance.choice([0, 1, 2, 2**62, 2**63, 2**64 - 1]) for _ in range(2))
-    part.least = chance.choice([0, 0, 1, 2**62 - 1, 2**62, 2**64 - 1])
-    name = chance.choice([b"a", b"b"])
-    notes = (chance.choice([1, 1, 2, 2**62 - 1, 2**62, 2**64 - 2]), *(chance.choice([0, 1, 2**63]) for _ in range(4)))
+    images = chance.choice([1, 2])
+    if not is_small:
+        part.amounts, part.taken = (
+            chance.choice([1, -1]) * chance.choice([0, 1, 2**126 - 1, 2**126, 2**127 - 1]) for _ in range(2)
+        )
+        part.least = chance.choice([0, 0, 1, 2**62 - 1, 2**62, 2**64 - 1])
+        images = chance.choice([1, 1, 2, 2**62 - 1, 2**62, 2**64 - 2])
+    notes = (images, *(chance.choice([0, 1, 2**63]) for _ in range(4)))
+    name = chance.choice([b"a", b"b", b"c", b"d"])
     return plain_sums.Sum({(name, (plain_sums.SPARSE,)): part}, *notes)
 
 
 def limits(program: pathlib.Path, top: pathlib.Path, seed: int | str) -> Iterator[Case]:
     """Totals that do not fit beside others: which are left out does not depend on the workers."""
-    tried = 0
+    tried: collections.Counter[str] = collections.Counter()
     for number in range(4 * FOLDERS):
         chance = random.Random(f"limits {seed} {number}")
+        is_small = number % 2 == 0
         inputs = []
-        few = chance.random() < 0.5
         for place in range(chance.randint(3, 12)):
-            data = lawful_of(chance) if chance.random() < 0.3 else plain_sums.totals_text(near_limits(chance))
-            if few and place > 2:
-                data = lawful_of(chance)
+            is_image = chance.random() < (0.6 if is_small else 0.3)
+            data = lawful_of(chance) if is_image else plain_sums.totals_text(near_limits(chance, is_small))
             path = top / f"limits {number} {place}"
             path.write_bytes(data)
             inputs.append((path, data))
         whole, left = plain_sums.sum_of(inputs)
-        tried += any(why == "TooMany" for _, why in left)
+        far = {path for path, data in inputs if has_far_number(data)}
+        tried["far"] += any(path in far for path, _ in left)
+        tried["small" if is_small else "large"] += any(path not in far for path, _ in left)
         wanted = wanted_of(plain_sums.report_of(whole, len(left)), left)
         totals_wanted = wanted_of(plain_sums.totals_text(whole), left)
         for workers in WORKERS:
@@ -315,7 +321,13 @@ def limits(program: pathlib.Path, top: pathlib.Path, seed: int | str) -> Iterato
             title = f"limits {number} of seed {seed}, {workers} workers"
             yield title, difference(wanted, answer(program, words))
             yield f"{title}, totals", difference(totals_wanted, answer(program, [*words, "--totals"]))
-    yield "totals that do not fit", None if tried > FOLDERS else f"only {tried} lists had some"
+    is_tried = min(tried["far"], tried["small"], tried["large"]) > FOLDERS // 2
+    yield "inputs that do not fit", None if is_tried else f"tried were {tried}"
+
+
+def has_far_number(data: bytes) -> bool:
+    """Whether an input has a least number that is refused by itself."""
+    return any(part.least >= plain_sums.NUMBER_LIMIT for part in plain_sums.of_input(data).parts.values())
 
 
 def files(program: pathlib.Path, top: pathlib.Path) -> Iterator[Case]:

@@ -278,8 +278,8 @@ def many(program: pathlib.Path, top: pathlib.Path, seed: int | str) -> Iterator[
 
 
 def near_limits(chance: random.Random, is_small: bool) -> plain_sums.Sum:
-    """A sum as totals may say it: numbers and amounts that fit alone, and mostly not beside others. A small one has small
-    amounts and few images, so that a worker's sum is appended."""
+    """A sum as totals may say it: numbers and amounts that fit alone, and mostly not beside others. A small one has
+    small amounts and few images, so that a worker's sum is appended."""
     part = plain_sums.Part({}, {}, 0, 0, 0, 1, 0)
     for key in chance.sample(range(4), 2):
         part.units[key] = chance.choice([0, 1, 2**62, 2**63 - 1])

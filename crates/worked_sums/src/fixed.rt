@@ -141,7 +141,10 @@ mod tests {
                 assert_eq!(rt; (summed.reached, summed.left.len()), (reached, 1));
                 assert_eq!(rt; summed.left[0].place, 1);
                 assert_eq!(rt; summed.left[0].fault, InputFault::TooMany);
-                assert_eq!(rt; summed.sums.hists()[0].keys[0].units, units);
+                let hists = summed.sums.hists();
+                assert_eq!(rt; hists.len(), 1);
+                let found: Vec<u64> = hists[0].keys.iter().map(|key| key.units).collect(alloc)?;
+                assert_eq!(rt; found.as_slice(), [units].as_slice());
             }
         }
         Ok(())

@@ -10,12 +10,11 @@ use crate::explaining::unopened;
 use crate::failure::Failure;
 use crate::leftover::is_new_name;
 use crate::recorded::{Recorded, read_folder};
-use crate::standing::{is_recording, path_in};
+use crate::standing::{is_recording, names_in, path_in};
 use crate::workers::Workers;
 use persist_report_core::CliFault;
 use std::alloc::{AllocError, Global};
 use std::fs::File;
-use std::io::{BufRead, BufReader};
 use std::rt::Files;
 use std::{fs, io};
 
@@ -151,11 +150,7 @@ fn put_folder<R: Files + AllocGlobal>(
     names: &mut Vec<Named>,
     folder: &str,
 ) -> io::Result<()> {
-    let alloc = rt.alloc();
-    let mut found: Vec<Vec<u8>> = Vec::new(alloc);
-    for name in BufReader::new(alloc, rt.open_dir(folder)?)?.split(alloc, 0) {
-        found.push(name?)?;
-    }
+    let mut found = names_in(rt, folder)?;
     found.sort_by(|a, b| a.as_slice().cmp(b.as_slice()))?;
     for name in &found {
         put_found(rt, names, folder, name)?;

@@ -21,7 +21,8 @@ use crate::scales::Scale;
 use crate::sizing_request::{SizeTask, size_command, size_task};
 use crate::text_options::{repeat_found, to_found};
 use crate::workers::Workers;
-use arguments::explain_flag;
+use arguments::{explain_flag, with_subcommand};
+pub use arguments::{bare_command, flag, option, with_args};
 use clap::error::ErrorKind;
 use clap::{ArgMatches, Command, Error};
 use fault_texts::VARIABLE_HELP;
@@ -137,27 +138,39 @@ pub enum Task<'a> {
     },
 }
 
+// Adds the commands that write texts.
+fn with_reading<'a>(alloc: Global, program: Command<'a>) -> Result<Command<'a>, AllocError> {
+    let program = with_subcommand(program, show_command(alloc)?)?;
+    let program = with_subcommand(program, report_command(alloc)?)?;
+    let program = with_subcommand(program, info_command(alloc)?)?;
+    with_subcommand(program, export_command(alloc)?)
+}
+
+// Adds the commands that write images and totals.
+fn with_writing<'a>(alloc: Global, program: Command<'a>) -> Result<Command<'a>, AllocError> {
+    let program = with_subcommand(program, merge_command(alloc)?)?;
+    let program = with_subcommand(program, run_command(alloc)?)?;
+    let program = with_subcommand(program, resume_command(alloc)?)?;
+    let program = with_subcommand(program, look_command(alloc)?)?;
+    let program = with_subcommand(program, fold_command(alloc)?)?;
+    with_subcommand(program, extract_command(alloc)?)
+}
+
 /// The command line of the program.
 pub fn command<'a>(alloc: Global) -> Result<Command<'a>, AllocError> {
-    Command::new(alloc, "persist_report")
+    let program = Command::new(alloc, "persist_report")
         .version("0.1.0")
         .about("Show, convert, merge and continue the histograms of a Povundiri segment")
         .after_long_help(texts::PROGRAM)
-        .subcommand_required(true)
-        .arg(explain_flag(alloc).help(VARIABLE_HELP))?
-        .subcommand(show_command(alloc)?)?
-        .subcommand(report_command(alloc)?)?
-        .subcommand(info_command(alloc)?)?
-        .subcommand(export_command(alloc)?)?
-        .subcommand(merge_command(alloc)?)?
-        .subcommand(run_command(alloc)?)?
-        .subcommand(resume_command(alloc)?)?
-        .subcommand(look_command(alloc)?)?
-        .subcommand(fold_command(alloc)?)?
-        .subcommand(extract_command(alloc)?)?
-        .subcommand(size_command(alloc)?.arg(explain_flag(alloc))?)?
-        .subcommand(scale_command(alloc)?)?
-        .subcommand(explain_command(alloc)?)
+        .subcommand_required(true);
+    let explains = explain_flag(alloc).help(VARIABLE_HELP);
+    let program = with_args(program, vec![in alloc; explains]?)?;
+    let program = with_reading(alloc, program)?;
+    let program = with_writing(alloc, program)?;
+    let size = with_args(size_command(alloc)?, vec![in alloc; explain_flag(alloc)]?)?;
+    let program = with_subcommand(program, size)?;
+    let program = with_subcommand(program, scale_command(alloc)?)?;
+    with_subcommand(program, explain_command(alloc)?)
 }
 
 // What a command of this name does, which is asked to explain or not; none if something is missing, which the parser refuses.
@@ -184,16 +197,23 @@ fn plain_task<'a>(name: &str, found: &ArgMatches<'a>) -> Option<Task<'a>> {
             to: to_found(found),
         }),
         "info" => Some(info_task(found)),
+        "scale" => scale_task(found),
+        "explain" => Some(Task::Explain {
+            name: found.get_str("NAME"),
+        }),
+        _ => writing_task(name, found),
+    }
+}
+
+// The same, of the commands that write images and totals.
+fn writing_task<'a>(name: &str, found: &ArgMatches<'a>) -> Option<Task<'a>> {
+    match name {
         "run" => run_task(found),
         "resume" => resume_task(found),
         "merge" => merge_task(found),
         "look" => look_task(found),
         "fold" => fold_task(found),
         "extract" => extract_task(found),
-        "scale" => scale_task(found),
-        "explain" => Some(Task::Explain {
-            name: found.get_str("NAME"),
-        }),
         _ => None,
     }
 }

@@ -3,6 +3,7 @@
 ghost use Rattle.std.specs.Prelude.{◌≡◌, IfOk};
 ghost use Rattle.clap.specs.Words.{kind_of};
 
+use crate::request::{bare_command, option, with_args};
 use clap::error::ErrorKind;
 use clap::{Arg, ArgAction, ArgMatches, Command, Error, value_parser};
 use std::alloc::{AllocError, Global};
@@ -17,36 +18,59 @@ pub struct SizeTask<'a> {
     pub values: Option<u64>,
 }
 
+// The script whose histograms are meant.
+fn script_argument<'a>(alloc: Global) -> Result<Arg<'a>, AllocError> {
+    Arg::new(alloc, "SCRIPT")
+        .help("Script, as CSV; of its add records the sparse values are counted")
+        .required_unless_present("hist")
+}
+
+// The histograms that are meant.
+fn hists_option<'a>(alloc: Global) -> Result<Arg<'a>, AllocError> {
+    option(
+        alloc,
+        "hist",
+        "HIST",
+        "Histogram as in a script: NAME,KIND,..; repeatable",
+    )
+    .action(ArgAction::Append)
+    .conflicts_with("SCRIPT")
+}
+
+// The words of a page.
+fn page_option<'a>(alloc: Global) -> Arg<'a> {
+    option(
+        alloc,
+        "page",
+        "WORDS",
+        "Words of a page [default: those of the script, or 4096]",
+    )
+    .value_parser(value_parser!(u64).range(64..=65536))
+}
+
+// The values of each sparse histogram.
+fn values_option<'a>(alloc: Global) -> Arg<'a> {
+    option(
+        alloc,
+        "values",
+        "N",
+        "Values of each sparse histogram [default: the script's]",
+    )
+    .value_parser(value_parser!(u64).range(0..=1048576))
+}
+
 /// Returns the command. The error is that memory ran out.
 pub fn size_command<'a>(alloc: Global) -> Result<Command<'a>, AllocError> {
-    let script = Arg::new(alloc, "SCRIPT")
-        .required_unless_present("hist")?
-        .help("Script, as CSV; of its add records the sparse values are counted");
-    let hists = Arg::new(alloc, "hist")
-        .long("hist")
-        .value_name("HIST")
-        .action(ArgAction::Append)
-        .conflicts_with("SCRIPT")?
-        .help("Histogram as in a script: NAME,KIND,..; repeatable");
-    let page = Arg::new(alloc, "page")
-        .long("page")
-        .value_name("WORDS")
-        .value_parser(value_parser!(u64).range(64..=65536))
-        .help("Words of a page [default: those of the script, or 4096]");
-    let values = Arg::new(alloc, "values")
-        .long("values")
-        .value_name("N")
-        .value_parser(value_parser!(u64).range(0..=1048576))
-        .help("Values of each sparse histogram [default: the script's]");
-    Command::new(alloc, "size")
-        .about("Say how large a segment has to be for histograms")
-        .after_help(
-            "Example:\n  persist_report size --hist ms,linear,1,1000,50 --hist hits,sparse --values 100",
-        )
-        .arg(script)?
-        .arg(hists)?
-        .arg(page)?
-        .arg(values)
+    let script = script_argument(alloc)?;
+    let hists = hists_option(alloc)?;
+    let args = vec![in alloc; script, hists, page_option(alloc), values_option(alloc)]?;
+    let command = bare_command(
+        alloc,
+        "size",
+        "Say how large a segment has to be for histograms",
+        "Example:\n  persist_report size --hist ms,linear,1,1000,50 --hist hits,sparse --values 100",
+    );
+    with_args(command, args)
 }
 
 /// Returns what the words ask for. The error is that memory ran out.

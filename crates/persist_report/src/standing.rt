@@ -92,14 +92,24 @@ fn put_segment<R: Files + AllocGlobal>(
     Ok(())
 }
 
+/// Returns the names of what is in a folder, in any order.
+pub fn names_in<R: Files + AllocGlobal>(rt: &R, folder: &str) -> io::Result<Vec<Vec<u8>>> {
+    let alloc = rt.alloc();
+    let mut names = Vec::new(alloc);
+    for name in BufReader::new(alloc, rt.open_dir(folder)?)?.split(alloc, 0) {
+        names.push(name?)?;
+    }
+    Ok(names)
+}
+
 /// Returns the segments that stand in a folder, by their numbers.
 pub fn segments_in<R: Files + AllocGlobal>(rt: &R, folder: &str) -> io::Result<Vec<Segment>> {
     let alloc = rt.alloc();
+    let names = names_in(rt, folder)?;
     let mut segments = Vec::new(alloc);
-    for name in BufReader::new(alloc, rt.open_dir(folder)?)?.split(alloc, 0) {
-        let name = name?;
-        if let FileKind::Segment(number) = kind_of(alloc, &name)?
-            && let Ok(name) = str::from_utf8(&name)
+    for name in &names {
+        if let FileKind::Segment(number) = kind_of(alloc, name)?
+            && let Ok(name) = str::from_utf8(name)
         {
             put_segment(rt, &mut segments, folder, number, name)?;
         }

@@ -1,35 +1,40 @@
 //! The command `info`, and the options of lists.
 
 use crate::request::Task;
-use crate::request::arguments::{explain_flag, image, live_options};
-use clap::{Arg, ArgAction, ArgMatches, Command};
+use crate::request::arguments::{
+    bare_command, excluding, explain_flag, flag, image, live_options, option, with_args,
+};
+use clap::{Arg, ArgMatches, Command};
 use reading_shows::{ListStyle, Style};
 use std::alloc::{AllocError, Global};
 
 // The orders of a list.
 static ORDERS: [&str; 2] = ["name", "units"];
 
+// What no list goes with. It excludes the order of a list too: `clap` asks for no list where one is excluded.
+static EXCLUDED: [&str; 4] = ["ascii", "log", "all", "html"];
+
 // Puts a comma between thousands.
 fn human_flag<'a>(alloc: Global) -> Arg<'a> {
-    Arg::new(alloc, "human")
-        .long("human")
-        .action(ArgAction::SetTrue)
-        .help("Write numbers with separators: 1,234,567")
-        .long_help("Write numbers with separators: 1,234,567 (a page always does)")
+    flag(alloc, "human", "Write numbers with separators: 1,234,567").long_help(
+        "Write numbers with separators: 1,234,567 (a page always does)",
+    )
 }
 
 /// The command that writes the overview of an image.
 pub fn info_command<'a>(alloc: Global) -> Result<Command<'a>, AllocError> {
-    let human = Arg::new(alloc, "human")
-        .long("human")
-        .action(ArgAction::SetTrue)
-        .help("Write numbers with separators: 1,234,567");
-    let command = Command::new(alloc, "info")
-        .about("Show what an image is: version, size, room, units, kinds and damage")
-        .after_help("Example:\n  persist_report info my.img")
-        .arg(image(alloc))?
-        .arg(human)?;
-    live_options(alloc, command)?.arg(explain_flag(alloc))
+    let args = vec![in alloc;
+        image(alloc),
+        flag(alloc, "human", "Write numbers with separators: 1,234,567"),
+    ]?;
+    let command = bare_command(
+        alloc,
+        "info",
+        "Show what an image is: version, size, room, units, kinds and damage",
+        "Example:\n  persist_report info my.img",
+    );
+    let command = live_options(alloc, with_args(command, args)?)?;
+    with_args(command, vec![in alloc; explain_flag(alloc)]?)
 }
 
 /// What `info` is asked for.
@@ -52,28 +57,26 @@ pub fn list_style(show: &ArgMatches<'_>, style: Style) -> Option<ListStyle> {
     })
 }
 
+// Asks for a list.
+fn list_flag<'a>(alloc: Global) -> Result<Arg<'a>, AllocError> {
+    let list = flag(alloc, "list", "Print one line for each histogram").long_help(
+        "Print one line for each histogram (not with --ascii, --log, --all or\n--html)",
+    );
+    excluding(list, &EXCLUDED)
+}
+
+// The order of a list.
+fn sort_option<'a>(alloc: Global) -> Result<Arg<'a>, AllocError> {
+    let sort = option(alloc, "sort", "ORDER", "Order of a list")
+        .long_help("Order of a list: by name, or by units, the most first")
+        .value_parser(ORDERS.as_slice())
+        .requires_arg("list")?;
+    excluding(sort, &EXCLUDED)
+}
+
 /// The options of `show` that make a list of it and write numbers for people.
 pub fn list_options<'a>(alloc: Global, command: Command<'a>) -> Result<Command<'a>, AllocError> {
-    let list = Arg::new(alloc, "list")
-        .long("list")
-        .action(ArgAction::SetTrue)
-        .conflicts_with("ascii")?
-        .conflicts_with("log")?
-        .conflicts_with("all")?
-        .conflicts_with("html")?
-        .help("Print one line for each histogram")
-        .long_help("Print one line for each histogram (not with --ascii, --log, --all or\n--html)");
-    let sort = Arg::new(alloc, "sort")
-        .long("sort")
-        .value_name("ORDER")
-        .value_parser(ORDERS.as_slice())
-        .requires_arg("list")?
-        // What excludes a list excludes its order too: `clap` asks for no list where one is excluded.
-        .conflicts_with("ascii")?
-        .conflicts_with("log")?
-        .conflicts_with("all")?
-        .conflicts_with("html")?
-        .help("Order of a list")
-        .long_help("Order of a list: by name, or by units, the most first");
-    command.arg(list)?.arg(sort)?.arg(human_flag(alloc))
+    let list = list_flag(alloc)?;
+    let sort = sort_option(alloc)?;
+    with_args(command, vec![in alloc; list, sort, human_flag(alloc)]?)
 }

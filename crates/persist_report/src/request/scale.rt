@@ -1,7 +1,7 @@
 //! The command `scale`.
 
 use crate::request::Task;
-use crate::request::arguments::{explain_flag, file};
+use crate::request::arguments::{bare_command, explain_flag, file, with_args};
 use crate::scales::Scale;
 use clap::{Arg, ArgMatches, Command, value_parser};
 use std::alloc::{AllocError, Global};
@@ -13,25 +13,31 @@ fn number<'a>(alloc: Global, name: &'a str, help: &'a str) -> Arg<'a> {
 
 /// The command that prints the record of a script for a histogram of a scale.
 pub fn scale_command<'a>(alloc: Global) -> Result<Command<'a>, AllocError> {
-    Command::new(alloc, "scale")
-        .about("Print the script record of a histogram whose buckets grow")
-        .long_about(
-            "Print the script record of a histogram whose buckets grow with the values: each\nis at most 1 part in 2^BITS wide.",
-        )
-        .after_help("Example:\n  persist_report scale latency.us 1 1000000 3")
-        .arg(file(alloc, "NAME", "Name of the histogram"))?
-        .arg(number(alloc, "MIN", "Least value, 1 or more"))?
-        .arg(number(
+    let args = vec![in alloc;
+        file(alloc, "NAME", "Name of the histogram"),
+        number(alloc, "MIN", "Least value, 1 or more"),
+        number(
             alloc,
             "MAX",
-            "Value that the buckets reach, at most 2147483646",
-        ))?
-        .arg(number(
+            "Value that the buckets reach, at most 2147483646"
+        ),
+        number(
             alloc,
             "BITS",
             "1 to 8: values of a bucket differ by at most 1 part in 2^BITS",
-        ))?
-        .arg(explain_flag(alloc))
+        ),
+        explain_flag(alloc),
+    ]?;
+    let command = bare_command(
+        alloc,
+        "scale",
+        "Print the script record of a histogram whose buckets grow",
+        "Example:\n  persist_report scale latency.us 1 1000000 3",
+    );
+    let command = command.long_about(
+        "Print the script record of a histogram whose buckets grow with the values: each\nis at most 1 part in 2^BITS wide.",
+    );
+    with_args(command, args)
 }
 
 /// What `scale` is asked for; none if something is missing, which the parser refuses.

@@ -1,6 +1,7 @@
 //! The arguments of the commands that write a text of a sum.
 
 use crate::inputs::Inputs;
+use crate::request::arguments::{flag, option, with_args};
 use crate::workers::Workers;
 use clap::{Arg, ArgAction, ArgMatches, Command, value_parser};
 use std::alloc::{AllocError, Global};
@@ -17,68 +18,71 @@ pub fn images<'a>(alloc: Global) -> Arg<'a> {
 
 /// More images for a command that takes names behind the first.
 pub fn also_option<'a>(alloc: Global) -> Arg<'a> {
-    Arg::new(alloc, "also")
-        .long("also")
-        .value_name("FILE")
-        .action(ArgAction::Append)
-        .hide_short_help(true)
-        .help("Another FILE, whose histograms are added; may be given more than once")
-        .long_help("Another FILE, whose histograms are added; may be given more than\nonce")
+    option(
+        alloc,
+        "also",
+        "FILE",
+        "Another FILE, whose histograms are added; may be given more than once",
+    )
+    .action(ArgAction::Append)
+    .hide_short_help(true)
+    .long_help("Another FILE, whose histograms are added; may be given more than\nonce")
 }
 
 // An option of a sum, which comes in the long help alone.
 fn sum_option<'a>(alloc: Global, name: &'a str, value: &'a str, help: &'a str) -> Arg<'a> {
-    Arg::new(alloc, name)
-        .long(name)
-        .value_name(value)
-        .hide_short_help(true)
-        .help(help)
+    option(alloc, name, value, help).hide_short_help(true)
 }
 
-/// The options of a text of a sum.
-pub fn sum_options<'a>(alloc: Global, command: Command<'a>) -> Result<Command<'a>, AllocError> {
-    let list = sum_option(
-        alloc,
-        "files-from",
-        "LIST",
-        "File that names FILEs, a line each; - is standard input",
-    );
-    let earlier = sum_option(
-        alloc,
-        "minus",
-        "OLD",
-        "Show what came since OLD, an earlier image, totals or folder",
-    );
-    let workers = sum_option(
+// How many workers add up.
+fn workers_option<'a>(alloc: Global) -> Arg<'a> {
+    sum_option(
         alloc,
         "workers",
         "K",
         "Number of threads that read and add up, 1 to 16",
     )
     .value_parser(value_parser!(u32).range(1..=16))
-    .default_value("1");
-    let strict = Arg::new(alloc, "strict")
-        .long("strict")
-        .action(ArgAction::SetTrue)
-        .hide_short_help(true)
-        .help(
+    .default_value("1")
+}
+
+/// The options of a text of a sum.
+pub fn sum_options<'a>(alloc: Global, command: Command<'a>) -> Result<Command<'a>, AllocError> {
+    let args = vec![in alloc;
+        sum_option(
+            alloc,
+            "files-from",
+            "LIST",
+            "File that names FILEs, a line each; - is standard input",
+        ),
+        sum_option(
+            alloc,
+            "minus",
+            "OLD",
+            "Show what came since OLD, an earlier image, totals or folder",
+        ),
+        workers_option(alloc),
+        flag(
+            alloc,
+            "strict",
             "End with the fault of the first FILE that cannot be read, which is\nleft out otherwise",
-        );
-    command.arg(list)?.arg(earlier)?.arg(workers)?.arg(strict)
+        )
+        .hide_short_help(true),
+    ]?;
+    with_args(command, args)
 }
 
 /// Asks for the sum whole.
 pub fn totals_flag<'a>(alloc: Global) -> Result<Arg<'a>, AllocError> {
-    Ok(
-        Arg::new(alloc, "totals")
-            .long("totals")
-            .action(ArgAction::SetTrue)
-            .conflicts_with("rows")?
-            .help("Print the sum whole, as totals that are read as a FILE")
-            .long_help(
-                "Print the sum whole, with specs and marks: totals, which are read like\nan image (not with --rows)",
-            ),
+    flag(
+        alloc,
+        "totals",
+        "Print the sum whole, as totals that are read as a FILE",
     )
+    .long_help(
+        "Print the sum whole, with specs and marks: totals, which are read like\nan image (not with --rows)",
+    )
+    .conflicts_with("rows")
 }
 
 /// What a command line names as inputs.

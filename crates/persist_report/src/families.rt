@@ -5,7 +5,6 @@ ghost use Rattle.persist_report.specs.Failure.{UsageIsMistake};
 ghost use Rattle.segment_image.specs.Watched.{has_failed};
 
 use crate::context::Context;
-use crate::dashes::DASH;
 use crate::failure::Failure;
 use crate::files::open_out;
 use crate::noted::Stream;
@@ -14,6 +13,7 @@ use fault_texts::remedy_lines_of;
 use image_reader::{Reading, read};
 use persist_report_core::{CliFault, damage_of, image_in, read_input, write_and_flush};
 use reading_texts::{FamilyFault, Label, families_text};
+use report_requests::DASH;
 use segment_image::Watched;
 use std::alloc::Global;
 use std::fs::File;

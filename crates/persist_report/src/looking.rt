@@ -6,7 +6,6 @@ ghost use Rattle.segment_image.specs.Watched.{has_failed};
 
 use crate::cause::Cause;
 use crate::context::Context;
-use crate::dashes::{DASH, no_file};
 use crate::explaining::unopened;
 use crate::failure::Failure;
 use crate::files::{end, failed, open, open_out};
@@ -16,6 +15,7 @@ use crate::part::Part;
 use fault_texts::Origin;
 use persist_commands::look_file;
 use persist_report_core::CliFault;
+use report_requests::{DASH, no_file};
 use std::collections::VecDeque;
 use std::fs;
 use std::fs::File;

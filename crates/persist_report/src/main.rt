@@ -5,7 +5,6 @@
 
 mod cause;
 mod context;
-mod dashes;
 mod explaining;
 mod extracting;
 mod failure;
@@ -18,7 +17,6 @@ mod leftover;
 mod lock;
 mod looking;
 mod noted;
-mod nth;
 mod output;
 mod part;
 mod peeked;
@@ -26,20 +24,16 @@ mod place;
 mod progress;
 mod recorded;
 mod repeating;
-mod request;
 mod run;
 mod scales;
 mod scaling;
 mod sizing;
-mod sizing_request;
 mod sources;
 mod standing;
 mod sum_writing;
 mod summing;
 mod terminal;
-mod text_options;
 mod texts;
-mod workers;
 
 use std::process::ExitCode;
 

@@ -4,7 +4,6 @@ ghost use Rattle.std.specs.Prelude.{IfErr};
 ghost use Rattle.persist_report.specs.Failure.{UsageIsMistake};
 
 use crate::context::Context;
-use crate::dashes::DASH;
 use crate::failure::Failure;
 use crate::files::{check, open_image, open_out};
 use crate::texts::end_text;
@@ -13,6 +12,7 @@ use image_reader::Reading;
 use jiff::Timestamp;
 use persist_report_core::CliFault;
 use reading_shows::{Choice, Form, Style, write_text};
+use report_requests::{DASH, Repeat};
 use std::fs::File;
 use std::random::RandomSource;
 use std::rt::Files;
@@ -22,23 +22,9 @@ use std::{fmt, thread};
 // Clears a terminal, and begins at its first line.
 const CLEAR: &str = "\u{1b}[H\u{1b}[2J";
 
-/// How often a text is written: every so many seconds, and so many times, or until the program is ended.
-#[derive(Clone, Copy)]
-pub struct Repeat {
-    pub seconds: u32,
-    pub count: Option<u32>,
-}
-
-impl Repeat {
-    /// Returns how many times it is written.
-    pub fn times(self) -> u64 {
-        self.count.map_or(u64::MAX, u64::from)
-    }
-
-    /// Waits until it is to be written again.
-    pub fn wait<R: Clock>(self, rt: &R) {
-        thread::sleep(rt, Duration::from_secs(u64::from(self.seconds)));
-    }
+/// Waits until a text is to be written again.
+pub fn wait<R: Clock>(rt: &R, repeat: Repeat) {
+    thread::sleep(rt, Duration::from_secs(u64::from(repeat.seconds)));
 }
 
 /// What a text begins with that is written again and again.
@@ -163,7 +149,7 @@ pub fn show_again<
     let mut earlier = None;
     for number in 0..repeat.times() {
         if number > 0 {
-            repeat.wait(context.rt);
+            wait(context.rt, repeat);
         }
         begin(context, division, number == 0)?;
         earlier = show_look(context, shown, earlier.as_ref())?;

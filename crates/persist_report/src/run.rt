@@ -4,15 +4,13 @@ ghost use Rattle.std.specs.Prelude.{IfErr};
 ghost use Rattle.persist_report.specs.Failure.{UsageIsMistake};
 
 use crate::context::Context;
-use crate::dashes::check_dashes;
 use crate::extracting::extract_file;
 use crate::failure::Failure;
 use crate::files::{merge_files_into, resume_file, run_file, write_file};
 use crate::folding::fold_folder;
-use crate::inputs::{Inputs, is_of_many};
+use crate::inputs::is_of_many;
 use crate::looking::look_into;
-use crate::repeating::{Division, Repeat, Shown, begin, show_again};
-use crate::request::{Request, Task, no_fault, not_text};
+use crate::repeating::{Division, Shown, begin, show_again, wait};
 use crate::scales::print_scale;
 use crate::sizing::size_of_task;
 use crate::sources::source_of;
@@ -22,6 +20,7 @@ use crate::texts::{write_export, write_inputs};
 use fault_texts::{AllTexts, is_asked, nearest_name, texts_for};
 use persist_report_core::CliFault;
 use reading_shows::{Choice, Form, ListStyle, Source, Style};
+use report_requests::{Inputs, Repeat, Request, Task, check_dashes, no_fault, not_text};
 use std::fs::File;
 use std::random::RandomSource;
 use std::rt::{Env, Files};
@@ -264,7 +263,7 @@ fn meet_again<
     }
     for number in 0..repeat.times() {
         if number > 0 {
-            repeat.wait(context.rt);
+            wait(context.rt, repeat);
         }
         begin(context, division_of(task), number == 0)?;
         meet(context, task, inputs)?;

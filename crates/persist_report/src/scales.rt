@@ -10,15 +10,8 @@ use crate::scaling::custom_record_of;
 use bucket_ranges::{Spec, SpecFault, log_linear};
 use fault_texts::{Origin, Source, remedy_lines_of};
 use persist_report_core::{CliFault, write_and_flush};
+use report_requests::Scale;
 use std::alloc::{AllocError, Global};
-
-/// The scale that is asked for.
-#[derive(Clone, Copy)]
-pub struct Scale {
-    pub min: u32,
-    pub max: u32,
-    pub bits: u32,
-}
 
 // What the fault of a scale means, and what to do.
 fn lines_of(alloc: Global, fault: SpecFault) -> Result<String, AllocError> {

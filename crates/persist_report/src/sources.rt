@@ -1,8 +1,8 @@
 //! Where an image or a sum comes from, as a web page names it.
 
-use crate::dashes::DASH;
 use crate::inputs::Named;
 use reading_shows::Source;
+use report_requests::DASH;
 
 // What stands for standard input among several inputs.
 const INPUT: &str = "standard input";

@@ -8,14 +8,12 @@ ghost use Rattle.segment_image.specs.Watched.{has_failed};
 ghost use Rattle.reading_sums.specs.Whole.{IsWellFormed};
 
 use crate::context::Context;
-use crate::dashes::DASH;
 use crate::explaining::{FaultContext, failure_of, remedies_of};
 use crate::failure::Failure;
 use crate::families::clash_failure;
 use crate::files::open_out;
-use crate::inputs::{Inputs, Named, names_of, put_input};
+use crate::inputs::{Named, names_of, put_input};
 use crate::noted::Stream;
-use crate::request::no_overview;
 use crate::sources::source_of_sum;
 use crate::summing::{Reading, add_from, origin_of, path_of, sum_of_names, tell_left};
 use fault_texts::{Origin, Source};
@@ -27,6 +25,7 @@ use reading_shows::{
 };
 use reading_sums::{MinusFault, Sums};
 use reading_texts::{FamilyFault, Label, export_text, families_text, table_text};
+use report_requests::{DASH, Inputs, no_overview};
 use std::alloc::{AllocError, Global};
 use std::fs::File;
 use std::io::Read;

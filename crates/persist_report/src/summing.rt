@@ -5,7 +5,6 @@ ghost use Rattle.segment_image.specs.Watched.{has_failed};
 ghost use Rattle.sum_commands.specs.Sources.{AddsSome, IsSumOfAllInputs};
 
 use crate::context::Context;
-use crate::dashes::DASH;
 use crate::failure::Failure;
 use crate::incoming::Incoming;
 use crate::inputs::{Named, What};
@@ -16,6 +15,7 @@ use crate::recorded::add_recorded;
 use fault_texts::Origin;
 use persist_report_core::{CliFault, read_input};
 use reading_sums::Sums;
+use report_requests::DASH;
 use segment_image::{Watched, read_bytes};
 use std::alloc::Global;
 use std::fs::File;

@@ -3,7 +3,7 @@
 ghost use Rattle.std.specs.Prelude.{◌≡◌, IfOk};
 ghost use Rattle.clap.specs.Words.{kind_of};
 
-use crate::request::command;
+use crate::command::command;
 use clap::Error;
 use clap::error::ErrorKind;
 use std::alloc::{AllocError, Global};

@@ -1,11 +1,11 @@
 //! Where `-` may stand on a command line: it is standard input as an input, and standard output as OUT.
 
-ghost use Rattle.std.specs.Prelude.{◌≡◌, IfErr, IfOk};
+ghost use Rattle.std.specs.Prelude.{◌≡◌, IfErr, IfOk, IsOk, ◌↔◌};
 ghost use Rattle.clap.specs.Words.{kind_of};
-ghost use Rattle.persist_report.specs.Failure.{UsageIsMistake};
+ghost use Rattle.report_requests.specs.Dashes.{DashesFit, IsConflictOrWant};
 
-use crate::failure::Failure;
-use crate::request::{Task, command};
+use crate::command::command;
+use crate::task::Task;
 use clap::Error;
 use clap::error::ErrorKind;
 use std::alloc::{AllocError, Global};
@@ -46,25 +46,19 @@ pub fn no_file(alloc: Global) -> Result<Error, AllocError>
 }
 
 /// Refuses a task that names `-` where it cannot be meant: as two inputs, as a file that is read three times, or as OUT beside
-/// a report. `Usage` comes only for such a mistake.
-pub fn check_dashes(alloc: Global, task: &Task<'_>) -> Result<(), Failure>
-    ensures { IfErr result UsageIsMistake }
+/// a report. It is `Ok` exactly if it names none there [fits]. The error is of such a mistake, or that memory ran out for it [mistake].
+pub fn check_dashes(alloc: Global, task: &Task<'_>) -> Result<(), Error>
+    ensures fits { IsOk result ↔ DashesFit task.now }
+    ensures mistake { IfErr result (λ error. IsConflictOrWant (kind_of error)) }
 {
-    match task {
-        Task::Run { out, .. } | Task::Resume { out, .. } if *out == DASH => {
-            Err(Failure::Usage(two_outputs(alloc)?))
+    match *task {
+        Task::Run { out, .. } if out == DASH => Err(two_outputs(alloc)?),
+        Task::Resume { out, .. } if out == DASH => Err(two_outputs(alloc)?),
+        Task::Resume { base, script, .. } if base == DASH && script == DASH => {
+            Err(two_inputs(alloc)?)
         }
-        Task::Resume {
-            base: first,
-            script: second,
-            ..
-        }
-        | Task::Merge {
-            base: first,
-            dead: second,
-            ..
-        } if *first == DASH && *second == DASH => Err(Failure::Usage(two_inputs(alloc)?)),
-        Task::Look { file, .. } if *file == DASH => Err(Failure::Usage(no_file(alloc)?)),
+        Task::Merge { base, dead, .. } if base == DASH && dead == DASH => Err(two_inputs(alloc)?),
+        Task::Look { file, .. } if file == DASH => Err(no_file(alloc)?),
         _ => Ok(()),
     }
 }

@@ -1,9 +1,9 @@
-//! What the command line asks for of `size`.
+//! The command `size`.
 
 ghost use Rattle.std.specs.Prelude.{◌≡◌, IfOk};
 ghost use Rattle.clap.specs.Words.{kind_of};
 
-use crate::request::{bare_command, option, with_args};
+use crate::arguments::{command_with, explain_flag, option, put};
 use clap::error::ErrorKind;
 use clap::{Arg, ArgAction, ArgMatches, Command, Error, value_parser};
 use std::alloc::{AllocError, Global};
@@ -59,18 +59,26 @@ fn values_option<'a>(alloc: Global) -> Arg<'a> {
     .value_parser(value_parser!(u64).range(0..=1048576))
 }
 
+// The arguments of the command.
+fn put_args<'a>(alloc: Global, args: &mut Vec<Arg<'a>>) -> Result<(), AllocError> {
+    put(args, script_argument(alloc)?)?;
+    put(args, hists_option(alloc)?)?;
+    put(args, page_option(alloc))?;
+    put(args, values_option(alloc))?;
+    put(args, explain_flag(alloc))
+}
+
 /// Returns the command. The error is that memory ran out.
 pub fn size_command<'a>(alloc: Global) -> Result<Command<'a>, AllocError> {
-    let script = script_argument(alloc)?;
-    let hists = hists_option(alloc)?;
-    let args = vec![in alloc; script, hists, page_option(alloc), values_option(alloc)]?;
-    let command = bare_command(
+    let mut args = Vec::new(alloc);
+    put_args(alloc, &mut args)?;
+    command_with(
         alloc,
         "size",
         "Say how large a segment has to be for histograms",
         "Example:\n  persist_report size --hist ms,linear,1,1000,50 --hist hits,sparse --values 100",
-    );
-    with_args(command, args)
+        args,
+    )
 }
 
 /// Returns what the words ask for. The error is that memory ran out.

@@ -1,9 +1,9 @@
 //! The arguments of the commands that write a text of a sum.
 
+use crate::arguments::{flag, option, put};
 use crate::inputs::Inputs;
-use crate::request::arguments::{flag, option, with_args};
 use crate::workers::Workers;
-use clap::{Arg, ArgAction, ArgMatches, Command, value_parser};
+use clap::{Arg, ArgAction, ArgMatches, value_parser};
 use std::alloc::{AllocError, Global};
 
 /// The images that are read.
@@ -46,30 +46,38 @@ fn workers_option<'a>(alloc: Global) -> Arg<'a> {
     .default_value("1")
 }
 
+// Ends at the first file that cannot be read.
+fn strict_flag<'a>(alloc: Global) -> Arg<'a> {
+    flag(
+        alloc,
+        "strict",
+        "End with the fault of the first FILE that cannot be read, which is\nleft out otherwise",
+    )
+    .hide_short_help(true)
+}
+
 /// The options of a text of a sum.
-pub fn sum_options<'a>(alloc: Global, command: Command<'a>) -> Result<Command<'a>, AllocError> {
-    let args = vec![in alloc;
+pub fn put_sum_options<'a>(alloc: Global, args: &mut Vec<Arg<'a>>) -> Result<(), AllocError> {
+    put(
+        args,
         sum_option(
             alloc,
             "files-from",
             "LIST",
             "File that names FILEs, a line each; - is standard input",
         ),
+    )?;
+    put(
+        args,
         sum_option(
             alloc,
             "minus",
             "OLD",
             "Show what came since OLD, an earlier image, totals or folder",
         ),
-        workers_option(alloc),
-        flag(
-            alloc,
-            "strict",
-            "End with the fault of the first FILE that cannot be read, which is\nleft out otherwise",
-        )
-        .hide_short_help(true),
-    ]?;
-    with_args(command, args)
+    )?;
+    put(args, workers_option(alloc))?;
+    put(args, strict_flag(alloc))
 }
 
 /// Asks for the sum whole.

@@ -3,29 +3,24 @@
 use clap::{Arg, ArgAction, Command, value_parser};
 use std::alloc::{AllocError, Global};
 
-/// A command that has no arguments yet: its name, what it does, and what stands behind its help.
-pub fn bare_command<'a>(
+/// A command: its name, what it does in a line, an example that stands behind its help, and its arguments.
+pub fn command_with<'a>(
     alloc: Global,
     name: &'a str,
     about: &'a str,
-    after_help: &'a str,
-) -> Command<'a> {
+    example: &'a str,
+    args: Vec<Arg<'a>>,
+) -> Result<Command<'a>, AllocError> {
     Command::new(alloc, name)
         .about(about)
-        .after_help(after_help)
+        .after_help(example)
+        .args(args)
 }
 
-/// Adds arguments to a command, in this order. They are added together, so that there are few places where memory may run out.
-pub fn with_args<'a>(command: Command<'a>, args: Vec<Arg<'a>>) -> Result<Command<'a>, AllocError> {
-    command.args(args)
-}
-
-/// Adds a command to the program.
-pub fn with_subcommand<'a>(
-    program: Command<'a>,
-    command: Command<'a>,
-) -> Result<Command<'a>, AllocError> {
-    program.subcommand(command)
+/// Puts an argument or a command behind others.
+pub fn put<T: Drop>(items: &mut Vec<T>, item: T) -> Result<(), AllocError> {
+    items.push(item)?;
+    Ok(())
 }
 
 /// Excludes others where this argument is used.
@@ -85,10 +80,13 @@ pub fn at_option<'a>(alloc: Global) -> Arg<'a> {
 }
 
 /// Asks for a look at a file that a process is using, and where the segment begins in it.
-pub fn live_options<'a>(alloc: Global, command: Command<'a>) -> Result<Command<'a>, AllocError> {
-    let at = at_option(alloc).hide_short_help(true).requires_arg("live")?;
+pub fn put_live_options<'a>(alloc: Global, args: &mut Vec<Arg<'a>>) -> Result<(), AllocError> {
     let live = flag(alloc, "live", "Look at FILE while a process is using it").long_help(
         "Look at FILE while a process is using it, as `look` does",
     );
-    with_args(command, vec![in alloc; live, at]?)
+    put(args, live)?;
+    put(
+        args,
+        at_option(alloc).hide_short_help(true).requires_arg("live")?,
+    )
 }

@@ -1,8 +1,8 @@
 //! The options of the commands that write a text.
 
-use crate::repeating::Repeat;
-use crate::request::{flag, option, with_args};
-use clap::{Arg, ArgAction, ArgMatches, Command, value_parser};
+use crate::arguments::{flag, option, put};
+use crate::repeat::Repeat;
+use clap::{Arg, ArgMatches, value_parser};
 use std::alloc::{AllocError, Global};
 
 /// The file that a text is written to.
@@ -12,40 +12,16 @@ pub fn to_option<'a>(alloc: Global) -> Arg<'a> {
     )
 }
 
-/// The labels that all lines of an export get.
-pub fn label_option<'a>(alloc: Global) -> Arg<'a> {
-    option(
-        alloc,
-        "label",
-        "KEY=VALUE",
-        "Label that all lines get; may be given more than once",
-    )
-    .action(ArgAction::Append)
-}
-
-/// Asks for a family for each histogram.
-pub fn families_flag<'a>(alloc: Global) -> Arg<'a> {
-    flag(
-        alloc,
-        "families",
-        "Name metrics after the histograms: PREFIX_NAME",
-    )
-    .long_help(
-        "Name metrics after the histograms: PREFIX_NAME, with _ for each byte\nof NAME but letters and digits",
-    )
-}
-
 /// The file that a text is to be written to, if one is named.
 pub fn to_found<'a>(found: &ArgMatches<'a>) -> Option<&'a str> {
     found.get_str("to")
 }
 
-/// The labels that were given, each as KEY=VALUE. The one error is that memory runs out.
-pub fn labels_found<'a>(alloc: Global, found: &ArgMatches<'a>) -> Result<Vec<&'a str>, AllocError> {
-    match found.get_strs("label") {
-        Some(labels) => Vec::from_slice(alloc, labels),
-        None => Ok(Vec::new(alloc)),
-    }
+/// Asks for a fault if the image is not whole.
+pub fn whole_flag<'a>(alloc: Global) -> Arg<'a> {
+    flag(alloc, "whole", "End with a fault if the image is damaged").long_help(
+        "End with a fault, after the text, if a record is bad or the list of\nrecords stops early",
+    )
 }
 
 // How long to wait until the next look.
@@ -74,10 +50,9 @@ fn count_option<'a>(alloc: Global) -> Result<Arg<'a>, AllocError> {
 }
 
 /// The options of a text of a look that is written again and again.
-pub fn repeat_options<'a>(alloc: Global, command: Command<'a>) -> Result<Command<'a>, AllocError> {
-    let every = every_option(alloc)?;
-    let count = count_option(alloc)?;
-    with_args(command, vec![in alloc; every, count]?)
+pub fn put_repeat_options<'a>(alloc: Global, args: &mut Vec<Arg<'a>>) -> Result<(), AllocError> {
+    put(args, every_option(alloc)?)?;
+    put(args, count_option(alloc)?)
 }
 
 /// How often a text is to be written, if that is said.

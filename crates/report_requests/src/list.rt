@@ -1,10 +1,7 @@
-//! The command `info`, and the options of lists.
+//! The options of `show` that make a list of it.
 
-use crate::request::Task;
-use crate::request::arguments::{
-    bare_command, excluding, explain_flag, flag, image, live_options, option, with_args,
-};
-use clap::{Arg, ArgMatches, Command};
+use crate::arguments::{excluding, flag, option, put};
+use clap::{Arg, ArgMatches};
 use reading_shows::{ListStyle, Style};
 use std::alloc::{AllocError, Global};
 
@@ -19,30 +16,6 @@ fn human_flag<'a>(alloc: Global) -> Arg<'a> {
     flag(alloc, "human", "Write numbers with separators: 1,234,567").long_help(
         "Write numbers with separators: 1,234,567 (a page always does)",
     )
-}
-
-/// The command that writes the overview of an image.
-pub fn info_command<'a>(alloc: Global) -> Result<Command<'a>, AllocError> {
-    let args = vec![in alloc;
-        image(alloc),
-        flag(alloc, "human", "Write numbers with separators: 1,234,567"),
-    ]?;
-    let command = bare_command(
-        alloc,
-        "info",
-        "Show what an image is: version, size, room, units, kinds and damage",
-        "Example:\n  persist_report info my.img",
-    );
-    let command = live_options(alloc, with_args(command, args)?)?;
-    with_args(command, vec![in alloc; explain_flag(alloc)]?)
-}
-
-/// What `info` is asked for.
-pub fn info_task<'a>(info: &ArgMatches<'a>) -> Task<'a> {
-    Task::Info {
-        file: info.get_str("FILE"),
-        is_human: info.get_flag("human"),
-    }
 }
 
 /// How `show` lists histograms, if it is asked for a list: in the width and with the numbers of the text.
@@ -75,8 +48,8 @@ fn sort_option<'a>(alloc: Global) -> Result<Arg<'a>, AllocError> {
 }
 
 /// The options of `show` that make a list of it and write numbers for people.
-pub fn list_options<'a>(alloc: Global, command: Command<'a>) -> Result<Command<'a>, AllocError> {
-    let list = list_flag(alloc)?;
-    let sort = sort_option(alloc)?;
-    with_args(command, vec![in alloc; list, sort, human_flag(alloc)]?)
+pub fn put_list_options<'a>(alloc: Global, args: &mut Vec<Arg<'a>>) -> Result<(), AllocError> {
+    put(args, list_flag(alloc)?)?;
+    put(args, sort_option(alloc)?)?;
+    put(args, human_flag(alloc))
 }

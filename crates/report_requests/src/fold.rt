@@ -1,9 +1,16 @@
 //! The command `fold`.
 
-use crate::request::arguments::{bare_command, explain_flag, file, with_args};
-use crate::request::{Task, texts};
+use crate::arguments::{command_with, explain_flag, file};
+use crate::task::Task;
 use clap::{ArgMatches, Command};
 use std::alloc::{AllocError, Global};
+
+// What the command does.
+const DETAILS: &str =
+    "Add the segments of a recording's folder that nobody records into to the totals
+there, and remove them, while others record and read. What the folder has in all
+is the same before and after, also if the fold is killed. A segment that cannot
+be read stays, and is told.";
 
 /// The command that keeps a recording's folder small.
 pub fn fold_command<'a>(alloc: Global) -> Result<Command<'a>, AllocError> {
@@ -11,13 +18,14 @@ pub fn fold_command<'a>(alloc: Global) -> Result<Command<'a>, AllocError> {
         file(alloc, "FOLDER", "Folder of a recording"),
         explain_flag(alloc),
     ]?;
-    let command = bare_command(
+    let command = command_with(
         alloc,
         "fold",
         "Add what is final in a recording's folder to its totals",
         "Example:\n  mkdir metrics && touch metrics/recording\n  persist_report fold metrics",
-    );
-    with_args(command.long_about(texts::FOLD), args)
+        args,
+    )?;
+    Ok(command.long_about(DETAILS))
 }
 
 /// What `fold` is asked for; none if something is missing, which the parser refuses.

@@ -1,10 +1,21 @@
 //! The command `scale`.
 
-use crate::request::Task;
-use crate::request::arguments::{bare_command, explain_flag, file, with_args};
-use crate::scales::Scale;
+use crate::arguments::{command_with, explain_flag, file};
+use crate::task::Task;
 use clap::{Arg, ArgMatches, Command, value_parser};
 use std::alloc::{AllocError, Global};
+
+// What the command does.
+const DETAILS: &str =
+    "Print the script record of a histogram whose buckets grow with the values: each\nis at most 1 part in 2^BITS wide.";
+
+/// The scale that is asked for: the least value, the value that the buckets reach, and the bits of a bucket's width.
+#[derive(Clone, Copy)]
+pub struct Scale {
+    pub min: u32,
+    pub max: u32,
+    pub bits: u32,
+}
 
 // A number of a scale.
 fn number<'a>(alloc: Global, name: &'a str, help: &'a str) -> Arg<'a> {
@@ -28,16 +39,14 @@ pub fn scale_command<'a>(alloc: Global) -> Result<Command<'a>, AllocError> {
         ),
         explain_flag(alloc),
     ]?;
-    let command = bare_command(
+    let command = command_with(
         alloc,
         "scale",
         "Print the script record of a histogram whose buckets grow",
         "Example:\n  persist_report scale latency.us 1 1000000 3",
-    );
-    let command = command.long_about(
-        "Print the script record of a histogram whose buckets grow with the values: each\nis at most 1 part in 2^BITS wide.",
-    );
-    with_args(command, args)
+        args,
+    )?;
+    Ok(command.long_about(DETAILS))
 }
 
 /// What `scale` is asked for; none if something is missing, which the parser refuses.

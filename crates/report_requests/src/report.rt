@@ -1,0 +1,64 @@
+//! The command `report`.
+
+use crate::arguments::{command_with, explain_flag, flag, put, put_live_options};
+use crate::sum_options::{images, put_sum_options, totals_flag};
+use crate::task::Task;
+use crate::text_options::{to_found, to_option, whole_flag};
+use clap::{Arg, ArgMatches, Command};
+use std::alloc::{AllocError, Global};
+
+// What the command does.
+const DETAILS: &str = "Print the histograms of an image, or of the sum of several, as CSV: for each
+bucket that has units a line NAME,KIND,LOW,HIGH,COUNT for the values from LOW to
+below HIGH, and after the buckets of a histogram a line NAME,total,UNITS,SUM.
+Lines that begin with an exclamation mark say what is wrong with the image, and
+of how many images a sum is.
+
+A sum has all that its images count, and any number of them; to make one image
+of two, use `merge`. A file that cannot be read is told and left out.";
+
+// Asks for the buckets alone.
+fn rows_flag<'a>(alloc: Global) -> Arg<'a> {
+    flag(
+        alloc,
+        "rows",
+        "Print the buckets alone, after a line of column names",
+    )
+    .long_help(
+        "Print the buckets alone, after a line with the names of the columns:\nfor engines that read CSV",
+    )
+}
+
+// The arguments of the command.
+fn put_args<'a>(alloc: Global, args: &mut Vec<Arg<'a>>) -> Result<(), AllocError> {
+    put(args, images(alloc))?;
+    put(args, rows_flag(alloc))?;
+    put(args, totals_flag(alloc)?)?;
+    put(args, to_option(alloc))?;
+    put_live_options(alloc, args)?;
+    put_sum_options(alloc, args)?;
+    put(args, whole_flag(alloc))?;
+    put(args, explain_flag(alloc))
+}
+
+/// The command that writes the report of an image, or of a sum.
+pub fn report_command<'a>(alloc: Global) -> Result<Command<'a>, AllocError> {
+    let mut args = Vec::new(alloc);
+    put_args(alloc, &mut args)?;
+    let command = command_with(
+        alloc,
+        "report",
+        "Print the histograms of an image as CSV",
+        "Example:\n  persist_report report my.img",
+        args,
+    )?;
+    Ok(command.long_about(DETAILS))
+}
+
+/// What `report` is asked for.
+pub fn report_task<'a>(report: &ArgMatches<'a>) -> Task<'a> {
+    Task::Report {
+        has_rows_alone: report.get_flag("rows"),
+        to: to_found(report),
+    }
+}

@@ -1,0 +1,108 @@
+//! What the program is asked to do.
+
+use crate::command::command;
+use crate::explain::explain_task;
+use crate::export::export_task;
+use crate::extract::extract_task;
+use crate::fold::fold_task;
+use crate::info::info_task;
+use crate::inputs::Inputs;
+use crate::look::look_task;
+use crate::merge::merge_task;
+use crate::repeat::Repeat;
+use crate::report::report_task;
+use crate::resume::resume_task;
+use crate::run::run_task;
+use crate::scale::scale_task;
+use crate::show::show_task;
+use crate::size::size_task;
+use crate::sum_options::inputs_found;
+use crate::task::Task;
+use crate::text_options::repeat_found;
+use clap::error::ErrorKind;
+use clap::{ArgMatches, Error};
+use std::alloc::{AllocError, Global};
+use std::convert::AsStr;
+
+/// What the program is asked to do.
+#[derive(Drop)]
+pub struct Request<'a> {
+    pub task: Task<'a>,
+    /// What a command that writes a text reads.
+    pub inputs: Inputs<'a>,
+    /// Whether faults are to be explained.
+    pub explains: bool,
+    /// Whether an image that is not whole is a fault.
+    pub wants_whole: bool,
+    /// Whether a file in use is looked at, and where the segment begins in it.
+    pub is_live: bool,
+    pub at: Option<u64>,
+    /// How often its text is written; once where that is not said.
+    pub repeat: Option<Repeat>,
+}
+
+// What a command of this name does, which is asked to explain or not; none if something is missing, which the parser refuses.
+fn task_of<'a>(
+    alloc: Global,
+    name: &str,
+    found: &ArgMatches<'a>,
+    columns: u16,
+    explains: bool,
+) -> Result<Option<Task<'a>>, AllocError> {
+    match name {
+        "show" => Ok(Some(show_task(alloc, found, columns, explains)?)),
+        "size" => Ok(Some(Task::Size(size_task(alloc, found)?))),
+        "export" => export_task(alloc, found),
+        _ => Ok(plain_task(name, found)),
+    }
+}
+
+// The same, of each command but `show`, `size` and `export`.
+fn plain_task<'a>(name: &str, found: &ArgMatches<'a>) -> Option<Task<'a>> {
+    match name {
+        "report" => Some(report_task(found)),
+        "info" => Some(info_task(found)),
+        "scale" => scale_task(found),
+        "explain" => Some(explain_task(found)),
+        _ => writing_task(name, found),
+    }
+}
+
+// The same, of the commands that write images and totals.
+fn writing_task<'a>(name: &str, found: &ArgMatches<'a>) -> Option<Task<'a>> {
+    match name {
+        "run" => run_task(found),
+        "resume" => resume_task(found),
+        "merge" => merge_task(found),
+        "look" => look_task(found),
+        "fold" => fold_task(found),
+        "extract" => extract_task(found),
+        _ => None,
+    }
+}
+
+impl<'a> Request<'a> {
+    /// Returns what a command line asks for, whose first word is the program's name. A line of a text has so many columns, unless the words
+    /// say how many.
+    ///
+    /// The error says what is wrong with the words, or has the help or the version that they ask for.
+    pub fn of<S: AsStr>(alloc: Global, words: &'a [S], columns: u16) -> Result<Request<'a>, Error> {
+        let mut command = command(alloc)?;
+        let matches = command.try_get_matches_from_mut(words)?;
+        if let Some((name, found)) = matches.subcommand() {
+            let explains = found.get_flag("explain") || matches.get_flag("explain");
+            if let Some(task) = task_of(alloc, name, found, columns, explains)? {
+                return Ok(Request {
+                    task,
+                    inputs: inputs_found(alloc, found)?,
+                    explains,
+                    wants_whole: found.get_flag("whole"),
+                    is_live: found.get_flag("live"),
+                    at: found.get_one::<u64>("at"),
+                    repeat: repeat_found(found),
+                });
+            }
+        }
+        Err(command.error(ErrorKind::MissingSubcommand, "a subcommand is required")?)
+    }
+}

@@ -4,6 +4,7 @@ and prints picoseconds."""
 from __future__ import annotations
 
 import argparse
+import os
 import pathlib
 import subprocess
 from collections.abc import Sequence
@@ -26,14 +27,30 @@ def compiled(folder: Path, name: str, *words: str) -> Words:
     return [program]
 
 
-def nanoseconds(program: Words, run: Sequence[object], bursts: int) -> float:
-    words = [*program, *map(str, run), str(bursts)]
+def nanoseconds(program: Words, run: Sequence[object], bursts: int, processor: int | None = None) -> float:
+    """The nanoseconds a sample of one turn, on any processors or on one."""
+    place = [] if processor is None else ["taskset", "--cpu-list", str(processor)]
+    words = [*place, *program, *map(str, run), str(bursts)]
     return int(subprocess.run(words, check=True, capture_output=True, text=True).stdout.splitlines()[-1]) / 1000
 
 
 def least_by_turns(programs: Sequence[Words], run: Sequence[object], options: argparse.Namespace) -> list[float]:
     """The least nanoseconds a sample of each program."""
+    return least_of(programs, run, options.bursts, [None] * options.turns)
+
+
+def least_alone(programs: Sequence[Words], run: Sequence[object], options: argparse.Namespace) -> list[float]:
+    """The same of one thread, with as many turns on each processor: where others share the machine, one processor can
+    be slower by a third than the next, for seconds."""
+    return least_of(programs, run, options.bursts, sorted(os.sched_getaffinity(0)) * options.turns)
+
+
+def least_of(
+    programs: Sequence[Words], run: Sequence[object], bursts: int, processors: Sequence[int | None]
+) -> list[float]:
+    """The least nanoseconds a sample of each program, of a turn on each of these processors, one after the other."""
     least = [float("inf")] * len(programs)
-    for _ in range(options.turns):
-        least = [min(before, nanoseconds(program, run, options.bursts)) for before, program in zip(least, programs)]
+    for processor in processors:
+        found = [nanoseconds(program, run, bursts, processor) for program in programs]
+        least = [min(before, now) for before, now in zip(least, found)]
     return least

@@ -34,23 +34,14 @@ def nanoseconds(program: Words, run: Sequence[object], bursts: int, processor: i
     return int(subprocess.run(words, check=True, capture_output=True, text=True).stdout.splitlines()[-1]) / 1000
 
 
-def least_by_turns(programs: Sequence[Words], run: Sequence[object], options: argparse.Namespace) -> list[float]:
-    """The least nanoseconds a sample of each program."""
-    return least_of(programs, run, options.bursts, [None] * options.turns)
-
-
-def least_alone(programs: Sequence[Words], run: Sequence[object], options: argparse.Namespace) -> list[float]:
-    """The same of one thread, with as many turns on each processor: where others share the machine, one processor can
-    be slower by a third than the next, for seconds."""
-    return least_of(programs, run, options.bursts, sorted(os.sched_getaffinity(0)) * options.turns)
-
-
-def least_of(
-    programs: Sequence[Words], run: Sequence[object], bursts: int, processors: Sequence[int | None]
+def least_by_turns(
+    programs: Sequence[Words], run: Sequence[object], options: argparse.Namespace, threads: int
 ) -> list[float]:
-    """The least nanoseconds a sample of each program, of a turn on each of these processors, one after the other."""
+    """The least nanoseconds a sample of each program. One thread has as many turns on each processor: where others share
+    the machine, one processor can be slower by a third than the next, for seconds."""
+    processors: list[int | None] = [None] if threads > 1 else [*sorted(os.sched_getaffinity(0))]
     least = [float("inf")] * len(programs)
-    for processor in processors:
-        found = [nanoseconds(program, run, bursts, processor) for program in programs]
+    for processor in processors * options.turns:
+        found = [nanoseconds(program, run, options.bursts, processor) for program in programs]
         least = [min(before, now) for before, now in zip(least, found)]
     return least

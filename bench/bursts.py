@@ -37,8 +37,8 @@ def nanoseconds(program: Words, run: Sequence[object], bursts: int, processor: i
 def least_by_turns(
     programs: Sequence[Words], run: Sequence[object], options: argparse.Namespace, threads: int
 ) -> list[float]:
-    """The least nanoseconds a sample of each program. One thread has as many turns on each processor: where others share
-    the machine, one processor can be slower by a third than the next, for seconds."""
+    """The least nanoseconds a sample of each program. One thread has as many turns on each processor: where others
+    share the machine, one processor can be slower by a third than the next, for seconds."""
     processors: list[int | None] = [None] if threads > 1 else [*sorted(os.sched_getaffinity(0))]
     least = [float("inf")] * len(programs)
     for processor in processors * options.turns:

@@ -1,5 +1,6 @@
 #!/usr/bin/env python3
-"""Makes docs/proved, a page for each crate, of the doc comments of the public functions that have clauses.
+"""Makes docs/proved, a page for each crate and each large module, of the doc comments of the public functions that have
+clauses.
 
     tests/support/proved.py [--write]
 
@@ -30,6 +31,8 @@ INDEX = ROOT / "docs" / "PROVED.md"
 WIDTH = 140
 # How many signs a clause may have that is shown as it stands.
 SHORT = 80
+# A crate with more lines than this has a page for each module with more than so many.
+MOST_LINES, LARGE = 700, 200
 # Programs of the tests, which promise nothing.
 PROGRAMS_OF_TESTS = ("trials", "worked_lists", "worked_looks", "worked_rows", "worked_sums")
 
@@ -270,22 +273,39 @@ def root_of(crate: str) -> pathlib.Path:
     return next(file for file in sources(crate) if file.name in ("lib.rt", "main.rt"))
 
 
-def page(crate: str) -> str:
-    lines = [f"# What is proved of `{crate}`", "", *wrapped(about(root_of(crate).read_text())), ""]
-    lines += ["This page is made by `tests/support/proved.py` of the doc comments; `../PROVED.md` says how to read it."]
+def made_by(title: str, said: str) -> list[str]:
+    """How a page begins."""
+    made_of = "This page is made by `tests/support/proved.py` of the doc comments; `../PROVED.md` says how to read it."
+    return [f"# What is proved of {title}", "", *wrapped(said), "", made_of]
+
+
+def sections(crate: str) -> Iterator[tuple[str, str, list[str]]]:
+    """The modules of a crate with their functions: the name, what it is about, and the lines."""
     for file in sources(crate):
         text = file.read_text()
         entries = [line for function in functions(text) for line in function_lines(function)]
         if entries:
             name = ".".join(file.relative_to(ROOT / "crates" / crate / "src").with_suffix("").parts)
-            said = definitions.in_short(about(text)) if file != root_of(crate) else ""
-            lines += ["", f"## `{name}`" + (f": {said}" if said else ""), *entries]
-    return "\n".join(lines) + "\n"
+            yield name, definitions.in_short(about(text)) if file != root_of(crate) else "", entries
+
+
+def pages(crate: str) -> Iterator[tuple[str, list[str]]]:
+    """The pages of a crate: one, or where that is longer than a reader likes, others for its largest modules."""
+    found = list(sections(crate))
+    is_long = sum(len(entries) for _, _, entries in found) > MOST_LINES
+    lines = made_by(f"`{crate}`", about(root_of(crate).read_text()))
+    for name, said, entries in found:
+        lines += ["", f"## `{name}`" + (f": {said}" if said else "")]
+        if is_long and len(entries) > LARGE:
+            yield f"{crate}.{name}", [*made_by(f"`{crate}`: `{name}`", said), *entries]
+            entries = ["", f"[A page of its own]({crate}.{name}.md)."]
+        lines += entries
+    yield crate, lines
 
 
 def documents() -> made.Documents:
     """The pages by their paths."""
-    return {PAGES / f"{crate}.md": page(crate) for crate in done()}
+    return {PAGES / f"{name}.md": "\n".join(lines) + "\n" for crate in done() for name, lines in pages(crate)}
 
 
 def difference() -> str | None:

@@ -27,5 +27,5 @@ DashesFit (Scale name scale) = ⊤
 DashesFit (Explain name) = ⊤
 
 -- what an error is of: arguments that do not go together, or memory that ran out
-abbrev pub IsConflictOrWant : ErrorKind → Type 0
-IsConflictOrWant kind = (kind ≡ ArgumentConflict) ⊎ (kind ≡ OutOfMemory)
+abbrev pub IsConflictOrNoMemory : ErrorKind → Type 0
+IsConflictOrNoMemory kind = (kind ≡ ArgumentConflict) ⊎ (kind ≡ OutOfMemory)

@@ -2,7 +2,7 @@
 
 ghost use Rattle.std.specs.Prelude.{◌≡◌, IfErr, IfOk, IsOk, ◌↔◌};
 ghost use Rattle.clap.specs.Words.{kind_of};
-ghost use Rattle.report_requests.specs.Dashes.{DashesFit, IsConflictOrWant};
+ghost use Rattle.report_requests.specs.Dashes.{DashesFit, IsConflictOrNoMemory};
 
 use crate::command::command;
 use crate::task::Task;
@@ -49,7 +49,7 @@ pub fn no_file(alloc: Global) -> Result<Error, AllocError>
 /// a report. It is `Ok` exactly if it names none there [fits]. The error is of such a mistake, or that memory ran out for it [mistake].
 pub fn check_dashes(alloc: Global, task: &Task<'_>) -> Result<(), Error>
     ensures fits { IsOk result ↔ DashesFit task.now }
-    ensures mistake { IfErr result (λ error. IsConflictOrWant (kind_of error)) }
+    ensures mistake { IfErr result (λ error. IsConflictOrNoMemory (kind_of error)) }
 {
     match *task {
         Task::Run { out, .. } if out == DASH => Err(two_outputs(alloc)?),

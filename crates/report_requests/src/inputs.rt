@@ -1,5 +1,9 @@
 //! What a command that writes a text reads.
 
+ghost use Rattle.std.specs.Prelude.{◌≡◌, ◌≤◌, ◌↔◌, true, slice_get, MatchOption};
+ghost use Rattle.report_requests.specs.Dashes.{dash};
+ghost use Rattle.report_requests.specs.Inputs.{AreOne, AskForSum, EarlierIsDash, ListIsDash};
+
 use crate::dashes::DASH;
 use crate::workers::Workers;
 
@@ -21,7 +25,9 @@ pub struct Inputs<'a> {
 }
 
 // Whether a file is named, and is standard input.
-fn is_dash(path: Option<&str>) -> bool {
+fn is_dash(path: Option<&str>) -> bool
+    ensures { (result ≡ true) ↔ MatchOption path.entry ⊥ (λ path. path.now ≡ dash) }
+{
     match path {
         Some(path) => path == DASH,
         None => false,
@@ -29,18 +35,26 @@ fn is_dash(path: Option<&str>) -> bool {
 }
 
 impl<'a> Inputs<'a> {
-    /// Returns the first file that is named.
-    pub fn first(&self) -> Option<&'a str> {
+    /// Returns the first file that is named, if there is one.
+    pub fn first(&self) -> Option<&'a str>
+        ensures { result ≡ slice_get self.now.files.items 0 }
+    {
         self.files.first().copied()
     }
 
     /// Returns whether one file or folder is read, or standard input.
-    pub fn is_one(&self) -> bool {
+    pub fn is_one(&self) -> bool
+        ensures { (result ≡ true) ↔ AreOne self.now }
+    {
         self.files.len() <= 1 && self.list.is_none()
     }
 
-    /// Returns how many of the other files that are named are standard input.
-    pub fn other_dashes(&self) -> usize {
+    /// Returns how many of the list and what is taken off are standard input: none [none], both [both], or one of them [few].
+    pub fn other_dashes(&self) -> usize
+        ensures none { (result ≡ 0) ↔ (¬ ListIsDash self.now) × (¬ EarlierIsDash self.now) }
+        ensures both { (result ≡ 2) ↔ ListIsDash self.now × EarlierIsDash self.now }
+        ensures few { result ≤ 2 }
+    {
         match (is_dash(self.list), is_dash(self.earlier)) {
             (true, true) => 2,
             (false, false) => 0,
@@ -48,13 +62,22 @@ impl<'a> Inputs<'a> {
         }
     }
 
-    /// Returns how many workers add up: 1 where that is not said.
-    pub fn workers(&self) -> usize {
-        self.workers.map_or(1, |workers| workers.count() as usize)
+    /// Returns how many workers add up: 1 where that is not said [said]. They are 1 or more [any] and 16 or fewer [few].
+    pub fn workers(&self) -> usize
+        ensures said { MatchOption self.now.workers (result ≡ 1) (λ workers. result ≡ workers.count) }
+        ensures any { 1 ≤ result }
+        ensures few { result ≤ 16 }
+    {
+        match self.workers {
+            Some(workers) => workers.count() as usize,
+            None => 1,
+        }
     }
 
     /// Returns whether a sum is asked for, whatever the first file is.
-    pub fn is_sum(&self) -> bool {
+    pub fn is_sum(&self) -> bool
+        ensures { (result ≡ true) ↔ AskForSum self.now }
+    {
         self.files.len() > 1
             || self.list.is_some()
             || self.earlier.is_some()

@@ -1,5 +1,7 @@
 //! How often a text is written.
 
+ghost use Rattle.std.specs.Prelude.{◌≡◌, MatchOption};
+
 /// How often a text is written: every so many seconds, and so many times, or until the program is ended.
 #[derive(Clone, Copy)]
 pub struct Repeat {
@@ -8,8 +10,13 @@ pub struct Repeat {
 }
 
 impl Repeat {
-    /// Returns how many times it is written.
-    pub fn times(self) -> u64 {
-        self.count.map_or(u64::MAX, u64::from)
+    /// Returns how many times it is written: 2^64 - 1, where no number is said.
+    pub fn times(self) -> u64
+        ensures { MatchOption self.count (result ≡ 18446744073709551615) (λ count. result ≡ count) }
+    {
+        match self.count {
+            Some(count) => u64::from(count),
+            None => u64::MAX,
+        }
     }
 }

@@ -1,0 +1,23 @@
+-- What a command that writes a text reads.
+use Rattle.std.specs.Prelude.{◌≡◌, ◌<◌, ◌≤◌, ◌⊎◌, length, true, IsSome, IsNone, MatchOption}
+use Rattle.report_requests.specs.declared.inputs.Inputs.{Inputs}
+use Rattle.report_requests.specs.Dashes.{dash}
+
+-- whether one file or folder is read, or standard input: no more is named, and no list
+pub record AreOne (inputs : Inputs) : Type 0 where
+  pub few : length inputs.files.items ≤ 1
+  pub no_list : IsNone inputs.list
+
+-- whether a sum is asked for, whatever the first file is: by a second file, a list, what is taken off, or an option of sums
+abbrev pub AskForSum : Inputs → Type 0
+AskForSum inputs =
+    (1 < length inputs.files.items) ⊎ IsSome inputs.list ⊎ IsSome inputs.earlier
+    ⊎ (inputs.is_strict ≡ true) ⊎ (inputs.has_totals ≡ true)
+
+-- whether the list of files is standard input
+abbrev pub ListIsDash : Inputs → Type 0
+ListIsDash inputs = MatchOption inputs.list ⊥ (λ path. path.now ≡ dash)
+
+-- whether what is taken off is standard input
+abbrev pub EarlierIsDash : Inputs → Type 0
+EarlierIsDash inputs = MatchOption inputs.earlier ⊥ (λ path. path.now ≡ dash)

@@ -4,3 +4,4 @@ pub mod CursorSteps
 pub mod GhostNoted
 pub mod Listed
 pub mod Proceeding
+pub mod Reported

@@ -34,7 +34,7 @@ use Rattle.live_segment.specs.Steps.{Pass, Stepped}
 use Rattle.live_segment.specs.Add.Progress.{LooksOn}
 use Rattle.live_segment.proofs.lemmas.Alloc.Claimed.{looks_claimed, looks_refused}
 use Rattle.live_segment.proofs.lemmas.List.Filled.{Apart, changed_there, found_there}
-use Rattle.live_segment.proofs.lemmas.Steps.Proceeding.{does_not, looks_on, sees_not}
+use Rattle.live_segment.proofs.lemmas.Steps.Proceeding.{does_not, looks_on, sees_not, sees_tails}
 use Rattle.segment_promises.proofs.Growing.{grows_by, grows_not, grows_same}
 use Rattle.live_segment.proofs.lemmas.Add.Refusing.{only_given_up}
 use Rattle.live_segment.proofs.lemmas.Alloc.Rooms.{lacks_room}
@@ -196,18 +196,7 @@ looks_published at histogram value a b has = record {
       lacked = grows_same a.done.lacked b.done.lacked (ap (λ (x : Actor). x.done.lacked) has.view);
       spoiled = λ set. ap (λ (x : Actor). x.done.claimed) has.view;
     };
-    seen = record {
-      free = let e = ap (λ (x : Actor). x.seen.free) has.view in omega (arith, e);
-      corrupt = λ saw. ap (λ (x : Actor). x.seen.corrupt) has.view ∙ saw;
-      warned = let e = ap (λ (x : Actor). x.seen.warned) has.view in omega (arith, e);
-      chain = grows_same a.seen.chain b.seen.chain (ap (λ (x : Actor). x.seen.chain) has.view);
-      ends = grows_same a.seen.ends b.seen.ends (ap (λ (x : Actor). x.seen.ends) has.view);
-      tails = has.tails;
-      singles = grows_same a.seen.singles b.seen.singles (ap (λ (x : Actor). x.seen.singles) has.view);
-      counts = grows_same a.seen.counts b.seen.counts (ap (λ (x : Actor). x.seen.counts) has.view);
-      words = grows_same a.seen.words b.seen.words (ap (λ (x : Actor). x.seen.words) has.view);
-      cursors = grows_same a.seen.cursors b.seen.cursors (ap (λ (x : Actor). x.seen.cursors) has.view);
-    };
+    seen = subst (SeesOn a.seen) (sym (ap (λ (x : Actor). x.seen) has.view)) (sees_tails a.seen has.tails);
   };
   units = ap (λ (x : Actor). x.units) has.view;
   entries = ap (λ (x : Actor). x.entries) has.view;

@@ -21,7 +21,7 @@ use Rattle.live_segment.specs.declared.rule.Setting.{Setting}
 use Rattle.live_segment.specs.declared.add.sample_search.SampleSearch.TheVariants as search
 use Rattle.live_segment.specs.Known.{known_view, KnowsRight}
 use Rattle.live_segment.specs.Alloc.Claims.{MakesOne}
-use Rattle.segment_promises.specs.Onward.{DoesOn, Grows}
+use Rattle.segment_promises.specs.Onward.{DoesOn, Grows, SeesOn}
 use Rattle.live_segment.specs.Add.Refusal.{MayGiveUp}
 use Rattle.live_segment.specs.Rule.{IsOf}
 use Rattle.live_segment.specs.Add.SampleSearch.{FindsSample, HasMadeNoSample, HasMadeSample, HasNotMadeSample, HasSampleOf, LacksSampleOf, SawNone, WalksBehind}
@@ -30,7 +30,7 @@ use Rattle.live_segment.specs.Hist.Search.{HasSearched}
 use Rattle.live_segment.specs.Add.Progress.{LooksOn}
 use Rattle.live_segment.proofs.lemmas.Add.Beginning.{known_there}
 use Rattle.live_segment.proofs.lemmas.List.Ends.{all_on, found_on}
-use Rattle.live_segment.proofs.lemmas.Steps.Proceeding.{does_not, looks_on}
+use Rattle.live_segment.proofs.lemmas.Steps.Proceeding.{does_not, looks_on, sees_list}
 use Rattle.segment_promises.proofs.Growing.{grows_not, grows_on, grows_same, others_still}
 use Rattle.live_segment.proofs.lemmas.Add.Refusing.{only_given_up}
 use Rattle.live_segment.proofs.lemmas.Alloc.Blocks.{makes_between}
@@ -86,18 +86,7 @@ looks_searched a b free searched = record {
         });
     free = free;
     done = subst (DoesOn a.done) (sym (ap (λ (x : Actor). x.done) searched.view)) (does_not a.done);
-    seen = record {
-      free = let e = ap (λ (x : Actor). x.seen.free) searched.view in omega (arith, e);
-      corrupt = λ saw. ap (λ (x : Actor). x.seen.corrupt) searched.view ∙ saw;
-      warned = let e = ap (λ (x : Actor). x.seen.warned) searched.view in omega (arith, e);
-      chain = searched.chain;
-      ends = searched.ends;
-      tails = grows_same a.seen.tails b.seen.tails (ap (λ (x : Actor). x.seen.tails) searched.view);
-      singles = grows_same a.seen.singles b.seen.singles (ap (λ (x : Actor). x.seen.singles) searched.view);
-      counts = grows_same a.seen.counts b.seen.counts (ap (λ (x : Actor). x.seen.counts) searched.view);
-      words = searched.words;
-      cursors = grows_same a.seen.cursors b.seen.cursors (ap (λ (x : Actor). x.seen.cursors) searched.view);
-    };
+    seen = subst (SeesOn a.seen) (sym (ap (λ (x : Actor). x.seen) searched.view)) (sees_list a.seen searched.chain searched.ends searched.words);
   };
   units = ap (λ (x : Actor). x.units) searched.view;
   entries = ap (λ (x : Actor). x.entries) searched.view;

@@ -101,32 +101,18 @@ module _ {segment : Segment} {old : Pass} {name : List ℕ} {at : ℕ} (seated :
   way_there = record { free = walks.free; front = walks.front; stands = walks.stands; within = walks.within }
 
   pub may_follow : MayStep segment old (walking_event (load_next at))
-  may_follow = record {
-    table = seated.table;
-    recorder = seated.recorder;
-    ready = subst (λ (n : ℕ). Ready old.me.0 (walking_event (load_next n))) (sym walks.stands) (walks_agree 0 1 old.me.0 given (walks.free, walks.front)).1;
-  }
+  may_follow = way.may_follow seated way_there
 
   pub room : at + 5 ≤ segment.setting.shape.size
-  room = subst (λ (d : Dimensions). at + 5 ≤ d.size) seated.of.shape walks.within
+  room = way.room seated way_there
 
   module _ (found : ℕ) (new : Pass) (load : Stepped old (walking_event (load_next at)) found new) where
-    chain_is : new.me.0.seen.chain ≡ extended chain at found
-    chain_is = ap (λ (a : Actor). a.seen.chain) load.view
-
     pub searched : HasSearched old.me.0 new.me.0
     searched = way.searched seated way_there found new load
 
     -- at the end of the list it has seen all of it
     pub found_end : NoRepeats chain → found ≡ 12 → SawAllOfList old.me.0.seen new.me.0.seen
     found_end once end = way.found_end seated way_there found new load once end
-
-    walks_on : Walks new.me.0 (given_after given (said_of old.me.0.segment.shape.size found))
-    walks_on =
-        let there : Stepped old (walking_event (load_next (stands_behind given))) found new =
-        subst (λ (n : ℕ). Stepped old (walking_event (load_next n)) found new) walks.stands load in
-        subst (λ (a : Actor). Walks a (given_after given (said_of old.me.0.segment.shape.size found))) (sym there.view)
-        ((walks_agree 0 1 old.me.0 given (walks.free, walks.front)).2 found there.learned)
 
     others_then : All (SawOtherName new.me.0.seen name) given
     others_then = others_still old.me.0.seen new.me.0.seen searched.words name given walks.others
@@ -135,27 +121,16 @@ module _ {segment : Segment} {old : Pass} {name : List ℕ} {at : ℕ} (seated :
     pub ends : NoRepeats chain → KnowsOwnNames old.me.0 → found ≡ 12
         → SearchesAt name at new.me.0 × All (SawOtherName new.me.0.seen name) new.me.0.seen.chain × HasMadeNone name new.me.0
     ends once names end =
-        let (rest, front) = walks.front in
-        let whole : given ≡ chain =
-        all_given given rest chain found front once (λ passed. load.learned.again (length given) passed (place_of given rest chain front ∙ sym walks.stands)) end in
-        let same : new.me.0.seen.chain ≡ chain = chain_is ∙ extended_end chain at found end in
-        let met : All (Contains chain) (records_met old.me.0) = load.learned.all (ap stands_behind (sym whole) ∙ sym walks.stands) end in
-        let others : All (SawOtherName old.me.0.seen name) chain = subst (All (SawOtherName old.me.0.seen name)) whole walks.others in
-        let gave : given_after given (said_of old.me.0.segment.shape.size found) ≡ given =
-        ap (λ (b : Bool). given_after given (if b then End else (if is_reference old.me.0.segment.shape.size found then Record found else Stray))) (eq-eqb found 12 end) in (
-          record {
-            free = walks_on.0;
-            given = given;
-            front = (subst (Walks new.me.0) gave walks_on).1;
-            stands = walks.stands;
-            within = subst (λ (d : Dimensions). at + 5 ≤ d.size) (sym (ap (λ (a : Actor). a.segment.shape) load.view)) walks.within;
-            others = others_then;
-          },
+        let whole : given ≡ chain = way.whole seated way_there found new load once end in
+        let same : new.me.0.seen.chain ≡ chain = way.chain_still seated way_there found new load once end in
+        let there = way.way_still seated way_there found new load once end in
+        let others : All (SawOtherName old.me.0.seen name) chain = subst (All (SawOtherName old.me.0.seen name)) whole walks.others in (
+          record { free = there.free; given = given; front = there.front; stands = there.stands; within = there.within; others = others_then },
           subst (All (SawOtherName new.me.0.seen name)) (whole ∙ sym same) others_then,
           λ spec r has.
               let published : Contains old.me.0.done.published (record { reference = r; made = made.Histogram name spec }) =
               subst (λ (l : List Published). Contains l (record { reference = r; made = made.Histogram name spec })) (ap (λ (a : Actor). a.done.published) load.view) has in
-              let listed : Contains chain r = All-contains (Contains chain) (records_met old.me.0) r met
+              let listed : Contains chain r = All-contains (Contains chain) (records_met old.me.0) r (way.met_all seated way_there found new load once end)
               (Contains-append_left
               (map (λ (p : Published). p.reference) old.me.0.done.published ++ map (λ (g : Given). g.reference) old.me.0.done.given)
               (filter (λ at. not (at == 12)) (old.me.0.seen.tails ++ map (λ (s : Sighting). s.word) old.me.0.seen.cursors)) r
@@ -165,38 +140,24 @@ module _ {segment : Segment} {old : Pass} {name : List ℕ} {at : ℕ} (seated :
         )
 
     module _ (miss : found ≢ 12) where
-      gave_one : given_after given (said_of old.me.0.segment.shape.size found) ≡ given ++ found ∷ []
-      gave_one =
-          ap (λ (b : Bool × Bool). given_after given (if b.0 then End else if b.1 then Record found else Stray))
-          (λ i. (ne_eqb found 12 miss i, load.learned.reference i))
-
       longer : Walks new.me.0 (given ++ found ∷ [])
-      longer = subst (Walks new.me.0) gave_one walks_on
+      longer = way.longer seated way_there found new load miss
 
       pub meets : MayLoadRecord found new.me.0
-      meets =
-          let (rest, front) = longer.1 in (
-            longer.0,
-            subst (λ (l : List ℕ). Contains l found) (sym front)
-                (Contains-append_left (given ++ found ∷ []) rest found (Contains-append_right given (found ∷ []) found (0, omega arith, refl))),
-          )
+      meets = way.meets seated way_there found new load miss
 
       pub room_found : found + 5 ≤ segment.setting.shape.size
-      room_found =
-          (reference_behind segment.setting.shape.size found
-          (subst (λ (d : Dimensions). is_reference d.size found ≡ true) seated.of.shape load.learned.reference) miss).1
+      room_found = way.room_found seated way_there found new load miss
 
       -- what a walk knows that goes on behind a record of another name
       pub walks_then : (b : Actor) → SeesWords new.me.0 b → SawOtherName b.seen name found → SearchesAt name found b
       walks_then b sees other =
-          let long = length_push given found in
-          let then_chain = ap (λ (x : Actor). x.seen.chain) sees.view in record {
-            free = ap (λ (x : Actor). is_bound x.hand.place) sees.view ∙ longer.0;
+          let there = way.way_on seated way_there found new load miss b sees in record {
+            free = there.free;
             given = given ++ found ∷ [];
-            front = subst (IsPrefix (given ++ found ∷ [])) (sym then_chain) longer.1;
-            stands = sym (get_or_push (stops given) found 0 (length (given ++ found ∷ [])) (omega (arith, long)));
-            within = subst (λ (d : Dimensions). found + 5 ≤ d.size)
-                (sym (ap (λ (x : Actor). x.segment.shape) sees.view ∙ (ap (λ (x : Actor). x.segment.shape) load.view ∙ seated.of.shape))) room_found;
+            front = there.front;
+            stands = there.stands;
+            within = there.within;
             others = All-push (SawOtherName b.seen name) given found (others_still new.me.0.seen b.seen sees.words name given others_then) other;
           }
 
@@ -214,22 +175,7 @@ module _ {segment : Segment} {old : Pass} {name : List ℕ} {at : ℕ} (seated :
       -- it has come further along the list, which fits in the segment
       pub comes_further : (b : Actor) → SeesWords new.me.0 b → NoRepeats chain
           → (last_of chain at < last_of b.seen.chain found) × (last_of b.seen.chain found ≤ segment.setting.shape.size)
-      comes_further b sees once =
-          let (rest, front) = walks.front in
-          let (behind, whole) = longer.1 in
-          let then_chain : b.seen.chain ≡ (given ++ found ∷ []) ++ behind = ap (λ (x : Actor). x.seen.chain) sees.view ∙ whole in
-          let long = length_push given found in
-          let all : length b.seen.chain ≡ length (given ++ found ∷ []) + length behind = ap length then_chain ∙ length-append (given ++ found ∷ []) behind in
-          let there : slice_index b.seen.chain (length given) ≡ found =
-          ap (λ (l : List ℕ). slice_index l (length given)) then_chain
-          ∙ (get_or_append_left (given ++ found ∷ []) behind 0 (length given) (omega (arith, long)) ∙ get_or_push given found 0 (length given) refl) in
-          let far = last_least b.seen.chain (length given) found (omega (arith, all, long)) there in
-          let near : last_of chain at ≤ length given = subst (λ (n : ℕ). last_of chain n ≤ length given) (sym walks.stands) (last_stands given rest chain front once) in
-          let most = last_most b.seen.chain found in
-          let few = load.learned.few in
-          let ends = ap length (ap (λ (x : Actor). x.seen.chain) sees.view ∙ chain_is) in
-          let size = ap (λ (d : Dimensions). d.size) seated.of.shape in
-          (omega (arith, far, near), omega (arith, most, few, ends, size))
+      comes_further b sees once = way.comes_further seated way_there found new load miss b sees once
 
 -- ---- a record of the name
 

@@ -29,12 +29,12 @@ use Rattle.live_segment.specs.Alloc.Allocation.{Allocates, filled, noticed, saw_
 use Rattle.live_segment.specs.Steps.Answering.{HaveOneName}
 use Rattle.live_segment.specs.Hist.NewRecord.{HasMade, MakesRecord}
 use Rattle.live_segment.specs.Hist.Outcome.{IsHistRefusal, LooksAround, LooksUp, Owes, OwesAs, Settles}
-use Rattle.segment_promises.specs.Onward.{DoesOn, Grows}
+use Rattle.segment_promises.specs.Onward.{DoesOn, Grows, SeesOn}
 use Rattle.live_segment.specs.Hist.Search.{HasMadeNone, HasSearched, Searches, SearchesAt, asked_at}
 use Rattle.live_segment.proofs.lemmas.List.Ends.{all_on}
 use Rattle.live_segment.proofs.lemmas.Alloc.Claimed.{sees_header}
 use Rattle.live_segment.proofs.lemmas.Alloc.Rooms.{lacked_since, lacks_room}
-use Rattle.live_segment.proofs.lemmas.Steps.Proceeding.{does_not, does_on, sees_not, sees_on}
+use Rattle.live_segment.proofs.lemmas.Steps.Proceeding.{does_not, does_on, sees_list, sees_not, sees_on}
 use Rattle.segment_promises.proofs.Growing.{grows_by, grows_not, grows_same}
 use Rattle.live_segment.proofs.lemmas.Add.Refusing.{at_rest}
 use Rattle.live_segment.proofs.lemmas.Hist.Searching.{others_still}
@@ -66,18 +66,7 @@ searched_around a b free searched = record {
   free = free;
   apart = searched.apart;
   done = does_same a.done b.done (ap (λ (x : Actor). x.done) searched.view);
-  seen = record {
-    free = let e = ap (λ (x : Actor). x.seen.free) searched.view in omega (arith, e);
-    corrupt = λ saw. ap (λ (x : Actor). x.seen.corrupt) searched.view ∙ saw;
-    warned = let e = ap (λ (x : Actor). x.seen.warned) searched.view in omega (arith, e);
-    chain = searched.chain;
-    ends = searched.ends;
-    tails = grows_same a.seen.tails b.seen.tails (ap (λ (x : Actor). x.seen.tails) searched.view);
-    singles = grows_same a.seen.singles b.seen.singles (ap (λ (x : Actor). x.seen.singles) searched.view);
-    counts = grows_same a.seen.counts b.seen.counts (ap (λ (x : Actor). x.seen.counts) searched.view);
-    words = searched.words;
-    cursors = grows_same a.seen.cursors b.seen.cursors (ap (λ (x : Actor). x.seen.cursors) searched.view);
-  };
+  seen = subst (SeesOn a.seen) (sym (ap (λ (x : Actor). x.seen) searched.view)) (sees_list a.seen searched.chain searched.ends searched.words);
   untouched = (ap (λ (x : Actor). x.seen.singles) searched.view, ap (λ (x : Actor). x.seen.counts) searched.view);
 }
 

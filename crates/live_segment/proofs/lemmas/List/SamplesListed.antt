@@ -21,7 +21,7 @@ use Rattle.segment_promises.specs.Onward.{Grows}
 use Rattle.segment_promises.specs.Values.{NoKeyRepeats, PassesRecord}
 use Rattle.segment_promises.proofs.FirstValues.{Shows, not_both, other_value}
 use Rattle.segment_promises.proofs.Growing.{all_push, others_still}
-use Rattle.segment_promises.proofs.ListedValues.{passes_still, sample_still}
+use Rattle.segment_promises.proofs.ListedValues.{once_then, passes_still, sample_still}
 use Rattle.live_segment.specs.List.Keys.{HasLookedForSample}
 use Rattle.live_segment.specs.List.IndexedValues.{ListsSamples}
 use Rattle.live_segment.proofs.lemmas.Add.SampleKeys.{all_behind}
@@ -53,40 +53,6 @@ module _ (a b : Seen) (grows : Grows a.words b.words) (chain : b.chain ≡ a.cha
       once = lists.once;
       few = lists.few;
     }
-
--- ---- a key more
-
-module _ (listed : List (ℤ × ℕ)) (value : ℤ) (units : ℕ) (never : (k : ℕ) (d : ℤ × ℕ) → k < length listed → (get_or listed k d).0 ≢ value) where
-  abbrev test : ℤ → ℤ × ℕ → ℕ
-  test key count = if int_eq count.0 key then 1 else 0
-
-  apart_false : (x y : ℤ) → x ≢ y → int_eq x y ≡ false
-  apart_false x y apart = by (int_eq x y) refl
-    where
-      by : (b : Bool) → int_eq x y ≡ b → b ≡ false
-      by true e = absurd (apart ((Decides-int_eq x y).0 e))
-      by false e = refl
-
-  none_of : (list : List (ℤ × ℕ)) → ((k : ℕ) (d : ℤ × ℕ) → k < length list → (get_or list k d).0 ≢ value) → sum_by (test value) list ≡ 0
-  none_of [] none = refl
-  none_of (c ∷ rest) none =
-      let head : test value c ≡ 0 = ap (λ (b : Bool). if b then 1 else 0) (apart_false c.0 value (none 0 c (omega arith))) in
-      let tail = none_of rest (λ k d low. none (suc k) d (omega (arith, low))) in
-      let one : sum_by (test value) (c ∷ []) ≡ 0 = λ i. 0 + head i in
-      sum_by-append (test value) (c ∷ []) rest ∙ (λ i. one i + tail i)
-
-  once_then : NoKeyRepeats listed → NoKeyRepeats (listed ++ (value, units) ∷ [])
-  once_then once key =
-      let all = sum_by_push (test key) listed (value, units) in
-      let was = once key in
-      by (int_eq value key) refl all was
-    where
-      by : (b : Bool) → int_eq value key ≡ b → sum_by (test key) (listed ++ (value, units) ∷ []) ≡ sum_by (test key) listed + test key (value, units)
-          → sum_by (test key) listed ≤ 1 → sum_by (test key) (listed ++ (value, units) ∷ []) ≤ 1
-      by true e all was =
-          let none = subst (λ (x : ℤ). sum_by (test x) listed ≡ 0) ((Decides-int_eq value key).0 e) (none_of listed never) in
-          let one : test key (value, units) ≡ 1 = ap (λ (b : Bool). if b then 1 else 0) e in omega (arith, all, none, one)
-      by false e all was = let one : test key (value, units) ≡ 0 = ap (λ (b : Bool). if b then 1 else 0) e in omega (arith, all, was, one)
 
 -- ---- a sample more
 

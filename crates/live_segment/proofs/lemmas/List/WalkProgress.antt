@@ -112,7 +112,7 @@ module _ {segment : Segment} {old : Pass} {given : List ℕ} {at : ℕ} (seated 
           ap (λ (b : Bool × Bool). given_after given (if b.0 then End else if b.1 then Record found else Stray))
           (λ i. (ne_eqb found 12 miss i, load.learned.reference i))
 
-      longer : Walks new.me.0 (given ++ found ∷ [])
+      pub longer : Walks new.me.0 (given ++ found ∷ [])
       longer = subst (Walks new.me.0) gave_one walks_on
 
       pub meets : MayLoadRecord found new.me.0

@@ -8,8 +8,10 @@ use Rattle.segment_machine.specs.Event.{Event, allocating_event, spot, change, R
 use Rattle.live_segment.specs.declared.rule.Announcement.{Announcement}
 use Rattle.live_segment.specs.declared.rule.Announcement.TheVariants.{Wanted}
 use Rattle.live_segment.specs.declared.rule.Opening.{Opening}
+use Rattle.live_segment.specs.declared.segment.Segment.{Segment}
+use Rattle.live_segment.specs.Holders.{MayStep, opened_with}
 use Rattle.live_segment.specs.Rule.{Runs}
-use Rattle.live_segment.specs.Steps.{Sat, Does, DoesAt, Raises}
+use Rattle.live_segment.specs.Steps.{Pass, Sat, Does, DoesAt, Raises}
 use Rattle.live_segment.proofs.Seating.Openings.{follows}
 
 module _ (given : Opening) (slots id : ℕ) (me : Sat) (word : ℕ) (records : is_opener me.0.role ≡ false) where
@@ -48,3 +50,11 @@ module _ (given : Opening) (slots id : ℕ) (me : Sat) (word : ℕ) (records : i
 
       same : (other : ℕ) → some (Wanted words) ≡ some (Wanted other) → words ≡ other
       same other said = ap words_said (some-injective (Wanted words) (Wanted other) said)
+
+-- a recorder's seat may do an event where the word says, so the rule allows the step
+pub allows_at : {segment : Segment} {seat : Pass} {slots id word : ℕ} (event : ℕ → Event) (at : ℕ) → MayStep segment seat (event at)
+    → word ≡ spot (opened_with segment).setting.shape.size (event at) + 1
+    → ((y : ℕ) → word ≡ spot seat.me.0.segment.shape.size (event y) + 1 → at ≡ y)
+    → Allows (Runs (opened_with segment)) slots id seat.me word (change (opened_with segment).setting.version (event at)) (DoesAt event word seat.me)
+allows_at {segment} {seat} {slots} {id} {word} event at may is one =
+    does_at (opened_with segment) slots id seat.me word may.recorder event at is one may.ready

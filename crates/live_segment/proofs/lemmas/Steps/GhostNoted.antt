@@ -1,5 +1,5 @@
 -- A step with notes keeps the rule, and tells what any account of it says, since one account alone fits it.
-use Rattle.std.proofs.Common.{◌≡◌, ℕ, ◌+◌, ◌≤◌, false, List, ⊎_elim, sym, ap, ◌∙◌, subst, slice_index, arith, Option, Some, w64}
+use Rattle.std.proofs.Common.{◌≡◌, ℕ, ◌+◌, ◌≤◌, false, List, [], ◌∷◌, ⊎_elim, sym, ap, ◌∙◌, subst, slice_index, arith, Option, Some, w64}
 use Rattle.std.specs.Int.{cast_unsigned, cast_signed}
 use Rattle.std.proofs.lemmas.Int.{to_z-of_z}
 use Rattle.atomic_table.specs.Table.{carried_after, Allows}
@@ -11,14 +11,17 @@ use Rattle.segment_machine.specs.declared.place.Place.TheVariants.{Looking, Movi
 use Rattle.segment_machine.specs.Actor.{is_opener, known_at, word_seen}
 use Rattle.segment_machine.specs.Event.{Event, spot, change, Ready, Learned, next, packing_event}
 use Rattle.segment_machine.specs.Form.{IsPacking, packed_word}
-use Rattle.segment_machine.specs.Note.{Note}
+use Rattle.segment_machine.specs.Note.{Note, takes}
 use Rattle.segment_machine.specs.Packing.{add_moved}
 use Rattle.segment_machine.proofs.Values.{value_word}
 use Rattle.segment_promises.specs.Follows.{MayNoteAll, noted_by, GhostNoted}
 use Rattle.live_segment.specs.declared.rule.Opening.{Opening}
+use Rattle.live_segment.specs.declared.segment.Segment.{Segment}
+use Rattle.live_segment.specs.Holders.{opened_with}
 use Rattle.live_segment.specs.Rule.{Runs}
-use Rattle.live_segment.specs.Steps.{Sat, Does}
-use Rattle.live_segment.specs.Steps.GhostNotes.{TellsOf, InWord, InCounts, InSample, InSum, KnowsAlone, IsPacked, IsAddedTo, IsAddedToSample, IsAddedToSum, AddsMoved}
+use Rattle.live_segment.specs.Steps.{Pass, Sat, Does}
+use Rattle.live_segment.specs.Steps.GhostNotes.{TellsOf, InWord, InCounts, InSample, InSum, KnowsAlone, IsPacked, IsAddedTo, IsAddedToSample, IsAddedToSum, AddsMoved, MayDo}
+use Rattle.live_segment.specs.Steps.Taking.{IsFirstOfDelta, MayBeginDelta}
 use Rattle.live_segment.proofs.Seating.Openings.{follows}
 use Rattle.live_segment.proofs.lemmas.Steps.Allowed.{does}
 
@@ -118,3 +121,23 @@ module _ (given : Opening) (slots id : ℕ) (me : Sat) (word : ℕ) (records : i
             subst (λ (p : ℕ × ℕ). Does (packing_event (add_moved p.0 p.1 units)) me (slice_index s.words word) (view, carried_after me.1 act))
             (λ i. (where_is i, which i)) told,
       )
+
+-- a step of a recorder's seat on a word that stands so far behind where it happens
+module _ {segment : Segment} {seat : Pass} {slots id word : ℕ} (offset : ℕ) (event : ℕ → Event) (at : ℕ) (here : word ≡ at + offset + 1) where
+  -- its notes are the same wherever it happens
+  pub tells_at : {before behind : List Note} → MayDo seat before (event at) behind
+      → word ≡ spot (opened_with segment).setting.shape.size (event at) + 1
+      → Allows (Runs (opened_with segment)) slots id seat.me word (change (opened_with segment).setting.version (event at))
+      (TellsOf ℕ (λ y. word ≡ y + offset + 1) (λ y. before) event behind seat.me)
+  tells_at {before} {behind} may there =
+      tells (opened_with segment) slots id seat.me word may.recorder ℕ (λ (y : ℕ). word ≡ y + offset + 1) (λ (y : ℕ). before) event behind at
+      (λ y e. omega arith) there may.may may.ready may.goes
+
+  -- it begins a delta of a histogram
+  pub begins_delta : (may : MayBeginDelta seat at event) → word ≡ spot (opened_with segment).setting.shape.size (event may.0.reference) + 1
+      → Allows (Runs (opened_with segment)) slots id seat.me word (change (opened_with segment).setting.version (event may.0.reference))
+      (IsFirstOfDelta offset event word seat.me)
+  begins_delta (x, fits, may) there =
+      tells (opened_with segment) slots id seat.me word may.recorder Known (λ (y : Known). (word ≡ y.reference + offset + 1) × KnowsAlone seat.me.0 y)
+      (λ (y : Known). takes y.name ∷ []) (λ (y : Known). event y.reference) [] x
+      (λ y (where_it_is, knows). one_known seat.me.0 x y (let e = fits.0 in omega arith) fits.1 knows) there may.may may.ready may.goes

@@ -54,6 +54,14 @@ module _ (a : Seen) where
       sees_lists a (extended_grows a.chain at found) (ended_grows a.ends (at + 3) (found == 12)) (grows_not a.tails) (grows_not a.singles) (grows_not a.counts)
       (grows_not a.words) (grows_not a.cursors)
 
+  -- a search, and a publish
+  pub sees_list : {chain ends : List ℕ} {words : List Sighting} → Grows a.chain chain → Grows a.ends ends → Grows a.words words
+      → SeesOn a (record a { chain = chain; ends = ends; words = words })
+  sees_list chain ends words = sees_lists a chain ends (grows_not a.tails) (grows_not a.singles) (grows_not a.counts) words (grows_not a.cursors)
+
+  pub sees_tails : {tails : List ℕ} → Grows a.tails tails → SeesOn a (record a { tails = tails })
+  sees_tails tails = sees_lists a (grows_not a.chain) (grows_not a.ends) tails (grows_not a.singles) (grows_not a.counts) (grows_not a.words) (grows_not a.cursors)
+
 pub does_on : (a b c : Done) → DoesOn a b → DoesOn b c → DoesOn a c
 does_on a b c first second = record {
   same = second.same ∙ ap (λ (d : Done). record d { claimed = c.claimed; raised = c.raised; published = c.published; filled = c.filled; lacked = c.lacked; beaten = c.beaten }) first.same;

@@ -9,6 +9,7 @@ use Rattle.segment_machine.specs.Note.{amounts}
 use Rattle.live_segment.specs.Rule.{Runs}
 use Rattle.live_segment.specs.Steps.GhostNotes.{InSum, IsAddedToSum, TellsOf}
 use Rattle.live_segment.proofs.lemmas.Steps.GhostNoted.{tells, one_summed}
+use Rattle.live_segment.proofs.lemmas.Steps.Reported.{noted}
 use Rattle.live_segment.proofs.segment.Segment.add_amount.Goals as goal
 
 pub fetch_add-requires : goal.fetch_add-requires
@@ -35,8 +36,4 @@ pub returns : goal.returns
 returns c = λ x fits.
     let small : FitsSigned w64 x.amount = subst (FitsSigned w64) (sym fits.2) c.ranges.amount in
     let is : cast_unsigned w64 x.amount ≡ c.cast_unsigned.result = ap (cast_unsigned w64) (fits.2 ∙ sym (to_z-of_z w64 c.args.amount c.ranges.amount)) ∙ sym c.cast_unsigned.ensures in
-    let told = c.fetch_add.ensures.2 x (let e = fits.0 in omega arith, (refl, fits.1, is, small)) in record {
-      same = (c.fetch_add.ensures.0, c.fetch_add.ensures.1, told.1);
-      view = told.0;
-      learned = told.2;
-    }
+    noted c.fetch_add.ensures.0 c.fetch_add.ensures.1 (c.fetch_add.ensures.2 x (let e = fits.0 in omega arith, (refl, fits.1, is, small)))

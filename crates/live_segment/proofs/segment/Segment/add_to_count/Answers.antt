@@ -3,6 +3,7 @@ use Rattle.segment_machine.specs.Event.{counting_event}
 use Rattle.segment_machine.specs.Counting.{add_count}
 use Rattle.live_segment.specs.Steps.GhostNotes.{InCounts, IsAddedTo, bucket_notes}
 use Rattle.live_segment.proofs.lemmas.Steps.GhostNoted.{tells, one_added}
+use Rattle.live_segment.proofs.lemmas.Steps.Reported.{noted}
 use Rattle.live_segment.proofs.segment.Segment.add_to_count.Goals as goal
 
 pub fetch_add-requires : goal.fetch_add-requires
@@ -20,9 +21,4 @@ fetch_add-requires c =
     )
 
 pub returns : goal.returns
-returns c = λ x fits.
-    let told = c.fetch_add.ensures.2 x (let e = fits.2 in omega arith, (fits.0, fits.1, refl, fits.3)) in record {
-      same = (c.fetch_add.ensures.0, c.fetch_add.ensures.1, told.1);
-      view = told.0;
-      learned = told.2;
-    }
+returns c = λ x fits. noted c.fetch_add.ensures.0 c.fetch_add.ensures.1 (c.fetch_add.ensures.2 x (let e = fits.2 in omega arith, (fits.0, fits.1, refl, fits.3)))

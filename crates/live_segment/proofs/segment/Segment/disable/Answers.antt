@@ -8,6 +8,7 @@ use Rattle.live_segment.specs.declared.rule.Setting.{Setting}
 use Rattle.live_segment.specs.Rule.{Runs}
 use Rattle.live_segment.specs.Steps.{DoesAt}
 use Rattle.live_segment.proofs.lemmas.Steps.Allowed.{does_at}
+use Rattle.live_segment.proofs.lemmas.Steps.Reported.{stepped}
 use Rattle.live_segment.proofs.segment.Segment.disable.Goals as goal
 
 pub compare_exchange-requires : goal.compare_exchange-requires
@@ -24,8 +25,4 @@ compare_exchange-requires c =
     )
 
 pub returns : goal.returns
-returns c = let told = c.compare_exchange.ensures.2 c.args.histogram (omega arith) in record {
-  same = (c.compare_exchange.ensures.0, c.compare_exchange.ensures.1, told.1);
-  view = told.0;
-  learned = told.2;
-}
+returns c = stepped c.compare_exchange.ensures.0 c.compare_exchange.ensures.1 (c.compare_exchange.ensures.2 c.args.histogram (omega arith))

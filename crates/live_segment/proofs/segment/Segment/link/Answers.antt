@@ -5,6 +5,7 @@ use Rattle.segment_machine.specs.Publishing.{link}
 use Rattle.live_segment.specs.declared.rule.Announcement.{Announcement}
 use Rattle.live_segment.specs.Steps.Listing.{InLink, asked_for, link_notes}
 use Rattle.live_segment.proofs.lemmas.Steps.GhostNoted.{tells}
+use Rattle.live_segment.proofs.lemmas.Steps.Reported.{noted}
 use Rattle.live_segment.proofs.segment.Segment.link.Goals as goal
 
 pub compare_exchange_with-requires : goal.compare_exchange_with-requires
@@ -27,8 +28,4 @@ compare_exchange_with-requires c =
 
 pub returns : goal.returns
 returns c = λ made asked.
-    let told = c.compare_exchange_with.ensures.2 (record { tail = c.args.tail; made = made }) (omega arith, (c.args.said.now, refl, asked)) in record {
-      same = (c.compare_exchange_with.ensures.0, c.compare_exchange_with.ensures.1, told.1);
-      view = told.0;
-      learned = told.2;
-    }
+    noted c.compare_exchange_with.ensures.0 c.compare_exchange_with.ensures.1 (c.compare_exchange_with.ensures.2 (record { tail = c.args.tail; made = made }) (omega arith, (c.args.said.now, refl, asked)))

@@ -2,6 +2,7 @@ use Rattle.std.proofs.Common.{rules, ap, arith}
 use Rattle.segment_image.specs.Shape.{Dimensions}
 use Rattle.live_segment.specs.declared.rule.Setting.{Setting}
 use Rattle.live_segment.proofs.lemmas.Steps.CursorSteps.{loads_cursor}
+use Rattle.live_segment.proofs.lemmas.Steps.Reported.{stepped}
 use Rattle.live_segment.proofs.segment.Segment.load_cursor.Goals as goal
 
 pub load-requires : goal.load-requires
@@ -16,11 +17,5 @@ load-requires c = (
 pub returns : goal.returns
 returns c =
     let (step, counts) = c.load.ensures.2 in
-    let told = step c.args.cursor (let e = ap (λ (s : Dimensions). s.size) c.requires.shape in omega (arith, c.size-size.ensures.value)) in record {
-      step = record {
-        same = (c.load.ensures.0, c.load.ensures.1, told.1);
-        view = told.0;
-        learned = told.2;
-      };
-      counts = counts;
-    }
+    let told = step c.args.cursor (let e = ap (λ (s : Dimensions). s.size) c.requires.shape in omega (arith, c.size-size.ensures.value)) in
+    record { step = stepped c.load.ensures.0 c.load.ensures.1 told; counts = counts }

@@ -5,8 +5,4 @@ use Rattle.live_segment.proofs.lemmas.Steps.Allowed.{does}
 use Rattle.live_segment.proofs.segment.Segment.load_free.Goals as goal
 
 pub load-requires : goal.load-requires
-load-requires c = (
-  search rules,
-  search rules,
-  does c.args.self.now.table.shared.key _ _ _ _ c.requires.recorder (allocating_event load_free) refl c.requires.ready,
-)
+load-requires c = (search rules, search rules, does c.args.self.now.table.shared.key _ _ _ _ c.requires.recorder (allocating_event load_free) refl c.requires.ready)

@@ -3,6 +3,7 @@ use Rattle.live_segment.specs.declared.rule.Setting.{Setting}
 use Rattle.live_segment.specs.Holders.{opened_with}
 use Rattle.live_segment.specs.Standing.{SeesNext}
 use Rattle.live_segment.proofs.lemmas.List.Walked.{loads_next}
+use Rattle.live_segment.proofs.lemmas.Steps.Reported.{stepped}
 use Rattle.live_segment.proofs.segment.Segment.load_next_as.Goals as goal
 
 pub load-requires : goal.load-requires
@@ -16,11 +17,7 @@ load-requires g c =
     )
 
 pub returns-clause-step : goal.returns-clause-step
-returns-clause-step g c = let told = c.load.ensures.2.0 c.args.at (omega arith) in record {
-  same = (c.load.ensures.0, c.load.ensures.1, told.1);
-  view = told.0;
-  learned = told.2;
-}
+returns-clause-step g c = stepped c.load.ensures.0 c.load.ensures.1 (c.load.ensures.2.0 c.args.at (omega arith))
 
 pub returns-clause-once : goal.returns-clause-once
 returns-clause-once g c = c.load.ensures.2.1

@@ -1,5 +1,6 @@
 use Rattle.std.proofs.Common.{rules, arith}
 use Rattle.live_segment.proofs.lemmas.Steps.Listed.{loads_published}
+use Rattle.live_segment.proofs.lemmas.Steps.Reported.{stepped}
 use Rattle.live_segment.proofs.segment.Segment.load_published.Goals as goal
 
 pub load-requires : goal.load-requires
@@ -10,8 +11,4 @@ load-requires c = (
 )
 
 pub returns : goal.returns
-returns c = let told = c.load.ensures.2 c.args.at c.args.index (omega arith) c.requires.may.ready in record {
-  same = (c.load.ensures.0, c.load.ensures.1, told.1);
-  view = told.0;
-  learned = told.2;
-}
+returns c = stepped c.load.ensures.0 c.load.ensures.1 (c.load.ensures.2 c.args.at c.args.index (omega arith) c.requires.may.ready)

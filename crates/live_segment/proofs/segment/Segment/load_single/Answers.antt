@@ -1,20 +1,12 @@
 use Rattle.std.proofs.Common.{rules, ℕ, arith}
 use Rattle.segment_machine.specs.Event.{packing_event}
 use Rattle.segment_machine.specs.Packing.{load_single}
-use Rattle.live_segment.proofs.lemmas.Steps.Allowed.{does_at}
+use Rattle.live_segment.proofs.lemmas.Steps.Allowed.{allows_at}
+use Rattle.live_segment.proofs.lemmas.Steps.Reported.{stepped}
 use Rattle.live_segment.proofs.segment.Segment.load_single.Goals as goal
 
 pub load-requires : goal.load-requires
-load-requires c = (
-  search rules,
-  search rules,
-  does_at c.args.self.now.table.shared.key _ _ _ _ c.requires.may.recorder (λ (x : ℕ). packing_event (load_single x)) c.args.histogram
-      (omega arith) (λ y e. omega arith) c.requires.may.ready,
-)
+load-requires c = (search rules, search rules, allows_at (λ x. packing_event (load_single x)) c.args.histogram c.requires.may (omega arith) (λ y e. omega arith))
 
 pub returns : goal.returns
-returns c = let told = c.load.ensures.2 c.args.histogram (omega arith) in record {
-  same = (c.load.ensures.0, c.load.ensures.1, told.1);
-  view = told.0;
-  learned = told.2;
-}
+returns c = stepped c.load.ensures.0 c.load.ensures.1 (c.load.ensures.2 c.args.histogram (omega arith))

@@ -1,5 +1,6 @@
 use Rattle.std.proofs.Common.{rules, arith}
 use Rattle.live_segment.proofs.lemmas.List.SamplesBehind.{loads_sum}
+use Rattle.live_segment.proofs.lemmas.Steps.Reported.{stepped}
 use Rattle.live_segment.proofs.segment.Segment.load_sum.Goals as goal
 
 pub load-requires : goal.load-requires
@@ -10,11 +11,7 @@ load-requires c = (
 )
 
 pub returns-clause-step : goal.returns-clause-step
-returns-clause-step c = let told = c.load.ensures.2.0 c.args.histogram (omega arith) in record {
-  same = (c.load.ensures.0, c.load.ensures.1, told.1);
-  view = told.0;
-  learned = told.2;
-}
+returns-clause-step c = stepped c.load.ensures.0 c.load.ensures.1 (c.load.ensures.2.0 c.args.histogram (omega arith))
 
 pub returns-clause-behind : goal.returns-clause-behind
 returns-clause-behind c = c.load.ensures.2.1

@@ -1,24 +1,12 @@
-use Rattle.std.proofs.Common.{◌≡◌, ℕ, ◌+◌, [], ◌∷◌, rules, arith}
+use Rattle.std.proofs.Common.{rules, arith}
 use Rattle.segment_machine.specs.Event.{walking_event}
 use Rattle.segment_machine.specs.Walking.{load_next}
-use Rattle.segment_machine.specs.Note.{looks}
-use Rattle.live_segment.proofs.lemmas.Steps.GhostNoted.{tells}
+use Rattle.live_segment.proofs.lemmas.Steps.GhostNoted.{tells_at}
+use Rattle.live_segment.proofs.lemmas.Steps.Reported.{noted}
 use Rattle.live_segment.proofs.segment.Segment.look_next.Goals as goal
 
 pub load-requires : goal.load-requires
-load-requires c =
-    let may = c.requires.may in
-    let word : ℕ = 1 + c.args.histogram + 3 in (
-      search rules,
-      search rules,
-      tells c.args.self.now.table.shared.key _ _ c.args.seat.now.me word may.recorder ℕ (λ (y : ℕ). word ≡ y + 3 + 1) (λ (y : ℕ). looks ∷ [])
-          (λ (y : ℕ). walking_event (load_next y)) [] c.args.histogram (λ y e. omega arith) (omega arith) may.may may.ready may.goes,
-    )
+load-requires c = (search rules, search rules, tells_at 3 (λ y. walking_event (load_next y)) c.args.histogram (omega arith) c.requires.may (omega arith))
 
 pub returns : goal.returns
-returns c =
-    let told = c.load.ensures.2 c.args.histogram (omega arith) in record {
-      same = (c.load.ensures.0, c.load.ensures.1, told.1);
-      view = told.0;
-      learned = told.2;
-    }
+returns c = noted c.load.ensures.0 c.load.ensures.1 (c.load.ensures.2 c.args.histogram (omega arith))

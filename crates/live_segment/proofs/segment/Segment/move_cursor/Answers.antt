@@ -2,6 +2,7 @@ use Rattle.std.proofs.Common.{rules, ap, arith}
 use Rattle.segment_image.specs.Shape.{Dimensions}
 use Rattle.live_segment.specs.declared.rule.Setting.{Setting}
 use Rattle.live_segment.proofs.lemmas.Steps.CursorSteps.{moves_cursor}
+use Rattle.live_segment.proofs.lemmas.Steps.Reported.{stepped}
 use Rattle.live_segment.proofs.segment.Segment.move_cursor.Goals as goal
 
 pub compare_exchange-requires : goal.compare_exchange-requires
@@ -16,11 +17,5 @@ compare_exchange-requires c = (
 pub returns : goal.returns
 returns c =
     let (step, order) = c.compare_exchange.ensures.2 in
-    let told = step c.args.cursor (let e = ap (λ (s : Dimensions). s.size) c.requires.shape in omega (arith, c.size-size.ensures.value)) in record {
-      step = record {
-        same = (c.compare_exchange.ensures.0, c.compare_exchange.ensures.1, told.1);
-        view = told.0;
-        learned = told.2;
-      };
-      order = order c.args.cursor c.requires.may.ready;
-    }
+    let told = step c.args.cursor (let e = ap (λ (s : Dimensions). s.size) c.requires.shape in omega (arith, c.size-size.ensures.value)) in
+    record { step = stepped c.compare_exchange.ensures.0 c.compare_exchange.ensures.1 told; order = order c.args.cursor c.requires.may.ready }

@@ -3,6 +3,7 @@ use Rattle.segment_machine.specs.Event.{packing_event}
 use Rattle.segment_machine.specs.Packing.{pack}
 use Rattle.live_segment.specs.Steps.GhostNotes.{InWord, IsPacked, bucket_notes}
 use Rattle.live_segment.proofs.lemmas.Steps.GhostNoted.{tells, one_packed}
+use Rattle.live_segment.proofs.lemmas.Steps.Reported.{noted}
 use Rattle.live_segment.proofs.segment.Segment.pack.Goals as goal
 
 pub compare_exchange-requires : goal.compare_exchange-requires
@@ -20,9 +21,4 @@ compare_exchange-requires c =
     )
 
 pub returns : goal.returns
-returns c = λ x fits.
-    let told = c.compare_exchange.ensures.2 x (let e = fits.0 in omega arith, (refl, fits.1, fits.2)) in record {
-      same = (c.compare_exchange.ensures.0, c.compare_exchange.ensures.1, told.1);
-      view = told.0;
-      learned = told.2;
-    }
+returns c = λ x fits. noted c.compare_exchange.ensures.0 c.compare_exchange.ensures.1 (c.compare_exchange.ensures.2 x (let e = fits.0 in omega arith, (refl, fits.1, fits.2)))

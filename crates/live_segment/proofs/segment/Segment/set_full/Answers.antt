@@ -1,5 +1,6 @@
 use Rattle.std.proofs.Common.{rules, refl}
 use Rattle.live_segment.proofs.lemmas.Add.Refusing.{sets_full}
+use Rattle.live_segment.proofs.lemmas.Steps.Reported.{noted}
 use Rattle.live_segment.proofs.segment.Segment.set_full.Goals as goal
 
 pub fetch_or-requires : goal.fetch_or-requires
@@ -10,8 +11,4 @@ fetch_or-requires c = (
 )
 
 pub returns : goal.returns
-returns c = let told = c.fetch_or.ensures.2 in record {
-  same = (c.fetch_or.ensures.0, c.fetch_or.ensures.1, told.1);
-  view = told.0;
-  learned = told.2;
-}
+returns c = noted c.fetch_or.ensures.0 c.fetch_or.ensures.1 c.fetch_or.ensures.2

@@ -1,20 +1,12 @@
 use Rattle.std.proofs.Common.{rules, ℕ, arith}
 use Rattle.segment_machine.specs.Event.{allocating_event}
 use Rattle.segment_machine.specs.Allocating.{store_cookie}
-use Rattle.live_segment.proofs.lemmas.Steps.Allowed.{does_at}
+use Rattle.live_segment.proofs.lemmas.Steps.Allowed.{allows_at}
+use Rattle.live_segment.proofs.lemmas.Steps.Reported.{stepped}
 use Rattle.live_segment.proofs.segment.Segment.store_cookie.Goals as goal
 
 pub store-requires : goal.store-requires
-store-requires c = (
-  search rules,
-  search rules,
-  does_at c.args.self.now.table.shared.key _ _ _ _ c.requires.may.recorder (λ (x : ℕ). allocating_event (store_cookie x c.args.cookie)) c.args.at
-      (omega arith) (λ y e. omega arith) c.requires.may.ready,
-)
+store-requires c = (search rules, search rules, allows_at (λ x. allocating_event (store_cookie x c.args.cookie)) c.args.at c.requires.may (omega arith) (λ y e. omega arith))
 
 pub returns : goal.returns
-returns c = let told = c.store.ensures.2 c.args.at (omega arith) in record {
-  same = (c.store.ensures.0, c.store.ensures.1, told.1);
-  view = told.0;
-  learned = told.2;
-}
+returns c = stepped c.store.ensures.0 c.store.ensures.1 (c.store.ensures.2 c.args.at (omega arith))

@@ -1,5 +1,6 @@
 use Rattle.std.proofs.Common.{rules, arith}
 use Rattle.live_segment.proofs.lemmas.Steps.Listed.{stores_payload}
+use Rattle.live_segment.proofs.lemmas.Steps.Reported.{stepped}
 use Rattle.live_segment.proofs.segment.Segment.store_payload.Goals as goal
 
 pub store-requires : goal.store-requires
@@ -11,11 +12,7 @@ store-requires c = (
 
 pub returns-clause-stepped : goal.returns-clause-stepped
 returns-clause-stepped c =
-    let told = c.store.ensures.2 c.args.at c.args.index (omega arith) c.requires.may.ready in record {
-      same = (c.store.ensures.0, c.store.ensures.1, told.0.1);
-      view = told.0.0;
-      learned = told.0.2;
-    }
+    stepped c.store.ensures.0 c.store.ensures.1 (c.store.ensures.2 c.args.at c.args.index (omega arith) c.requires.may.ready).0
 
 pub returns-clause-apart : goal.returns-clause-apart
 returns-clause-apart c = (c.store.ensures.2 c.args.at c.args.index (omega arith) c.requires.may.ready).1

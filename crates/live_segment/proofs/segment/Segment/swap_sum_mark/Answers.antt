@@ -9,6 +9,7 @@ use Rattle.live_segment.specs.Rule.{Runs}
 use Rattle.live_segment.specs.Steps.Taking.{EndsDelta}
 use Rattle.live_segment.specs.Steps.GhostNotes.{MayDo, Noted}
 use Rattle.live_segment.proofs.lemmas.Steps.GhostNoted.{tells}
+use Rattle.live_segment.proofs.lemmas.Steps.Reported.{noted}
 use Rattle.live_segment.proofs.segment.Segment.swap_sum_mark.Goals as goal
 
 pub swap-requires : goal.swap-requires
@@ -36,9 +37,5 @@ returns c =
     let whole : cast_signed w64 (cast_unsigned w64 c.args.sum) ≡ c.args.sum = to_z-of_z w64 c.args.sum c.ranges.sum in
     let is : cast_signed w64 c.cast_unsigned.result ≡ c.args.sum =
     ap (cast_signed w64) c.cast_unsigned.ensures ∙ (ap (λ (s : ℤ). cast_signed w64 (cast_unsigned w64 s)) whole ∙ whole) in
-    let told = c.swap.ensures.2 c.args.histogram (omega arith) in
-    subst (λ (s : ℤ). Noted c.args.seat.now [] (taking_event (swap_sum_mark c.args.histogram s)) (has_taken ∷ []) c.swap.result c.swap.new.seat) is (record {
-      same = (c.swap.ensures.0, c.swap.ensures.1, told.1);
-      view = told.0;
-      learned = told.2;
-    })
+    subst (λ (s : ℤ). Noted c.args.seat.now [] (taking_event (swap_sum_mark c.args.histogram s)) (has_taken ∷ []) c.swap.result c.swap.new.seat) is
+    (noted c.swap.ensures.0 c.swap.ensures.1 (c.swap.ensures.2 c.args.histogram (omega arith)))

@@ -37,7 +37,33 @@ CRASH = ROOT / "examples" / "crash.img"
 BUSY = fault("Busy", 4)
 MISSING = f"{os.strerror(errno.ENOENT)} (os error {errno.ENOENT})"
 # Names that no segment in use has.
-OTHERS = ("spare-77-0123456789abcdef", "0000000004.damaged", "5.seg", "00000000005.seg", "0000000000.seg")
+OTHERS = (
+    "spare-77-0123456789abcdef",
+    "0000000004.damaged",
+    "5.seg",
+    "00000000005.seg",
+    "0000000000.seg",
+    "+000000005.seg",
+    "0000000005.seg~",
+    "0000000005.SEG",
+    ".seg",
+    "18446744073709551616.seg",
+)
+# The example of totals in FORMAT: what its first and its second image have, as scripts, and the report of both. The
+# second has its names in no order.
+EXAMPLE_SCRIPTS = (
+    "segment,128,128,1\nhist,Load,linear,1,10,3\nadd,Load,0,4\nadd,Load,20,1\n",
+    "segment,128,128,2\nhist,Load,linear,1,10,3\nhist,Code,sparse\n"
+    "add,Load,0,1\nadd,Load,2,1\nadd,Load,3,1\nadd,Code,7,1\n",
+)
+EXAMPLE_REPORT = b"""Code,sparse,7,8,1
+Code,total,1,7
+Load,linear,0,1,5
+Load,linear,1,10,2
+Load,linear,10,2147483647,1
+Load,total,8,25
+!images,2
+"""
 # The numbers of all calls to the system.
 ALL_CALLS = tuple(range(512))
 # Those that may fail in a fold, and with what.
@@ -204,6 +230,50 @@ def many(program: pathlib.Path, top: pathlib.Path) -> Iterator[Case]:
     yield from texts(program, wanted, "1,300 segments")
 
 
+def example_of_totals() -> bytes:
+    """The totals that FORMAT has as an example."""
+    text = (ROOT / "docs" / "FORMAT.md").read_text()
+    lines = text.split("Their totals are\n\n", 1)[1].split("\n\n", 1)[0].splitlines()
+    return "".join(f"{line.strip()}\n" for line in lines).encode()
+
+
+def example(program: pathlib.Path, top: pathlib.Path) -> Iterator[Case]:
+    """The two images of the example of totals in FORMAT, as segments 1 and 2: their totals and their report."""
+    path, script, out = made(top / "example"), top / "script", top / "out"
+    for number, text in enumerate(EXAMPLE_SCRIPTS, 1):
+        script.write_text(text)
+        came = answer(program, ["run", script, out])
+        yield f"image {number} of the example", None if came.status == 0 else str(came)
+        put(path, number, mapped(content(out) or b""))
+    wanted = Answer(example_of_totals())
+    yield "the example of totals", difference(wanted, answer(program, ["report", path, "--totals"]))
+    yield "its report", difference(Answer(EXAMPLE_REPORT), answer(program, ["report", path]))
+    came = answer(program, ["report", "--totals"], wanted.output)
+    yield "the example of totals, read again", difference(wanted, came)
+    yield "its report, read again", difference(Answer(EXAMPLE_REPORT), answer(program, ["report"], wanted.output))
+
+
+def great_numbers(program: pathlib.Path, top: pathlib.Path) -> Iterator[Case]:
+    """Segments with great numbers, also the greatest, are folded; with the greatest serial there is no fold."""
+    path, crash = made(top / "great"), CRASH.read_bytes()
+    for number in (2**32, 2**64 - 1):
+        put(path, number, mapped(with_id(crash, number)))
+    for name in OTHERS:
+        (path / name).write_bytes(mapped(crash))
+    before = Folder.at(path)
+    wanted = before.folded()[0]
+    yield "great numbers", None if sorted(before.segments) == [2**32, 2**64 - 1] else f"{sorted(before.segments)}"
+    yield "great numbers, a fold", difference(Answer(), answer(program, ["fold", path]))
+    yield "great numbers, what is there then", wrong_files(path, wanted)
+    put(path, 3, mapped(with_id(crash, 3)))
+    assert wanted.totals is not None
+    (path / TOTALS).write_bytes(wanted.totals.replace(b"\nfold,1\n", b"\nfold,18446744073709551615\n"))
+    before = Folder.at(path)
+    refused = fault(f'TooMany: "{path / TOTALS}"', 3)
+    yield "the greatest serial, a fold", difference(refused, answer(program, ["fold", path]))
+    yield "the greatest serial, what is there then", wrong_files(path, before)
+
+
 def among_others(program: pathlib.Path, top: pathlib.Path) -> Iterator[Case]:
     """Folders of recordings among other inputs, as OLD, in a list; and what cannot be read of them."""
     crash = CRASH.read_bytes()
@@ -276,6 +346,10 @@ def refusals(program: pathlib.Path, top: pathlib.Path) -> Iterator[Case]:
         there = Folder.at(path)
         is_same = there.totals == data and there.segments == before.segments
         yield f"totals with line {line} changed, what is there then", None if is_same else "it is not as it was"
+    (path / TOTALS).write_bytes(b"")
+    wanted = fault(f'BadTotals 1: "{path / TOTALS}"', 3)
+    yield "totals without bytes", difference(wanted, answer(program, ["report", path]))
+    yield "a fold of totals without bytes", difference(wanted, answer(program, ["fold", path]))
     (path / TOTALS).unlink()
     yield "no totals again", difference(Answer(), answer(program, ["fold", path]))
     none = made(top / "nothing")
@@ -579,7 +653,7 @@ def wrong_beside(runs: recordings.Folder) -> str | None:
 
 def cases(program: pathlib.Path, options: argparse.Namespace) -> Iterator[Case]:
     Part = Callable[[pathlib.Path, pathlib.Path], Iterator[Case]]
-    parts: Sequence[Part] = (many, among_others, refusals, beside)
+    parts: Sequence[Part] = (many, great_numbers, example, among_others, refusals, beside)
     traced: Sequence[Part] = (amid_readings, kills, failures)
     if not tracer.can_trace():
         yield untried(tracer.NOT_ALLOWED, options)

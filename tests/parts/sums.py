@@ -33,6 +33,72 @@ STOOD = b"what stood there before"
 MAPPED = 0.1
 # Why what nobody may read is told as.
 UNREAD = "Read"
+# How files begin, and whether they are then inputs of a folder: the cookie, maybe behind a word of zeros, or the first
+# line of totals, each whole.
+FRONTS = [
+    (plain_sums.COOKIE, True),
+    (bytes(8) + plain_sums.COOKIE, True),
+    (plain_sums.TOTALS, True),
+    (plain_sums.COOKIE[:7], False),
+    (bytes(8) + plain_sums.COOKIE[:7], False),
+    (bytes(7) + plain_sums.COOKIE, False),
+    (bytes(9) + plain_sums.COOKIE, False),
+    (plain_sums.TOTALS[:-1], False),
+    (b"totals,2\n", False),
+    (b"", False),
+]
+# Totals of three names and specs at the ends of what numbers may be, as a fold writes them; and their report.
+ENDS = b"""totals,1
+images,3,1,0,0,2
+hist,Load,2,12,-7,-2,15,linear,1,10,3
+key,0,4,1
+key,1,0,0
+key,10,18446744073709551611,3
+hist,Load,1,5,0,0,1,boolean
+key,0,1,0
+key,1,0,0
+key,2,0,0
+hist,Value,1,12,-170141183460469231731687303715884105728,170141183460469231731687303715884105727,15,sparse
+key,-2147483648,8,8
+key,9,1,18446744073709551615
+"""
+REPORT_OF_ENDS = b"""Load,boolean,0,1,1
+Load,total,1,0
+Value,sparse,-2147483648,-2147483647,8
+Value,sparse,9,10,1
+Value,total,9,-170141183460469231731687303715884105728
+!flag,full
+!redundant,Value,15
+!images,3
+!other,Load,2,18446744073709551615
+"""
+# Lines behind the first one of texts that are no totals, each with the line that is told.
+NO_TOTALS = [
+    ("", 2),
+    ("images,0,0,0,0,0\nend,0", 4),
+    ("images,0,0,0,0,0\nend,1\n", 3),
+    ("images,0,0,0,0,00\nend,0\n", 2),
+    ("images,1,0,0,0,0\nhist,B,1,0,0,0,0,sparse\nkey,1,2\nend,1\n", 4),
+    # Names, specs and keys in no order, and each of these twice.
+    ("images,1,0,0,0,0\nhist,B,1,0,0,0,0,sparse\nhist,A,1,0,0,0,0,sparse\nend,2\n", 4),
+    ("images,1,0,0,0,0\nhist,A,1,0,0,0,0,sparse\nhist,A,1,0,0,0,0,sparse\nend,2\n", 4),
+    (
+        "images,1,0,0,0,0\nhist,A,1,0,0,0,0,sparse\nkey,-7,1,0\n"
+        "hist,A,1,0,0,0,0,boolean\nkey,0,4,0\nkey,1,5,0\nkey,2,6,0\nend,2\n",
+        5,
+    ),
+    ("images,1,0,0,0,0\nhist,A,1,0,0,0,0,sparse\nkey,3,2,0\nkey,-7,1,0\nend,1\n", 3),
+    ("images,1,0,0,0,0\nhist,A,1,0,0,0,0,sparse\nkey,3,2,0\nkey,3,1,0\nend,1\n", 3),
+    # Units that pass 64 bits together, a spec that is not lawful, and keys that are not those of the spec.
+    ("images,1,0,0,0,0\nhist,A,1,0,0,0,0,sparse\nkey,-7,18446744073709551615,0\nkey,3,1,0\nend,1\n", 3),
+    (
+        "images,1,0,0,0,0\nhist,A,1,0,0,0,0,sparse\nkey,1,2,0\nkey,2,1,0\nhist,B,1,0,0,0,0,sparse\nkey,7,1,0\n"
+        "hist,C,1,0,0,0,0,linear,1,0,3\nhist,D,1,0,0,0,0,sparse\nend,4\n",
+        8,
+    ),
+    ("images,1,0,0,0,0\nhist,B,1,0,0,0,0,boolean\nkey,0,2,0\nend,1\n", 3),
+    ("images,1,0,0,0,0\nhist,B,1,0,0,0,0,boolean\nkey,-7,1,0\nkey,3,2,0\nend,1\n", 3),
+]
 
 
 def text_of(data: bytes, **options: object) -> bytes:
@@ -380,6 +446,9 @@ def files(program: pathlib.Path, top: pathlib.Path) -> Iterator[Case]:
     yield from looked(program, top, crash)
     yield from damaged(program, top)
     yield from totals(program, top, crash)
+    yield from by_hand(program, top)
+    yield from since_by_hand(program, top)
+    yield from fronts(program, top)
 
 
 def looked(program: pathlib.Path, top: pathlib.Path, crash: bytes) -> Iterator[Case]:
@@ -439,6 +508,59 @@ def totals(program: pathlib.Path, top: pathlib.Path, crash: bytes) -> Iterator[C
     line = next(number for number, text in enumerate(lines, 1) if b"linear,1,1000,10" in text)
     wanted = Answer(plain_sums.report_of(one, 1), told([(wrong, f"BadTotals {line}")]), 3)
     yield "totals that are no sum", difference(wanted, came)
+
+
+def by_hand(program: pathlib.Path, top: pathlib.Path) -> Iterator[Case]:
+    """Totals by hand: the text and the report of some, and the line that is told of others."""
+    written = top / "ends.tot"
+    written.write_bytes(ENDS + b"of,3,77\nof,4,18446744073709551615\nfold,4\nend,3\n")
+    came = answer(program, ["report", written, "--totals"])
+    yield "totals at the ends of numbers", difference(Answer(ENDS + b"end,3\n"), came)
+    yield "their report", difference(Answer(REPORT_OF_ENDS), answer(program, ["report", written]))
+    wrong = top / "none.tot"
+    for text, line in NO_TOTALS:
+        wrong.write_bytes(plain_sums.TOTALS + text.encode())
+        came = answer(program, ["report", wrong])
+        yield f"totals by hand, {text!r}", difference(fault(f'BadTotals {line}: "{wrong}"', 3), came)
+
+
+def since_by_hand(program: pathlib.Path, top: pathlib.Path) -> Iterator[Case]:
+    """`--minus` by hand: what came to some values and not to others, and amounts that are too far apart, since what
+    came between them has to have 128 bits."""
+    old, new = top / "old.tot", top / "new.tot"
+    front, end = b"totals,1\nimages,1,0,0,0,0\nhist,A,1,5,", b"\nend,1\n"
+    old.write_bytes(front + b"7,2,3,sparse\nkey,-7,8,1\nkey,3,16,1" + end)
+    new.write_bytes(front + b"9,1,4,sparse\nkey,-7,9,1\nkey,0,4,3\nkey,3,16,2" + end)
+    wanted = Answer(front + b"2,-1,1,sparse\nkey,-7,1,0\nkey,0,4,3\nkey,3,0,1" + end)
+    came = answer(program, ["report", new, "--minus", old, "--totals"])
+    yield "--minus, by hand", difference(wanted, came)
+    yield "--minus of more", difference(fault("Fell A", 3), answer(program, ["report", old, "--minus", new]))
+    most, least = 2**127 - 1, -(2**127)
+    for before, now in ((1, least), (-1, most), (least, 0), (most, -2), (most, -1), (least, -1)):
+        for path, amount in ((old, before), (new, now)):
+            path.write_text(f"totals,1\nimages,1,0,0,0,0\nhist,A,1,0,{amount},0,0,sparse\nkey,1,1,0\nend,1\n")
+        came = answer(program, ["report", new, "--minus", old])
+        wrong = difference(Answer(f"A,total,0,{now - before}\n".encode()), came)
+        if not least <= now - before <= most:
+            is_refused = (came.output, came.error.split(), came.status) == (b"", [b"persist_report:", b"TooMany"], 3)
+            wrong = None if is_refused else f"{came}"
+        yield f"{now} --minus {before}", wrong
+
+
+def fronts(program: pathlib.Path, top: pathlib.Path) -> Iterator[Case]:
+    """Which files of a folder are inputs, by how they begin; of these none is whole."""
+    folder = top / "fronts"
+    folder.mkdir()
+    inputs = []
+    for number, (data, is_input) in enumerate(FRONTS):
+        path = folder / f"{number:02}"
+        path.write_bytes(data)
+        if is_input:
+            inputs.append((path, data))
+    whole, left = plain_sums.sum_of(inputs)
+    wanted = wanted_of(plain_sums.report_of(whole, len(left)), left)
+    yield "which files of a folder are inputs", difference(wanted, answer(program, ["report", folder]))
+    yield "none of these is whole", None if len(left) == len(inputs) else f"{left} are left out of {inputs}"
 
 
 def unreadable(program: pathlib.Path, top: pathlib.Path) -> Iterator[Case]:

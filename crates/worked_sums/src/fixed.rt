@@ -82,11 +82,14 @@ pub fn readings_are_fixed(_source: &Readings)
 #[cfg(test)]
 mod tests {
     use super::Readings;
-    use crate::sums::{hist, of_one};
     use bucket_ranges::Spec;
+    use image_reader::{HistReading, Reading};
     use reading_sums::Sums;
+    use std::alloc::{AllocError, Global};
+    use std::sync::Wait;
     use std::test::Fail;
-    use sum_commands::{InputFault, Manner, Progress, sum_of_inputs};
+    use std::thread::Threads;
+    use sum_commands::{InputFault, Left, Manner, Progress, Summed, sum_of_inputs};
 
     // Nobody who is told.
     #[derive(Drop)]
@@ -96,56 +99,190 @@ mod tests {
         fn reached(&mut self, _place: usize, _sums: &Sums) {}
     }
 
+    // Puts units of a value, with a mark of 1, behind those of a histogram.
+    fn put_units(hist: &mut HistReading, value: i32, units: u64) -> Result<(), AllocError> {
+        hist.counts.push((value, units))?;
+        hist.marks.push(1)?;
+        Ok(())
+    }
+
+    // Puts a sparse histogram with units of one value behind others.
+    fn put_hist(
+        alloc: Global,
+        hists: &mut Vec<HistReading>,
+        value: i32,
+        units: u64,
+    ) -> Result<(), AllocError> {
+        let name = Vec::from_slice(alloc, b"a")?;
+        let mut hist = HistReading {
+            reference: 64,
+            name,
+            spec: Spec::Sparse,
+            counts: Vec::new(alloc),
+            marks: Vec::new(alloc),
+            sum: 7,
+            sum_mark: 2,
+            redundant: 3,
+        };
+        put_units(&mut hist, value, units)?;
+        hists.push(hist)?;
+        Ok(())
+    }
+
+    // Puts a reading of one such histogram behind others.
+    fn put_reading(
+        alloc: Global,
+        readings: &mut Vec<Reading>,
+        value: i32,
+        units: u64,
+    ) -> Result<(), AllocError> {
+        let mut reading = Reading {
+            id: 7,
+            full: true,
+            corrupt: false,
+            hists: Vec::new(alloc),
+            bad: Vec::new(alloc),
+            stopped: None,
+        };
+        put_hist(alloc, &mut reading.hists, value, units)?;
+        readings.push(reading)?;
+        Ok(())
+    }
+
+    // What a sum of readings of one histogram has to be.
+    #[derive(Clone, Copy)]
+    struct Wanted<'w> {
+        images: u64,
+        reached: usize,
+        // The place of the one reading that does not fit, if there is one.
+        left: Option<usize>,
+        // The units of each key.
+        units: &'w [u64],
+    }
+
+    // Whether the one reading that is left out is that at a place, since it does not fit; or none is.
+    fn are_left(left: &[Left], place: Option<usize>) -> bool {
+        match place {
+            Some(place) => {
+                left.len() == 1
+                    && left[0].place == place
+                    && matches!(left[0].fault, InputFault::TooMany)
+            }
+            None => left.is_empty(),
+        }
+    }
+
+    // Whether a sum has one histogram, whose keys have these units.
+    fn has_units(alloc: Global, sums: &Sums, units: &[u64]) -> Result<bool, AllocError> {
+        let hists = sums.hists();
+        if hists.len() != 1 {
+            return Ok(false);
+        }
+        let found: Vec<u64> = hists[0].keys.iter().map(|key| key.units).collect(alloc)?;
+        Ok(found.as_slice() == units)
+    }
+
+    // Whether a sum is the one that is wanted.
+    fn is_wanted(alloc: Global, summed: &Summed, wanted: &Wanted) -> Result<bool, AllocError> {
+        if summed.sums.notes().images != wanted.images || summed.reached != wanted.reached {
+            return Ok(false);
+        }
+        if !are_left(&summed.left, wanted.left) {
+            return Ok(false);
+        }
+        has_units(alloc, &summed.sums, wanted.units)
+    }
+
+    // Whether the sum of readings is the one that is wanted.
+    fn is_sum<R: AllocGlobal + Threads + Wait>(
+        rt: &R,
+        readings: &[Reading],
+        how: Manner,
+        wanted: &Wanted,
+    ) -> Result<bool, AllocError> {
+        let alloc = rt.alloc();
+        let source = Readings { readings };
+        match sum_of_inputs(rt, alloc, &source, &mut Nobody, readings.len(), how) {
+            Ok(summed) => is_wanted(alloc, &summed, wanted),
+            Err(_) => Err(AllocError),
+        }
+    }
+
+    // Puts nine readings into a list, two of each value but the last.
+    fn put_pairs(alloc: Global, readings: &mut Vec<Reading>) -> Result<(), AllocError> {
+        for value in 0..9 {
+            put_reading(alloc, readings, value / 2, 5)?;
+        }
+        Ok(())
+    }
+
     #[test]
-    fn readings_by_workers(rt: HostRuntime) -> Result<(), Fail> {
+    fn readings_are_summed_by_workers(rt: HostRuntime) -> Result<(), Fail> {
         let alloc = rt.alloc();
         let mut readings = Vec::new(alloc);
-        for value in 0..9 {
-            let one = hist(alloc, b"a", Spec::Sparse, &[(value / 2, 5)])?;
-            readings.push(of_one(alloc, one)?)?;
-        }
-        let source = Readings {
-            readings: &readings,
+        put_pairs(alloc, &mut readings)?;
+        let wanted = Wanted {
+            images: 9,
+            reached: 9,
+            left: None,
+            units: &[10, 10, 10, 10, 5],
         };
         for workers in [1, 2, 3, 9, 16] {
             let how = Manner {
                 workers,
                 is_strict: false,
             };
-            let summed = sum_of_inputs(&rt, alloc, &source, &mut Nobody, readings.len(), how)?;
-            assert_eq!(rt; (summed.sums.notes().images, summed.reached), (9, 9));
-            let hists = summed.sums.hists();
-            assert_eq!(rt; hists.len(), 1);
-            let units: Vec<u64> = hists[0].keys.iter().map(|key| key.units).collect(alloc)?;
-            assert_eq!(rt; units.as_slice(), [10, 10, 10, 10, 5].as_slice());
+            assert_eq!(rt; is_sum(&rt, &readings, how, &wanted)?, true, "by {workers}");
+        }
+        Ok(())
+    }
+
+    // Puts three readings into a list, of which the second does not fit beside the first.
+    fn put_too_many(alloc: Global, readings: &mut Vec<Reading>) -> Result<(), AllocError> {
+        for units in [5, u64::MAX, 7] {
+            put_reading(alloc, readings, 1, units)?;
         }
         Ok(())
     }
 
     #[test]
-    fn a_reading_that_does_not_fit(rt: HostRuntime) -> Result<(), Fail> {
+    fn a_reading_that_does_not_fit_is_left_out(rt: HostRuntime) -> Result<(), Fail> {
         let alloc = rt.alloc();
         let mut readings = Vec::new(alloc);
-        for units in [5, u64::MAX, 7] {
-            let one = hist(alloc, b"a", Spec::Sparse, &[(1, units)])?;
-            readings.push(of_one(alloc, one)?)?;
-        }
-        let source = Readings {
-            readings: &readings,
+        put_too_many(alloc, &mut readings)?;
+        let wanted = Wanted {
+            images: 2,
+            reached: 3,
+            left: Some(1),
+            units: &[12],
         };
-        // Whether the first that is left out ends it, how many inputs are reached, and how many units there are.
-        for (is_strict, reached, units) in [(false, 3, 12), (true, 2, 5)] {
-            for workers in [1, 2, 3, 16] {
-                let how = Manner { workers, is_strict };
-                let summed = sum_of_inputs(&rt, alloc, &source, &mut Nobody, readings.len(), how)?;
-                assert_eq!(rt; (summed.reached, summed.left.len()), (reached, 1));
-                assert_eq!(rt; summed.left[0].place, 1);
-                assert_eq!(rt; summed.left[0].fault, InputFault::TooMany);
-                let hists = summed.sums.hists();
-                assert_eq!(rt; hists.len(), 1);
-                let found: Vec<u64> = hists[0].keys.iter().map(|key| key.units).collect(alloc)?;
-                assert_eq!(rt; found.as_slice(), [units].as_slice());
-            }
+        for workers in [1, 2, 3, 16] {
+            let how = Manner {
+                workers,
+                is_strict: false,
+            };
+            assert_eq!(rt; is_sum(&rt, &readings, how, &wanted)?, true, "by {workers}");
+        }
+        Ok(())
+    }
+
+    #[test]
+    fn a_reading_that_does_not_fit_ends_a_strict_sum(rt: HostRuntime) -> Result<(), Fail> {
+        let alloc = rt.alloc();
+        let mut readings = Vec::new(alloc);
+        put_too_many(alloc, &mut readings)?;
+        let wanted = Wanted {
+            images: 1,
+            reached: 2,
+            left: Some(1),
+            units: &[5],
+        };
+        for workers in [1, 2, 3, 16] {
+            let how = Manner {
+                workers,
+                is_strict: true,
+            };
+            assert_eq!(rt; is_sum(&rt, &readings, how, &wanted)?, true, "by {workers}");
         }
         Ok(())
     }

@@ -1,37 +1,18 @@
-//! What inputs begin as, and sums by any number of workers.
+//! Sums by any number of workers, whichever inputs these cannot open.
 
 ghost use Rattle.std.specs.Prelude.{◌≡◌, IfOk, OnErr};
 ghost use Rattle.sum_commands.specs.Sources.{AddsSome};
 
 use reading_sums::Sums;
-use segment_image::layout::SEGMENT_COOKIE;
 use std::alloc::{AllocError, Global};
 use std::sync::Wait;
 use std::test::Fail;
 use std::thread::Threads;
 use sum_commands::{
-    FRONT, InputFault, InputKind, Manner, OpenInput, Progress, Source, add_totals,
-    any_fault_may_come, kind_of, sum_of_inputs,
+    InputFault, Left, Manner, OpenInput, Progress, Source, Summed, add_totals, any_fault_may_come,
+    sum_of_inputs,
 };
 use sum_texts::{Totals, totals_text};
-
-#[test]
-fn kinds(rt: HostRuntime) -> Result<(), Fail> {
-    let alloc = rt.alloc();
-    let cookie = SEGMENT_COOKIE.to_le_bytes();
-    let mut mapped = Vec::from_slice(alloc, &[0; 8])?;
-    mapped.extend_from_slice(&cookie)?;
-    assert_eq!(rt; mapped.len(), FRONT);
-    assert_eq!(rt; kind_of(&cookie), InputKind::Image);
-    assert_eq!(rt; kind_of(&mapped), InputKind::Image);
-    assert_eq!(rt;
-        kind_of(b"totals,1\nimages,0,0,0,0,0\n".as_slice()),
-        InputKind::Totals
-    );
-    assert_eq!(rt; kind_of(b"totals,1".as_slice()), InputKind::Other);
-    assert_eq!(rt; kind_of(&[]), InputKind::Other);
-    Ok(())
-}
 
 // Totals as texts.
 #[derive(Drop)]
@@ -101,8 +82,8 @@ impl<'r, R: AllocGlobal> Source for Texts<'r, R> {
     }
 }
 
-// How far a sum is, as it was told.
-#[derive(Drop)]
+// How far a sum is, as it was told, and whether it ever fell.
+#[derive(Clone, Copy)]
 struct Told {
     place: usize,
     fell: bool,
@@ -115,33 +96,70 @@ impl Progress for Told {
     }
 }
 
-// The totals of all texts, and a line for each that is left out; then how far it was told.
-fn total_by<R: AllocGlobal + Threads + Wait>(
+// The totals of a sum.
+fn spelled(alloc: Global, sums: Sums) -> Result<Vec<u8>, AllocError> {
+    let totals = Totals {
+        sums,
+        of: Vec::new(alloc),
+        fold: None,
+    };
+    totals_text(alloc, &totals)
+}
+
+// Puts the totals of a sum behind a text.
+fn put_totals(alloc: Global, text: &mut Vec<u8>, sums: Sums) -> Result<(), AllocError> {
+    let totals = spelled(alloc, sums)?;
+    text.extend_from_slice(&totals)?;
+    Ok(())
+}
+
+// Puts a line for each input that is left out behind a text.
+fn put_left(alloc: Global, text: &mut Vec<u8>, left: &[Left]) -> Result<(), AllocError> {
+    for one in left {
+        let line = format!(in alloc; "{}: {}\n", one.place, one.fault)?;
+        text.extend_from_slice(line.as_bytes())?;
+    }
+    Ok(())
+}
+
+// Puts the totals of a sum behind a text, and a line for each input that is left out.
+fn put_summed(alloc: Global, text: &mut Vec<u8>, summed: Summed) -> Result<(), AllocError> {
+    put_totals(alloc, text, summed.sums)?;
+    put_left(alloc, text, &summed.left)
+}
+
+// Puts the sum of texts, some of which are kept from the workers, behind a text, and tells how far it is.
+fn put_sum<R: AllocGlobal + Threads + Wait>(
     rt: &R,
     texts: &[&[u8]],
     kept: u64,
     how: Manner,
-) -> Result<(Vec<u8>, Told), AllocError> {
+    told: &mut Told,
+    text: &mut Vec<u8>,
+) -> Result<(), AllocError> {
     let alloc = rt.alloc();
     let source = Texts { rt, texts, kept };
+    match sum_of_inputs(rt, alloc, &source, told, texts.len(), how) {
+        Ok(summed) => put_summed(alloc, text, summed),
+        Err(_) => Err(AllocError),
+    }
+}
+
+// Whether the sum of texts is the one that is wanted, and how far it was told.
+fn sum_by<R: AllocGlobal + Threads + Wait>(
+    rt: &R,
+    texts: &[&[u8]],
+    kept: u64,
+    how: Manner,
+    wanted: &[u8],
+) -> Result<(bool, Told), AllocError> {
     let mut told = Told {
         place: 0,
         fell: false,
     };
-    let Ok(summed) = sum_of_inputs(rt, alloc, &source, &mut told, texts.len(), how) else {
-        return Err(AllocError);
-    };
-    let totals = Totals {
-        sums: summed.sums,
-        of: Vec::new(alloc),
-        fold: None,
-    };
-    let mut text = totals_text(alloc, &totals)?;
-    for left in &summed.left {
-        let line = format!(in alloc; "{}: {}\n", left.place, left.fault)?;
-        text.extend_from_slice(line.as_bytes())?;
-    }
-    Ok((text, told))
+    let mut text = Vec::new(rt.alloc());
+    put_sum(rt, texts, kept, how, &mut told, &mut text)?;
+    Ok((text.as_slice() == wanted, told))
 }
 
 // Neither the second nor the third fits beside the first, and the last has a negative amount.
@@ -157,18 +175,17 @@ const WANTED: &[u8] =
     b"totals,1\nimages,2,0,0,0,0\nhist,A,2,0,-170141183460469231731687303715884105726,0,0,sparse\nkey,5,9223372036854775809,0\nend,1\n1: TooMany\n2: TooMany\n3: BadTotals 1\n";
 
 #[test]
-fn workers(rt: HostRuntime) -> Result<(), Fail> {
+fn sums_are_the_same_by_any_workers(rt: HostRuntime) -> Result<(), Fail> {
     for workers in [0, 1, 2, 3, 4, 5, 16] {
         for kept in 0..32 {
             let how = Manner {
                 workers,
                 is_strict: false,
             };
-            let (text, told) = total_by(&rt, &TEXTS, kept, how)?;
-            assert_eq!(rt; text.as_slice(), WANTED, "by {workers}, but {kept}");
+            let (is_sum, told) = sum_by(&rt, &TEXTS, kept, how, WANTED)?;
             assert_eq!(rt;
-                (told.place, told.fell),
-                (5, false),
+                (is_sum, told.place, told.fell),
+                (true, 5, false),
                 "by {workers}, but {kept}"
             );
         }
@@ -181,16 +198,19 @@ const WANTED_STRICT: &[u8] =
     b"totals,1\nimages,1,0,0,0,0\nhist,A,1,0,1,0,0,sparse\nkey,5,9223372036854775808,0\nend,1\n1: TooMany\n";
 
 #[test]
-fn strict_workers(rt: HostRuntime) -> Result<(), Fail> {
+fn strict_sums_are_the_same_by_any_workers(rt: HostRuntime) -> Result<(), Fail> {
     for workers in [1, 2, 3, 4, 5, 16] {
         for kept in 0..32 {
             let how = Manner {
                 workers,
                 is_strict: true,
             };
-            let (text, told) = total_by(&rt, &TEXTS, kept, how)?;
-            assert_eq!(rt; text.as_slice(), WANTED_STRICT, "by {workers}, but {kept}");
-            assert_eq!(rt; told.fell, false, "by {workers}, but {kept}");
+            let (is_sum, told) = sum_by(&rt, &TEXTS, kept, how, WANTED_STRICT)?;
+            assert_eq!(rt;
+                (is_sum, told.fell),
+                (true, false),
+                "by {workers}, but {kept}"
+            );
         }
     }
     Ok(())
@@ -201,10 +221,17 @@ const MANY: usize = 1300;
 
 const ONE: &[u8] = b"totals,1\nimages,1,0,0,0,0\nhist,A,1,0,5,0,0,sparse\nkey,5,1,0\nend,1\n";
 
-// The totals of all but the wrong ones, which are 118, and the lines of these.
-fn wanted_of_many(alloc: Global) -> Result<Vec<u8>, AllocError> {
-    let mut wanted = Vec::from_slice(
-        alloc,
+// Puts them into a list.
+fn put_many(texts: &mut Vec<&[u8]>) -> Result<(), AllocError> {
+    for place in 0..MANY {
+        texts.push(if place % 11 == 10 { b"no totals" } else { ONE })?;
+    }
+    Ok(())
+}
+
+// Puts the totals of all but the wrong ones, which are 118, and the lines of these behind a text.
+fn put_wanted_of_many(alloc: Global, wanted: &mut Vec<u8>) -> Result<(), AllocError> {
+    wanted.extend_from_slice(
         b"totals,1\nimages,1182,0,0,0,0\nhist,A,1182,0,5910,0,0,sparse\nkey,5,1182,0\nend,1\n",
     )?;
     for place in 0..MANY {
@@ -213,32 +240,35 @@ fn wanted_of_many(alloc: Global) -> Result<Vec<u8>, AllocError> {
             wanted.extend_from_slice(line.as_bytes())?;
         }
     }
-    Ok(wanted)
+    Ok(())
+}
+
+// Whether the sum of many texts is the one that is wanted, and how far it was told.
+fn sum_of_many<R: AllocGlobal + Threads + Wait>(
+    rt: &R,
+    texts: &[&[u8]],
+    kept: u64,
+    workers: usize,
+) -> Result<(bool, Told), AllocError> {
+    let mut wanted = Vec::new(rt.alloc());
+    put_wanted_of_many(rt.alloc(), &mut wanted)?;
+    let how = Manner {
+        workers,
+        is_strict: false,
+    };
+    sum_by(rt, texts, kept, how, &wanted)
 }
 
 #[test]
-fn rounds(rt: HostRuntime) -> Result<(), Fail> {
-    let alloc = rt.alloc();
-    let mut texts: Vec<&[u8]> = Vec::new(alloc);
-    for place in 0..MANY {
-        texts.push(if place % 11 == 10 { b"no totals" } else { ONE })?;
-    }
-    let wanted = wanted_of_many(alloc)?;
+fn more_inputs_than_can_be_open_are_summed(rt: HostRuntime) -> Result<(), Fail> {
+    let mut texts = Vec::new(rt.alloc());
+    put_many(&mut texts)?;
     for workers in [1, 2, 7, 16] {
         for kept in [0, 1 << 63 | 1 << 7, u64::MAX] {
-            let how = Manner {
-                workers,
-                is_strict: false,
-            };
-            let (text, told) = total_by(&rt, &texts, kept, how)?;
+            let (is_sum, told) = sum_of_many(&rt, &texts, kept, workers)?;
             assert_eq!(rt;
-                text.as_slice(),
-                wanted.as_slice(),
-                "by {workers}, but {kept}"
-            );
-            assert_eq!(rt;
-                (told.place, told.fell),
-                (MANY, false),
+                (is_sum, told.place, told.fell),
+                (true, MANY, false),
                 "by {workers}, but {kept}"
             );
         }

@@ -1,6 +1,9 @@
 //! Jobs that return what they were given.
 
+use std::alloc::AllocError;
+use std::sync::Wait;
 use std::test::Fail;
+use std::thread::Threads;
 use thread_jobs::{Job, run_beside, run_within};
 
 // Returns a number and one more.
@@ -23,26 +26,33 @@ impl Job for Next {
     }
 }
 
+// What sixteen jobs return, the first of which is given 0.
+fn results<R: AllocGlobal + Threads + Wait>(
+    rt: &R,
+    is_beside: bool,
+) -> Result<Vec<u32>, AllocError> {
+    let alloc = rt.alloc();
+    let mut jobs = Vec::new(alloc);
+    for number in 0..16 {
+        jobs.push(Next { number })?;
+    }
+    if !is_beside {
+        return run_within(rt, alloc, jobs);
+    }
+    match run_beside(rt, alloc, jobs) {
+        Ok(done) => Ok(done),
+        Err(_) => Err(AllocError),
+    }
+}
+
 #[test]
 fn results_are_in_order(rt: HostRuntime) -> Result<(), Fail> {
-    let alloc = rt.alloc();
     for is_beside in [true, false] {
-        let mut jobs = Vec::new(alloc);
-        for number in 0..16 {
-            jobs.push(Next { number })?;
-        }
-        let done = if is_beside {
-            run_beside(&rt, alloc, jobs).ok()
-        } else {
-            run_within(&rt, alloc, jobs).ok()
-        };
-        let Some(done) = done else {
-            panic!(rt; "not all jobs were done");
-        };
-        assert_eq!(rt; done.len(), 16);
-        for (number, one) in done.iter().enumerate() {
-            assert_eq!(rt; *one as usize, number + 1);
-        }
+        let done = results(&rt, is_beside)?;
+        assert_eq!(rt;
+            done.as_slice(),
+            [1, 2, 3, 4, 5, 6, 7, 8, 9, 10, 11, 12, 13, 14, 15, 16].as_slice()
+        );
     }
     Ok(())
 }

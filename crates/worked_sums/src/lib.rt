@@ -1,5 +1,5 @@
-//! Worked examples of sums of images: what is added up, what came since an earlier sum, sums as texts, inputs and the workers that add
-//! them up, jobs, and the folder of a recording. They go through public calls.
+//! Worked examples of the workers that add inputs up, of jobs, and of names in the folder of a recording. They go through public calls.
+//! What sums, their texts and folds are, the parts `sums` and `folders` of `tests/run` show.
 //!
 //! They stand above the libraries that they try, so that none of these is proved once more for its tests.
 #![tactic(auto)]
@@ -11,9 +11,5 @@ mod folders;
 mod inputs;
 #[cfg(test)]
 mod jobs;
-#[cfg(test)]
-mod sums;
-#[cfg(test)]
-mod totals;
 
 pub use fixed::{OneReading, Readings, readings_are_fixed};

@@ -539,12 +539,9 @@ def since_by_hand(program: pathlib.Path, top: pathlib.Path) -> Iterator[Case]:
     for before, now in ((1, least), (-1, most), (least, 0), (most, -2), (most, -1), (least, -1)):
         for path, amount in ((old, before), (new, now)):
             path.write_text(f"totals,1\nimages,1,0,0,0,0\nhist,A,1,0,{amount},0,0,sparse\nkey,1,1,0\nend,1\n")
-        came = answer(program, ["report", new, "--minus", old])
-        wrong = difference(Answer(f"A,total,0,{now - before}\n".encode()), came)
-        if not least <= now - before <= most:
-            is_refused = (came.output, came.error.split(), came.status) == (b"", [b"persist_report:", b"TooMany"], 3)
-            wrong = None if is_refused else f"{came}"
-        yield f"{now} --minus {before}", wrong
+        fits = least <= now - before <= most
+        wanted = Answer(f"A,total,0,{now - before}\n".encode()) if fits else fault("TooMany", 3)
+        yield f"{now} --minus {before}", difference(wanted, answer(program, ["report", new, "--minus", old]))
 
 
 def fronts(program: pathlib.Path, top: pathlib.Path) -> Iterator[Case]:

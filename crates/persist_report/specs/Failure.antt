@@ -9,7 +9,7 @@ use Rattle.sum_commands.specs.declared.fault.InputFault.{InputFault}
 use Rattle.sum_commands.specs.declared.fault.InputFault.TheVariants as of_input
 use Rattle.persist_report_core.specs.declared.fault.CliFault.TheVariants.{Read, Write, TooLong, NotWords, Image, BadLine, Refused, Gate, Merge, NoThread, NoMemory, Adopt, NoSegment, NoHistogram, Bad, Stopped, Changed}
 use Rattle.persist_report.specs.declared.failure.Failure.{Failure}
-use Rattle.persist_report.specs.declared.failure.Failure.TheVariants.{Usage, Fault, Explained, Busy, Scale, Clash, Input, Since, NotWhole, Left}
+use Rattle.persist_report.specs.declared.failure.Failure.TheVariants.{Usage, Fault, Explained, Busy, Scale, Clash, Input, Since, TooMany, NotWhole, Left}
 use Rattle.persist_report.specs.declared.lock.Unopened.{Unopened}
 use Rattle.persist_report.specs.declared.lock.Unopened.TheVariants as unopened
 
@@ -41,8 +41,8 @@ input_status (of_input.BadTotals line) = 3
 input_status of_input.TooMany = 3
 
 -- the status of a failure: 2 for a command line that the program does not support, 4 for a file that another process has
--- locked, and 3 for a scale that has a fault, for families that clash, for a sum that is not after another, for an image that is
--- not whole, and for inputs that were left out
+-- locked, and 3 for a scale that has a fault, for families that clash, for a sum that is not after another or does not fit less it, for
+-- an image that is not whole, and for inputs that were left out
 abbrev pub failure_status : Failure → ℕ
 failure_status (Usage error) = 2
 failure_status (Fault fault) = fault_status fault
@@ -52,6 +52,7 @@ failure_status (Scale fault lines) = 3
 failure_status (Clash first second lines) = 3
 failure_status (Input fault name lines) = input_status fault
 failure_status (Since fault name lines) = 3
+failure_status (TooMany lines) = 3
 failure_status (NotWhole lines) = 3
 failure_status Left = 3
 
@@ -77,6 +78,7 @@ UsageIsMistake (Scale fault lines) = ⊤
 UsageIsMistake (Clash first second lines) = ⊤
 UsageIsMistake (Input fault name lines) = ⊤
 UsageIsMistake (Since fault name lines) = ⊤
+UsageIsMistake (TooMany lines) = ⊤
 UsageIsMistake (NotWhole lines) = ⊤
 UsageIsMistake Left = ⊤
 

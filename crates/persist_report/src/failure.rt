@@ -45,6 +45,8 @@ pub enum Failure {
         name: Vec<u8>,
         lines: String,
     },
+    /// A sum less the one that is to be taken off does not fit. These lines follow, if there are any.
+    TooMany(String),
     /// One of several images is not whole, and has to be. These lines follow, if there are any.
     NotWhole(String),
     /// Some inputs were left out, which was told.
@@ -52,8 +54,8 @@ pub enum Failure {
 }
 
 impl Failure {
-    /// Returns the exit status: 2 for `Usage`, 4 for `Busy`, 3 for `Scale`, `Clash`, `Since`, `NotWhole` and `Left`, else that
-    /// of the fault.
+    /// Returns the exit status: 2 for `Usage`, 4 for `Busy`, 3 for `Scale`, `Clash`, `Since`, `TooMany`, `NotWhole` and
+    /// `Left`, else that of the fault.
     pub fn status(&self) -> u8
         ensures { result ≡ failure_status self.now }
     {
@@ -64,7 +66,8 @@ impl Failure {
             Failure::Scale(_, _) => 3,
             Failure::Clash { .. } => 3,
             Failure::Input { fault, .. } => input_status(fault),
-            Failure::Since { .. } | Failure::NotWhole(_) | Failure::Left => 3,
+            Failure::Since { .. } | Failure::TooMany(_) => 3,
+            Failure::NotWhole(_) | Failure::Left => 3,
         }
     }
 }
@@ -156,6 +159,10 @@ impl fmt::Display for Failure {
             }
             Failure::Since { fault, name, lines } => {
                 writeln!(f, "persist_report: {fault} {}", Shown(name))?;
+                f.write_str(lines.as_str())
+            }
+            Failure::TooMany(lines) => {
+                f.write_str("persist_report: TooMany\n")?;
                 f.write_str(lines.as_str())
             }
             Failure::NotWhole(lines) => {

@@ -98,11 +98,7 @@ fn minus_failure<R: AllocGlobal>(context: &Context<'_, R>, fault: MinusFault) ->
 {
     match fault {
         MinusFault::NoMemory => Failure::Fault(CliFault::NoMemory),
-        MinusFault::TooMany => Failure::Since {
-            fault: "TooMany",
-            name: Vec::new(context.alloc()),
-            lines: remedies_of(context, "TooMany"),
-        },
+        MinusFault::TooMany => Failure::TooMany(remedies_of(context, "TooMany")),
         MinusFault::Fell(name) => Failure::Since {
             fault: "Fell",
             name,

@@ -25,6 +25,11 @@ written-behind a b before after = after ∙ ap (λ s. s ++ b) before
 pub joined-both : (some others : List (List ℕ)) → joined (joined some ∷ others) ≡ joined (some ++ others)
 joined-both some others = sym (flat_map-append (λ part. part) some others)
 
+-- lines that begin with the same joined parts
+pub lines-joined : {X : Type 0} (some : List (List ℕ)) (others : X → List (List ℕ)) (xs : List X)
+    → flat_map (λ x. joined (joined some ∷ others x)) xs ≡ flat_map (λ x. joined (some ++ others x)) xs
+lines-joined some others xs i = flat_map (λ x. joined-both some (others x) i) xs
+
 -- one part more behind joined ones
 pub joined-more : (first : List ℕ) (parts : List (List ℕ)) (part : List ℕ) {second third : List ℕ} → second ≡ first ++ joined parts → third ≡ second ++ part
     → third ≡ first ++ joined (parts ++ part ∷ [])

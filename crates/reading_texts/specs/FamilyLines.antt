@@ -2,9 +2,11 @@
 use Rattle.std.specs.Prelude.{ℕ, pos, ◌-ℤ◌, if◌then◌else◌, List, [], ◌∷◌, ◌++◌, codes, take, length}
 use Rattle.std.specs.Fmt.{decimal, signed_decimal}
 use Rattle.std.specs.List.{flat_map, filter}
+use Rattle.reading_texts.specs.declared.family_lines.MemberLines.{MemberLines}
+use Rattle.reading_texts.specs.declared.family_lines.MemberLines.TheVariants.{Units, Values, Sum}
 use Rattle.reading_texts.specs.declared.rows.HistRow.{HistRow}
 use Rattle.reading_texts.specs.Rows.{units_of, rows_of}
-use Rattle.reading_texts.specs.Labels.{quoted}
+use Rattle.reading_texts.specs.Lines.{row_end}
 use Rattle.reading_texts.specs.Exporting.{joined, heading_text, is_sparse}
 use Rattle.reading_texts.specs.Families.{FamilyMember, metric_of, same_family}
 
@@ -16,9 +18,7 @@ braced (byte ∷ more) = joined (codes "{" ∷ take (length more) (byte ∷ more
 -- the line of a bucket
 abbrev pub bucket_line : List ℕ → List ℕ → HistRow → List ℕ
 bucket_line name labels row =
-    joined (
-    name ∷ codes "_bucket{" ∷ labels ∷ codes "le=\"" ∷ quoted (signed_decimal (row.high -ℤ pos 1))
-    ∷ codes "\"} " ∷ decimal row.up_to ∷ codes "\n" ∷ [])
+    joined (name ∷ codes "_bucket{" ∷ labels ∷ codes "le=\"" ∷ row_end (row.high -ℤ pos 1) row.up_to)
 
 -- the line of all units, as the last bucket
 abbrev pub infinite_line : List ℕ → List ℕ → List ℕ → List ℕ
@@ -27,9 +27,7 @@ infinite_line name labels units = joined (name ∷ codes "_bucket{" ∷ labels �
 -- the line of a value
 abbrev pub value_line : List ℕ → List ℕ → HistRow → List ℕ
 value_line name labels row =
-    joined (
-    name ∷ codes "{" ∷ labels ∷ codes "value=\"" ∷ quoted (signed_decimal row.low)
-    ∷ codes "\"} " ∷ decimal row.units ∷ codes "\n" ∷ [])
+    joined (name ∷ codes "{" ∷ labels ∷ codes "value=\"" ∷ row_end row.low row.units)
 
 -- the line of a number of a histogram as a whole
 abbrev pub number_line : List ℕ → List ℕ → List ℕ → List ℕ → List ℕ
@@ -54,6 +52,12 @@ values_lines name member = flat_map (value_line name member.labels) (rows_of mem
 -- the line of its sum
 abbrev pub sum_line : List ℕ → FamilyMember → List ℕ
 sum_line name member = number_line name (codes "_sum") member.labels (signed_decimal member.hist.sum)
+
+-- such lines of a histogram
+abbrev pub lines_of : MemberLines → List ℕ → FamilyMember → List ℕ
+lines_of Units = units_lines
+lines_of Values = values_lines
+lines_of Sum = sum_line
 
 -- the lines of a histogram, if it is of the family of another
 abbrev pub of_family : FamilyMember → (FamilyMember → List ℕ) → FamilyMember → List ℕ

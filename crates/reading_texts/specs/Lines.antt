@@ -7,23 +7,30 @@ use Rattle.reading_texts.specs.Rows.{units_of}
 use Rattle.reading_texts.specs.Labels.{quoted}
 use Rattle.reading_texts.specs.Exporting.{joined}
 
--- the line of a row that begins so: a number as the value of its last label, and units
+-- how the line of a row ends: a number as the value of its last label, and units
+abbrev pub row_end : ℤ → ℕ → List (List ℕ)
+row_end number units = quoted (signed_decimal number) ∷ codes "\"} " ∷ decimal units ∷ codes "\n" ∷ []
+
+-- the line of a row that begins so
 abbrev pub row_line : List ℕ → ℤ → ℕ → List ℕ
-row_line start number units = joined (start ∷ quoted (signed_decimal number) ∷ codes "\"} " ∷ decimal units ∷ codes "\n" ∷ [])
+row_line start number units = joined (start ∷ row_end number units)
+
+-- that of a bucket, with the units up to its greatest value, and that of a value
+abbrev pub bucket_row : List ℕ → HistRow → List ℕ
+bucket_row start row = row_line start (row.high -ℤ pos 1) row.up_to
+
+abbrev pub value_row : List ℕ → HistRow → List ℕ
+value_row start row = row_line start row.low row.units
 
 -- the line of a bucket: the units up to its greatest value, which is the one before what stands behind it
 abbrev pub bucket_line : List ℕ → List ℕ → HistRow → List ℕ
 bucket_line name labels row =
-    joined (
-    name ∷ codes "_bucket{" ∷ labels ∷ codes ",le=\"" ∷ quoted (signed_decimal (row.high -ℤ pos 1))
-    ∷ codes "\"} " ∷ decimal row.up_to ∷ codes "\n" ∷ [])
+    joined (name ∷ codes "_bucket{" ∷ labels ∷ codes ",le=\"" ∷ row_end (row.high -ℤ pos 1) row.up_to)
 
 -- the line of a value of a sparse histogram: its units
 abbrev pub value_line : List ℕ → List ℕ → HistRow → List ℕ
 value_line name labels row =
-    joined (
-    name ∷ codes "{" ∷ labels ∷ codes ",value=\"" ∷ quoted (signed_decimal row.low)
-    ∷ codes "\"} " ∷ decimal row.units ∷ codes "\n" ∷ [])
+    joined (name ∷ codes "{" ∷ labels ∷ codes ",value=\"" ∷ row_end row.low row.units)
 
 -- a line of a histogram as a whole: what stands behind the name of its metrics, the labels, what stands behind them in the
 -- braces, and the number

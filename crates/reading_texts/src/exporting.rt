@@ -9,7 +9,7 @@ ghost use Rattle.image_reader.specs.Views.{histogram_view, reading_view};
 ghost use Rattle.image_reader.specs.Readable.{IsReadable};
 ghost use Rattle.reading_texts.specs.Labels.{label_view, are_line_labels as are_line_labels_of};
 ghost use Rattle.reading_texts.specs.Series.{IsTextOfDistinctSeries};
-ghost use Rattle.reading_texts.specs.Lines.{row_line, bucket_line, value_line, total_line, total_lines};
+ghost use Rattle.reading_texts.specs.Lines.{row_line, bucket_row, value_row, bucket_line, value_line, total_line, total_lines};
 ghost use Rattle.reading_texts.specs.Exporting.{heading_text, family_text, sample_text, inner_text, labels_text, labels_of, ranged_samples, sparse_samples, flag_sample, units_family, sparse_family, bad_family, flag_family, bad_records as bad_records_of, total_sample, flag_value as value_of_flag, AreFamiliesOf, IsExportOf};
 
 use crate::labels::{Label, put_label, put_labels, read_name, text_of_name};
@@ -68,12 +68,27 @@ fn put_row(text: &mut Vec<u8>, start: &[u8], number: i64, units: u64) -> Result<
     Ok(())
 }
 
-/// Puts the line of a bucket, which begins so: the units up to its greatest value.
-pub(crate) fn put_bucket(text: &mut Vec<u8>, start: &[u8], row: &HistRow) -> Result<(), AllocError>
+// Puts the line of a bucket, which begins so: the units up to its greatest value.
+fn put_bucket(text: &mut Vec<u8>, start: &[u8], row: &HistRow) -> Result<(), AllocError>
     requires { pos 0 ≤ℤ row.now.high }
-    ensures { OnOk result (text.new.items ≡ text.old.items ++ row_line start.now (row.now.high -ℤ pos 1) row.now.up_to) }
+    ensures { OnOk result (text.new.items ≡ text.old.items ++ bucket_row start.now row.now) }
 {
     put_row(text, start, before(row.high), row.up_to)
+}
+
+/// Puts the lines of buckets, each of which begins so.
+pub(crate) fn put_bucket_rows(
+    text: &mut Vec<u8>,
+    start: &[u8],
+    rows: &[HistRow],
+) -> Result<(), AllocError>
+    requires { All (λ row. pos 0 ≤ℤ row.high) rows.now }
+    ensures { OnOk result (text.new.items ≡ text.old.items ++ flat_map (bucket_row start.now) rows.now) }
+{
+    for row in rows {
+        put_bucket(text, start, row)?;
+    }
+    Ok(())
 }
 
 // The lines of all buckets.
@@ -89,9 +104,7 @@ fn put_buckets(
 {
     let mut start = Vec::new(alloc);
     put_parts(&mut start, &[name, b"_bucket{", labels, b",le=\""])?;
-    for row in rows {
-        put_bucket(text, &start, row)?;
-    }
+    put_bucket_rows(text, &start, rows)?;
     Ok(())
 }
 
@@ -188,11 +201,25 @@ fn put_all_ranged(
     Ok(())
 }
 
-/// Puts the line of a value of a sparse histogram, which begins so: its units.
-pub(crate) fn put_value(text: &mut Vec<u8>, start: &[u8], row: &HistRow) -> Result<(), AllocError>
-    ensures { OnOk result (text.new.items ≡ text.old.items ++ row_line start.now row.now.low row.now.units) }
+// Puts the line of a value of a sparse histogram, which begins so: its units.
+fn put_value(text: &mut Vec<u8>, start: &[u8], row: &HistRow) -> Result<(), AllocError>
+    ensures { OnOk result (text.new.items ≡ text.old.items ++ value_row start.now row.now) }
 {
     put_row(text, start, i64::from(row.low), row.units)
+}
+
+/// Puts the lines of values of a sparse histogram, each of which begins so.
+pub(crate) fn put_value_rows(
+    text: &mut Vec<u8>,
+    start: &[u8],
+    rows: &[HistRow],
+) -> Result<(), AllocError>
+    ensures { OnOk result (text.new.items ≡ text.old.items ++ flat_map (value_row start.now) rows.now) }
+{
+    for row in rows {
+        put_value(text, start, row)?;
+    }
+    Ok(())
 }
 
 // The lines of all values.
@@ -207,9 +234,7 @@ fn put_values(
 {
     let mut start = Vec::new(alloc);
     put_parts(&mut start, &[name, b"{", labels, b",value=\""])?;
-    for row in rows {
-        put_value(text, &start, row)?;
-    }
+    put_value_rows(text, &start, rows)?;
     Ok(())
 }
 

@@ -6,9 +6,9 @@ ghost use Rattle.image_reader.specs.Readable.{IsReadable};
 ghost use Rattle.reading_texts.specs.Exporting.{is_sparse as is_sparse_of};
 ghost use Rattle.reading_texts.specs.Members.{member_view};
 ghost use Rattle.reading_texts.specs.Families.{same_family as same_family_of};
-ghost use Rattle.reading_texts.specs.FamilyLines.{braced, bucket_line, infinite_line, value_line, number_line, ranged_lines, units_lines, values_lines, sum_line, of_family, sparse_lines, ranged_family_lines, lines_with};
+ghost use Rattle.reading_texts.specs.FamilyLines.{braced, bucket_line, infinite_line, value_line, number_line, ranged_lines, units_lines, values_lines, sum_line, lines_of, of_family, sparse_lines, ranged_family_lines, lines_with};
 
-use crate::exporting::{put_bucket, put_heading, put_value};
+use crate::exporting::{put_bucket_rows, put_heading, put_value_rows};
 use crate::members::{Member, same_family};
 use crate::parts::put_parts;
 use crate::rows::{HistRow, rows_of, units};
@@ -38,9 +38,7 @@ fn put_buckets(
 {
     let mut start = Vec::new(alloc);
     put_parts(&mut start, &[name, b"_bucket{", labels, b"le=\""])?;
-    for row in rows {
-        put_bucket(text, &start, row)?;
-    }
+    put_bucket_rows(text, &start, rows)?;
     Ok(())
 }
 
@@ -125,9 +123,7 @@ fn put_rows(
 {
     let mut start = Vec::new(alloc);
     put_parts(&mut start, &[name, b"{", labels, b"value=\""])?;
-    for row in rows {
-        put_value(text, &start, row)?;
-    }
+    put_value_rows(text, &start, rows)?;
     Ok(())
 }
 
@@ -158,102 +154,53 @@ fn put_sum(
     put_number(text, name, b"_sum", &member.labels, sum.as_bytes())
 }
 
-// The lines of a member, if it is of the family of another.
-fn put_units_within(
+// Which lines of a member are put.
+#[derive(Clone, Copy)]
+enum MemberLines {
+    // Those of its units, if it has ranges.
+    Units,
+    // Those of its values.
+    Values,
+    // That of its sum.
+    Sum,
+}
+
+// Such lines of a member, if it is of the family of another.
+fn put_lines_within(
     alloc: Global,
     text: &mut Vec<u8>,
     name: &[u8],
+    lines: MemberLines,
     one: &Member<'_>,
     member: &Member<'_>,
 ) -> Result<(), AllocError>
     requires { IsReadable (member_view member.now).hist }
-    ensures { OnOk result (text.new.items ≡ text.old.items ++ of_family (member_view one.now) (units_lines name.now) (member_view member.now)) }
+    ensures { OnOk result (text.new.items ≡ text.old.items ++ of_family (member_view one.now) (lines_of lines name.now) (member_view member.now)) }
 {
-    if same_family(one, member) {
-        put_units(alloc, text, name, member)?;
+    if !same_family(one, member) {
+        return Ok(());
     }
-    Ok(())
+    match lines {
+        MemberLines::Units => put_units(alloc, text, name, member),
+        MemberLines::Values => put_values(alloc, text, name, member),
+        MemberLines::Sum => put_sum(alloc, text, name, member),
+    }
 }
 
-// The lines of all members of the family of one.
-fn put_all_units(
+// Such lines of all members of the family of one.
+fn put_all_lines(
     alloc: Global,
     text: &mut Vec<u8>,
     name: &[u8],
+    lines: MemberLines,
     one: &Member<'_>,
     members: &[Member<'_>],
 ) -> Result<(), AllocError>
     requires { All (λ member. IsReadable member.hist) (map member_view members.now) }
-    ensures { OnOk result (text.new.items ≡ text.old.items ++ flat_map (units_lines name.now) (filter (same_family_of (member_view one.now)) (map member_view members.now))) }
+    ensures { OnOk result (text.new.items ≡ text.old.items ++ flat_map (lines_of lines name.now) (filter (same_family_of (member_view one.now)) (map member_view members.now))) }
 {
     for member in members {
-        put_units_within(alloc, text, name, one, member)?;
-    }
-    Ok(())
-}
-
-// The lines of the values of a member, if it is of the family of another.
-fn put_values_within(
-    alloc: Global,
-    text: &mut Vec<u8>,
-    name: &[u8],
-    one: &Member<'_>,
-    member: &Member<'_>,
-) -> Result<(), AllocError>
-    requires { IsReadable (member_view member.now).hist }
-    ensures { OnOk result (text.new.items ≡ text.old.items ++ of_family (member_view one.now) (values_lines name.now) (member_view member.now)) }
-{
-    if same_family(one, member) {
-        put_values(alloc, text, name, member)?;
-    }
-    Ok(())
-}
-
-// The lines of the values of all members of the family of one.
-fn put_all_values(
-    alloc: Global,
-    text: &mut Vec<u8>,
-    name: &[u8],
-    one: &Member<'_>,
-    members: &[Member<'_>],
-) -> Result<(), AllocError>
-    requires { All (λ member. IsReadable member.hist) (map member_view members.now) }
-    ensures { OnOk result (text.new.items ≡ text.old.items ++ flat_map (values_lines name.now) (filter (same_family_of (member_view one.now)) (map member_view members.now))) }
-{
-    for member in members {
-        put_values_within(alloc, text, name, one, member)?;
-    }
-    Ok(())
-}
-
-// The line of the sum of a member, if it is of the family of another.
-fn put_sum_within(
-    alloc: Global,
-    text: &mut Vec<u8>,
-    name: &[u8],
-    one: &Member<'_>,
-    member: &Member<'_>,
-) -> Result<(), AllocError>
-    ensures { OnOk result (text.new.items ≡ text.old.items ++ of_family (member_view one.now) (sum_line name.now) (member_view member.now)) }
-{
-    if same_family(one, member) {
-        put_sum(alloc, text, name, member)?;
-    }
-    Ok(())
-}
-
-// The lines of the sums of all members of the family of one.
-fn put_all_sums(
-    alloc: Global,
-    text: &mut Vec<u8>,
-    name: &[u8],
-    one: &Member<'_>,
-    members: &[Member<'_>],
-) -> Result<(), AllocError>
-    ensures { OnOk result (text.new.items ≡ text.old.items ++ flat_map (sum_line name.now) (filter (same_family_of (member_view one.now)) (map member_view members.now))) }
-{
-    for member in members {
-        put_sum_within(alloc, text, name, one, member)?;
+        put_lines_within(alloc, text, name, lines, one, member)?;
     }
     Ok(())
 }
@@ -275,7 +222,7 @@ fn put_sparse_family(
         b"Units of each value of a sparse histogram.",
         b"untyped",
     )?;
-    put_all_values(alloc, text, name, one, members)?;
+    put_all_lines(alloc, text, name, MemberLines::Values, one, members)?;
     let mut sums = Vec::new(alloc);
     put_parts(&mut sums, &[name, b"_sum"])?;
     put_heading(
@@ -284,7 +231,7 @@ fn put_sparse_family(
         b"Sum of the values of a sparse histogram, which may fall.",
         b"untyped",
     )?;
-    put_all_sums(alloc, text, name, one, members)?;
+    put_all_lines(alloc, text, name, MemberLines::Sum, one, members)?;
     Ok(())
 }
 
@@ -305,7 +252,7 @@ fn put_ranged_family(
         b"Units of a histogram up to the greatest value of each bucket.",
         b"histogram",
     )?;
-    put_all_units(alloc, text, name, one, members)?;
+    put_all_lines(alloc, text, name, MemberLines::Units, one, members)?;
     Ok(())
 }
 

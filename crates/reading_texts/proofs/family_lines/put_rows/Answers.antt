@@ -1,24 +1,14 @@
-use Rattle.std.proofs.Common.{◌∙◌, [], ◌∷◌, ◌++◌, ap, get_or, pos}
+use Rattle.std.proofs.Common.{◌∙◌, [], ◌∷◌, ◌++◌, ap}
 use Rattle.std.specs.Prelude.{codes}
-use Rattle.std.specs.Fmt.{decimal, signed_decimal}
 use Rattle.reading_texts.specs.declared.rows.HistRow.{HistRow}
 use Rattle.reading_texts.specs.Exporting.{joined}
-use Rattle.reading_texts.specs.Labels.{quoted}
-use Rattle.reading_texts.specs.FamilyLines.{value_line}
-use Rattle.reading_texts.proofs.Adding.{joined-both, written-each, written-more}
+use Rattle.reading_texts.specs.Lines.{row_end}
+use Rattle.reading_texts.proofs.Adding.{lines-joined}
 use Rattle.reading_texts.proofs.family_lines.put_rows.Goals as goal
 
 pub returns : goal.returns
-returns c = written-each (value_line c.args.name.now c.args.labels.now) c.args.rows.now c.loop-row.row-index c.args.text.now.items c.loop-row-test.false c.loop-row.invariant
-
-pub loop-row-preserved : goal.loop-row-preserved
-loop-row-preserved c =
-    let line = value_line c.args.name.now c.args.labels.now in
+returns c =
     let parts = c.args.name.now ∷ codes "{" ∷ c.args.labels.now ∷ codes "value=\"" ∷ [] in
     let start = c.in_ok-put_parts.ensures ∙ ap (λ s. s ++ joined parts) c.new-start.ensures.items in
-    let written = rw (c.deref.ensures.value, start) at c.in_ok-put_value.ensures in
-    let none : HistRow = record { low = pos 0; high = pos 0; units = 0; up_to = 0 } in
-    let row = get_or c.args.rows.now c.loop-row.row-index none in
-    let behind = quoted (signed_decimal row.low) ∷ codes "\"} " ∷ decimal row.units ∷ codes "\n" ∷ [] in
-    written-more line c.args.rows.now c.loop-row.row-index none c.args.text.now.items c.loop-row-test.true c.loop-row.invariant
-    (written ∙ ap (λ s. c.loop-row.text.items ++ s) (joined-both parts behind))
+    rw (c.deref.ensures.value, start) at c.in_ok-put_value_rows.ensures
+    ∙ ap (λ s. c.args.text.now.items ++ s) (lines-joined parts (λ (row : HistRow). row_end row.low row.units) c.args.rows.now)

@@ -20,5 +20,5 @@ returns c =
     let sums = c.in_ok-put_parts.ensures ∙ ap (λ s. s ++ joined (name ∷ codes "_sum" ∷ [])) c.new-sums.ensures.items in
     let second = rw (c.deref.ensures.value, sums) at c.in_ok-put_heading-2.ensures in
     written-both before ((head ++ values) ++ behind) all
-    (written-both before (head ++ values) behind (written-both before head values c.in_ok-put_heading.ensures c.in_ok-put_all_values.ensures) second)
-    c.in_ok-put_all_sums.ensures
+    (written-both before (head ++ values) behind (written-both before head values c.in_ok-put_heading.ensures c.in_ok-put_all_lines.ensures) second)
+    c.in_ok-put_all_lines-2.ensures

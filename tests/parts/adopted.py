@@ -264,7 +264,7 @@ def stopped_images(stepped: pathlib.Path, options: argparse.Namespace) -> list[I
     """The images of schedules of version 2 where they stop, each with a name."""
     with tempfile.TemporaryDirectory() as scratch, concurrent.futures.ThreadPoolExecutor(os.cpu_count()) as pool:
         folder = pathlib.Path(scratch)
-        worked = [(name, schedule) for name, schedule, _ in worked_schedules.examples() if schedule.version == VERSION]
+        worked = [(one.name, one.schedule) for one in worked_schedules.examples() if one.schedule.version == VERSION]
         every = [pool.submit(worked_stops, stepped, folder, number, *one) for number, one in enumerate(worked)]
         seeds = [f"{options.seed}-{number}" for number in range(options.schedules)]
         every += [pool.submit(seeded_stops, stepped, folder, seed, options.stops) for seed in seeds]

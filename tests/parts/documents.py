@@ -24,6 +24,7 @@ def cases(_program: None, _options: argparse.Namespace) -> Iterator[Case]:
     yield "docs/DEFINITIONS.md, which tests/support/definitions.py --write makes anew", definitions.difference()
     yield "docs/FAULTS.md, which tests/support/faults.py --write makes anew", faults.difference()
     yield "each fault of the crates and each status of the header has an entry in docs/FAULTS.md", faults.unexplained()
+    yield "each fault of the crates is shown by its name", faults.misnamed()
     yield "what tests/support/proved.py refuses of a made-up file", proved.self_check()
     yield "docs/proved, which tests/support/proved.py --write makes anew", proved.difference()
     yield "the links of documents", links.broken()

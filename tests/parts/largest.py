@@ -1,5 +1,5 @@
 """Images of the greatest size that are full: of samples, of names, and of the smallest blocks, each with its report;
-and the longest scripts.
+one that is written; and the longest scripts.
 
 A program that searches a list from its front, for each sample or each name, does not end in time.
 """
@@ -58,6 +58,16 @@ def smallest(_chance: random.Random) -> tuple[bytes, bytes]:
 IMAGES = [samples, names, smallest]
 
 
+def written(program: pathlib.Path, folder: pathlib.Path) -> Iterator[Case]:
+    """An image of the greatest size without histograms."""
+    script, out = folder / "script", folder / "out"
+    script.write_bytes(b"segment,%d,%d,7\n" % (SIZE, PAGE))
+    wrong = difference(Answer(), answer(program, ["run", script, out]))
+    if wrong is None and out.read_bytes() != layout.Words(SIZE, PAGE, 2).bytes():
+        wrong = "other words were written"
+    yield "an image that is written", wrong
+
+
 def scripts(program: pathlib.Path, folder: pathlib.Path) -> Iterator[Case]:
     """A script of the greatest length, and one that is a byte longer."""
     head, record = b"segment,128,64,7\nhist,A,boolean\n", b"add,A,1,1\n"
@@ -80,4 +90,6 @@ def cases(program: pathlib.Path, _options: argparse.Namespace) -> Iterator[Case]
         image, report = make(random.Random(5))
         yield make.__name__, difference(Answer(report), answer(program, ["report"], image))
     with tempfile.TemporaryDirectory() as scratch:
-        yield from scripts(program, pathlib.Path(scratch))
+        folder = pathlib.Path(scratch)
+        yield from written(program, folder)
+        yield from scripts(program, folder)

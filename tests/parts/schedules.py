@@ -4,10 +4,10 @@ Those in the folder cases/schedules have known answers: NNN.csv is a schedule, a
 what comes of it; NNN.report and NNN.words are what it shows after the events of NNN.stop. The answers are those of an
 independent implementation.
 
-Worked examples are stopped at every event. Others are generated from a seed and are stopped at events of the seed. Then
-the words are those that the lines lead to, the report is that of a plain reader and has no fault, and each bucket has
-no more units than were begun, and no fewer than calls that ended have counted. In version 1, units are added that are
-on their way from the single word to the counts.
+Worked examples end with words and answers that the format gives. They are stopped at every event. Others are generated
+from a seed and are stopped at events of the seed. Then the words are those that the lines lead to, the report is that
+of a plain reader and has no fault, and each bucket has no more units than were begun, and no fewer than calls that
+ended have counted. In version 1, units are added that are on their way from the single word to the counts.
 
 A known schedule in version 2 is stopped every few events, and another continues with the image: its lines lead from the
 words of the image to its own, and its report is a plain tally of what the image counted and of the samples since.
@@ -24,7 +24,7 @@ import pathlib
 import random
 import struct
 import tempfile
-from collections.abc import Collection, Iterator, Mapping, Sequence
+from collections.abc import Collection, Iterable, Iterator, Sequence
 
 from support import plain_reader, plain_tally, seeded_schedules, worked_schedules
 from support.program import ROOT, Answer, Case, Word, answer, difference
@@ -148,24 +148,38 @@ def wrong_seeded(program: pathlib.Path, seed: str, stops: int, folder: pathlib.P
     return None
 
 
+def answers_of(lines: Iterable[bytes]) -> list[str]:
+    """The answers of calls that lines say, each behind its actor."""
+    fields = (line.decode().rstrip("\n").split(",", 3) for line in lines)
+    return [f"{actor},{said[0]}" for _, actor, what, *said in fields if what == "answer"]
+
+
+def wrong_end(example: worked_schedules.Example, lines: Sequence[bytes]) -> str | None:
+    """What is wrong with the end of a worked example by its lines, or None."""
+    last = seeded_schedules.Done(example.schedule, lines, -1).words
+    others = {at: (last[at], word) for at, word in example.words.items() if last[at] != word}
+    if others:
+        return f"other words at the end, each as it came and as it is known: {others}"
+    answers = answers_of(lines)
+    if answers[len(answers) - len(example.answers) :] != example.answers:
+        return f"the answers are {answers}, and the last are known: {example.answers}"
+    return None
+
+
 def wrong_worked(
-    program: pathlib.Path,
-    number: int,
-    schedule: seeded_schedules.Schedule,
-    known: Mapping[int, int],
-    folder: pathlib.Path,
+    program: pathlib.Path, number: int, example: worked_schedules.Example, folder: pathlib.Path
 ) -> str | None:
     """What is wrong with a worked example, which is stopped at every event, or None."""
     path = folder / f"worked-{number}.csv"
-    came = replayed(program, path, schedule.text())
+    came = replayed(program, path, example.schedule.text())
     if came.status != 0 or came.error:
         return f"status {came.status}, {came.error[:200]!r}"
     lines = came.output.splitlines(True)
-    last = seeded_schedules.Done(schedule, lines, -1).words
-    if any(last[at] != word for at, word in known.items()):
-        return f"the last words are {last}, and known are {known}"
+    wrong = wrong_end(example, lines)
+    if wrong is not None:
+        return wrong
     events = range(sum(b",step" in line for line in lines) + 1)
-    return next(filter(None, (wrong_stop(program, schedule, path, lines, event) for event in events)), None)
+    return next(filter(None, (wrong_stop(program, example.schedule, path, lines, event) for event in events)), None)
 
 
 def first_records(words: plain_reader.Words) -> dict[bytes, int]:
@@ -323,11 +337,8 @@ def cases(program: pathlib.Path, options: argparse.Namespace) -> Iterator[Case]:
         for name, record, wanted in not_gone_on(program, folder):
             yield f"adopt {name}", difference(wanted, replayed(program, folder / "adopt.csv", f"{record}\n"))
         worked = list(worked_schedules.examples())
-        wrongs = pool.map(
-            lambda number: wrong_worked(program, number, worked[number][1], worked[number][2], folder),
-            range(len(worked)),
-        )
-        yield from zip((name for name, *_ in worked), wrongs)
+        wrongs = pool.map(lambda number: wrong_worked(program, number, worked[number], folder), range(len(worked)))
+        yield from zip((example.name for example in worked), wrongs)
         seeds = [f"{options.seed}-{number}" for number in range(options.schedules)]
         wrongs = pool.map(lambda seed: wrong_seeded(program, seed, options.stops, folder), seeds)
         yield from zip((f"schedule {seed}" for seed in seeds), wrongs)

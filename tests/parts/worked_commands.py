@@ -9,6 +9,7 @@ import struct
 import tempfile
 from collections.abc import Iterator, Mapping, Sequence
 
+from parts import worked
 from support.program import EXAMPLE, Answer, Case, Word, answer, difference, fault
 
 PROGRAM = "persist_report"
@@ -45,12 +46,34 @@ SCRIPTS = {
         fault("Refused 2 BadSpec BadRange", 3),
     ),
     "the custom value 0 alone": (SEGMENT + b"hist,A,custom,0\n", fault("Refused 2 BadSpec Empty", 3)),
+    "values of a boolean": (
+        SEGMENT + b"hist,A,boolean\nadd,A,-3,1\nadd,A,0,1\nadd,A,1,1\nadd,A,5,1\nadd,A,2147483647,1\n",
+        Answer(b"A,boolean,0,1,2\nA,boolean,1,2,1\nA,boolean,2,2147483647,2\nA,total,5,2147483652\n"),
+    ),
+    "values of a linear histogram": (
+        SEGMENT + b"hist,L,linear,1,10,5\nadd,L,-3,1\nadd,L,5,2\nadd,L,2147483647,4\n",
+        Answer(b"L,linear,0,1,1\nL,linear,4,7,2\nL,linear,10,2147483647,4\nL,total,7,8589934594\n"),
+    ),
+    "values of a sparse histogram": (
+        SEGMENT + b"hist,S,sparse\nadd,S,-3,1\nadd,S,5,2\nadd,S,2147483647,4\n",
+        Answer(b"S,sparse,-3,-2,1\nS,sparse,5,6,2\nS,sparse,2147483647,2147483648,4\nS,total,7,8589934595\n"),
+    ),
     "an unlawful name": (SEGMENT + b"hist,!x,boolean\n", fault("Refused 2 BadName", 3)),
+    "no name": (SEGMENT + b"hist,,boolean\n", fault("Refused 2 BadName", 3)),
+    "a name with a comma": (SEGMENT + b'hist,"a,b",boolean\n', fault("Refused 2 BadName", 3)),
+    "a name of 129 bytes": (SEGMENT + b"hist,%b,boolean\n" % (129 * b"n"), fault("Refused 2 BadName", 3)),
+    "a name of 128 bytes": (SEGMENT + b"hist,%b,boolean\n" % (128 * b"n"), Answer(128 * b"n" + b",total,0,0\n")),
     "another spec": (SEGMENT + b"hist,A,boolean\nhist,A,linear,1,2,3\n", fault("Refused 3 OtherSpec", 3)),
-    "a record longer than a page": (SEGMENT + b"hist,A,linear,1,100,31\n", fault("Refused 2 TooLarge", 3)),
+    "counts longer than a page": (SEGMENT + b"hist,A,linear,1,100,31\n", fault("Refused 2 TooLarge", 3)),
+    "counts as long as a page": (SEGMENT + b"hist,A,linear,1,100,30\n", Answer(b"A,total,0,0\n")),
     "no room": (
         b"segment,64,64,7\nhist,A,boolean\nhist,B,boolean\nhist,C,boolean\nhist,D,boolean\n",
         fault("Refused 5 Full", 3),
+    ),
+    # The records of three histograms fill the segment. Each sample of S is refused, whoever adds it: the first is told.
+    "two samples without room": (
+        b"segment,64,64,7\nhist,A,boolean\nhist,B,boolean\nhist,S,sparse\nadd,A,1,1\nadd,S,1,1\nadd,S,2,1\n",
+        fault("Refused 6 Full", 3),
     ),
 }
 
@@ -91,6 +114,30 @@ def frozen(bucket: int, units: int) -> int:
 
 # Of the image in version 2: bucket 1 is frozen with two units, and bucket 0 has one.
 IN_VERSION_2 = {VERSION: 2, SINGLE: frozen(1, 2), FIRST_COUNT: 1, SECOND_COUNT: 0}
+# What the image of some scripts has, run by one worker: in version 2, too, single words pack up to 65,535 units.
+WRITTEN: dict[str, tuple[bytes, bytes]] = {
+    "three samples": (THREE_SAMPLES, image(IN_VERSION_2)),
+    "two samples": (
+        SEGMENT + b"hist,A,boolean\nadd,A,1,1\nadd,A,1,1\n",
+        packed({VERSION: 2, SINGLE: 2**32 + 2, SUM: 2, REDUNDANT: 2}),
+    ),
+    "as much as is packed": (
+        SEGMENT + b"hist,A,boolean\nadd,A,1,65535\n",
+        packed({VERSION: 2, SINGLE: 2**32 + 65_535, SUM: 65_535, REDUNDANT: 65_535}),
+    ),
+    "one more than is packed": (
+        SEGMENT + b"hist,A,boolean\nadd,A,1,65535\nadd,A,1,1\n",
+        image({VERSION: 2, SINGLE: frozen(1, 65_535), FIRST_COUNT: 0, SECOND_COUNT: 1, SUM: 65_536, REDUNDANT: 65_536}),
+    ),
+    "more than is packed": (
+        SEGMENT + b"hist,A,boolean\nadd,A,1,70000\n",
+        image({VERSION: 2, SINGLE: TOP, FIRST_COUNT: 0, SECOND_COUNT: 70_000, SUM: 70_000, REDUNDANT: 70_000}),
+    ),
+    "sparse marks": (
+        SEGMENT + b"hist,S,sparse\nadd,S,-5,2\nadd,S,7,1\ndelta,S\n",
+        worked.stored_in(worked.BLANK, worked.SPARSE, {VERSION: 2, SUM_MARK: -3, 39: 2, 47: 1}),
+    ),
+}
 # A delta took the two samples 1.
 TAKEN = {SINGLE_MARK: 2, SUM_MARK: 2}
 MOST_COUNTS = {FIRST_COUNT: MOST_UNITS, SECOND_COUNT: MOST_UNITS}
@@ -179,6 +226,13 @@ def adding(count: int) -> bytes:
     return SEGMENT + b"hist,A,boolean\nadd,A,1,%d\n" % count
 
 
+# The sparse histogram S with three samples -5: two recorders made a block for the value at once, and that at 40 is the
+# first on the list.
+RACED = worked.stored_in(
+    worked.BLANK, worked.SPARSE,
+    {VERSION: 2, worked.TAIL: 32, 19: 40, 35: 12, 38: 0, 43: 32, 45: -5, 46: 3, SUM: -15, REDUNDANT: 3},
+)
+
 # BASE, the script, and what comes; and the words of the image that are others than those of BASE, if they are known.
 RESUMES: dict[str, tuple[bytes, bytes, Answer, Stored | None]] = {
     "one sample more": (image(IN_VERSION_2), ONE_MORE, Answer(ONE_MORE_REPORT), {FIRST_COUNT: 2, REDUNDANT: 4}),
@@ -212,6 +266,12 @@ RESUMES: dict[str, tuple[bytes, bytes, Answer, Stored | None]] = {
         TAKEN_BACK, adding(2**31 - 1), Answer(b"A,boolean,1,2,2147483647\nA,total,2147483647,4294967295\n"), None,
     ),
     "one unit more than a sum has left": (TAKEN_BACK, adding(2**31), fault("Refused 3 NoUnits", 3), None),
+    "a value of two blocks": (
+        RACED,
+        SEGMENT + b"hist,S,sparse\nadd,S,-5,1\n",
+        Answer(b"S,sparse,-5,-4,4\nS,total,4,-20\n"),
+        {46: 4, SUM: -20, REDUNDANT: 4},
+    ),
     "another id": (image(IN_VERSION_2), b"segment,128,64,8\n", fault("BadLine 1", 3), None),
     "another page, and a later fault": (image(IN_VERSION_2), b"segment,128,128,7\nhits\n", fault("BadLine 1", 3), None),
     "another size, and units that are too many": (
@@ -264,10 +324,14 @@ def runs(program: pathlib.Path, folder: pathlib.Path) -> Iterator[Case]:
                 yield f"run, {name}, {workers} workers", wrong_fault(program, words, wanted, out)
     script.write_bytes(NO_ROOM_FOR_COUNTS)
     yield "run, no room for counts", wrong_fault(program, ["run", script, out], fault("Refused 6 Full", 3), out)
-    script.write_bytes(THREE_SAMPLES)
-    answer(program, ["run", script, out])
-    wrong = None if out.read_bytes() == image(IN_VERSION_2) else "other words were written"
-    yield "run, three samples, the image", wrong
+
+
+def written(program: pathlib.Path, folder: pathlib.Path) -> Iterator[Case]:
+    script, out = folder / "script", folder / "out"
+    for name, (text, wanted) in WRITTEN.items():
+        script.write_bytes(text)
+        answer(program, ["run", script, out])
+        yield f"run, {name}, the image", None if out.read_bytes() == wanted else "other words were written"
 
 
 def wrong_merge(
@@ -325,7 +389,7 @@ def resumes(program: pathlib.Path, folder: pathlib.Path) -> Iterator[Case]:
                 program, ["resume", "--workers", workers, *paths], paths[-1], base, wanted, stored
             )
     paths[1].write_bytes(ONE_MORE)
-    damaged = [("Damaged", shared_counts())]
+    damaged = [("Damaged", shared_counts()), ("Damaged", with_words(RACED, {38: 1}))]
     for why, base in [
         *((why, image({**IN_VERSION_2, **stored})) for why, all_stored in NOT_ADOPTED.items() for stored in all_stored),
         *damaged,
@@ -343,5 +407,6 @@ def cases(program: pathlib.Path, _options: argparse.Namespace) -> Iterator[Case]
     with tempfile.TemporaryDirectory() as scratch:
         folder = pathlib.Path(scratch)
         yield from runs(program, folder)
+        yield from written(program, folder)
         yield from merges(program, folder)
         yield from resumes(program, folder)

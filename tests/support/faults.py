@@ -62,6 +62,8 @@ IN_NAMES = re.compile(r'^    \{POVUNDIRI_(\w+), "([\w ]+)"\},$', re.MULTILINE)
 IN_CLASSES = re.compile(r"^    (\w+) = \d+,", re.MULTILINE)
 # The line with which a fault of a crate is shown; its first word is the name.
 SHOWN = re.compile(r'#\[error\("(\w+)')
+# The first word of that line, and the variant or the type that is shown so.
+NAMED = re.compile(r'#\[error\("(\w+)[^"]*"[^\]]*\)\]\s+(?:pub struct )?(\w+)')
 NEVER = "never returned"
 # What programs never print: they print `Read` or `Write` for it.
 INNER = {"Device"}
@@ -145,6 +147,19 @@ def printed() -> dict[str, str]:
     found |= {name: f"c/{NAMES.name}" for name in fault_names().values()}
     found |= {name: f"c/{CLASSES.name}" for name in IN_CLASSES.findall(CLASSES.read_text())}
     return {name: place for name, place in found.items() if name not in INNER}
+
+
+def misnamed() -> str | None:
+    """The faults of the crates that are not shown by their own names, or None."""
+    wrong = []
+    for path in sorted((ROOT / "crates").glob("*/src/**/*.rt")):
+        text = path.read_text()
+        named = NAMED.findall(text)
+        place = path.relative_to(ROOT)
+        wrong += [f"{own} of {place} is shown as {shown}" for shown, own in named if shown != own]
+        if len(named) != len(SHOWN.findall(text)):
+            wrong.append(f"{place} has a fault in another form")
+    return "\n".join(wrong) or None
 
 
 def unexplained() -> str | None:

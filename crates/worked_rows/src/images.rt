@@ -1,14 +1,14 @@
-//! The words of an image that other tests begin with or end at, and the image of the greatest size.
+//! The words of an image that tests begin with or end at.
 
-use live_segment::Segment;
-use segment_image::{ImageFault, Watched, header, read_words, write_words};
+use segment_image::{Watched, write_words};
+use std::alloc::Global;
 use std::test::Fail;
 
 /// The words of a segment of 128 words.
 pub(crate) type Words = [u64; 128];
 
-/// The highest bit of a single word: it is disabled or frozen.
-pub(crate) const OFF: u64 = 1 << 63;
+// The highest bit of a single word: it is disabled or frozen.
+const OFF: u64 = 1 << 63;
 
 // The cookie of a claimed block.
 const CLAIMED: u64 = 0xC879_9269;
@@ -61,8 +61,13 @@ pub(crate) fn three_samples(changes: &[(usize, u64)]) -> Words {
     changed(&THREE_SAMPLES, changes)
 }
 
-/// The words that begin with these and are 0 after them, but for some.
-pub(crate) fn changed(front: &[u64], changes: &[(usize, u64)]) -> Words {
+/// The words of the same samples in version 2: two units stay in the single word.
+pub(crate) fn frozen_samples() -> Words {
+    three_samples(&[(1, 2), (25, OFF + (1 << 32) + 2), (37, 0)])
+}
+
+// The words that begin with these and are 0 after them, but for some.
+fn changed(front: &[u64], changes: &[(usize, u64)]) -> Words {
     let mut words = [0; 128];
     for (word, value) in words.iter_mut().zip(front) {
         *word = *value;
@@ -83,18 +88,9 @@ pub(crate) fn stand(words: &[u64], from: usize, wanted: &[u64]) -> bool {
     }
 }
 
-#[test]
-fn largest_image(rt: HostRuntime) -> Result<(), Fail> {
-    let alloc = rt.alloc();
-    let (segment, opener) = Segment::create(alloc, 1_048_576, 65_536, 7, 0, 2)?;
-    let mut image = segment.close(opener);
-    let mut writer = Watched::new(Vec::new(alloc));
-    write_words(&mut writer, image.words())?;
-    let bytes = writer.into_inner();
-    assert_eq!(rt; bytes.len(), 8_388_608);
-    let words = read_words(alloc, &mut Watched::new(bytes.as_slice()), 1_048_576)?;
-    assert!(rt; words.as_slice() == image.words());
-    image.set_deleted();
-    assert_eq!(rt; header(image.words()).err(), Some(ImageFault::Deleted));
-    Ok(())
+/// The bytes of an image.
+pub(crate) fn bytes_of(alloc: Global, words: &Words) -> Result<Vec<u8>, Fail> {
+    let mut bytes = Watched::new(Vec::new(alloc));
+    write_words(&mut bytes, words)?;
+    Ok(bytes.into_inner())
 }

@@ -1,17 +1,9 @@
-//! The tests of the libraries through their public calls: worked examples with the words that the format gives them, calls that
-//! no program makes, texts that no program prints, and calls whose devices fail.
+//! The tests of the libraries through their public calls, of what neither a proof nor a built program shows: calls that no program
+//! makes, with the words that the format gives them, texts that no program prints, gates, and readers and writers that fail.
 //!
 //! They are above all libraries, so that no other crate is proved once more for its tests.
 #![tactic(auto)]
 
-#[cfg(test)]
-mod adding;
-#[cfg(test)]
-mod adopting;
-#[cfg(test)]
-mod deltas;
-#[cfg(test)]
-mod failing_commands;
 #[cfg(test)]
 mod fault_texts;
 #[cfg(test)]
@@ -23,13 +15,9 @@ mod readings;
 #[cfg(test)]
 mod recorders;
 #[cfg(test)]
-mod records;
-#[cfg(test)]
 mod resuming;
 #[cfg(test)]
 mod streams;
-#[cfg(test)]
-mod tallies;
 #[cfg(test)]
 mod turns;
 #[cfg(test)]

@@ -1,12 +1,12 @@
-//! Recorders of a running segment: their shares, what they are refused, batches, and a shared cursor.
+//! Recorders of a running segment: the words of samples, shares, a full segment, batches, units that sums use, and a shared cursor.
 
 ghost use Rattle.std.specs.Prelude.{◌<◌, IfOk};
 ghost use Rattle.live_segment.specs.Holders.{HasCursor, IsMadeWith, SharesSegment};
 
-use crate::images::stand;
+use crate::images::{stand, three_samples};
 use bucket_ranges::Spec;
 use image_reader::read;
-use live_segment::{OpenFault, Opener, Recorder, Segment};
+use live_segment::{Opener, Recorder, Segment};
 use segment_calls::{BatchRefusal, Refusal};
 use segment_image::Image;
 use std::alloc::Global;
@@ -16,21 +16,12 @@ use std::test::Fail;
 // One unit in bucket 1, in a single word.
 const IN_BUCKET_1: u64 = 1 << 32;
 
-// The words of -3 and -5.
-const MINUS_3: u64 = 0xFFFF_FFFF_FFFF_FFFD;
-
-const MINUS_5: u64 = 0xFFFF_FFFF_FFFF_FFFB;
-
 // A call of a recorder, and what it has to return: why it is refused, if it is. Those that name no histogram are for the first that
 // the recorder knows.
 #[derive(Clone, Copy)]
 enum Act<'a> {
     // It asks for a boolean histogram of this name.
     Boolean(&'a [u8], Option<Refusal>),
-    // It asks for a linear one, by its minimum, its maximum and its number of buckets.
-    Linear(&'a [u8], u32, u32, u32, Option<Refusal>),
-    // It asks for a sparse one.
-    Sparse(&'a [u8]),
     // It adds this many units of a value.
     Add(i32, u32, Option<Refusal>),
     // It adds a batch with this sum, and counts nothing if it is refused.
@@ -66,15 +57,6 @@ fn does(recorder: &mut Recorder, act: &Act<'_>) -> bool
 {
     match act {
         Act::Boolean(name, refusal) => recorder.hist(name, &Spec::Boolean).err() == *refusal,
-        Act::Linear(name, min, max, n, refusal) => {
-            let spec = Spec::Linear {
-                min: *min,
-                max: *max,
-                n: *n,
-            };
-            recorder.hist(name, &spec).err() == *refusal
-        }
-        Act::Sparse(name) => recorder.hist(name, &Spec::Sparse).is_ok(),
         Act::Units(units) => recorder.units() == *units,
         Act::Records(all) => is_list(recorder.records(), all),
         Act::Fresh(fresh) => is_list(recorder.fresh_records(), fresh),
@@ -111,14 +93,14 @@ fn expect_acts(rt: &impl Abort, recorder: &mut Recorder, acts: &[Act<'_>])
     }
 }
 
-// The image of a new segment of this size, into which one recorder with these units has recorded.
+// The image of a new segment of this size and version, into which one recorder with these units has recorded.
 fn recorded(
     rt: &impl Abort,
     alloc: Global,
-    (size, units): (u64, u32),
+    (size, version, units): (u64, u64, u32),
     acts: &[Act<'_>],
 ) -> Result<Image, Fail> {
-    let (segment, mut opener) = Segment::create(alloc, size, 64, 7, 0, 1)?;
+    let (segment, mut opener) = Segment::create(alloc, size, 64, 7, 0, version)?;
     let mut recorder = opener.recorder(&segment, units)?;
     expect_acts(rt, &mut recorder, acts);
     opener.join(recorder);
@@ -140,13 +122,34 @@ fn reads(
     })
 }
 
+// Whether the image that a recorder with these units leaves has one histogram, with these counts, this sum and this redundant count.
+fn recorded_reads(
+    rt: &impl Abort,
+    alloc: Global,
+    units: u32,
+    acts: &[Act<'_>],
+    counts: &[(i32, u64)],
+    totals: (i128, u64),
+) -> Result<bool, Fail> {
+    let image = recorded(rt, alloc, (128, 1, units), acts)?;
+    reads(&image, alloc, counts, totals)
+}
+
+#[test]
+fn words_of_three_samples(rt: HostRuntime) -> Result<(), Fail> {
+    let acts = [
+        Act::Boolean(b"A", None),
+        Act::Add(1, 1, None),
+        Act::Add(1, 1, None),
+        Act::Add(0, 1, None),
+    ];
+    let image = recorded(&rt, rt.alloc(), (128, 1, 3), &acts)?;
+    assert!(rt; image.words() == three_samples(&[]).as_slice());
+    Ok(())
+}
+
 #[test]
 fn share_of_three(rt: HostRuntime) -> Result<(), Fail> {
-    let alloc = rt.alloc();
-    let (segment, mut opener) = Segment::create(alloc, 128, 64, 7, 0, 1)?;
-    let _recorder = opener.recorder(&segment, 3)?;
-    let second = opener.recorder(&segment, 4_294_967_293);
-    assert!(rt; matches!(second, Err(Refusal::NoUnits)));
     let acts = [
         Act::Boolean(b"A", None),
         Act::Add(1, 2, None),
@@ -155,8 +158,8 @@ fn share_of_three(rt: HostRuntime) -> Result<(), Fail> {
         Act::Units(0),
         Act::Add(1, 0, Some(Refusal::ZeroCount)),
     ];
-    let image = recorded(&rt, alloc, (128, 3), &acts)?;
-    assert!(rt; reads(&image, alloc, &[(0, 0), (1, 3), (2, 0)], (3, 3))?);
+    let counts = [(0, 0), (1, 3), (2, 0)];
+    assert!(rt; recorded_reads(&rt, rt.alloc(), 3, &acts, &counts, (3, 3))?);
     Ok(())
 }
 
@@ -218,7 +221,7 @@ fn full_segment(rt: HostRuntime) -> Result<(), Fail> {
         Act::Add(1, 1, None),
         Act::Boolean(b"D", Some(Refusal::Full)),
     ];
-    let image = recorded(&rt, rt.alloc(), (64, 9), &acts)?;
+    let image = recorded(&rt, rt.alloc(), (64, 1, 9), &acts)?;
     let words = image.words();
     assert!(rt; stand(words, 6, &[2, 64, 48]));
     assert!(rt; stand(words, 24, &[0, IN_BUCKET_1 + 2, 0, 2, 0, 2]));
@@ -226,91 +229,43 @@ fn full_segment(rt: HostRuntime) -> Result<(), Fail> {
 }
 
 #[test]
-fn sparse_samples(rt: HostRuntime) -> Result<(), Fail> {
-    let acts = [
-        Act::Sparse(b"S"),
-        Act::Add(-5, 2, None),
-        Act::Add(7, 1, None),
-        Act::Delta(&[(-5, 2), (7, 1)], -3),
-    ];
-    let image = recorded(&rt, rt.alloc(), (128, 3), &acts)?;
-    let words = image.words();
-    assert!(rt; stand(words, 7, &[48]) && stand(words, 27, &[MINUS_3, MINUS_3, 3]));
-    assert!(rt; stand(words, 36, &[16, MINUS_5, 2, 2]) && stand(words, 44, &[16, 7, 1, 1]));
-    Ok(())
-}
-
-#[test]
-fn refusals_of_hist(rt: HostRuntime) -> Result<(), Fail> {
-    let long = [b'n'; 129];
-    let bad = Some(Refusal::BadName);
-    let rows = [
-        [
-            Act::Boolean(b"", bad),
-            Act::Boolean(&long, bad),
-            Act::Boolean(b"a,b", bad),
-            Act::Boolean(b"!x", bad),
-            Act::Boolean(&long[..128], None),
-        ],
-        [
-            Act::Linear(b"A", 1, 100, 31, Some(Refusal::TooLarge)),
-            Act::Linear(b"A", 1, 100, 30, None),
-            Act::Linear(b"A", 1, 100, 30, None),
-            Act::Boolean(b"A", Some(Refusal::OtherSpec)),
-            Act::Units(0),
-        ],
-        [
-            Act::Boolean(b"A", None),
-            Act::Linear(b"A", 1, 2, 3, Some(Refusal::OtherSpec)),
-            Act::Boolean(b"A", None),
-            Act::Boolean(b"B", None),
-            Act::Units(0),
-        ],
-    ];
-    for acts in rows {
-        recorded(&rt, rt.alloc(), (128, 0), &acts)?;
-    }
-    Ok(())
-}
-
-#[test]
-fn refusals_of_create(rt: HostRuntime) -> Result<(), Fail> {
-    let alloc = rt.alloc();
-    for (size, cursors, fault) in [
-        (128, 9, OpenFault::BadCursors),
-        (96, 0, OpenFault::BadShape),
-    ] {
-        let made = Segment::create(alloc, size, 64, 7, cursors, 1);
-        assert_eq!(rt; made.err(), Some(fault));
-    }
-    let (segment, mut opener) = Segment::create(alloc, 128, 64, 7, 0, 1)?;
-    for _ in 0..256 {
-        drop(opener.recorder(&segment, 0)?);
-    }
-    assert!(rt; matches!(opener.recorder(&segment, 0), Err(Refusal::TooMany)));
-    assert_eq!(rt; opener.outstanding(), 256);
-    Ok(())
-}
-
-#[test]
-fn batches(rt: HostRuntime) -> Result<(), Fail> {
-    let alloc = rt.alloc();
+fn batch_of_all_units(rt: HostRuntime) -> Result<(), Fail> {
     let acts = [
         Act::Boolean(b"A", None),
         Act::Batch(&[(0, 2), (1, 3)], 3, None),
         Act::Units(0),
         Act::Batch(&[], 0, None),
     ];
-    let image = recorded(&rt, alloc, (128, 5), &acts)?;
-    assert!(rt; reads(&image, alloc, &[(0, 2), (1, 3), (2, 0)], (3, 5))?);
-    let refused = [
+    let counts = [(0, 2), (1, 3), (2, 0)];
+    assert!(rt; recorded_reads(&rt, rt.alloc(), 5, &acts, &counts, (3, 5))?);
+    Ok(())
+}
+
+#[test]
+fn refused_batches(rt: HostRuntime) -> Result<(), Fail> {
+    let acts = [
         Act::Boolean(b"A", None),
         Act::Batch(&[], (4 << 31) + 1, Some(Refusal::NoUnits)),
         Act::Batch(&[(0, 0)], 0, Some(Refusal::ZeroCount)),
         Act::Batch(&[], 0, None),
         Act::Units(4),
     ];
-    let image = recorded(&rt, alloc, (128, 4), &refused)?;
-    assert!(rt; reads(&image, alloc, &[(0, 0), (1, 0), (2, 0)], (0, 0))?);
+    let counts = [(0, 0), (1, 0), (2, 0)];
+    assert!(rt; recorded_reads(&rt, rt.alloc(), 4, &acts, &counts, (0, 0))?);
+    Ok(())
+}
+
+// All units are used up by a sum, of which a delta takes much, and which then falls.
+#[test]
+fn units_of_sums(rt: HostRuntime) -> Result<(), Fail> {
+    let acts = [
+        Act::Boolean(b"A", None),
+        Act::Batch(&[], 1 << 62, None),
+        Act::Delta(&[], 1 << 62),
+        Act::Batch(&[], (1 << 31) - (1 << 62), None),
+        Act::Units(0),
+    ];
+    let image = recorded(&rt, rt.alloc(), (128, 2, u32::MAX), &acts)?;
+    assert!(rt; stand(image.words(), 25, &[0, 0, 1 << 31, 1 << 62, 0]));
     Ok(())
 }

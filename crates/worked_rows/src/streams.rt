@@ -3,7 +3,7 @@
 ghost use Rattle.std.specs.Prelude.{◌≡◌, false};
 ghost use Rattle.segment_image.specs.Watched.{has_failed};
 
-use crate::images::{THREE_SAMPLES, three_samples};
+use crate::images::{THREE_SAMPLES, bytes_of, three_samples};
 use persist_report_core::CliFault;
 use reading_shows::{Form, write_text};
 use segment_image::{ReadFault, Watched, WriteFault, read_bytes, read_words, write_words};
@@ -18,16 +18,16 @@ const WORDS: [u64; 2] = [(1 << 32) + 2, (1 << 63) + 1];
 
 const REPORT: &[u8] = b"A,boolean,0,1,1\nA,boolean,1,2,2\nA,total,3,2\n";
 
-/// Counts calls: that of one number, from 0, fails, and later ones pass.
+// Counts calls: that of one number, from 0, fails, and later ones pass.
 #[derive(Drop)]
-pub(crate) struct FailAt {
-    pub(crate) made: usize,
+struct FailAt {
+    made: usize,
     place: usize,
 }
 
 impl FailAt {
-    /// None has been made yet.
-    pub(crate) fn new(place: usize) -> FailAt {
+    // None has been made yet.
+    fn new(place: usize) -> FailAt {
         FailAt { made: 0, place }
     }
 
@@ -41,12 +41,12 @@ impl FailAt {
     }
 }
 
-/// Gives at most `most` bytes a call.
+// Gives at most `most` bytes a call.
 #[derive(Drop)]
-pub(crate) struct Source<'a> {
-    pub(crate) bytes: &'a [u8],
-    pub(crate) most: usize,
-    pub(crate) calls: FailAt,
+struct Source<'a> {
+    bytes: &'a [u8],
+    most: usize,
+    calls: FailAt,
 }
 
 impl Read for Source<'_> {
@@ -57,11 +57,11 @@ impl Read for Source<'_> {
     }
 }
 
-/// Takes at most 16 bytes a call.
+// Takes at most 16 bytes a call.
 #[derive(Drop)]
-pub(crate) struct Sink {
-    pub(crate) text: Vec<u8>,
-    pub(crate) calls: FailAt,
+struct Sink {
+    text: Vec<u8>,
+    calls: FailAt,
 }
 
 impl Write for Sink {
@@ -88,42 +88,35 @@ fn sixteen_bytes(failing: usize) -> Watched<Source<'static>>
     })
 }
 
-// Sixteen bytes take sixteen calls, and one more finds the end. No memory is asked for the whole limit at once.
+// Whether both ways to read sixteen bytes say that the device failed, where this call of it fails.
+fn both_fail(alloc: Global, failing: usize) -> bool {
+    let bytes = read_bytes(alloc, &mut sixteen_bytes(failing), 16);
+    let words = read_words(alloc, &mut sixteen_bytes(failing), 2);
+    bytes.err() == Some(ReadFault::Device) && words.err() == Some(ReadFault::Device)
+}
+
+// Sixteen bytes take sixteen calls, and one more finds the end.
 #[test]
 fn failing_reads(rt: HostRuntime) -> Result<(), Fail> {
     for failing in 0..17 {
-        let read = read_bytes(rt.alloc(), &mut sixteen_bytes(failing), 16);
-        assert_eq!(rt; read.err(), Some(ReadFault::Device), "{failing}");
-        let read = read_words(rt.alloc(), &mut sixteen_bytes(failing), 2);
-        assert_eq!(rt; read.err(), Some(ReadFault::Device), "{failing}");
+        assert!(rt; both_fail(rt.alloc(), failing), "{failing}");
     }
+    Ok(())
+}
+
+// No memory is asked for the whole limit at once.
+#[test]
+fn bytes_below_the_greatest_limit(rt: HostRuntime) -> Result<(), Fail> {
     let bytes = read_bytes(rt.alloc(), &mut sixteen_bytes(17), usize::MAX)?;
     assert_eq!(rt; bytes.as_slice(), BYTES);
-    let words = read_words(rt.alloc(), &mut sixteen_bytes(17), usize::MAX)?;
-    assert_eq!(rt; words.as_slice(), WORDS.as_slice());
     Ok(())
 }
 
 #[test]
-fn limit_of_two_words(rt: HostRuntime) -> Result<(), Fail> {
-    let bytes = [1; 24];
-    for (len, fault) in [
-        (15, Some(ReadFault::NotWords)),
-        (16, None),
-        (17, Some(ReadFault::TooLong)),
-        (24, Some(ReadFault::TooLong)),
-    ] {
-        let read = read_words(rt.alloc(), &mut Watched::new(&bytes[..len]), 2);
-        assert_eq!(rt; read.err(), fault, "{len}");
-    }
+fn words_below_the_greatest_limit(rt: HostRuntime) -> Result<(), Fail> {
+    let words = read_words(rt.alloc(), &mut sixteen_bytes(17), usize::MAX)?;
+    assert_eq!(rt; words.as_slice(), WORDS.as_slice());
     Ok(())
-}
-
-/// The bytes of an image of three samples.
-pub(crate) fn image(alloc: Global) -> Result<Vec<u8>, Fail> {
-    let mut bytes = Watched::new(Vec::new(alloc));
-    write_words(&mut bytes, &three_samples(&[]))?;
-    Ok(bytes.into_inner())
 }
 
 // Writes the report of an image to a writer of which one call fails: the fault, the calls, and what went out.
@@ -140,7 +133,7 @@ fn report_to(alloc: Global, image: &[u8], failing: usize) -> (Option<CliFault>, 
 // Calls 0 to 2 write, and call 3 flushes. No call follows the one that failed.
 #[test]
 fn failing_writes(rt: HostRuntime) -> Result<(), Fail> {
-    let image = image(rt.alloc())?;
+    let image = bytes_of(rt.alloc(), &three_samples(&[]))?;
     for (failing, made, len) in [(0, 1, 0), (1, 2, 16), (2, 3, 32), (3, 4, 44), (4, 4, 44)] {
         let wanted = (failing < 4).then_some(CliFault::Write);
         let (fault, calls, text) = report_to(rt.alloc(), image.as_slice(), failing);
@@ -150,6 +143,11 @@ fn failing_writes(rt: HostRuntime) -> Result<(), Fail> {
         );
         assert!(rt; REPORT.starts_with(text.as_slice()), "{failing}");
     }
+    Ok(())
+}
+
+#[test]
+fn failing_write_of_an_image(rt: HostRuntime) -> Result<(), Fail> {
     let text = Vec::new(rt.alloc());
     let calls = FailAt::new(1);
     let mut sink = Watched::new(Sink { text, calls });

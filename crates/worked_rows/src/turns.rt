@@ -66,12 +66,8 @@ impl Gate for Turns {
     }
 }
 
-// The mark that a run by two workers leaves of the value that was added. None if the run is refused.
-fn mark_of_run<R: Threads + Wait>(
-    rt: &R,
-    alloc: Global,
-    waits_for: [usize; 4],
-) -> Result<Option<u64>, Fail> {
+// The image that a run by two workers writes. It is empty if the run is refused.
+fn image_of_run<R: Threads + Wait>(rt: &R, alloc: Global, waits_for: [usize; 4]) -> Vec<u8> {
     let gate = Turns {
         come: [
             AtomicU64::new(0),
@@ -85,23 +81,32 @@ fn mark_of_run<R: Threads + Wait>(
     let mut report = Watched::new(Vec::new(alloc));
     let mut script = Watched::new(SCRIPT);
     if run_script(rt, alloc, &mut script, &mut image, &mut report, 2, &gate).is_err() {
-        return Ok(None);
+        return Vec::new(alloc);
     }
-    let bytes: Vec<u8> = image.into_inner();
-    let words = read_words(alloc, &mut Watched::new(bytes.as_slice()), 128)?;
-    let reading = read(alloc, &words)?;
+    image.into_inner()
+}
+
+// The mark of the value that was added.
+fn mark_of(alloc: Global, words: &[u64]) -> Result<Option<u64>, Fail> {
+    let reading = read(alloc, words)?;
     let Some(histogram) = reading.hists.first() else {
         return Ok(None);
     };
     Ok(histogram.marks.get(1).copied())
 }
 
+// The same in the bytes of an image.
+fn mark_in(alloc: Global, image: &[u8]) -> Result<Option<u64>, Fail> {
+    let words = read_words(alloc, &mut Watched::new(image), 128)?;
+    mark_of(alloc, &words)
+}
+
 // The delta is made before the first call of the gate returns to the worker that adds: it takes nothing.
 #[test]
 fn delta_before_an_add(rt: HostRuntime) -> Result<(), Fail> {
     let waits_for = [AFTER_DELTA, AFTER_ADD, BEFORE_ADD, AFTER_ADD];
-    let mark = mark_of_run(&rt, rt.alloc(), waits_for)?;
-    assert!(rt; mark == Some(0));
+    let image = image_of_run(&rt, rt.alloc(), waits_for);
+    assert!(rt; mark_in(rt.alloc(), image.as_slice())? == Some(0));
     Ok(())
 }
 
@@ -109,7 +114,7 @@ fn delta_before_an_add(rt: HostRuntime) -> Result<(), Fail> {
 #[test]
 fn delta_behind_an_add(rt: HostRuntime) -> Result<(), Fail> {
     let waits_for = [BEFORE_DELTA, AFTER_DELTA, AFTER_ADD, AFTER_DELTA];
-    let mark = mark_of_run(&rt, rt.alloc(), waits_for)?;
-    assert!(rt; mark == Some(1));
+    let image = image_of_run(&rt, rt.alloc(), waits_for);
+    assert!(rt; mark_in(rt.alloc(), image.as_slice())? == Some(1));
     Ok(())
 }

@@ -1,8 +1,7 @@
-//! Workers at the same time: they wait for each other at a gate, a gate stops one, and of two refusals the first record's is returned.
+//! Workers at the same time: they wait for each other at a gate, and a gate stops one.
 
-use persist_commands::{Gate, OpenGate, run_script};
+use persist_commands::{Gate, run_script};
 use persist_report_core::CliFault;
-use segment_calls::Refusal;
 use segment_image::Watched;
 use std::alloc::Global;
 use std::sync::Wait;
@@ -102,13 +101,9 @@ fn gate_meets_two_workers(rt: HostRuntime) -> Result<(), Fail> {
     Ok(())
 }
 
-// The records of three histograms fill the segment, so both workers are refused: the second at record 6, and the first at record 7.
+// The first worker's last record is refused, too: there is no room for it.
 #[test]
-fn stops_in_order(rt: HostRuntime) -> Result<(), Fail> {
-    let why = Refusal::Full;
-    let (fault, len, report) = run(&rt, rt.alloc(), FULL, &OpenGate);
-    assert!(rt; fault == Some(CliFault::Refused { number: 6, why }));
-    assert!(rt; len == 0 && report.is_empty());
+fn shut_gate(rt: HostRuntime) -> Result<(), Fail> {
     for script in [SCRIPT, FULL] {
         let (fault, len, report) = run(&rt, rt.alloc(), script, &Shut);
         assert!(rt; fault == Some(CliFault::Gate) && len == 0 && report.is_empty());

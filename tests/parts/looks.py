@@ -1,9 +1,9 @@
 """Looks at a file that changes between the reads of `look`, beside a plain composition, plain_look.py.
 
-Each look gets three copies, forged ones of both versions and of any length, and mapped files too. For this the program
-is traced: before it reads an open file for the first time, the next copy is put into it. So are the looks of `show
---live --every`, of which each text but the first says what came since the look before, beside a plain renderer,
-plain_show.py.
+Each look gets three copies: those of worked looks (worked_looks.py), and forged ones of both versions and any length,
+and mapped files too. For this the program is traced: before it reads an open file for the first time, the next copy is
+put into it. So are the looks of `show --live --every`, of which each text but the first says what came since the look
+before, beside a plain renderer, plain_show.py.
 """
 
 from __future__ import annotations
@@ -23,7 +23,7 @@ from collections.abc import Iterator, Sequence
 from typing import Any
 
 from parts import known
-from support import forge, layout, plain_look, plain_reader, plain_show, tracer
+from support import forge, layout, plain_look, plain_reader, plain_show, tracer, worked_looks
 from support.program import EXAMPLE, ROOT, Answer, Case, Word, answer, content, difference, fault, untried
 
 PROGRAM = "persist_report"
@@ -176,22 +176,40 @@ def looked(copies: Sequence[bytes]) -> tuple[Answer, bytes | None]:
     return Answer(), layout.data_of(plain_look.look_of(one, two, three))
 
 
+def wrong_look(
+    program: pathlib.Path, folder: pathlib.Path, contents: Sequence[bytes], wanted: Answer, image: bytes | None
+) -> str | None:
+    """What is wrong with a look at a file that has these contents one after the other, or None. `image` has the bytes
+    of the look, if there is one."""
+    file, out = folder / "file", folder / "out"
+    file.write_bytes(b"")
+    out.write_bytes(STOOD)
+    change = Changing((), path=file, copies=contents)
+    wrong = difference(wanted, tracer.answer(program, ["look", file, out], change))
+    if wrong is None and content(out) != (STOOD if image is None else image):
+        wrong = "OUT is not the look, or not as it was"
+    return wrong
+
+
+def by_hand(program: pathlib.Path, folder: pathlib.Path) -> Iterator[Case]:
+    """Worked looks, and copies that give none."""
+    for name, copies, look in worked_looks.looks():
+        contents = [layout.data_of(copy) for copy in copies]
+        yield f"worked look, {name}", wrong_look(program, folder, contents, Answer(), layout.data_of(look))
+    for title, place, copy, text in worked_looks.faults():
+        contents = [layout.data_of(whole) for whole in worked_looks.copies()]
+        contents[place] = layout.data_of(copy)
+        yield f"worked look, {title}", wrong_look(program, folder, contents, fault(text, 3), None)
+
+
 def forged(program: pathlib.Path, folder: pathlib.Path, seed: int | str) -> Iterator[Case]:
     """Looks at forged copies, as images and as mapped files."""
-    file, out = folder / "file", folder / "out"
     for number in range(LOOKS):
         chance = random.Random(f"looks {seed} {number}")
         copies = copies_of(chance)
         front = chance.choice([b"", bytes(8)]) if all(copy[:1] == [layout.SEGMENT_COOKIE] for copy in copies) else b""
-        file.write_bytes(b"")
-        out.write_bytes(STOOD)
         contents = [front + layout.data_of(copy) for copy in copies]
-        change = Changing((), path=file, copies=contents)
-        wanted, image = looked(contents)
-        wrong = difference(wanted, tracer.answer(program, ["look", file, out], change))
-        if wrong is None and content(out) != (STOOD if image is None else image):
-            wrong = "OUT is not the look, or not as it was"
-        yield f"look {number} of seed {seed}", wrong
+        yield f"look {number} of seed {seed}", wrong_look(program, folder, contents, *looked(contents))
 
 
 def live(program: pathlib.Path, closed: pathlib.Path, look: bytes, folder: pathlib.Path) -> Iterator[Case]:
@@ -392,5 +410,6 @@ def cases(program: pathlib.Path, options: argparse.Namespace) -> Iterator[Case]:
         if not tracer.can_trace():
             yield untried(tracer.NOT_ALLOWED, options)
             return
+        yield from by_hand(program, folder.resolve())
         yield from forged(program, folder.resolve(), options.seed)
         yield from chains(program, folder.resolve(), options.seed)

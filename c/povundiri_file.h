@@ -16,7 +16,7 @@
  *     povundiri_file_close(&file);
  *
  * THE FILE holds the segment's table: 8 bytes of zeros, the image, and the shared cursors. So the image begins at byte 8, and others may
- * read it at any time (persist_report extract). It does not shrink here, and nobody else may truncate it: a store beyond its end raises
+ * look at it at any time (persist_report look). It does not shrink here, and nobody else may truncate it: a store beyond its end raises
  * SIGBUS. Its blocks are reserved, so no store finds the device full.
  *
  * THE LOCK is flock(2), exclusive, on the whole file, from open to close or to the end of the process, however it ends. It excludes other

@@ -206,7 +206,7 @@ uint32_t povundiri_recording_sums(struct povundiri_recording *recording, struct 
  *
  * A text is of the whole folder, so let one of the processes that record there be scraped. The flag `full` in it says that some segment was
  * full, which is how each one ends. A text takes no mutex of the recording, and reads each segment three times. An export folds first where
- * `fold_at` segments stand, and then waits for the device; whether that fold is done makes no difference to the text, and is not told.
+ * `fold_at` segments stand, and then waits for the device; whether that fold is done makes no difference to the text or the status.
  *
  * POVUNDIRI_DONE: *text is for free(), and has *length bytes and a zero behind them. Else it is null, and *length 0.
  *   those of povundiri_folder_sums, of which POVUNDIRI_SYSTEM sets *fault; of an export also POVUNDIRI_BAD_PREFIX

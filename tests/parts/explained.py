@@ -20,27 +20,27 @@ from support.program import EXAMPLE, SCRIPT, Answer, Case, Word, answer, differe
 SEGMENT = "segment,256,64,7\n"
 # A record after a segment and a histogram, and what is said of it.
 BAD_RECORDS = {
-    "hist,B,liner": "field 2 behind `hist` is `liner`; kinds are boolean, linear, custom, sparse",
+    "hist,B,liner": "field 2 after `hist` is `liner`; kinds are boolean, linear, custom, sparse",
     "hits,B,boolean": "`hits` stands first; records begin with segment, hist, add, delta",
-    "hist,B,linear,1,x,3": "field 4 behind `hist` is `x`; a number from 0 to 4294967295 may stand there",
-    "hist,B,linear,1,4294967296,3": "field 4 behind `hist` is `4294967296`; "
+    "hist,B,linear,1,x,3": "field 4 after `hist` is `x`; a number from 0 to 4294967295 may stand there",
+    "hist,B,linear,1,4294967296,3": "field 4 after `hist` is `4294967296`; "
     "a number from 0 to 4294967295 may stand there",
-    "hist,B,custom,1,2,-3": "field 5 behind `hist` is `-3`; a number from 0 to 4294967295 may stand there",
-    "hist,B,custom": "2 fields stand behind `hist`; its form is hist,NAME,custom,VALUE,.. with one value or more",
-    "hist,B,linear,1,2": "4 fields stand behind `hist`; its form is hist,NAME,linear,MIN,MAX,BUCKETS",
-    "hist,B,boolean,1": "3 fields stand behind `hist`; its form is hist,NAME,boolean or hist,NAME,sparse",
-    "hist,B": "1 fields stand behind `hist`; its form is hist,NAME,KIND and what the kind needs",
-    "add,A,1": "2 fields stand behind `add`; its form is add,NAME,VALUE,COUNT",
-    "add,A,2147483648,1": "field 2 behind `add` is `2147483648`; "
+    "hist,B,custom,1,2,-3": "field 5 after `hist` is `-3`; a number from 0 to 4294967295 may stand there",
+    "hist,B,custom": "fields after `hist`: 2; its form is hist,NAME,custom,VALUE,.. with one value or more",
+    "hist,B,linear,1,2": "fields after `hist`: 4; its form is hist,NAME,linear,MIN,MAX,BUCKETS",
+    "hist,B,boolean,1": "fields after `hist`: 3; its form is hist,NAME,boolean or hist,NAME,sparse",
+    "hist,B": "fields after `hist`: 1; its form is hist,NAME,KIND and what the kind needs",
+    "add,A,1": "fields after `add`: 2; its form is add,NAME,VALUE,COUNT",
+    "add,A,2147483648,1": "field 2 after `add` is `2147483648`; "
     "a number from -2147483648 to 2147483647 may stand there",
-    "add,A,1,": "field 3 behind `add` is ``; a number from 0 to 4294967295 may stand there",
-    "add,B,1,1": "field 1 behind `add` is `B`; no `hist` record before it has this name",
-    "delta,B": "field 1 behind `delta` is `B`; no `hist` record before it has this name",
-    "delta": "0 fields stand behind `delta`; its form is delta,NAME",
+    "add,A,1,": "field 3 after `add` is ``; a number from 0 to 4294967295 may stand there",
+    "add,B,1,1": "field 1 after `add` is `B`; no `hist` record before it has this name",
+    "delta,B": "field 1 after `delta` is `B`; no `hist` record before it has this name",
+    "delta": "fields after `delta`: 0; its form is delta,NAME",
     "segment,256,64,7": "only the first record may be a `segment` record",
-    "add,A,1,1\nhist,B,boolean": "a `hist` record stands behind an `add` or a `delta` record; all of these come last",
-    'hist,B,"\x1b[31m`\\"': "field 2 behind `hist` is `\\x1b[31m\\x60\\x5c`; kinds are boolean, linear, custom, sparse",
-    f"hist,B,{'x' * 65}": f"field 2 behind `hist` is `{'x' * 64}...`; kinds are boolean, linear, custom, sparse",
+    "add,A,1,1\nhist,B,boolean": "a `hist` record comes after an `add` or a `delta` record; all of these come last",
+    'hist,B,"\x1b[31m`\\"': "field 2 after `hist` is `\\x1b[31m\\x60\\x5c`; kinds are boolean, linear, custom, sparse",
+    f"hist,B,{'x' * 65}": f"field 2 after `hist` is `{'x' * 64}...`; kinds are boolean, linear, custom, sparse",
 }
 SHAPES = "PAGE is a multiple of 16 from 64 to 65536, and SIZE whole pages, at most 1048576"
 # A whole script whose first record is bad, and what is said of it.
@@ -49,9 +49,9 @@ BAD_STARTS = {
     "\n\n": (3, "the script ends before this record"),
     "\r\nhist,A,boolean": (2, "`hist` stands first; the first record is segment,SIZE,PAGE,ID"),
     "segment,1000,64,7": (1, f"SIZE is 1000 and PAGE is 64; {SHAPES}"),
-    "segment,256,64,x": (1, "field 3 behind `segment` is `x`; a number from 0 to 18446744073709551615 may stand there"),
-    "segment,256,64": (1, "2 fields stand behind `segment`; its form is segment,SIZE,PAGE,ID"),
-    "\ufeff\nsegment,1": (2, "1 fields stand behind `segment`; its form is segment,SIZE,PAGE,ID"),
+    "segment,256,64,x": (1, "field 3 after `segment` is `x`; a number from 0 to 18446744073709551615 may stand there"),
+    "segment,256,64": (1, "fields after `segment`: 2; its form is segment,SIZE,PAGE,ID"),
+    "\ufeff\nsegment,1": (2, "fields after `segment`: 1; its form is segment,SIZE,PAGE,ID"),
 }
 # Records that are refused, and why.
 REFUSED = {
@@ -93,7 +93,7 @@ WORDS = [
     (5, 0, "NotReady", "word 5 is 0; it has to be 1"),
     (5, 2, "Deleted", "word 5 is 2; it has to be 1; the segment was deleted"),
     (7, 15, "BadFree", "word 7 is 15; it has to be from 16 to the number of words"),
-    (12, 5, "BadQueue", "word 12 is 5; it has to be 4, and the two behind it 1 and 0"),
+    (12, 5, "BadQueue", "word 12 is 5; it has to be 4, and the two after it 1 and 0"),
 ]
 # What is stored at words of the image of the example's script, why it may not be recorded into again, and what is said
 # of it.

@@ -41,7 +41,7 @@ pub fn wanted_of(fault: ImageFault) -> &'static str {
         ImageFault::NotReady => "1",
         ImageFault::Deleted => "1; the segment was deleted",
         ImageFault::BadFree => "from 16 to the number of words",
-        ImageFault::BadQueue => "4, and the two behind it 1 and 0",
+        ImageFault::BadQueue => "4, and the two after it 1 and 0",
         ImageFault::TooShort
         | ImageFault::BadRef
         | ImageFault::BadBlock

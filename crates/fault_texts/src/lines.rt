@@ -99,7 +99,7 @@ impl fmt::Display for Finding {
     fn fmt<W: fmt::Write>(&self, f: &mut fmt::Formatter<W>) -> fmt::Result {
         let word = Shown(self.fields.get(0).unwrap_or_default());
         match self.complaint {
-            None => f.write_str("the record has no lawful form or place"),
+            None => f.write_str("the record has no valid form or place"),
             Some(Complaint::NoRecord) => f.write_str("the script ends before this record"),
             Some(Complaint::Field { index: 0, wanted }) => write!(
                 f,
@@ -107,14 +107,11 @@ impl fmt::Display for Finding {
             ),
             Some(Complaint::Field { index, wanted }) => {
                 let field = Shown(self.fields.get(index).unwrap_or_default());
-                write!(f, "field {index} behind `{word}` is `{field}`; {wanted}")
+                write!(f, "field {index} after `{word}` is `{field}`; {wanted}")
             }
             Some(Complaint::Count(form)) => {
                 let count = self.fields.len().saturating_sub(1);
-                write!(
-                    f,
-                    "{count} fields stand behind `{word}`; its form is {form}"
-                )
+                write!(f, "fields after `{word}`: {count}; its form is {form}")
             }
             Some(Complaint::NotFirst) => {
                 write!(
@@ -138,14 +135,14 @@ impl fmt::Display for Finding {
             ),
             Some(Complaint::LateHist) => {
                 f.write_str(
-                    "a `hist` record stands behind an `add` or a `delta` record; all of these come last",
+                    "a `hist` record comes after an `add` or a `delta` record; all of these come last",
                 )
             }
             Some(Complaint::UnknownName) => {
                 let name = Shown(self.fields.get(1).unwrap_or_default());
                 write!(
                     f,
-                    "field 1 behind `{word}` is `{name}`; no `hist` record before it has this name"
+                    "field 1 after `{word}` is `{name}`; no `hist` record before it has this name"
                 )
             }
         }

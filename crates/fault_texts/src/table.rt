@@ -97,7 +97,7 @@ pub const TEXTS: [(&str, &str, &str); 55] = [
     (
         "Busy",
         "Another process holds the lock of OUT, since it counts in that file or writes it; or that of a folder, which it folds. The lock was tried for 100 ms, and nothing was read or written. Of a recording's folder that is read: sixteen times a fold ended meanwhile.",
-        "Let that process end, or give OUT another name. To read a file that a program counts in, take its image by `extract FILE OUT`. For a folder try again: a fold that is at work does the same.",
+        "Let that process end, or give OUT another name. To read a file that a program counts in, take a look at it: `look FILE OUT`. For a folder try again: a fold that is at work does the same.",
     ),
     (
         "TooLong",

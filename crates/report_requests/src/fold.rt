@@ -10,7 +10,7 @@ const DETAILS: &str =
     "Add the segments of a recording's folder that nobody records into to the totals
 there, and remove them, while others record and read. What the folder has in all
 is the same before and after, also if the fold is killed. A segment that cannot
-be read stays, and is told.";
+be read stays, and is reported.";
 
 /// The command that keeps a recording's folder small.
 pub fn fold_command<'a>(alloc: Global) -> Result<Command<'a>, AllocError> {

@@ -15,7 +15,7 @@ Lines that begin with an exclamation mark say what is wrong with the image, and
 of how many images a sum is.
 
 A sum has all that its images count, and any number of them; to make one image
-of two, use `merge`. A file that cannot be read is told and left out.";
+of two, use `merge`. A file that cannot be read is reported and left out.";
 
 // Asks for the buckets alone.
 fn rows_flag<'a>(alloc: Global) -> Arg<'a> {

@@ -52,9 +52,9 @@ module _ (given : Opening) (slots id : ℕ) (me : Sat) (word : ℕ) (records : i
       same other said = ap words_said (some-injective (Wanted words) (Wanted other) said)
 
 -- a recorder's seat may do an event where the word says, so the rule allows the step
-pub allows_at : {segment : Segment} {seat : Pass} {slots id word : ℕ} (event : ℕ → Event) (at : ℕ) → MayStep segment seat (event at)
+pub allows_at : {segment : Segment} {seat : Pass} {slots word : ℕ} (id : ℕ) (event : ℕ → Event) (at : ℕ) → MayStep segment seat (event at)
     → word ≡ spot (opened_with segment).setting.shape.size (event at) + 1
     → ((y : ℕ) → word ≡ spot seat.me.0.segment.shape.size (event y) + 1 → at ≡ y)
     → Allows (Runs (opened_with segment)) slots id seat.me word (change (opened_with segment).setting.version (event at)) (DoesAt event word seat.me)
-allows_at {segment} {seat} {slots} {id} {word} event at may is one =
+allows_at {segment} {seat} {slots} {word} id event at may is one =
     does_at (opened_with segment) slots id seat.me word may.recorder event at is one may.ready

@@ -123,7 +123,7 @@ module _ (given : Opening) (slots id : ℕ) (me : Sat) (word : ℕ) (records : i
       )
 
 -- a step of a recorder's seat on a word that stands so far behind where it happens
-module _ {segment : Segment} {seat : Pass} {slots id word : ℕ} (offset : ℕ) (event : ℕ → Event) (at : ℕ) (here : word ≡ at + offset + 1) where
+module _ (segment : Segment) {seat : Pass} {slots word : ℕ} (id offset : ℕ) (event : ℕ → Event) (at : ℕ) (here : word ≡ at + offset + 1) where
   -- its notes are the same wherever it happens
   pub tells_at : {before behind : List Note} → MayDo seat before (event at) behind
       → word ≡ spot (opened_with segment).setting.shape.size (event at) + 1

@@ -7,7 +7,7 @@ use Rattle.live_segment.proofs.segment.Segment.finish_entry.Goals as goal
 
 pub fetch_add-requires : goal.fetch_add-requires
 fetch_add-requires c =
-    (search rules, search rules, tells_at 13 (λ y. counting_event (add_redundant y c.args.units)) c.args.histogram (omega arith) c.requires.may (omega arith))
+    (search rules, search rules, tells_at c.args.self.now _ 13 (λ y. counting_event (add_redundant y c.args.units)) c.args.histogram (omega arith) c.requires.may (omega arith))
 
 pub returns : goal.returns
 returns c = noted c.fetch_add.ensures.0 c.fetch_add.ensures.1 (c.fetch_add.ensures.2 c.args.histogram (omega arith))

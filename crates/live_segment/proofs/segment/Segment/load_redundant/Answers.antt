@@ -6,7 +6,7 @@ use Rattle.live_segment.proofs.lemmas.Steps.Reported.{stepped}
 use Rattle.live_segment.proofs.segment.Segment.load_redundant.Goals as goal
 
 pub load-requires : goal.load-requires
-load-requires c = (search rules, search rules, allows_at (λ x. taking_event (load_redundant x)) c.args.histogram c.requires.may (omega arith) (λ y e. omega arith))
+load-requires c = (search rules, search rules, allows_at _ (λ x. taking_event (load_redundant x)) c.args.histogram c.requires.may (omega arith) (λ y e. omega arith))
 
 pub returns : goal.returns
 returns c = stepped c.load.ensures.0 c.load.ensures.1 (c.load.ensures.2 c.args.histogram (omega arith))

@@ -6,7 +6,7 @@ use Rattle.live_segment.proofs.lemmas.Steps.Reported.{noted}
 use Rattle.live_segment.proofs.segment.Segment.look_single.Goals as goal
 
 pub load-requires : goal.load-requires
-load-requires c = (search rules, search rules, tells_at 9 (λ y. packing_event (load_single y)) c.args.histogram (omega arith) c.requires.may (omega arith))
+load-requires c = (search rules, search rules, tells_at c.args.self.now _ 9 (λ y. packing_event (load_single y)) c.args.histogram (omega arith) c.requires.may (omega arith))
 
 pub returns : goal.returns
 returns c = noted c.load.ensures.0 c.load.ensures.1 (c.load.ensures.2 c.args.histogram (omega arith))

@@ -86,7 +86,7 @@ EXAMPLES = {
     "the corrupt flag": [
         *MADE, *ended(("set_corrupt", 0)), ("hist", 1, "A", "boolean"), ("step", 1, ALL),
         ("hist", 1, "B", "boolean"), ("step", 1, ALL), ("add", 1, "A", 1, 1), ("step", 1, ALL),
-        ("add", 1, "A", 0, 1), ("step", 1, ALL), ("hist", 1, "A", "sparse"), ("step", 1, ALL),
+        ("add", 1, "A", 0, 1), ("step", 1, ALL), ("hist", 1, "A", "sparse"),
     ],
     # A sample that needs counts is refused, and then another one is packed.
     "a full segment": [

@@ -44,7 +44,7 @@ step_spot a Corrupt event is = absurd (cc is)
 from_aim : (at size : ℕ) (block : ℕ × ℕ) → (at, size) ≡ block → 16 ≤ at → at + 5 ≤ at + size → (16 ≤ block.0) × (5 ≤ block.1)
 from_aim at size block same from five = subst (λ (p : ℕ × ℕ). (16 ≤ p.0) × (5 ≤ p.1)) same (from, omega (arith, five))
 
--- the words that are taken lie behind the header and are five or more
+-- the words that are taken lie after the header and are five or more
 taken_from : (a : Allocation) (stage : AllocStage) (block : ℕ × ℕ) → IsAimed a stage → taken stage ≡ Some block → (16 ≤ block.0) × (5 ≤ block.1)
 taken_from a LoadFlags block aimed e = absurd (cc e)
 taken_from a LoadFree block aimed e = absurd (cc e)
@@ -146,7 +146,7 @@ list_word_kept shape spoils old new at keeps same listed =
     let high = list_word_high shape old at keeps listed in
     ap (λ (s : State). word_at s.words at) same ∙ get_or-set_other old.words 6 at _ 0 (λ e. omega arith)
 
--- a claimed block lies within the words, behind the header
+-- a claimed block lies within the words, after the header
 pub record_within : (shape : Dimensions) (state : State) (reference : ℕ) → StateKeeps shape state → IsRecord state.allocations reference
     → (16 ≤ reference) × (reference + 5 ≤ length state.words)
 record_within shape state reference keeps (owner, a, size, mine, stage) =

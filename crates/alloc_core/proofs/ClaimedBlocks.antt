@@ -1,4 +1,4 @@
--- A claimed block is lawful, as a reader of images sees it.
+-- A claimed block is valid, as a reader of images sees it.
 use Rattle.std.proofs.Common.{◌≡◌, ◌≢◌, ℕ, ◌+◌, ◌-◌, ◌*◌, ◌/◌, ◌%◌, ◌<◌, ◌≤◌, true, List, ◌∷◌, get_or, take, drop, sym, ap, ◌∙◌, subst, arith, div-add-mod'}
 use Rattle.std.specs.Prelude.{◌&&◌, nat_le}
 use Rattle.std.proofs.lemmas.Bool.{and_from, le-leb, eq-eqb}
@@ -64,7 +64,7 @@ claimed_at shape state owner a reference size keeps mine stage =
       in_page = subst (λ (s : Dimensions). reference % s.page + size ≤ s.page) fits.shaped aimed.one_page;
     }
 
--- so it is a lawful block
+-- so it is a valid block
 pub lawful_at : (shape : Dimensions) (words : List ℕ) (reference size : ℕ) → IsClaimedAt shape words reference size
     → (is_placed (head_of words) reference && is_claimed words (head_of words) reference) ≡ true
 lawful_at shape words reference size is =

@@ -13,7 +13,7 @@ use Rattle.alloc_core.specs.Alloc.{IsRise}
 use Rattle.alloc_core.specs.Laws.{own, claimed_words}
 use Rattle.alloc_core.proofs.Layouts.{shown_put, shown_grown, shown_corrupt, shown_full, free_word}
 
--- a raw block behind its size, and behind its cookie
+-- a raw block after its size is stored, and after its cookie is
 abbrev pub sized : ℕ → List ℕ
 sized size = size ∷ replicate (size - 1) 0
 
@@ -105,7 +105,7 @@ module _ (shape : Dimensions) (words : List ℕ) (layout : Layout) (owner at siz
       own_put shape words layout owner at k (marked size 0xC8799269) (claimed_words size tag) (at + 2) 2 tag shown there refl
       (omega (arith, length-marked size 0xC8799269 five, five)) (sym (third_zero size 0xC8799269 tag (omega (arith, five))))
 
-  -- behind the size and the cookie any words may stand
+  -- after the size and the cookie any words may follow
   pub behind_stored : (cookie index v : ℕ) (behind : List ℕ) (k : ℕ) → IsShown shape words layout
       → get_elem? layout.blocks k ≡ some (own owner at (size ∷ cookie ∷ behind)) → index < length behind
       → IsShown shape (set words (at + (2 + index)) v) (put layout k (own owner at (size ∷ cookie ∷ set behind index v)))

@@ -45,7 +45,7 @@ module _ (shape : Dimensions) (words : List ℕ) (allocations : List Allocation)
   abbrev Goes : List ℕ → Allocation → Type 0
   Goes words' a' = GoesTo words' (set allocations owner a')
 
-  -- where the others fit as they are
+  -- if the others fit as they are
   goes : (words' : List ℕ) (layout' : Layout) (a' : Allocation) → IsShown shape words' layout' → AllocationFits shape layout' owner a'
       → ((j : ℕ) (x : Allocation) → j ≢ owner → AllocationFits shape keeps.layout j x → AllocationFits shape layout' j x) → Leaves keeps.layout layout' → Goes words' a'
   goes words' layout' a' shown fits' others leaves = (
@@ -60,7 +60,7 @@ module _ (shape : Dimensions) (words : List ℕ) (allocations : List Allocation)
     leaves,
   )
 
-  -- where no word changes
+  -- if no word changes
   stays : (words' : List ℕ) (a' : Allocation) → words' ≡ words → AllocationFits shape keeps.layout owner a' → Goes words' a'
   stays words' a' same fits' =
       goes words' keeps.layout a' (subst (λ (ws : List ℕ). IsShown shape ws keeps.layout) (sym same) keeps.shown) fits' (λ _ _ _ f. f) (λ b among nobody. among)
@@ -186,7 +186,7 @@ module _ (shape : Dimensions) (words : List ℕ) (allocations : List Allocation)
       (size_stored shape words keeps.layout owner at size k keeps.shown there five)
       (lawful_at 0 (StoreSize at size purpose) e) (λ blocks among. among)
 
-  -- the stage behind the cookie of a claim has the block, and that behind a waste nothing
+  -- the stage after the cookie of a claim has the block, and that after a waste nothing
   has_cookie : (at size : ℕ) (purpose : Purpose) (blocks : List Block) → IsAmong blocks (own owner at (marked size (cookie_of purpose)))
       → Has blocks owner (stage_of_cookie at size purpose)
   has_cookie at size purpose.Claim blocks among = among
@@ -243,7 +243,7 @@ module _ (shape : Dimensions) (words : List ℕ) (allocations : List Allocation)
   step_keeps Full event e is = absurd (cc is)
   step_keeps Corrupt event e is = absurd (cc is)
 
-  -- a store into the allocation's claimed block, behind its size and its cookie
+  -- a store into the allocation's claimed block, after its size and its cookie
   pub behind_keeps : (at size index v : ℕ) → a.stage ≡ Claimed at size → 2 + index < size → GoesTo (set words (at + (2 + index)) v) allocations
   behind_keeps at size index v e lt =
       let (behind, long, (k, there)) = has_at (Claimed at size) e in
@@ -289,7 +289,7 @@ module _ (shape : Dimensions) (words : List ℕ) (allocations : List Allocation)
   tail_keeps v =
       beside (set words 8 v) l.version l.id l.corrupt l.full l.other_flags v l.reserved (shown_tail shape words l v keeps.shown).shows
 
-  -- a word that an image may have had otherwise
+  -- a word that may be another in an image
   pub image_word_keeps : (at v : ℕ) → IsImageWord at → Keeps shape (set words at v) allocations
   image_word_keeps at v (inl version) =
       subst (λ i. Keeps shape (set words i v) allocations) (sym version)

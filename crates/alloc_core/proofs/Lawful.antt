@@ -1,4 +1,4 @@
--- What an allocation aims at stays lawful, whatever it finds.
+-- What an allocation aims at stays valid, whatever it finds.
 use Rattle.std.proofs.Common.{◌≡◌, ℕ, ◌+◌, ◌-◌, ◌%◌, ◌≤◌, ◌==◌, Bool, true, false, refl, sym, subst, arith}
 use Rattle.std.specs.Prelude.{nat_lt, nat_le, bit_and, ◌&&◌, if◌then◌else◌}
 use Rattle.std.specs.Cmp.{first_so, second_so}
@@ -14,7 +14,7 @@ use Rattle.alloc_core.specs.Planned.{room_at, planned, is_pointer}
 use Rattle.alloc_core.specs.Alloc.{Allocation, stage_of_plan, stage_of_cookie, stage_after, seen_after, moved, IsRise, Suits, IsAimed, IsLawful}
 use Rattle.alloc_core.proofs.Pages.{rise_within, rise_to_end}
 
--- a lawful free pointer, as numbers
+-- a valid free pointer, as numbers
 pub record IsPointer (shape : Dimensions) (free : ℕ) : Type 0 where
   pub from : 16 ≤ free
   pub within : free ≤ shape.size
@@ -57,7 +57,7 @@ module _ (a : Allocation) (lawful : IsShape a.shape) (least : 5 ≤ a.size) (mos
       let some = ltb-false (room_at a.shape found - a.size) 5 g in
       (p.from, rise_within a.shape found a.size least (omega arith) (omega arith), (omega arith, omega arith))
 
-  -- what comes behind a loaded free pointer
+  -- what comes after a loaded free pointer
   aimed_free : (good : Bool) → is_pointer a.shape found ≡ good
       → IsAimed seeing (if good then stage_of_plan found (planned found a.size a.shape) else Corrupt)
   aimed_free true e = aimed_plan _ _ _ (pointer a.shape found lawful e) refl refl refl

@@ -15,7 +15,7 @@ use Rattle.alloc_core.specs.Alloc.{IsRise}
 use Rattle.alloc_core.proofs.Flags.{corrupts, fills}
 use Rattle.alloc_core.proofs.Owners.{set_at}
 
--- a block begins at the first place or behind it
+-- a block begins at the first place or after it
 at_from : (page at : ℕ) (blocks : List Block) (k : ℕ) (b : Block) → IsLaid page at blocks → get_elem? blocks k ≡ some b → at ≤ b.at
 at_from page at [] k b laid e = absurd (some-ne-none b (sym e))
 at_from page at (x ∷ xs) zero b laid e =
@@ -108,7 +108,7 @@ laid-set page at (x ∷ xs) zero b b' e long place laid =
 laid-set page at (x ∷ xs) (suc k) b b' e long place laid =
     (laid.0, laid.1, laid.2, laid-set page (at + extent x) xs k b b' e long place laid.3)
 
--- the words of a layout, with a word of flags and a free pointer in the place of its own, and others behind the header
+-- the words of a layout, with another word of flags, another free pointer and other words from the queue block on
 abbrev with_words : Dimensions → Layout → ℕ → ℕ → List ℕ → List ℕ
 with_words shape layout flags free body =
     0x408305DC ∷ layout.version ∷ shape.size ∷ shape.page ∷ layout.id ∷ 1 ∷ flags ∷ free ∷ layout.tail
@@ -308,7 +308,7 @@ length_shown shape words layout shown =
     let all = ap length shown.shows in
     omega (arith, h, e, f, ends, all)
 
--- the free pointer stands behind the queue block
+-- the free pointer is after the queue block
 pub free_from : (shape : Dimensions) (words : List ℕ) (layout : Layout) → IsShown shape words layout → 16 ≤ free_of layout
 free_from shape words layout shown =
     ends_within shape.page 12 layout.blocks 0 (queue_block shown.sound.queue.0) shown.sound.laid shown.sound.queue.1

@@ -29,7 +29,7 @@ mod_turn a page pos =
     let split : a + (page - r) ≡ q + page = omega arith in
     ap (λ (n : ℕ). n % page) (split ∙ suc_times (a / page) page) ∙ mul-mod_left (a / page + 1) page
 
--- the pages that end before a place, where the place lies in a number of whole pages
+-- the pages that end before a place, if the place lies in a number of whole pages
 turn_below : (q t page a size : ℕ) → q * page ≤ a → a < size → t * page ≡ size → Dec (t ≤ q) → q * page + page ≤ size
 turn_below q t page a size below lt is (yes d) = let m : t * page ≤ q * page = mul-le-mul_right page d in absurd (omega arith)
 turn_below q t page a size below lt is (no d) =

@@ -70,7 +70,7 @@ move_keeps shape move old new keeps is = (move_leaves shape move old new keeps i
 pub run_keeps : (shape : Dimensions) (moves : List Move) (old new : State) → StateKeeps shape old → IsRun shape moves old new → StateKeeps shape new
 run_keeps shape moves old new keeps is = (run_leaves shape moves old new keeps is).0
 
--- the free pointer of words that are shown is lawful
+-- the free pointer of words that are shown is valid
 pub free_is_pointer : (shape : Dimensions) (words : List ℕ) (layout : Layout) → IsShown shape words layout → is_pointer shape (word_at words 7) ≡ true
 free_is_pointer shape words layout shown =
     let ends = shown.sound.ends in

@@ -52,7 +52,7 @@ corrupt_stage (Claimed at size) e = absurd (cc e)
 corrupt_stage Full e = absurd (cc e)
 corrupt_stage Corrupt e = refl
 
--- an allocation that is to go on has a next event
+-- an allocation that is to continue has a next event
 more_goes : (a : Allocation) (stage : AllocStage) → answer stage ≡ said.More → is_some (event_at a stage) ≡ true
 more_goes a LoadFlags e = refl
 more_goes a LoadFree e = refl
@@ -217,7 +217,7 @@ taken_apart shape words allocations i j a b block other keeps ne mine yours e f 
     subst (λ (n : ℕ × ℕ). Apart (block.0, n.0) (other.0, n.1)) (λ k. (long k, wide k))
     (owners_apart shape.page keeps.layout.blocks i j (own i block.0 ws) (own j other.0 vs) keeps.shown.sound.laid ne refl refl among there)
 
--- what Done says of the stages before and behind it
+-- what Done says of the stages before and after it
 claimed_stage : (stage : AllocStage) (reference : ℕ) → answer stage ≡ said.Done reference → (size : ℕ) × (stage ≡ Claimed reference size)
 claimed_stage LoadFlags reference e = absurd (cc e)
 claimed_stage LoadFree reference e = absurd (cc e)

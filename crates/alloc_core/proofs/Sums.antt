@@ -78,7 +78,7 @@ unfolding from_owner
 weight_within none n = omega arith
 weight_within (some j) n = rw (le-leb 0 j (omega arith)) (omega arith)
 
--- blocks lie before where they end
+-- blocks lie before the word where they end
 blocks_within : (at : ℕ) (blocks : List Block) → at + sum_by (from_weight 0) blocks ≤ end_of at blocks
 blocks_within at [] = omega arith
 blocks_within at (b ∷ bs) =

@@ -16,8 +16,8 @@ use Rattle.alloc_core.specs.Layout.{IsShape}
 use Rattle.alloc_core.specs.Planned.{planned, is_pointer}
 use Rattle.alloc_core.specs.Event.{Access, load_flags, load_free, exchange_free, store_size, store_cookie, store_type, set_flag, spot, after}
 
--- a plain record of an allocation: the segment's shape, the words that it wants, the type of its block, the free
--- pointer that it loaded last (0 before that), and what it does next
+-- a plain record of an allocation: the segment's shape, how many words it needs, the type of its block, the free pointer that
+-- it loaded last (0 before that), and what it does next
 pub record Allocation : Type 0 where
   pub shape : Dimensions
   pub size : ℕ
@@ -30,7 +30,7 @@ abbrev pub cookie_of : Purpose → ℕ
 cookie_of purpose.Claim = CLAIMED_COOKIE
 cookie_of purpose.Waste = WASTED_COOKIE
 
--- the event that is next at a stage, where the allocation has not ended
+-- the next event at a stage, if the allocation has not ended
 abbrev pub event_at : Allocation → AllocStage → Option Access
 event_at allocation LoadFlags = Some load_flags
 event_at allocation LoadFree = Some load_free
@@ -43,7 +43,7 @@ event_at allocation (Claimed at size) = None
 event_at allocation Full = None
 event_at allocation Corrupt = None
 
--- the next event of an allocation, or none where it has ended
+-- the next event of an allocation, or none if it has ended
 abbrev pub next_event : Allocation → Option Access
 next_event allocation = event_at allocation allocation.stage
 
@@ -53,12 +53,12 @@ stage_of_plan free (plan.Claim size next) = ExchangeFree next purpose.Claim
 stage_of_plan free (plan.Waste room) = ExchangeFree (free + room) purpose.Waste
 stage_of_plan free plan.Full = SetFull
 
--- the stage behind a cookie: a wasted rest leads to a new try
+-- the stage after a cookie: a wasted rest leads to a new try
 abbrev pub stage_of_cookie : ℕ → ℕ → Purpose → AllocStage
 stage_of_cookie at size purpose.Claim = StoreType at size
 stage_of_cookie at size purpose.Waste = LoadFlags
 
--- the stage behind an event that found a number
+-- the stage after an event that found a number
 abbrev pub stage_after : Allocation → ℕ → AllocStage → AllocStage
 stage_after allocation found LoadFlags = if bit_and found FLAG_CORRUPT == 0 then LoadFree else Corrupt
 stage_after allocation found LoadFree =
@@ -83,7 +83,7 @@ abbrev pub moved : Allocation → ℕ → Allocation
 moved allocation found =
     record allocation { seen = seen_after allocation found allocation.stage; stage = stage_after allocation found allocation.stage }
 
--- what a step answers that leads to a stage
+-- what a step that leads to a stage returns
 abbrev pub answer : AllocStage → AllocStep
 answer (Claimed at size) = said.Done at
 answer Full = said.Full
@@ -95,7 +95,7 @@ abbrev pub IsCorruptBy : Allocation → List ℕ → Type 0
 IsCorruptBy old words =
     ((old.stage ≡ LoadFlags) × (bit_and (word_at words FLAGS_WORD) FLAG_CORRUPT ≢ 0)) ⊎ ((old.stage ≡ LoadFree) × (is_pointer old.shape (word_at words FREE_WORD) ≡ false))
 
--- one step: the next event happens, the allocation is what that makes of it, and the answer says how it stands
+-- one step: the next event happens, the allocation becomes what that makes of it, and the answer is that of its new stage
 pub record IsStep (old : Allocation) (words : List ℕ) (new : Allocation) (new_words : List ℕ) (step : AllocStep) : Type 0 where
   pub event : Access
   pub next : next_event old ≡ Some event
@@ -103,28 +103,28 @@ pub record IsStep (old : Allocation) (words : List ℕ) (new : Allocation) (new_
   pub new_is : new ≡ moved old (word_at words (spot event))
   pub answers : step ≡ answer new.stage
 
--- the free pointer may go from one number to another: a block of five words or more in one page, behind which the page
--- has room for none or for five words
+-- the free pointer may go from one number to another: over a block of five words or more in one page, after which the page has
+-- no words left, or room for five
 pub record IsRise (shape : Dimensions) (old new : ℕ) : Type 0 where
   pub five : old + BLOCK_LEAST ≤ new
   pub within : new ≤ shape.size
   pub one_page : old % shape.page + (new - old) ≤ shape.page
   pub leaves : new % shape.page + BLOCK_LEAST ≤ shape.page
 
--- a block of five words or more lies behind the queue block, within the segment, and in one page
+-- a block of five words or more lies after the queue block, within the segment, and in one page
 pub record IsPlace (shape : Dimensions) (at size : ℕ) : Type 0 where
   pub from : HEADER_WORDS ≤ at
   pub five : BLOCK_LEAST ≤ size
   pub within : at + size ≤ shape.size
   pub one_page : at % shape.page + size ≤ shape.page
 
--- a block of so many words is what an allocation wants: no fewer, and not five more
+-- this many words suit an allocation: for a block no fewer than it needs, and not five more; for a wasted rest fewer
 abbrev pub Suits : Allocation → Purpose → ℕ → Type 0
 Suits allocation purpose.Claim size = (allocation.size ≤ size) × (size < allocation.size + BLOCK_LEAST)
 Suits allocation purpose.Waste size = size < allocation.size
 
--- what holds at a stage, whatever the words are: what it stores lies in the segment, and it is full where the words that
--- it wants pass the end of the segment from the free pointer that it loaded
+-- what holds at a stage, whatever the words are: what it stores lies in the segment, and it is full only if the words that it
+-- needs pass the end of the segment from the free pointer that it loaded
 abbrev pub IsAimed : Allocation → AllocStage → Type 0
 IsAimed allocation (ExchangeFree next purpose) =
     (HEADER_WORDS ≤ allocation.seen) × IsRise allocation.shape allocation.seen next × Suits allocation purpose (next - allocation.seen)
@@ -139,7 +139,7 @@ IsAimed allocation SetFull = allocation.shape.size < allocation.seen + allocatio
 IsAimed allocation Full = allocation.shape.size < allocation.seen + allocation.size
 IsAimed allocation _ = ⊤
 
--- an allocation that was started lawfully, whatever was done to the words since
+-- an allocation that had a valid start, whatever was done to the words since
 pub record IsLawful (allocation : Allocation) : Type 0 where
   pub shaped : IsShape allocation.shape
   pub least : BLOCK_LEAST ≤ allocation.size
@@ -150,6 +150,6 @@ pub record IsLawful (allocation : Allocation) : Type 0 where
 abbrev pub first_of : Dimensions → ℕ → ℕ → Allocation
 first_of shape payload tag = record { shape = shape; size = max payload 1 + BLOCK_HEADER; tag = tag; seen = 0; stage = LoadFlags }
 
--- the allocation that is started, where its block fits in a page
+-- the allocation that is started, if its block fits in a page
 abbrev pub started : Dimensions → ℕ → ℕ → Result Allocation TooLarge
 started shape payload tag = if nat_lt shape.page (payload + BLOCK_HEADER) then Err (record {}) else Ok (first_of shape payload tag)

@@ -3,7 +3,7 @@ use Rattle.std.specs.Prelude.{ℕ, ◌+◌, ◌==◌, List, bit_or, slice_set, i
 use Rattle.segment_image.specs.Words.{word_at}
 use Rattle.segment_image.specs.declared.layout.TheConstants.{FLAGS_WORD, FREE_WORD, BLOCK_COOKIE, BLOCK_TYPE, BLOCK_HEADER}
 
--- One atomic operation on one word: to load it; to store a value; to exchange it where it is an old value; to set bits.
+-- One atomic operation on one word: to load it; to store a value; to exchange it if it is an old value; to set bits.
 pub data Access : Type 0 where
   load : (at : ℕ) → Access
   store : (at value : ℕ) → Access

@@ -91,11 +91,11 @@ pub record IsNewBlock (allocation : Allocation) (reference : ℕ) (words : List 
   pub spare : size < allocation.size + BLOCK_LEAST
   -- its header is stored, and its next and its payload are zeros
   pub holds : take size (drop reference words) ≡ claimed_words size allocation.tag
-  -- it lies behind the queue block, below the free pointer, and in one page
+  -- it lies after the queue block, below the free pointer, and in one page
   pub from : HEADER_WORDS ≤ reference
   pub below : reference + size ≤ word_at words FREE_WORD
   pub one_page : reference % allocation.shape.page + size ≤ allocation.shape.page
-  -- it is apart from every other block of the layout: from each that was claimed, whoever's it is, each wasted rest, each gap
+  -- it is apart from every other block of the layout: from each that was claimed, by any owner, each wasted rest, each gap
   pub alone : (block : Block) → IsAmong layout.blocks block → block.at ≢ reference → Apart (reference, size) (block.at, extent block)
   -- and apart from what any other allocation has
   pub apart : (other : ℕ) (b : Allocation) (block : ℕ × ℕ) → other ≢ owner → get_elem? allocations other ≡ some b
@@ -106,15 +106,15 @@ pub record State : Type 0 where
   pub words : List ℕ
   pub allocations : List Allocation
 
--- what can happen: an allocation starts, one goes on by its next event, the owner of a claimed block stores a word of its
--- payload, or somebody sets the corrupt flag
+-- what can happen: an allocation starts, one performs its next event, the owner of a claimed block stores a word of its payload,
+-- or somebody sets the corrupt flag
 pub data Move : Type 0 where
   starts : (payload tag : ℕ) → Move
   steps : (owner : ℕ) → Move
   fills : (owner index value : ℕ) → Move
   spoils : Move
 
--- a move makes of an old state a new one
+-- a move leads from an old state to a new one
 abbrev pub IsMove : Dimensions → Move → State → State → Type 0
 IsMove shape (starts payload tag) old new =
     (a : Allocation) × (started shape payload tag ≡ Ok a) × (new ≡ record old { allocations = old.allocations ++ a ∷ [] })
@@ -126,12 +126,12 @@ IsMove shape (fills owner index value) old new =
     × (new ≡ record old { words = after (store_payload block.0 index value) old.words })
 IsMove shape spoils old new = new ≡ record old { words = after (set_flag FLAG_CORRUPT) old.words }
 
--- moves one after the other, whoever makes them
+-- moves one after the other, by anybody
 abbrev pub IsRun : Dimensions → List Move → State → State → Type 0
 IsRun shape [] old new = new ≡ old
 IsRun shape (move ∷ moves) old new = (next : State) × IsMove shape move old next × IsRun shape moves next new
 
--- the blocks that nobody owns, as those of an image of which a segment was made, are in a later layout as they were
+-- the blocks that nobody owns, such as those of an image that a segment was made from, are unchanged in a later layout
 abbrev pub Leaves : Layout → Layout → Type 0
 Leaves old new = (block : Block) → IsAmong old.blocks block → block.owner ≡ none → IsAmong new.blocks block
 

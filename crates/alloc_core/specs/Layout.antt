@@ -5,16 +5,16 @@ use lib.ListN.{get_elem?}
 use Rattle.segment_image.specs.Shape.{Dimensions}
 use Rattle.segment_image.specs.declared.layout.TheConstants.{HEADER_WORDS, MIN_PAGE, MAX_PAGE, PAGE_STEP, MAX_SIZE, SEGMENT_COOKIE, STATE_READY, FLAG_CORRUPT, FLAG_FULL, QUEUE, QUEUE_SIZE, QUEUE_COOKIE, TYPE_PURGED, BLOCK_LEAST}
 
--- A piece of a segment: the word where it begins, the one whose it is, where there is one, and its words. The queue block
--- is the first piece; the others are blocks that were claimed, wasted rests of pages, and gaps.
+-- A piece of a segment: the word where it begins, its owner, if it has one, and its words. The queue block is the first
+-- piece; the others are blocks that were claimed, wasted rests of pages, and gaps.
 pub record Block : Type 0 where
   pub at : ℕ
   pub owner : Option ℕ
   pub words : List ℕ
 
 -- What a segment consists of. `other_flags` are the bits of the word of flags above its first two, and `reserved` the three
--- words between the tail and the queue block: in a new segment they are 0, in one that was made of an image as they were there.
--- `spare` are the words behind the last block.
+-- words between the tail and the queue block: in a new segment they are 0, in one that was made from an image they are what they
+-- were there. `spare` is the number of words after the last block.
 pub record Layout : Type 0 where
   pub version : ℕ
   pub id : ℕ
@@ -30,7 +30,7 @@ pub record Layout : Type 0 where
 abbrev pub extent : Block → ℕ
 extent block = length block.words
 
--- where blocks end that begin at a word and follow one another
+-- where the last of these blocks ends, if the first begins at a word and they follow one another
 abbrev pub end_of : ℕ → List Block → ℕ
 end_of at [] = at
 end_of at (block ∷ blocks) = end_of (at + extent block) blocks
@@ -50,7 +50,7 @@ head_words shape layout =
     ∷ flags_of layout.corrupt layout.full layout.other_flags ∷ free_of layout ∷ layout.tail
     ∷ layout.reserved.0 ∷ layout.reserved.1 ∷ layout.reserved.2 ∷ []
 
--- the words of blocks, one block behind the other, and others behind them
+-- the words of blocks, one block after the other, and other words after them
 abbrev pub spread : List ℕ → List Block → List ℕ
 spread others [] = others
 spread others (block ∷ blocks) = block.words ++ spread others blocks
@@ -69,7 +69,7 @@ IsLaid page at (block ∷ blocks) =
 abbrev pub queue_block : ℕ → Block
 queue_block next = record { at = QUEUE; owner = none; words = QUEUE_SIZE ∷ QUEUE_COOKIE ∷ TYPE_PURGED ∷ next ∷ [] }
 
--- a shape is lawful: a page has a multiple of 16 words, from 64 to 65,536, and a segment has whole pages, one or more, of at most 2^20
+-- a shape is valid: a page has a multiple of 16 words, from 64 to 65,536, and a segment has whole pages, one or more, of at most 2^20
 -- words together
 pub record IsShape (shape : Dimensions) : Type 0 where
   pub wide : MIN_PAGE ≤ shape.page

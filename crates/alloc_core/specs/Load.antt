@@ -1,4 +1,4 @@
--- The word that an event loads, where it is a load.
+-- The word that an event loads, if it is a load.
 use Rattle.std.specs.Prelude.{ℕ, ◌%◌, ◌^◌, Option, Some, None}
 use Rattle.alloc_core.specs.Event.{Access}
 use Rattle.alloc_core.specs.Event.Access.{load, store, exchange, set_bits}

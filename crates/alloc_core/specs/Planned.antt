@@ -9,8 +9,8 @@ use Rattle.alloc_core.specs.declared.planned.Planned.TheVariants.{Claim, Waste, 
 abbrev pub room_at : Dimensions → ℕ → ℕ
 room_at shape free = shape.page - free % shape.page
 
--- Full where the words would pass the end of the segment; else Waste where they would pass the end of the page; else
--- Claim, and where fewer than five words of the page would be left, these too
+-- Full if the words would pass the end of the segment; else Waste if they would pass the end of the page; else Claim, and
+-- if fewer than five words of the page would be left, these too
 abbrev pub planned : ℕ → ℕ → Dimensions → Planned
 planned free size shape =
     let room = room_at shape free in
@@ -19,6 +19,6 @@ planned free size shape =
     else if nat_lt (room - size) BLOCK_LEAST then Claim room (free + room)
     else Claim size (free + size)
 
--- a free pointer that is lawful: behind the queue block, within the segment, and with room for five words in its page
+-- a free pointer that is valid: after the queue block, within the segment, and with room for five words in its page
 abbrev pub is_pointer : Dimensions → ℕ → Bool
 is_pointer shape free = nat_le HEADER_WORDS free && nat_le free shape.size && nat_le BLOCK_LEAST (room_at shape free)

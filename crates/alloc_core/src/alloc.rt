@@ -65,7 +65,7 @@ pub(crate) enum AllocStage {
 /// What a step of an allocation says.
 #[derive(Clone, Copy, Debug, PartialEq, Eq)]
 pub enum AllocStep {
-    /// The allocation goes on.
+    /// The allocation continues.
     More,
     /// It has claimed the block at this reference.
     Done(u64),
@@ -104,7 +104,7 @@ impl AllocStage {
     ghost use Rattle.std.specs.Prelude.{◌≡◌};
     ghost use Rattle.alloc_core.specs.Alloc.{answer};
 
-    // What a step says that led here.
+    // What a step that led to this stage says.
     fn answer(self) -> AllocStep
         ensures { result ≡ answer self }
     {
@@ -147,7 +147,7 @@ impl Alloc {
     /// Starts an allocation of a block with `payload` words after its header, and of a type; a payload of 0 is taken
     /// as 1.
     ///
-    /// `TooLarge` where header and payload are more words than a page has.
+    /// `TooLarge` if header and payload are more words than a page has.
     pub fn start(shape: Shape, payload: u64, tag: u64) -> Result<Alloc, TooLarge>
         ensures { result ≡ started shape payload tag }
     {
@@ -163,18 +163,18 @@ impl Alloc {
         })
     }
 
-    /// Performs the allocation's next event, which changes one word at most [step]. The words are as many as the
+    /// Performs the allocation's next event, which changes one word at most [step]. There are as many words as the
     /// shape says, and the step before, if there was one, returned `More`. It takes no memory.
     ///
     /// - `More`: it continues, and has a next event [more].
     /// - `Done` with the reference of the block: its type was stored, the last of its header. The block is new: its
     ///   header is stored, its next and payload are zeros, it lies in one page and below the free pointer. It is
     ///   apart from every block that anybody claimed, every wasted rest and every gap of the segment [done].
-    /// - `Full`: the words that are wanted pass the end of the segment from the free pointer that it loaded last
+    /// - `Full`: from the free pointer that it loaded last, the words that it needs pass the end of the segment
     ///   [full]; the full flag is set.
     /// - `Corrupt`: it loaded the corrupt flag, or a free pointer that no segment has [corrupt].
     ///
-    /// Where the words and any allocations, this one among them, kept the allocation invariant, they keep it after
+    /// If the words and any allocations, this one among them, kept the allocation invariant, they keep it after
     /// the step [keeps].
     pub fn step(&mut self, words: &mut [u64]) -> AllocStep
         requires long { length words.old ≡ self.old.shape.size }
@@ -191,7 +191,7 @@ impl Alloc {
         self.stage.answer()
     }
 
-    /// Returns the exchange that its next event is, if it is one: the word, and the value that is wanted there.
+    /// Returns the exchange that its next event is, if it is one: the word, and the value that is expected there.
     pub fn next_exchange(&self) -> Option<Attempt>
         ensures { result ≡ attempt_of (next_event self.now) }
     {
@@ -238,7 +238,7 @@ impl Alloc {
         }
     }
 
-    // What becomes of the allocation by the number that was found.
+    // What becomes of the allocation after it found a number.
     fn go_on(&mut self, found: u64)
         ensures { self.new ≡ moved self.old found }
     {
@@ -291,7 +291,7 @@ impl Alloc {
         }
     }
 
-    // The stage that the plan from a lawful free pointer leads to.
+    // The stage that the plan from a valid free pointer leads to.
     fn tried(&self, free: u64) -> AllocStage
         requires { is_pointer self.now.shape free ≡ true }
         ensures { result ≡ stage_of_plan free (planned free self.now.size self.now.shape) }

@@ -1,10 +1,10 @@
 //! An exchange that is to come, as plain data.
 
-/// An exchange of a word, which goes through where the word is what is wanted there.
+/// An exchange of a word, which goes through if the word has the expected value.
 #[derive(Clone, Copy, Debug, PartialEq, Eq)]
 pub struct Attempt {
     /// The number of the word.
     pub at: usize,
-    /// The value that is wanted there.
+    /// The value that is expected there.
     pub wanted: u64,
 }

@@ -15,7 +15,7 @@ pub fn store(words: &mut [u64], at: usize, value: u64) -> u64
     found
 }
 
-/// Exchanges the word `at` for a new value where it is the old one [words]. Returns the value that was there, so the
+/// Exchanges the word `at` for a new value if it is the old one [words]. Returns the value that was there, so the
 /// exchange succeeded if that is the old one [found].
 pub fn exchange(words: &mut [u64], at: usize, old: u64, new: u64) -> u64
     requires { at < length words.old }

@@ -30,7 +30,7 @@ pub fn moves_keep()
     ensures { (shape : Dimensions) (move : Move) (old new : State) → StateKeeps shape old → IsMove shape move old new → StateKeeps shape new }
 {}
 
-/// So do any such moves, one after the other, in whatever order.
+/// So do any such moves, one after the other, in any order.
 pub fn runs_keep()
     ensures { (shape : Dimensions) (moves : List Move) (old new : State) → StateKeeps shape old → IsRun shape moves old new → StateKeeps shape new }
 {}
@@ -63,22 +63,22 @@ pub fn flags_have_setters()
         → 2 ≤ bit → bit_at (word_at new.words FLAGS_WORD) bit ≡ bit_at (word_at old.words FLAGS_WORD) bit }
 {}
 
-/// The version, the id, the flags and the words between the tail and the queue block may be anything. So the invariant holds
-/// of a segment that was made of an image, whatever these words are there.
+/// The version, the id, the flags and the words between the tail and the queue block may be anything. So the invariant
+/// holds of a segment that was made from an image, whatever these words are in it.
 pub fn image_words_keep()
     ensures { (shape : Dimensions) (state : State) (at value : ℕ) → StateKeeps shape state → IsImageWord at
         → StateKeeps shape (record state { words = slice_set state.words at value }) }
 {}
 
-/// A block that no allocation has stays unchanged, whatever happens. So do the blocks of a segment that was made of
+/// A block that no allocation has stays unchanged, whatever happens. So do the blocks of a segment that was made from
 /// an image: they are in every later layout, and each new block is apart from them.
 pub fn image_blocks_stay()
     ensures { (shape : Dimensions) (moves : List Move) (old new : State) (kept : StateKeeps shape old) → IsRun shape moves old new
         → (later : StateKeeps shape new) × Leaves kept.layout later.layout }
 {}
 
-/// A word of the list of records may become anything: the tail, the next of the queue block, the next of a claimed block.
-/// So the invariant holds beside the steps of any number of publishes.
+/// A word of the list of records may become anything: the tail, the next of the queue block, the next of a claimed
+/// block. So the invariant also holds while any number of publishes make their steps.
 pub fn list_words_keep()
     ensures { (shape : Dimensions) (state : State) (at value : ℕ) → StateKeeps shape state → IsListWord state.allocations at
         → StateKeeps shape (record state { words = slice_set state.words at value }) }
@@ -90,9 +90,9 @@ pub fn moves_leave_list_words()
         → IsListWord old.allocations at → (word_at new.words at ≡ word_at old.words at) × IsListWord new.allocations at }
 {}
 
-/// Whatever happens leaves the words of the header unchanged but the flags and the free pointer, those between the
-/// tail and the queue block among them. Only the list, beside allocations, stores in the tail and in the next of the
-/// queue block.
+/// Whatever happens leaves the words of the header unchanged but the flags and the free pointer. So those between the
+/// tail and the queue block stay, and only the list, which is none of these moves, stores in the tail and in the next
+/// of the queue block.
 pub fn header_words_stay()
     ensures { (shape : Dimensions) (move : Move) (old new : State) (at : ℕ) → StateKeeps shape old → IsMove shape move old new
         → at < HEADER_WORDS → at ≢ FLAGS_WORD → at ≢ FREE_WORD → word_at new.words at ≡ word_at old.words at }

@@ -10,11 +10,11 @@ use segment_image::layout::{BLOCK_LEAST, HEADER_WORDS};
 #[derive(Clone, Copy, Debug, PartialEq, Eq)]
 pub enum Planned {
     /// It claims `size` words from the free pointer on, which then goes to `next`. The size is more than what was
-    /// asked for where one to four words of the page would be left: these are part of the block.
+    /// asked for if one to four words of the page would be left: these become part of the block.
     Claim { size: u64, next: u64 },
-    /// The page ends before: its last `room` words are wasted.
+    /// The page ends before that: its last `room` words are wasted.
     Waste { room: u64 },
-    /// The segment ends before.
+    /// The segment ends before that.
     Full,
 }
 
@@ -51,7 +51,7 @@ fn room_at(free: u64, shape: &Shape) -> u64
     shape.page() - free % shape.page()
 }
 
-/// Whether a free pointer is lawful: behind the queue block, within the segment, and with room for a smallest block in
+/// Whether a free pointer is valid: after the queue block, within the segment, and with room for a smallest block in
 /// its page.
 pub(crate) fn is_pointer(free: u64, shape: &Shape) -> bool
     ensures { result ≡ is_pointer_of shape.now free }

@@ -1,4 +1,4 @@
--- The boundaries of a lawful spec ascend, and there is one more of them than of buckets.
+-- The boundaries of a valid spec ascend, and there is one more of them than of buckets.
 use Rattle.std.proofs.Common.{◌≡◌, ◌≢◌, Bool, true, false, ◌||◌, ◌==◌, nat_lt, nat_le, ℕ, zero, suc, ◌+◌, ◌-◌, ◌*◌, ◌/◌, ◌<◌, ◌≤◌, [], ◌∷◌, length, map, slice_index, None, inl, inr, refl, ap, ◌∙◌, arith}
 use Rattle.std.proofs.Math.Nat.{div-mul-le_self, div-lt_iff_lt-mul, mul-le-mul_right}
 use Rattle.std.proofs.lemmas.Nat.{le-div}
@@ -21,7 +21,7 @@ div-lt a b d above le =
     let more : a / d + 1 ≤ b / d = le-div (a / d + 1) b d above (omega arith) in
     omega arith
 
--- the next boundary is greater, where the span from min to max is at least the steps
+-- the next boundary is greater, if the span from min to max is at least the steps
 step-lt : (min max steps k j : ℕ) → 0 < steps → min + steps ≤ max
     → (2 * (min * (k + 1) + max * j) + steps) / (2 * steps) < (2 * (min * k + max * (j + 1)) + steps) / (2 * steps)
 step-lt min max steps k j above le = div-lt _ _ (2 * steps) (omega arith) (omega arith)
@@ -69,7 +69,7 @@ length-linear_boundaries min max n some =
       length-map-range_with_len (inner_boundary min max n) 1 (n - 1),
     )
 
--- the inner ones stand at 1 to n - 1
+-- the inner ones are at 1 to n - 1
 pub linear_boundaries-inner : (min max n i : ℕ) → 1 ≤ i → i < n
     → slice_index (linear_boundaries min max n) i ≡ inner_boundary min max n i
 linear_boundaries-inner min max n zero from below = absurd (omega arith)
@@ -78,14 +78,14 @@ linear_boundaries-inner min max n (suc i) from below =
     (omega (arith, length-map-range_with_len (inner_boundary min max n) 1 (n - 1)))
     ∙ get_or-map-range_with_len (inner_boundary min max n) 1 (n - 1) i (suc i) 0 (omega arith) (omega arith)
 
--- the last stands at n
+-- the last is at n
 pub linear_boundaries-last : (min max n : ℕ) → 1 ≤ n → slice_index (linear_boundaries min max n) n ≡ 2147483647
 linear_boundaries-last min max zero some = absurd (omega arith)
 linear_boundaries-last min max (suc n) some =
     get_or_push (map (inner_boundary min max (suc n)) (range_with_len 1 (suc n - 1))) 2147483647 0 n
     (omega (arith, length-map-range_with_len (inner_boundary min max (suc n)) 1 (suc n - 1)))
 
--- each boundary of a lawful linear spec is below the next
+-- each boundary of a valid linear spec is below the next
 pub linear_boundaries-lt : (min max n : ℕ) → IsLinear min max n → (i : ℕ) → i < n
     → slice_index (linear_boundaries min max n) i < slice_index (linear_boundaries min max n) (i + 1)
 linear_boundaries-lt min max n lawful zero within =
@@ -143,7 +143,7 @@ no_fault false false true d none = absurd (cc)
 no_fault false false false true none = absurd (cc)
 no_fault false false false false none = (refl, refl, refl, refl)
 
--- a linear spec without a fault is lawful
+-- a linear spec without a fault is valid
 pub is_linear-from_checks : (min max n : ℕ) → first_fault (linear_checks min max n) ≡ None → IsLinear min max n
 is_linear-from_checks min max n none =
     let checks = no_fault (min == 0) (nat_le max min || nat_lt 2147483646 max) (nat_lt n 3)

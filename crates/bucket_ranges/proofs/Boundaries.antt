@@ -23,13 +23,13 @@ range-push f i le =
     let e : i + 1 - 1 ≡ (i - 1) + 1 = omega arith in
     ap (λ n. map f (range_with_len 1 n)) e ∙ map-range_with_len_more f 1 (i - 1) i (omega arith)
 
--- the boundaries so far, and one more behind them
+-- the boundaries so far, and one more after them
 pub so_far-push : (f : ℕ → ℕ) (i : ℕ) (xs : List ℕ) (y : ℕ) → 1 ≤ i
     → xs ≡ 0 ∷ map f (range_with_len 1 (i - 1)) → y ≡ f i
     → xs ++ y ∷ [] ≡ 0 ∷ map f (range_with_len 1 (i + 1 - 1))
 so_far-push f i xs y le e at = rw (e, at, range-push f i le)
 
--- all boundaries, when the last is behind those so far
+-- all boundaries, when the last comes after those so far
 pub so_far-last : (f : ℕ → ℕ) (n i : ℕ) (xs : List ℕ) → i ≡ n
     → xs ≡ 0 ∷ map f (range_with_len 1 (i - 1))
     → xs ++ 2147483647 ∷ [] ≡ 0 ∷ (map f (range_with_len 1 (n - 1)) ++ 2147483647 ∷ [])

@@ -39,7 +39,7 @@ one_bucket boundaries value i j up p q = elim (cases_order i j) [
 
 -- ---- halving
 
--- the value lies in one of so many buckets from `low` on
+-- the value lies in one of `count` buckets from `low` on
 pub record IsAmong (boundaries : List ℕ) (value low count : ℕ) : Type 0 where
   pub some : 1 ≤ count
   pub within : low + count + 1 ≤ length boundaries

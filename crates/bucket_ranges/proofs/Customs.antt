@@ -1,4 +1,4 @@
--- The boundaries of a lawful custom spec.
+-- The boundaries of a valid custom spec.
 use Rattle.std.proofs.Common.{◌≡◌, Bool, true, false, not, nat_eq, nat_lt, ℕ, zero, suc, ◌+◌, ◌<◌, ◌≤◌, List, [], ◌∷◌, ◌++◌, length, slice_index, None, Ok, if◌then◌else◌, ◌⊎◌, inl, inr, refl, ap, subst, ◌∙◌, arith}
 use Rattle.std.specs.List.{All, Any, list_any, dedup}
 use Rattle.std.specs.List.Sorted.{IsPermutation, IsSorted, IsStrictlyIncreasing}
@@ -43,7 +43,7 @@ no_fault false true c none = absurd (cc)
 no_fault false false false none = absurd (cc)
 no_fault false false true none = (refl, refl, refl)
 
--- the values of a custom spec without a fault are lawful
+-- the values of a custom spec without a fault are valid
 pub is_custom-from_checks : (values : List ℕ) → first_fault (custom_checks values) ≡ None → IsCustom values
 is_custom-from_checks values none =
     let checks = no_fault (nat_lt 999 (length values)) (list_any (λ value. nat_lt 2147483646 value) values)
@@ -218,7 +218,7 @@ sorted_once values built sorted once lawful is moved up kept =
     (λ z m. member-from _ z (Contains-dedup_nat sorted z (Contains-permutation ends sorted z from_ends
     (contains-from ends z (from_boundaries values z m)))))
 
--- ---- values that stand in order
+-- ---- values that are in order
 
 -- values above 0 that ascend are their own distinct values
 pub distinct_values-of_ascending : (values : List ℕ) → IsStrictlyIncreasing values → All (λ value. 0 < value) values

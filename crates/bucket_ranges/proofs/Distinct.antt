@@ -11,7 +11,7 @@ abbrev pub Member : ℕ → List ℕ → Type 0
 Member y [] = ⊥
 Member y (x ∷ xs) = (y ≡ x) ⊎ Member y xs
 
--- each value is below all those behind it
+-- each value is below all those after it
 abbrev pub Ascends : List ℕ → Type 0
 Ascends [] = Unit {0}
 Ascends (x ∷ xs) = ((y : ℕ) → Member y xs → x < y) × Ascends xs

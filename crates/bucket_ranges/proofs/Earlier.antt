@@ -1,4 +1,4 @@
--- The records of a list beside those before them, with one more at the end.
+-- The records of a list, each with those before it, and with one more at the end.
 use Rattle.std.proofs.Common.{◌≡◌, ℕ, ◌<◌, List, [], ◌∷◌, ◌++◌, map, length, take, refl, ap, sym, ◌∙◌, arith}
 use Rattle.std.specs.Prelude.{slice_index}
 use Rattle.std.specs.List.{range_with_len}
@@ -18,7 +18,7 @@ map-range-agree f g n same =
     get_or-map-range_with_len f 0 n k k d within (omega arith)
     ∙ (same k within ∙ sym (get_or-map-range_with_len g 0 n k k d within (omega arith))))
 
--- the new one stands behind all others, of which each stands behind the same as before
+-- the new one comes after all others, and what comes before each of these is unchanged
 pub with_earlier-push : (references : List ℕ) (reference : ℕ)
     → with_earlier (references ++ reference ∷ []) ≡ with_earlier references ++ (references, reference) ∷ []
 with_earlier-push references reference =

@@ -109,7 +109,7 @@ find-step test Greater mine false y x xs put a b none same rest =
     ap (λ t. cond t (Some x) (find test put)) b
     ∙ (rest ∙ sym (ap (λ t. option_or (cond t (Some x) (find test xs)) (if mine then Some y else None)) b))
 
--- one more is found where none before is
+-- one more is found if none before is
 find-insert : {K : Type 0} (cmp : K → K → Ordering) → IsTotalOrder cmp → (test : K → Bool) → IsOfValue cmp test → (xs : List K) (y : K)
     → IsStrictlySortedBy cmp xs
     → find test (insert_key cmp xs y) ≡ option_or (find test xs) (if test y then Some y else None)

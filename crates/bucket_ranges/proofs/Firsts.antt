@@ -4,7 +4,7 @@ use Rattle.std.specs.List.{list_any, filter}
 use Rattle.std.proofs.lemmas.List.Elements.{filter-append}
 use Rattle.bucket_ranges.specs.Reading.{first_of_each}
 
--- a filter of the new one: it is left out where it was found before, or where it is the same as this one
+-- a filter of the new one: it is left out if it was found before, or if it is the same as this one
 filter_of_new : {X : Type 0} (p : X → Bool) (y : X) (same found : Bool) → p y ≡ not same
     → filter p (if found then [] else y ∷ []) ≡ (if same || found then [] else y ∷ [])
 filter_of_new p y true true e = refl
@@ -12,7 +12,7 @@ filter_of_new p y true false e = rw e
 filter_of_new p y false true e = refl
 filter_of_new p y false false e = rw e
 
--- one more element is kept where none of those before is the same
+-- one more element is kept if none of those before is the same
 pub first_of_each-push : {X : Type 0} (same : X → X → Bool) (xs : List X) (y : X)
     → first_of_each same (xs ++ y ∷ [])
     ≡ first_of_each same xs ++ (if list_any (λ x. same x y) xs then [] else y ∷ [])

@@ -1,4 +1,4 @@
--- The spec that the words of a record name, where they are those of a lawful one.
+-- The spec that the words of a record name, if they are those of a valid one.
 use Rattle.std.proofs.Common.{◌≡◌, Bool, true, false, not, ◌&&◌, ◌==◌, nat_lt, nat_le, if◌then◌else◌, ℕ, ◌-◌, ◌<◌, ◌≤◌, List, [], ◌∷◌, ◌++◌, length, slice_index, Option, Some, None, inl, inr, refl, ap, sym, arith}
 use Rattle.std.specs.Prelude.{is_none}
 use Rattle.std.specs.List.{list_any}
@@ -12,7 +12,7 @@ use Rattle.bucket_ranges.specs.Ranges.{boundaries_of}
 use Rattle.bucket_ranges.specs.Reading.{ascends_above, is_custom_named, spec_named, is_spec_named}
 use Rattle.bucket_ranges.proofs.Distinct.{Member, Ascends, distinct-of_ascending}
 
--- where numbers ascend from above another up to the end, that one is below the end
+-- if numbers ascend from above another up to the end, that one is below the end
 pub inner-last : (low : ℕ) (xs : List ℕ) → ascends_above low (xs ++ 2147483647 ∷ []) ≡ true → low < 2147483647
 inner-last low [] up = ltb-true low 2147483647 (and_parts (nat_lt low 2147483647) true up).0
 inner-last low (x ∷ xs) up =
@@ -42,7 +42,7 @@ inner-ascends low (x ∷ xs) up =
 pub inner-distinct : (xs : List ℕ) → ascends_above 0 (xs ++ 2147483647 ∷ []) ≡ true → distinct_values xs ≡ xs
 inner-distinct xs up = distinct-of_ascending xs (inner-ascends 0 xs up) (λ y m. (inner-between 0 xs up y m).0)
 
--- what is known of lawful inner ranges
+-- what is known of valid inner ranges
 pub record IsInner (min max n : ℕ) (inner : List ℕ) : Type 0 where
   pub few : 2 ≤ n
   pub many : n ≤ 1000
@@ -81,7 +81,7 @@ passes-three : (a b c : Bool) → a ≡ false → b ≡ false → c ≡ true
     → first_fault ((a, TooMany) ∷ (b, BadRange) ∷ (not c, Empty) ∷ []) ≡ None
 passes-three a b c p q r = rw (p, q, r) refl
 
--- lawful inner ranges are a lawful custom spec
+-- valid inner ranges are a valid custom spec
 pub custom-lawful : (min max n : ℕ) (inner : List ℕ) → is_custom_named min max n inner ≡ true → spec_fault (Custom inner) ≡ None
 custom-lawful min max n inner e =
     let are = IsInner-from_named min max n inner e in
@@ -104,7 +104,7 @@ custom-buckets min max n inner e =
     let same : length (distinct_values inner) ≡ length inner = ap length (inner-distinct inner are.up) in
     omega (arith, same, are.few, are.count)
 
--- the number of buckets of a spec that is named lawfully
+-- the number of buckets of a spec that is validly named
 named-buckets-by : (min max n : ℕ) (inner : List ℕ) (sparse custom boolean : Bool)
     → (if sparse then (min == 0) && (max == 0) && (n == 0)
     else (if custom then is_custom_named min max n inner

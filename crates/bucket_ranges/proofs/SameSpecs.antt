@@ -1,4 +1,4 @@
--- Custom specs are the same exactly where each has the other's values above 0.
+-- Custom specs are the same exactly if each has the other's values above 0.
 use Rattle.std.proofs.Common.{◌≡◌, true, ◌||◌, ◌==◌, ℕ, ◌<◌, List, [], ◌∷◌, inl, inr, refl, sym, subst, arith}
 use Rattle.std.specs.List.{list_any}
 use Rattle.std.proofs.lemmas.Bool.{and_parts, and_from, or_cases, or_left, or_right, eqb-true, eq-eqb, cases_eq}

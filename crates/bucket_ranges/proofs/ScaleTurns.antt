@@ -1,4 +1,4 @@
--- Where a loop over the values of a scale stands.
+-- Where a loop over the values of a scale is.
 use Rattle.std.proofs.Common.{◌≡◌, true, false, nat_lt, ℕ, ◌+◌, ◌<◌, ◌≤◌, inl, inr, List, [], ◌∷◌, ◌++◌, length, sym, ap, subst, ◌∙◌, arith}
 use Rattle.std.proofs.lemmas.Bool.{cases_Bool, ltb-true, ltb-false}
 use Rattle.std.proofs.lemmas.List.{length_push}
@@ -6,7 +6,7 @@ use Rattle.bucket_ranges.specs.Scale.{is_scale_value, values_up_to, scale_last, 
 use Rattle.bucket_ranges.proofs.Scales.{IsFirstFrom, first-step}
 use Rattle.bucket_ranges.proofs.ScaleLists.{passing, passing-first, passing-next, passing-last, passing-long, found-inside, found-outside, steps-first, steps-push}
 
--- where the loop stands: the value of this turn, and the values before it
+-- where the loop is: the value of this turn, and the values before it
 pub record StandsAt (bits low last value : ℕ) (before : List ℕ) : Type 0 where
   pub from : low ≤ value
   pub high : value ≤ last

@@ -160,7 +160,7 @@ bucket_counts-more boundaries samples i bucket d value within is found only =
           (ap pair unchanged)
     ])
 
--- what stands at the bucket of a sample
+-- what is at the bucket of a sample
 pub bucket_counts-here : (items : List (ℤ × ℕ)) (boundaries : List ℕ) (samples : List (ℤ × ℕ)) (bucket : ℕ) (now : ℤ × ℕ)
     → items ≡ bucket_counts boundaries samples → bucket + 1 < length boundaries → now ≡ get_or items bucket now
     → now ≡ (pos (slice_index boundaries bucket), units_where (is_in_bucket boundaries bucket) samples)

@@ -32,7 +32,7 @@ walks_agree_before words head xs ys v w zero a b = refl
 walks_agree_before words head xs ys v w (suc i) a b =
     walks_agree words head xs ys v w i (omega arith) (omega arith)
 
--- a longer walk goes on where the next after the last leads
+-- a longer walk continues where the next after the last leads
 pub longer_walk-next : (words : List ℕ) (head : SegmentHead) (xs ys : List ℕ)
     → IsWalk words head xs → IsWalk words head ys → length xs < length ys
     → next_of words (before xs (length xs)) ≡ slice_index ys (length xs)
@@ -40,7 +40,7 @@ longer_walk-next words head xs ys v w longer =
     ap (next_of words) (walks_agree_before words head xs ys v w (length xs) (omega arith) (omega arith))
     ∙ w.linked (length xs) longer
 
--- which is a lawful block
+-- which is a valid block
 pub longer_walk-block : (words : List ℕ) (head : SegmentHead) (xs ys : List ℕ)
     → IsWalk words head xs → IsWalk words head ys → length xs < length ys
     → is_block words head (next_of words (before xs (length xs))) ≡ true
@@ -55,11 +55,11 @@ longer_walk-new words head xs ys v w longer i lt same =
     w.distinct i (length xs) lt longer
     (sym (walks_agree words head xs ys v w i lt (omega arith)) ∙ (same ∙ longer_walk-next words head xs ys v w longer))
 
--- no block is lawful at 12
+-- no block is valid at 12
 pub queue_is_no_block : (words : List ℕ) (head : SegmentHead) → is_block words head 12 ≡ false
 queue_is_no_block words head = refl
 
--- a walk that no longer one goes on from is the list
+-- a walk is the list if no walk is longer
 pub IsListed-from_walk : (words : List ℕ) (head : SegmentHead) (references : List ℕ) → IsWalk words head references
     → ((others : List ℕ) → IsWalk words head others → length references < length others → ⊥)
     → IsListed words head references
@@ -71,7 +71,7 @@ IsListed-from_walk words head references walk none = record {
   ];
 }
 
--- a walk at whose end stands no lawful block is the list
+-- a walk is the list if there is no valid block at its end
 pub IsListed-from_no_block : (words : List ℕ) (head : SegmentHead) (references : List ℕ) → IsWalk words head references
     → is_block words head (next_of words (before references (length references))) ≡ false
     → IsListed words head references
@@ -129,13 +129,13 @@ IsWalk-none words head = record {
   distinct = λ i j lt within. absurd (omega arith);
 }
 
--- what stands before a place of a list stands there with one more behind it
+-- what comes before a place of a list is unchanged when one more comes at the end
 before-push : (references : List ℕ) (reference : ℕ) (i : ℕ) → i ≤ length references
     → before (references ++ reference ∷ []) i ≡ before references i
 before-push references reference zero le = refl
 before-push references reference (suc i) le = get_or_append_left references (reference ∷ []) 0 i (omega arith)
 
--- a place of a list with one more behind it is a place of the list, or the last
+-- a place of a list with one more at its end is a place of the list, or the last
 push_cases : (references : List ℕ) (reference : ℕ) (i : ℕ) → i < length (references ++ reference ∷ [])
     → ((i < length references) × (slice_index (references ++ reference ∷ []) i ≡ slice_index references i))
     ⊎ ((i ≡ length references) × (slice_index (references ++ reference ∷ []) i ≡ reference))
@@ -146,7 +146,7 @@ push_cases references reference i within = elim (cases_lt i (length references))
       inr (last, get_or_push references reference 0 i (sym last))
 ]
 
--- a walk stays one with one more reference at its end: the next after its last, of a lawful block, and not in it
+-- a walk stays one with one more reference at its end: the next after its last, of a valid block, and not in it
 pub IsWalk-push : (words : List ℕ) (head : SegmentHead) (references : List ℕ) (reference : ℕ)
     → IsWalk words head references
     → next_of words (before references (length references)) ≡ reference
@@ -193,7 +193,7 @@ pub readings_agree : (words : List ℕ) (head : SegmentHead) (a b : Reading)
 readings_agree words head a b v w =
     v.2 ∙ (ap (reading_along words head) (listed_agree words head v.0 w.0 v.1 w.1) ∙ sym w.2)
 
--- where a lawful block stands: it has five words or more, behind the header and below the free pointer
+-- where a valid block lies: it has five words or more, after the header and below the free pointer
 pub is_block-within : (words : List ℕ) (head : SegmentHead) (reference : ℕ) → is_block words head reference ≡ true
     → (16 ≤ reference) × (5 ≤ field_at words reference 0) × (reference + field_at words reference 0 ≤ head.free)
 is_block-within words head reference lawful =

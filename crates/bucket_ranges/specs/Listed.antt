@@ -16,7 +16,7 @@ before references i = slice_index (QUEUE ∷ references) i
 abbrev pub next_of : List ℕ → ℕ → ℕ
 next_of words reference = field_at words reference BLOCK_NEXT
 
--- references that the nexts give from the queue block, each of a lawful block, and none twice
+-- references that the nexts give from the queue block, each of a valid block, and none twice
 pub record IsWalk (words : List ℕ) (head : SegmentHead) (references : List ℕ) : Type 0 where
   pub linked : (i : ℕ) → i < length references → next_of words (before references i) ≡ slice_index references i
   pub lawful : (i : ℕ) → i < length references → is_block words head (slice_index references i) ≡ true
@@ -27,12 +27,12 @@ pub record IsListed (words : List ℕ) (head : SegmentHead) (references : List �
   pub walk : IsWalk words head references
   pub longest : (others : List ℕ) → IsWalk words head others → length others ≤ length references
 
--- what can be wrong with the next behind these references, in order: no lawful block stands there, or it was met before
+-- what can be wrong with the next after these references, in order: there is no valid block at it, or it was visited before
 abbrev pub next_checks : List ℕ → SegmentHead → List ℕ → ℕ → List (Bool × ImageFault)
 next_checks words head references next =
     block_checks words head next ++ (list_any (λ reference. reference == next) references, Loop) ∷ []
 
--- why the list goes no further: its last next is the queue block, the end, or there is a fault in it
+-- why the list stops: for no fault if its last next is the queue block, otherwise for the first fault of that next
 abbrev pub stop_of : List ℕ → SegmentHead → List ℕ → Option ImageFault
 stop_of words head references =
     let next = next_of words (before references (length references)) in

@@ -33,7 +33,7 @@ AreValues boundaries = (i : ℕ) → slice_index boundaries i ≤ LAST_BOUNDARY
 abbrev pub IsAscending : List ℕ → Type 0
 IsAscending boundaries = (i : ℕ) → i + 1 < length boundaries → slice_index boundaries i < slice_index boundaries (i + 1)
 
--- what every list of boundaries keeps; where it is not empty it begins with 0 and ends with 2,147,483,647
+-- what every list of boundaries keeps; if it is not empty it begins with 0 and ends with 2,147,483,647
 pub record AreBoundaries (boundaries : List ℕ) : Type 0 where
   pub few : length boundaries ≤ 1001
   pub small : AreValues boundaries
@@ -52,7 +52,7 @@ pub record IsBucketOf (boundaries : List ℕ) (value bucket : ℕ) : Type 0 wher
   pub low : slice_index boundaries bucket ≤ value
   pub high : value < slice_index boundaries (bucket + 1)
 
--- boundaries that split the values below 2,147,483,647 among so many buckets, none of them empty
+-- boundaries that split the values below 2,147,483,647 among this many buckets, none of them empty
 pub record SplitsValues (buckets : ℕ) (boundaries : List ℕ) : Type 0 where
   pub count : length boundaries ≡ buckets + 1
   pub first : slice_index boundaries 0 ≡ 0

@@ -47,13 +47,13 @@ is_sparse_read words head references histogram =
 
 -- ---- which samples are read
 
--- whether a sample record is bad: by its own words, or since it names no sparse histogram that is read among the records
+-- whether a sample record is bad: by its own words, or because it names no sparse histogram that is read among the records
 -- before it
 abbrev pub is_bad_sample : List ℕ → SegmentHead → List ℕ → ℕ → Bool
 is_bad_sample words head earlier reference =
     is_bad_sample_by words reference (is_sparse_read words head earlier (sample_histogram words reference))
 
--- each record of a list, beside those before it
+-- each record of a list, with those before it
 abbrev pub with_earlier : List ℕ → List (List ℕ × ℕ)
 with_earlier references = map (λ i. (take i references, slice_index references i)) (range_with_len 0 (length references))
 
@@ -68,8 +68,8 @@ lawful_samples words head references = map (λ placed. placed.1) (filter (is_sam
 
 -- ---- the reading
 
--- what a histogram's record reads as; the counts are the totals of all buckets, each under its least value, or of a
--- sparse histogram those of each value that has a sample; beside each stands its mark
+-- what a histogram's record reads as; the counts are the totals of all buckets, each under its least value, or of a sparse
+-- histogram those of each value that has a sample; each count has its mark
 pub record Histogram : Type 0 where
   pub reference : ℕ
   pub name : List ℕ
@@ -80,7 +80,7 @@ pub record Histogram : Type 0 where
   pub sum_mark : ℤ
   pub redundant : ℕ
 
--- the histogram of a record in a version, where the samples of the list are these
+-- the histogram of a record in a version, if the samples of the list are these
 abbrev pub histogram_of : ℕ → List ℕ → List ℕ → ℕ → Histogram
 histogram_of version words samples reference = record {
   reference = reference;
@@ -97,14 +97,14 @@ histogram_of version words samples reference = record {
   redundant = field_at words reference HISTOGRAM_REDUNDANT;
 }
 
--- the fault of a record that stands behind these on the list: a histogram's, or a sample's; records of other types
+-- the fault of a record that comes after these on the list: a histogram's, or a sample's; records of other types
 -- have none
 abbrev pub fault_behind : List ℕ → SegmentHead → List ℕ → ℕ → Option RecordFault
 fault_behind words head earlier reference =
     if is_of_type words TYPE_HISTOGRAM reference then record_fault words head reference
     else (if is_of_type words TYPE_SAMPLE reference && is_bad_sample words head earlier reference then Some BadSample else None)
 
--- the fault of a record beside its reference, if it has one
+-- the reference of a record with its fault, if it has one
 abbrev pub bad_record : List ℕ → SegmentHead → List ℕ × ℕ → Option (ℕ × RecordFault)
 bad_record words head placed =
     option_map (λ fault. (placed.1, fault)) (fault_behind words head placed.0 placed.1)
@@ -118,7 +118,7 @@ pub record Reading : Type 0 where
   pub bad : List (ℕ × RecordFault)
   pub stopped : Option ImageFault
 
--- what the records of a list read as: of each name the first lawful record, with the samples of the list, and each
+-- what the records of a list read as: of each name the first valid record, with the samples of the list, and each
 -- record that has a fault
 abbrev pub reading_along : List ℕ → SegmentHead → List ℕ → Reading
 reading_along words head references = record {
@@ -130,7 +130,7 @@ reading_along words head references = record {
   stopped = stop_of words head references;
 }
 
--- what words with a lawful header read as
+-- what words with a valid header read as
 abbrev pub IsReading : List ℕ → SegmentHead → Reading → Type 0
 IsReading words head reading =
     (references : List ℕ) × IsListed words head references × (reading ≡ reading_along words head references)

@@ -31,7 +31,7 @@ name_length words reference = field_at words reference HISTOGRAM_NAME_LENGTH
 abbrev pub named_words : List ℕ → ℕ → ℕ
 named_words words reference = HISTOGRAM_NAME + name_words (name_length words reference)
 
--- the word behind the name
+-- the word after the name
 abbrev pub name_end : List ℕ → ℕ → ℕ
 name_end words reference = reference + HISTOGRAM_NAME + name_words (name_length words reference)
 
@@ -50,7 +50,7 @@ abbrev pub is_name : List ℕ → Bool
 is_name name =
     nat_le 1 (length name) && nat_le (length name) MAX_NAME && not (slice_index name 0 == 0x21) && list_all is_name_byte name
 
--- whether the name is lawful and its words lie in the block
+-- whether the name is valid and its words lie in the block
 abbrev pub has_name : List ℕ → ℕ → Bool
 has_name words reference =
     nat_le (named_words words reference) (field_at words reference BLOCK_SIZE) && is_name (name_of words reference)
@@ -65,7 +65,7 @@ is_kind kind = nat_le KIND_LINEAR kind && nat_le kind KIND_SPARSE
 abbrev pub is_sparse : List ℕ → ℕ → Bool
 is_sparse words reference = field_at words reference HISTOGRAM_KIND == KIND_SPARSE
 
--- the words behind the name that are the ranges of a custom record: ranges 1 to n - 1
+-- the words after the name that are the ranges of a custom record: ranges 1 to n - 1
 abbrev pub inner_ranges : List ℕ → ℕ → List ℕ
 inner_ranges words reference =
     let first = name_end words reference in
@@ -80,7 +80,7 @@ ascends_above low (number ∷ rest) = nat_lt low number && ascends_above number 
 abbrev pub ascends_inside : List ℕ → Bool
 ascends_inside numbers = ascends_above 0 (numbers ++ LAST_BOUNDARY ∷ [])
 
--- whether a least and a greatest number, a number of buckets and inner ranges are those of a lawful custom spec: there
+-- whether a least and a greatest number, a number of buckets and inner ranges are those of a valid custom spec: there
 -- are n - 1 inner ranges, they ascend between 0 and 2,147,483,647, and the two numbers are the ends
 abbrev pub is_custom_named : ℕ → ℕ → ℕ → List ℕ → Bool
 is_custom_named min max n inner =
@@ -105,7 +105,7 @@ spec_named kind min max n inner =
     if kind == KIND_SPARSE then Sparse
     else (if kind == KIND_CUSTOM then Custom inner else (if kind == KIND_BOOLEAN then Boolean else Linear min max n))
 
--- whether they are those of a lawful spec
+-- whether they are those of a valid spec
 abbrev pub is_spec_named : ℕ → ℕ → ℕ → ℕ → List ℕ → Bool
 is_spec_named kind min max n inner =
     if kind == KIND_SPARSE then is_sparse_named min max n
@@ -124,7 +124,7 @@ record_words words reference =
     named_words words reference
     + (if field_at words reference HISTOGRAM_KIND == KIND_CUSTOM then field_at words reference HISTOGRAM_BUCKETS - 1 else 0)
 
--- whether the words of a record are those of a lawful spec, and lie in its block
+-- whether the words of a record are those of a valid spec, and lie in its block
 abbrev pub has_spec : List ℕ → ℕ → Bool
 has_spec words reference =
     nat_le (record_words words reference) (field_at words reference BLOCK_SIZE)
@@ -137,7 +137,7 @@ record_buckets words reference = buckets_of (spec_of words reference)
 
 -- ---- the single word and the sums
 
--- what the single word says in a version, where it has a lawful form there
+-- what the single word says in a version, if it has a valid form there
 abbrev pub record_single : ℕ → List ℕ → ℕ → Option SingleWord
 record_single version words reference =
     single_of version (record_buckets words reference) (field_at words reference HISTOGRAM_SINGLE)

@@ -10,12 +10,12 @@ use Rattle.bucket_ranges.specs.declared.reading.RecordFault.TheVariants.{BadKind
 use Rattle.bucket_ranges.specs.Record.{has_name, is_kind, is_sparse, has_spec, record_buckets, record_single, sum_of, sum_mark_of}
 use Rattle.bucket_ranges.specs.Units.{counts_words, has_large, is_bad_single, is_bad_mark_at, record_counts, record_single_mark, totals_of, has_counts, has_no_units}
 
--- whether the block is shorter than a record's fields, or the kind is none that is read
+-- whether the block is shorter than a record's fields, or there is no such kind
 abbrev pub is_bad_kind : List ℕ → ℕ → Bool
 is_bad_kind words reference =
     nat_lt (field_at words reference BLOCK_SIZE) HISTOGRAM_LEAST || not (is_kind (field_at words reference HISTOGRAM_KIND))
 
--- whether the spec is unlawful, or its counts do not fit in a page
+-- whether the spec is invalid, or its counts do not fit in a page
 abbrev pub is_bad_spec : List ℕ → ℕ → ℕ → Bool
 is_bad_spec words page reference =
     not (has_spec words reference) || nat_lt page (counts_words (record_buckets words reference))
@@ -65,7 +65,7 @@ bucket_checks words head reference = (is_bad_bucket_counts words head reference,
 abbrev pub units_checks : List ℕ → SegmentHead → ℕ → List (Bool × RecordFault)
 units_checks words head reference = (is_bad_counts words head reference, BadCounts) ∷ single_checks head.version words reference
 
--- those of a record behind its kind and its name
+-- those of a record after its kind and its name
 abbrev pub checks_behind_name : List ℕ → SegmentHead → ℕ → List (Bool × RecordFault)
 checks_behind_name words head reference =
     (is_bad_spec words head.shape.page reference, BadSpec)

@@ -39,7 +39,7 @@ has_bad_sample words reference =
     || nat_lt MAX_UNITS (sample_count words reference)
     || nat_lt (sample_count words reference) (sample_mark words reference)
 
--- whether it is bad, where `known` says whether it names a sparse histogram that is read before it
+-- whether it is bad; `known` says whether it names a sparse histogram that is read before it
 abbrev pub is_bad_sample_by : List ℕ → ℕ → Bool → Bool
 is_bad_sample_by words reference known = has_bad_sample words reference || not known
 

@@ -1,5 +1,5 @@
 -- Scales: the values of custom specs that are as far apart as a share of their size. Of each octave, from a power of two
--- up to the next, a scale of so many bits has 2^bits values at equal distances; below 2^bits it has every number.
+-- up to the next, a scale with `bits` bits has 2^bits values at equal distances; below 2^bits it has every number.
 use Rattle.std.specs.Prelude.{Bool, true, false, ◌||◌, ◌==◌, nat_lt, nat_le, ℕ, ◌+◌, ◌-◌, ◌*◌, ◌^◌, ◌≤◌, ◌<◌, ◌≡◌, ◌⊎◌, List, [], ◌∷◌, ◌++◌, length, slice_index, Option, unwrap_or}
 use Rattle.std.specs.List.{range_with_len, list_any, filter, find}
 use Rattle.segment_image.specs.Checks.{first_fault}
@@ -13,7 +13,7 @@ unfoldable pub is_scale_value : ℕ → ℕ → Bool
 is_scale_value bits value =
     list_any (λ e. list_any (λ m. m * 2 ^ e == value) (range_with_len 0 (2 ^ (bits + 1)))) (range_with_len 0 32)
 
--- the last value of a scale up to `max`: the first such number from `max` on, or `max` where 2,147,483,646 comes first
+-- the last value of a scale up to `max`: the first such number from `max` on, or `max` if 2,147,483,646 comes first
 unfoldable pub scale_last : ℕ → ℕ → ℕ
 scale_last max bits = unwrap_or (find (is_scale_value bits) (range_with_len max (LAST_BOUNDARY - max))) max
 
@@ -51,7 +51,7 @@ pub record IsScaleDistance (bits number distance : ℕ) : Type 0 where
   pub below : number < 2 ^ (bits + 1) * distance
   pub least : (distance ≡ 1) ⊎ (2 ^ bits * distance ≤ number)
 
--- the next value of a scale from a number on: the first number of the scale, or the last value where that comes first
+-- the next value of a scale from a number on: the first number of the scale, or the last value if that comes first
 pub record IsNextValue (bits from last value : ℕ) : Type 0 where
   pub low : from ≤ value
   pub high : value ≤ last
@@ -62,7 +62,7 @@ pub record IsNextValue (bits from last value : ℕ) : Type 0 where
 abbrev pub IsScaleStep : ℕ → ℕ → ℕ → Type 0
 IsScaleStep bits before value = (value ≤ before + 1) ⊎ (2 ^ bits * value ≤ (2 ^ bits + 1) * before)
 
--- each value is so much above the one before it
+-- each value is at most such a step above the one before it
 abbrev pub HaveScaleSteps : ℕ → List ℕ → Type 0
 HaveScaleSteps bits values =
     (i : ℕ) → i + 1 < length values → IsScaleStep bits (slice_index values i) (slice_index values (i + 1))

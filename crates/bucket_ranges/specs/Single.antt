@@ -15,7 +15,7 @@ word_of (Disabled None) = 2 ^ 63 + NO_BUCKET
 word_of FrozenEmpty = 2 ^ 63
 word_of (Frozen bucket units) = 2 ^ 63 + (bucket * 2 ^ 32 + units)
 
--- a form that a histogram with so many buckets may have in a version
+-- a form that a histogram with this many buckets may have in a version
 abbrev pub IsForm : ℕ → ℕ → SingleWord → Type 0
 IsForm version buckets Empty = Unit {0}
 IsForm version buckets (Packed bucket units) = (bucket < buckets) × (1 ≤ units) × (units ≤ MAX_PACKED)
@@ -25,7 +25,7 @@ IsForm version buckets FrozenEmpty = version ≡ VERSION_FROZEN
 IsForm version buckets (Frozen bucket units) =
     (version ≡ VERSION_FROZEN) × (bucket < buckets) × (1 ≤ units) × (units ≤ MAX_PACKED)
 
--- whether a word names a bucket and its units: the units stand in the low half, the bucket above them
+-- whether a word names a bucket and its units: the units are in the low half, the bucket above them
 abbrev pub is_packed_word : ℕ → ℕ → Bool
 is_packed_word buckets word =
     let bucket = word / 2 ^ 32 in

@@ -1,4 +1,4 @@
--- Which specs are lawful, and which are the same.
+-- Which specs are valid, and which are the same.
 use Rattle.std.specs.Prelude.{◌≡◌, ◌↔◌, Bool, not, ◌||◌, ◌==◌, nat_lt, nat_le, if◌then◌else◌, ℕ, ◌+◌, ◌-◌, ◌<◌, ◌≤◌, List, [], ◌∷◌, length, slice_index, Option}
 use Rattle.std.specs.List.{All, Any, Contains, list_any, list_all}
 use Rattle.std.specs.List.Sorted.{IsStrictlyIncreasing}
@@ -74,7 +74,7 @@ spec_fields (Custom values) =
     KIND_CUSTOM ∷ slice_index inner 0 ∷ slice_index inner (length inner - 1) ∷ (length inner + 1) ∷ []
 spec_fields Sparse = KIND_SPARSE ∷ 0 ∷ 0 ∷ 0 ∷ []
 
--- the ranges that stand behind the name in the record of a custom spec
+-- the ranges that follow the name in the record of a custom spec
 abbrev pub spec_ranges : Spec → List ℕ
 spec_ranges (Linear min max n) = []
 spec_ranges Boolean = []
@@ -89,7 +89,7 @@ SameSpec a b = (spec_fields a ≡ spec_fields b) × (spec_ranges a ≡ spec_rang
 abbrev pub has_values : List ℕ → List ℕ → Bool
 has_values others values = list_all (λ value. (value == 0) || list_any (λ other. other == value) others) values
 
--- ---- lawful specs
+-- ---- valid specs
 
 -- a linear spec that has no fault
 pub record IsLinear (min max n : ℕ) : Type 0 where

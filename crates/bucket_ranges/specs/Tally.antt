@@ -41,12 +41,12 @@ pub record AreValueCounts (samples counts : List (ℤ × ℕ)) : Type 0 where
 
 -- ---- the tally
 
--- the counts: of the buckets where there are some, and of the values where there are none
+-- the counts: of the buckets if there are some, and of the values if there are none
 abbrev pub AreCounts : List ℕ → List (ℤ × ℕ) → List (ℤ × ℕ) → Type 0
 AreCounts boundaries samples counts =
     MatchBool (nat_lt 1 (length boundaries)) (counts ≡ bucket_counts boundaries samples) (AreValueCounts samples counts)
 
--- a value as it counts for the sum: clamped where there are buckets, and itself where there are none
+-- a value as it counts for the sum: clamped if there are buckets, and itself if there are none
 abbrev pub counted_value : List ℕ → ℤ → ℤ
 counted_value boundaries value = if nat_lt 1 (length boundaries) then pos (clamped value) else value
 

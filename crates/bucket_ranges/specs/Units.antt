@@ -1,6 +1,6 @@
 -- The units of buckets: their totals, and their marks, which are the units that deltas have taken. Bucket i of n has its
--- count in a block of counts, which stands at a reference, 0 where there is none, and there behind the counts its mark;
--- a single word holds units of one bucket, whose mark is the single mark.
+-- count in a block of counts at a reference, which is 0 if there is none, and its mark there after the counts; a single
+-- word holds units of one bucket, whose mark is the single mark.
 use Rattle.std.specs.Prelude.{Bool, not, ◌&&◌, ◌||◌, ◌==◌, nat_lt, nat_le, if◌then◌else◌, ℕ, ◌+◌, ◌*◌, ℤ, pos, List, map, slice_index, Option, is_none}
 use Rattle.std.specs.List.{range_with_len, list_any}
 use Rattle.segment_image.specs.Blocks.{field_at, is_block}
@@ -18,13 +18,13 @@ use Rattle.bucket_ranges.specs.Record.{is_of_type, spec_of, record_buckets, reco
 abbrev pub counts_words : ℕ → ℕ
 counts_words n = BLOCK_HEADER + 2 * n
 
--- whether a block of counts for n buckets stands at a reference
+-- whether there is a block of counts for n buckets at a reference
 abbrev pub is_counts_block : List ℕ → SegmentHead → ℕ → ℕ → Bool
 is_counts_block words head n reference =
     is_block words head reference && is_of_type words TYPE_COUNTS reference
     && nat_le (counts_words n) (field_at words reference BLOCK_SIZE)
 
--- the count of bucket i, where there is a block of counts
+-- the count of bucket i, 0 if there is no block of counts
 abbrev pub count_at : List ℕ → ℕ → ℕ → ℕ
 count_at words counts i = if counts == 0 then 0 else field_at words counts (BLOCK_HEADER + i)
 
@@ -36,8 +36,8 @@ total_at words counts single i = count_at words counts i + units_packed single i
 abbrev pub totals_at : List ℕ → ℕ → Option SingleWord → ℕ → List ℕ
 totals_at words counts single n = map (total_at words counts single) (range_with_len 0 n)
 
--- the mark of bucket i of n: that of the packed bucket is the single mark; those of the others stand behind the counts,
--- where there is a block of them
+-- the mark of bucket i of n: that of the packed bucket is the single mark; those of the others come after the counts, if there
+-- is a block of them
 abbrev pub mark_at : List ℕ → ℕ → ℕ → Option SingleWord → ℕ → ℕ → ℕ
 mark_at words counts n single single_mark i =
     if is_packed_bucket single i then single_mark
@@ -121,7 +121,7 @@ bucket_marks version words reference =
     marks_at words (record_counts words reference) (record_buckets words reference) (record_single version words reference)
     (record_single_mark words reference)
 
--- whether the counts reference is 0 or names a block of counts for so many buckets
+-- whether the counts reference is 0 or names a block of counts for the buckets of the record
 abbrev pub has_counts : List ℕ → SegmentHead → ℕ → Bool
 has_counts words head reference =
     (record_counts words reference == 0)

@@ -1,6 +1,6 @@
 //! The limits of histograms, which every crate takes from here.
 
-/// The boundary behind the last bucket of every histogram; every value that a bucket counts is below it.
+/// The boundary after the last bucket of every histogram; every value that a bucket counts is below it.
 pub const LAST_BOUNDARY: u32 = 2_147_483_647;
 
 /// The greatest value that a bucket counts.
@@ -21,5 +21,5 @@ pub const MAX_PACKED: u64 = 65_535;
 /// The most units of a segment, of a bucket and of a sample.
 pub const MAX_UNITS: u64 = 4_294_967_295;
 
-/// The most that a sum can be above or below 0: so many units of values of up to 2^31 in size.
+/// The most that a sum can be above or below 0: `MAX_UNITS` units of a value of 2^31 in size.
 pub const MAX_SUM: u64 = 9_223_372_034_707_292_160;

@@ -29,8 +29,8 @@ impl Ranges {
     ghost use Rattle.bucket_ranges.specs.Ranges.{boundaries_of, clamped, IsBucketOf};
 
     /// Returns the ranges of a spec: its boundaries as they are defined, or its first fault: `BadMin`, `BadMax`,
-    /// `TooFew`, `TooMany`, `BadRange`, `Empty`; then `NoMemory` where memory runs out [boundaries]. There are as
-    /// many buckets as the spec has, of a sparse one none [buckets].
+    /// `TooFew`, `TooMany`, `BadRange`, `Empty`; then `NoMemory` if memory runs out [boundaries]. There are as many
+    /// buckets as the spec has, none for a sparse one [buckets].
     pub fn of(alloc: Global, spec: &Spec) -> Result<Ranges, SpecFault>
         ensures boundaries { MatchOption (spec_fault spec.now) (MatchResult result (λ ranges. ranges ≡ boundaries_of spec.now) (λ fault. fault ≡ SpecFault.NoMemory)) (λ fault. result ≡ Err fault) }
         ensures buckets { IfOk result (λ ranges. length ranges - 1 ≡ buckets_of spec.now) }
@@ -87,8 +87,8 @@ impl Ranges {
         self.bucket_of_clamped(clamp(value))
     }
 
-    // The bucket of a value that is not above the greatest: of so many buckets from `low` on one has it, and that many
-    // are halved until it is one.
+    // The bucket of a value that is not above the greatest: one of the `count` buckets from `low` on has it, and their
+    // number is halved until it is one.
     fn bucket_of_clamped(&self, value: u32) -> usize
         requires buckets { 1 < length self.now }
         requires value { value < LAST_BOUNDARY }
@@ -114,8 +114,8 @@ ghost use Rattle.bucket_ranges.specs.declared.spec.Spec.TheVariants.{Sparse};
 ghost use Rattle.bucket_ranges.specs.Spec.{linear_checks, custom_checks, IsLinear, IsCustom, spec_fault, buckets_of};
 ghost use Rattle.bucket_ranges.specs.Ranges.{inner_boundary as inner_boundary_of, linear_boundaries, custom_boundaries, boundaries_of, clamped, SplitsValues, IsAscending, IsBucketOf};
 
-/// The buckets of a spec without a fault, other than a sparse one, split the values from 0 to 2,147,483,646, and none of
-/// them is empty.
+/// The buckets of a spec without a fault, other than a sparse one, split the values from 0 to 2,147,483,646, and none
+/// of them is empty.
 ///
 /// It does nothing: what it promises is a law of the definitions.
 pub fn buckets_split_values()
@@ -129,8 +129,8 @@ pub fn one_bucket_has_a_value()
     ensures { (boundaries : List ℕ) (value i j : ℕ) → IsAscending boundaries → IsBucketOf boundaries value i → IsBucketOf boundaries value j → i ≡ j }
 {}
 
-// `half` where a value reaches a boundary, and 0 where it does not. No branch hangs on the value: the difference is
-// taken in 64 bits, so its upper half is all ones where it would be below 0, and 0 elsewhere.
+// `half` if a value reaches a boundary, and 0 otherwise. No branch depends on the value: the difference is taken in
+// 64 bits, so its upper half is all ones if it would be below 0, and 0 otherwise.
 fn half_where_reached(half: usize, boundary: u32, value: u32) -> usize
     requires { half < 4294967296 }
     ensures { result ≡ (if nat_le boundary value then half else 0) }
@@ -189,7 +189,7 @@ fn check_custom(values: &[u32]) -> Result<(), SpecFault>
     Ok(())
 }
 
-// Boundary i of a lawful linear spec, for i from 1 to n - 1.
+// Boundary i of a valid linear spec, for i from 1 to n - 1.
 fn inner_boundary(min: u32, max: u32, n: u32, i: u32) -> u32
     requires lawful { IsLinear min max n }
     requires from { 1 ≤ i }
@@ -202,7 +202,7 @@ fn inner_boundary(min: u32, max: u32, n: u32, i: u32) -> u32
     ((2 * sum + steps) / (2 * steps)) as u32
 }
 
-// The boundaries of a lawful linear spec.
+// The boundaries of a valid linear spec.
 fn linear(alloc: Global, min: u32, max: u32, n: u32) -> Result<Ranges, AllocError>
     requires { IsLinear min max n }
     ensures boundaries { IfOk result (λ ranges. ranges ≡ linear_boundaries min max n) }
@@ -229,7 +229,7 @@ fn between_ends(alloc: Global, values: &[u32]) -> Result<Vec<u32>, AllocError>
     Ok(list)
 }
 
-// The boundaries of a lawful custom spec: sorted with both ends, and each value once.
+// The boundaries of a valid custom spec: sorted with both ends, and each value once.
 fn custom(alloc: Global, values: &[u32]) -> Result<Ranges, AllocError>
     requires { IsCustom values.now }
     ensures boundaries { IfOk result (λ ranges. ranges ≡ custom_boundaries values.now) }

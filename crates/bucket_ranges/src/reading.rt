@@ -1,18 +1,18 @@
-//! What a record of a segment can be refused for. The definition of a reading is in `specs/Reading.antt`, of the
-//! parts that `specs/Listed.antt`, `Record.antt`, `Units.antt`, `RecordChecks.antt` and `Sample.antt` define.
+//! Why a record of a segment can be refused. The definition of a reading is in `specs/Reading.antt`; its parts are
+//! defined in `specs/Listed.antt`, `Record.antt`, `Units.antt`, `RecordChecks.antt` and `Sample.antt`.
 
 use thiserror::Error;
 
 /// Why a record is not read: the first of these that holds.
 #[derive(Clone, Copy, Debug, PartialEq, Eq, Error)]
 pub enum RecordFault {
-    /// The block is shorter than a record's fields, or the kind is none that there is.
+    /// The block is shorter than a record's fields, or there is no such kind.
     #[error("BadKind")]
     BadKind = 1,
-    /// The name is unlawful, or its words do not fit in the block.
+    /// The name is invalid, or its words do not fit in the block.
     #[error("BadName")]
     BadName = 2,
-    /// The words of the spec are those of no lawful spec or do not fit in the block, or its counts do not fit in a
+    /// The words of the spec are those of no valid spec or do not fit in the block, or its counts do not fit in a
     /// page.
     #[error("BadSpec")]
     BadSpec = 3,
@@ -20,7 +20,7 @@ pub enum RecordFault {
     /// histogram has a counts reference, a single word or a single mark.
     #[error("BadCounts")]
     BadCounts = 4,
-    /// The single word has no lawful form, or it is disabled while there are no counts.
+    /// The single word has no valid form, or it is disabled while there are no counts.
     #[error("BadSingle")]
     BadSingle = 5,
     /// There is a single mark while no bucket is or was packed, or a bucket's mark is above its total, in the packed
@@ -60,15 +60,15 @@ ghost use Rattle.bucket_ranges.specs.Reading.{IsListed, IsReading, Reading, is_c
 
 use crate::limits::LAST_BOUNDARY;
 
-/// What a segment's list of records is, is settled by its words: any two lists of the same words are one.
+/// A segment's list of records is settled by its words: any two lists of the same words are the same.
 ///
 /// It does nothing: what it promises is a law of the definitions.
 pub fn one_list()
     ensures { (words : List ℕ) (head : SegmentHead) (a b : List ℕ) → IsListed words head a → IsListed words head b → a ≡ b }
 {}
 
-/// What a segment reads as is settled by its words: any two readings of the same words are one. So two readers, or a
-/// reader and a writer, that keep to the definition of a reading cannot differ.
+/// What a segment reads as is settled by its words: any two readings of the same words are the same. So two readers, or
+/// a reader and a writer, that follow the definition of a reading cannot differ.
 ///
 /// It does nothing: what it promises is a law of the definitions.
 pub fn one_reading()

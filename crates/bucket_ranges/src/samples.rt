@@ -28,7 +28,7 @@ pub struct Plain {
 /// [counts]; the number of all units [units]; and the sum of the values, each as often as it has units [sum]. The
 /// samples have at most 4,294,967,295 units.
 ///
-/// The one error is that memory runs out for the counts.
+/// The only error is that memory runs out for the counts.
 pub fn tally(alloc: Global, ranges: &Ranges, samples: &[(i32, u32)]) -> Result<Plain, AllocError>
     requires { units_of_samples samples.now ≤ 4294967295 }
     ensures counts { IfOk result (λ plain. AreCounts ranges.now samples.now plain.counts.items) }
@@ -47,7 +47,7 @@ pub fn tally(alloc: Global, ranges: &Ranges, samples: &[(i32, u32)]) -> Result<P
     })
 }
 
-/// Returns all buckets in order, each under its least value and without units. The one error is that memory runs out.
+/// Returns all buckets in order, each under its least value and without units. The only error is that memory runs out.
 pub fn empty_buckets(alloc: Global, ranges: &Ranges) -> Result<Vec<(i32, u64)>, AllocError>
     ensures { IfOk result (λ counts. counts.items ≡ bucket_counts_of ranges.now []) }
 {
@@ -88,7 +88,7 @@ fn value_counts(alloc: Global, samples: &[(i32, u32)]) -> Result<Vec<(i32, u64)>
     counts.into_iter().collect(alloc)
 }
 
-// Adds units to those of a value, which is put in where it was not there. Nothing is put in without units.
+// Adds units to those of a value, which is inserted if it was not there. Nothing is inserted without units.
 fn add_units(counts: &mut BTreeMap<i32, u64>, value: i32, units: u32) -> Result<(), AllocError>
     requires small { count_at (get int_cmp counts.old) value + units ≤ 4294967295 }
     requires ordered { IsOrdered int_cmp counts.old }

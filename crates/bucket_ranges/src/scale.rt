@@ -17,12 +17,12 @@ ghost use Rattle.bucket_ranges.specs.Spec.{spec_fault, buckets_of};
 ghost use Rattle.bucket_ranges.specs.Scale.{is_scale_value, scale_last, values_up_to, scale_values, bound_checks, scale_fault, IsScaleDistance, IsNextValue, HaveScaleSteps};
 
 /// Returns a custom spec of a scale from `min` to `max`: its values are the numbers m * 2^e with m below 2^(bits + 1),
-/// from `min` up to the first at or above `max`, or up to `max` itself where that number is above 2,147,483,646
+/// from `min` up to the first at or above `max`, or up to `max` itself if that number is above 2,147,483,646
 /// [values]. They ascend [ascending]. Each is at most 1 + 2^-bits times the one before it, or 1 above that
 /// [steps]. The spec is valid, so there are at most 999 values [valid].
 ///
-/// Or it returns the first fault: `BadMin` where `min` is 0; `BadMax` where `max` is not above `min` or above
-/// 2,147,483,646; `TooFew` for 0 bits; `TooMany` for over 8 bits or over 999 values; then `NoMemory` where memory runs
+/// Or it returns the first fault: `BadMin` if `min` is 0; `BadMax` if `max` is not above `min` or above
+/// 2,147,483,646; `TooFew` for 0 bits; `TooMany` for over 8 bits or over 999 values; then `NoMemory` if memory runs
 /// out [values].
 pub fn log_linear(alloc: Global, min: u32, max: u32, bits: u32) -> Result<Spec, SpecFault>
     ensures values { MatchOption (scale_fault min max bits) (MatchResult result (λ spec. spec ≡ Custom (scale_values min max bits)) (λ fault. fault ≡ SpecFault.NoMemory)) (λ fault. result ≡ Err fault) }

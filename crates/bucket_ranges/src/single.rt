@@ -19,14 +19,14 @@ pub enum SingleWord {
     Disabled { packed: Option<usize> },
     /// The counts are in use, and no sample was packed before. This form is of version 2.
     FrozenEmpty,
-    /// The counts are in use, and these units, which were packed before, stay here for good beside the bucket's count.
-    /// This form is of version 2.
+    /// The counts are in use, and these units, which were packed before, stay here for good, apart from the bucket's
+    /// count. This form is of version 2.
     Frozen { bucket: usize, units: u64 },
 }
 
 impl SingleWord {
-    /// Returns the form of a single word of a histogram with so many buckets in a version of the format, or `None`
-    /// where it has no valid form there [exact]. Such a form is valid in that version and has this word [found]; no
+    /// Returns the form of a single word of a histogram with `buckets` buckets in a version of the format, or `None`
+    /// if it has no valid form there [exact]. Such a form is valid in that version and has this word [found]; no
     /// other valid form has this word [only]. Every version but 2 has the forms of version 1.
     pub fn of(version: u64, word: u64, buckets: usize) -> Option<SingleWord>
         requires { buckets ≤ 65535 }
@@ -69,7 +69,7 @@ impl SingleWord {
     }
 }
 
-// Whether a single word of a histogram with so many buckets may hold these units of this bucket.
+// Whether a single word of a histogram with `buckets` buckets may hold these units of this bucket.
 fn is_packed(bucket: usize, units: u64, buckets: usize) -> bool
     ensures value { result ≡ (nat_lt bucket buckets && nat_le 1 units && nat_le units MAX_PACKED) }
     ensures inside { result ≡ true → (bucket < buckets) × (1 ≤ units) × (units ≤ MAX_PACKED) }

@@ -7,11 +7,11 @@ use thiserror::Error;
 /// ranges are left out), or that it does not split them.
 #[derive(Debug, Drop)]
 pub enum Spec {
-    /// `n` buckets: one below `min`, one from `max` on, and the others between them as even as whole numbers allow.
+    /// `n` buckets: one below `min`, one from `max` on, and the others between them as evenly as whole numbers allow.
     Linear { min: u32, max: u32, n: u32 },
     /// The values 0, 1, and 2 and above: a linear histogram from 1 to 2 with three buckets.
     Boolean,
-    /// A bucket from 0 on, and one from each of the values on. They may come in any order and repeat, and one of 0
+    /// A bucket from 0 on, and one from each of the values on. They may come in any order and repeat, and a value of 0
     /// adds no bucket.
     Custom(CustomValues),
     /// No buckets: each value of an `i32` is counted for itself.
@@ -22,9 +22,9 @@ ghost use Rattle.std.specs.Prelude.{◌≡◌, ◌↔◌, true};
 ghost use Rattle.bucket_ranges.specs.Spec.{SameSpec, distinct_values, has_values as has_values_of};
 
 impl Spec {
-    /// Returns whether two specs are the same: their kind, minimum, maximum and number of buckets are, and of custom
-    /// ones all ranges. So the order of custom values, values that repeat and values of 0 make no difference. It
-    /// takes no memory.
+    /// Returns whether two specs are the same: they have the same kind, minimum, maximum and number of buckets, and
+    /// custom ones the same ranges. So the order of custom values, values that repeat and values of 0 make no
+    /// difference. It takes no memory.
     pub fn is_same(&self, other: &Spec) -> bool
         ensures { (result ≡ true) ↔ SameSpec self.now other.now }
     {

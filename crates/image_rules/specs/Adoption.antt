@@ -1,5 +1,5 @@
--- Which images may be adopted: what an image has used, and what can be wrong with its words. All of it speaks of words and of what they
--- read as.
+-- Which images may be adopted: what an image has used, and what can be wrong with its words. All of this is about words and what they read
+-- as.
 use Rattle.std.specs.Prelude.{◌≡◌, ◌≢◌, true, false, not, ◌&&◌, ◌==◌, max, ℕ, ◌+◌, ◌*◌, ◌/◌, ◌<◌, ◌≤◌, ℤ, ◌-ℤ◌, unsigned_abs, List, [], ◌∷◌, ◌++◌, length, sum_by, slice_range, if◌then◌else◌, None, Some, Ok}
 use Rattle.std.specs.List.{flat_map, Contains}
 use mathlib.Core.Option.{some}
@@ -24,7 +24,7 @@ abbrev pub units_for : ℤ → ℕ
 units_for amount = (unsigned_abs amount + 2147483647) / 2147483648
 
 -- the units that a histogram of an image has used: the greatest of its units, its redundant count, and what its sum, its sum mark and the
--- difference of these stand for
+-- difference of these two come to
 abbrev pub used_by : Histogram → ℕ
 used_by h = max (sum_by (λ count. count.1) h.counts)
     (max h.redundant (max (units_for h.sum) (max (units_for h.sum_mark) (units_for (h.sum -ℤ h.sum_mark)))))
@@ -34,7 +34,7 @@ used_of reading = sum_by used_by reading.hists
 
 -- ---- what can be wrong
 
--- nothing is bad, and the list does not stop
+-- no record is bad, and the list does not stop early
 abbrev pub HasNoFault : Reading → Type 0
 HasNoFault reading = (reading.bad ≡ []) × (reading.stopped ≡ None)
 
@@ -54,7 +54,7 @@ abbrev pub AreApart : List ℕ → List ℕ → Type 0
 AreApart words blocks =
     (i j a b : ℕ) → i < j → get_elem? blocks i ≡ some a → get_elem? blocks j ≡ some b → Apart (run_at words a) (run_at words b)
 
--- from a word on all is 0
+-- from a word on, all words are 0
 abbrev pub AreZerosFrom : List ℕ → ℕ → Type 0
 AreZerosFrom words free = (i : ℕ) → free ≤ i → i < length words → word_at words i ≡ 0
 
@@ -65,7 +65,7 @@ AreLaterEmpty words references =
     → IsSample words references (field_at words at SAMPLE_HISTOGRAM) (sample_value words at) first → first ≢ at
     → (field_at words at SAMPLE_COUNT ≡ 0) × (field_at words at SAMPLE_MARK ≡ 0)
 
--- the name of a histogram's record is padded with zeros
+-- the name in a histogram's record is padded with zeros
 abbrev pub HasPaddedName : List ℕ → ℕ → Type 0
 HasPaddedName words at =
     AreNameWords (name_of words at) (slice_range words (at + HISTOGRAM_NAME) (at + HISTOGRAM_NAME + name_words (length (name_of words at))))
@@ -76,16 +76,16 @@ HasUnusedCounts words at =
     (i : ℕ) → is_sparse words at ≡ false → field_at words at HISTOGRAM_COUNTS ≢ 0 → is_off (field_at words at HISTOGRAM_SINGLE) ≡ false
     → i < 2 * record_buckets words at → counts_word words at i ≡ 0
 
--- the mark of its packed bucket stands in the record alone
+-- the mark of its packed bucket is in the record alone
 abbrev pub HasPackedMark : List ℕ → ℕ → Type 0
 HasPackedMark words at =
     (i : ℕ) → is_sparse words at ≡ false → field_at words at HISTOGRAM_COUNTS ≢ 0
     → packed_bucket (record_single VERSION_FROZEN words at) ≡ Some i → counts_word words at (record_buckets words at + i) ≡ 0
 
--- Words with such a list are not damaged. They read without a fault, no two blocks overlap, behind the free pointer all is 0 and in its
--- page there is room for a smallest block, and the tail is on the list. A sample that is not the first of its value counts nothing;
--- names are padded with zeros. Of each record of a histogram with buckets, a later one of a name too, the counts are 0 until its single word
--- is frozen, and the mark of the packed bucket stands in the record alone.
+-- Words with such a list are not damaged. They read without a fault, no two blocks overlap, all words from the free pointer on are 0, in
+-- its page there is room for a smallest block, and the tail is on the list. A sample that is not the first of its value counts nothing;
+-- names are padded with zeros. Of each record of a histogram with buckets, also of a later one of a name, the counts are 0 until its single
+-- word is frozen, and the mark of the packed bucket is in the record alone.
 pub record IsUndamaged (words references : List ℕ) (reading : Reading) : Type 0 where
   pub lawful : HasNoFault reading
   pub apart : AreApart words (blocks_of words references)
@@ -97,8 +97,8 @@ pub record IsUndamaged (words references : List ℕ) (reading : Reading) : Type 
   pub unused : (at : ℕ) → Contains references at → field_at words at BLOCK_TYPE ≡ TYPE_HISTOGRAM → HasUnusedCounts words at
   pub packed : (at : ℕ) → Contains references at → field_at words at BLOCK_TYPE ≡ TYPE_HISTOGRAM → HasPackedMark words at
 
--- An image may be adopted: its header is lawful, it is of version 2 and not corrupt, it is not damaged, and it has used no more units than
--- a segment has.
+-- An image may be adopted: its header is valid, it is of version 2 and not corrupt, it is not damaged, and it has used no more units than a
+-- segment has.
 pub record IsAdoptable (words references : List ℕ) (reading : Reading) : Type 0 where
   pub header : header_of words ≡ Ok (head_of words)
   pub version : (head_of words).version ≡ VERSION_FROZEN

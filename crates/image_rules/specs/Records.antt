@@ -7,25 +7,25 @@ use Rattle.list_lemmas.specs.Firsts.{IsFirstThat}
 
 -- ---- the records of a chain
 
--- a record is one of a histogram of a name
+-- a record is of a histogram with this name
 abbrev pub HasName : List ℕ → List ℕ → ℕ → Type 0
 HasName words name at = (field_at words at BLOCK_TYPE ≡ TYPE_HISTOGRAM) × (name_of words at ≡ name)
 
--- the histogram of a name is the first record of it on the chain
+-- the histogram of a name is the first record with this name on the chain
 abbrev pub IsHistogram : (words chain name : List ℕ) → ℕ → Type 0
 IsHistogram words chain name = IsFirstThat (HasName words name) chain
 
--- a record is a sample of a value of a histogram
+-- a record is a sample of this value of a histogram
 abbrev pub IsSampleOf : List ℕ → ℕ → ℤ → ℕ → Type 0
 IsSampleOf words histogram value at =
     (field_at words at BLOCK_TYPE ≡ TYPE_SAMPLE) × (field_at words at SAMPLE_HISTOGRAM ≡ histogram) × (sample_value words at ≡ value)
 
--- the sample of a value is the first record of it on the chain
+-- the sample of a value is the first record of this value on the chain
 abbrev pub IsSample : (words chain : List ℕ) → ℕ → ℤ → ℕ → Type 0
 IsSample words chain histogram value = IsFirstThat (IsSampleOf words histogram value) chain
 
 -- ---- its counts
 
--- a word behind the header of the counts block of a histogram's record: a count or a mark
+-- a word after the header of the counts block of a histogram's record: a count or a mark
 abbrev pub counts_word : List ℕ → ℕ → ℕ → ℕ
 counts_word words at i = field_at words (field_at words at HISTOGRAM_COUNTS) (BLOCK_HEADER + i)

@@ -1,4 +1,4 @@
--- The chain beside a store, and with one record more.
+-- The chain after a store of another word, and with one record more.
 use Rattle.std.proofs.Common.{◌≡◌, ◌≢◌, ◌⊎◌, ℕ, zero, suc, ◌+◌, ◌<◌, ◌≤◌, true, List, [], ◌∷◌, ◌++◌, length, set, inl, inr, sym, refl, ap, ◌∙◌, subst, arith, length-append}
 use Rattle.std.specs.Prelude.{slice_index}
 use Rattle.std.proofs.lemmas.List.{get_or_append_left, get_or_push, get_or-set_same, get_or-set_other}
@@ -44,7 +44,7 @@ one_place words chain i j linked le le' same = elim (cases_order i j) [
 pub no_queue : (words chain : List ℕ) (k : ℕ) → IsLinked words chain → k < length chain → slice_index chain k ≢ 12
 no_queue words chain k linked lt e = linked.distinct 0 (suc k) (omega arith) (omega arith) (sym e)
 
--- the next of a stop before the end is the record behind it
+-- the next of a stop before the end is the record after it
 pub next_inside : (words chain : List ℕ) (k : ℕ) → IsLinked words chain → k < length chain
     → word_at words (slice_index (stops chain) k + 3) ≡ slice_index chain k
 next_inside words chain k linked lt = linked.linked k (omega arith) ∙ get_or_append_left chain (12 ∷ []) 0 k lt
@@ -60,7 +60,7 @@ last_stop words chain k linked le e = dite (ℕ_discrete k (length chain))
     (λ same. same)
     (λ ne. absurd (no_queue words chain k linked (omega arith) (sym (next_inside words chain k linked (omega arith)) ∙ e)))
 
--- linked lawful blocks are a chain
+-- linked valid blocks are a chain
 pub chain_of : (words chain : List ℕ) (head : SegmentHead) → IsLinked words chain
     → ((k : ℕ) → k < length chain → is_block words head (slice_index chain k) ≡ true) → IsChain words head chain
 chain_of words chain head linked lawful = record {
@@ -96,7 +96,7 @@ neighbours_stay chain reference at next (k, lt, is, then) = (
   get_or_append_left chain (reference ∷ []) 0 k lt ∙ then,
 )
 
--- the new record is behind the stop that was last
+-- the new record comes after the stop that was last
 pub new_neighbours : (chain : List ℕ) (reference at : ℕ) → slice_index (stops chain) (length chain) ≡ at
     → AreNeighbours (chain ++ reference ∷ []) at reference
 new_neighbours chain reference at is = (
@@ -121,7 +121,7 @@ linked_beside words chain at v linked beside = record {
   distinct = linked.distinct;
 }
 
--- the link of a record that is no stop, whose next is the end, behind the last stop
+-- the link of a record that is no stop, whose next is the end, after the last stop
 module _ (words chain : List ℕ) (reference : ℕ) (linked : IsLinked words chain) (other : IsStop chain reference → ⊥)
     (ends : word_at words (reference + 3) ≡ 12) (within : slice_index (stops chain) (length chain) + 3 < length words) where
   abbrev tail : ℕ

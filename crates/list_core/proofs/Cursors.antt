@@ -17,9 +17,9 @@ use Rattle.list_core.proofs.Chains.{one_place, no_queue, next_inside, next_last,
 use Rattle.list_core.proofs.Prefixes.{prefix_of_prefix}
 use Rattle.list_core.proofs.Walks.{record_behind, nothing_behind, place_of}
 
--- ---- where cursors stand
+-- ---- where cursors are
 
--- where a cursor stands stays when one more record was given
+-- a cursor keeps its place when one more record was given
 stands_longer : (chain given : List ℕ) (reference : ℕ) (stage : CursorStage) → CursorStands chain given stage → CursorStands chain (given ++ reference ∷ []) stage
 stands_longer chain given reference LoadCursor on = tt
 stands_longer chain given reference (LoadNext at) (k, le, is) = (k, omega (arith, le, length-longer given reference), is)
@@ -38,7 +38,7 @@ stop_left : (chain rest : List ℕ) (k : ℕ) → k ≤ length chain → slice_i
 stop_left chain rest zero le = refl
 stop_left chain rest (suc k) le = get_or_append_left chain rest 0 k (omega (arith, le))
 
--- where a cursor stands stays when the chain grows
+-- a cursor keeps its place when the chain grows
 stands_grown : (chain given rest : List ℕ) (stage : CursorStage) → length given ≤ length chain → CursorStands chain given stage → CursorStands (chain ++ rest) given stage
 stands_grown chain given rest LoadCursor few on = tt
 stands_grown chain given rest (LoadNext at) few (k, le, is) = (k, le, stop_left chain rest k (omega (arith, le, few)) ∙ is)
@@ -56,7 +56,7 @@ front_within given chain (rest, is) = omega (arith, ap length is, length-append 
 
 -- ---- one step
 
--- what is so after a step of a cursor
+-- what holds after a step of a cursor
 pub record Goes (words chain given : List ℕ) (shared : ℕ) (stage : CursorStage) (step : CursorStep) : Type 0 where
   pub says : MaySay chain given step
   pub word : IsShared words chain (given_after given step) (shared_after shared step)
@@ -66,7 +66,7 @@ module _ (words chain given : List ℕ) (shared : ℕ) (is : IsShared words chai
   few : length given ≤ length chain
   few = front_within given chain is.front
 
-  -- the shared word is a stop of the chain, behind what was given
+  -- the shared word is a stop of the chain, at the end of what was given
   here : slice_index (stops chain) (length given) ≡ shared
   here = place_of given is.front.0 chain is.front.1 ∙ sym is.behind
 
@@ -77,7 +77,7 @@ module _ (words chain given : List ℕ) (shared : ℕ) (is : IsShared words chai
   loads = subst (λ (b : Bool). Goes words chain given shared (if b then LoadNext shared else LoadCursor) (if b then More else Stray)) (sym good)
       record { says = tt; word = is; stands = (length given, omega arith, here) }
 
-  -- the next of a block where a cursor stands is the record behind it, or the end
+  -- the next of a block where a cursor is: the record after it, or the end
   loads_next : (at : ℕ) → CursorStands chain given (LoadNext at)
       → Goes words chain given shared (stage_after (length words) (word_at words (at + 3)) (LoadNext at)) (said_of (length words) (word_at words (at + 3)) (LoadNext at))
   loads_next at (k, le, place) =
@@ -99,7 +99,7 @@ module _ (words chain given : List ℕ) (shared : ℕ) (is : IsShared words chai
       subst by_end (sym (ne_eqb found 12 (λ e. no_queue words chain k is.list.linked inside (next ∙ e))))
       (subst by_good (sym on) record { says = tt; word = is; stands = (k, le, inside, place, next) }))
 
-  -- an exchange that goes through gives the record behind all that was given
+  -- an exchange that goes through gives the record after all that was given
   moves : (at next : ℕ) → CursorStands chain given (MoveCursor at next)
       → Goes words chain given shared (stage_after (length words) shared (MoveCursor at next)) (said_of (length words) shared (MoveCursor at next))
   moves at next (k, le, inside, place, behind) =

@@ -26,7 +26,7 @@ own_next_stored words chain reference linked other within = (
 pub tail_loaded : (words : List ℕ) → after load_tail words ≡ words
 tail_loaded words = set-get_or words 8 0
 
--- a link that finds the end goes through: the record is behind the tail, which was last
+-- a link that finds the end goes through: the record comes after the tail, which was last
 pub link_through : (words chain : List ℕ) (tail reference : ℕ) → IsLinked words chain → AwaitsLink words chain reference → IsStop chain tail
     → word_at words (tail + 3) ≡ 12 → tail + 3 < length words
     → IsLinked (set words (tail + 3) reference) (chain ++ reference ∷ []) × AreNeighbours (chain ++ reference ∷ []) tail reference
@@ -38,7 +38,7 @@ link_through words chain tail reference linked (other, own_end) (k, le, is) ends
       new_neighbours chain reference tail tail_is,
     )
 
--- a link that finds another record changes no word, and the record is the one behind the tail
+-- a link that finds another record changes no word, and that record is the one after the tail
 pub link_missed : (words chain : List ℕ) (tail : ℕ) → IsLinked words chain → IsStop chain tail → word_at words (tail + 3) ≢ 12
     → AreNeighbours chain tail (word_at words (tail + 3))
 link_missed words chain tail linked (k, le, is) ne = dite (ℕ_discrete k (length chain))
@@ -51,11 +51,11 @@ link_missed words chain tail linked (k, le, is) ne = dite (ℕ_discrete k (lengt
           ∙ ap (λ (n : ℕ). word_at words (n + 3)) is,
     ))
 
--- what is behind a stop is one
+-- what comes after a stop is one
 pub behind_stop : (chain : List ℕ) (at next : ℕ) → AreNeighbours chain at next → IsStop chain next
 behind_stop chain at next (k, lt, is, next_is) = (suc k, omega (arith, lt), next_is)
 
--- the tail is moved to the record behind it, or stays: the chain stays, where no stop lies among the first words
+-- the tail is moved to the record after it, or stays: the chain stays, if no stop lies among the first words
 pub tail_moved : (words chain : List ℕ) (v : ℕ) → IsLinked words chain → ((i : ℕ) → i ≤ length chain → 12 ≤ slice_index (stops chain) i)
     → IsLinked (set words 8 v) chain
 tail_moved words chain v linked high =

@@ -1,4 +1,4 @@
--- Each event of a publish keeps the list on which it stands.
+-- Each event of a publish keeps its list.
 use Rattle.std.proofs.Common.{◌≡◌, ◌≢◌, ◌⊎◌, ℕ, ◌+◌, ◌<◌, ◌≤◌, eq-eqb, ne_eqb, Bool, true, false, List, [], ◌∷◌, ◌++◌, length, set, length-set, inl, inr, ⊎_elim, sym, refl, ap, ◌∙◌, subst, arith}
 use Rattle.std.specs.Prelude.{Some, slice_index, if◌then◌else◌}
 use Rattle.std.proofs.lemmas.List.{get_or-set_same, get_or-set_other}
@@ -30,7 +30,7 @@ blank_list size page id =
       tail = (0, omega arith, refl);
     }
 
--- where a publish stands stays, whatever changes the chain and the words and leaves it
+-- a publish keeps its place if stops and neighbours stay, and its record, while it is off the chain, stays off it with its next
 stands_along : (words words' chain chain' : List ℕ) (reference : ℕ) → ((at : ℕ) → IsStop chain at → IsStop chain' at)
     → ((at next : ℕ) → AreNeighbours chain at next → AreNeighbours chain' at next)
     → ((IsStop chain reference → ⊥) → IsStop chain' reference → ⊥)
@@ -46,22 +46,22 @@ stands_along words words' chain chain' reference stop near off same Published on
 stands_along words words' chain chain' reference stop near off same Strayed none = none
 
 module _ (words chain : List ℕ) (p : Publishing) (on : StandsOn words chain p) (from : 16 ≤ p.reference) (ends : p.reference + 5 ≤ length words) where
-  -- what is kept by an event that leads to these words, this chain and this stage: the list, where this publish stands and
-  -- where any other does, and the tail does not go back
+  -- what is kept by an event that leads to these words, this chain and this stage: the list, where this publish is and where any
+  -- other is, and the tail does not go back
   pub record Kept (words' chain' : List ℕ) (stage : PubStage) : Type 0 where
     pub list : IsList words' chain'
     pub stands : PublishStands words' chain' p.reference stage
     pub others : (other : ℕ) (at : PubStage) → 16 ≤ other → other ≢ p.reference → PublishStands words chain other at → PublishStands words' chain' other at
     pub tail : TailGoesOn chain words words'
 
-  -- a stop lies behind the words of the header, and its next within the words
+  -- a stop is at 12 or after it, and its next within the words
   stop_within : (at : ℕ) → IsStop chain at → (12 ≤ at) × (at + 3 < length words)
   stop_within at stop = ⊎_elim
       (λ (queue : at ≡ 12). (omega (arith, queue), omega (arith, queue, from, ends)))
       (λ (block : (16 ≤ at) × (at + 5 ≤ length words)). (omega (arith, block.0), omega (arith, block.1)))
       (reference_place (length words) at (on.list.references at stop))
 
-  -- where no word changes and the chain stays
+  -- if no word changes and the chain stays
   stays : (words' : List ℕ) (stage : PubStage) → words' ≡ words → PublishStands words chain p.reference stage → Kept words' chain stage
   stays words' stage same stands =
       subst (λ (ws : List ℕ). Kept ws chain stage) (sym same)

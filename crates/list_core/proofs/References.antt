@@ -7,18 +7,18 @@ use Rattle.segment_image.specs.declared.head.SegmentHead.{SegmentHead}
 use Rattle.bucket_ranges.proofs.Walks.{is_block-within}
 use Rattle.list_core.specs.Chain.{is_reference}
 
--- a reference is the queue block, or where a smallest block ends within the words
+-- a reference is the queue block, or a place where a smallest block ends within the words
 pub reference_place : (n at : ℕ) → is_reference n at ≡ true → (at ≡ 12) ⊎ ((16 ≤ at) × (at + 5 ≤ n))
 reference_place n at is = ⊎_elim
     (λ queue. inl (eqb-true at 12 queue))
     (λ block. let (low, high) = and_parts _ _ block in inr (leb-true 16 at low, leb-true (at + 5) n high))
     (or_cases _ _ is)
 
--- and where one ends there is a reference
+-- and a place where one ends so is a reference
 pub place_reference : (n at : ℕ) → 16 ≤ at → at + 5 ≤ n → is_reference n at ≡ true
 place_reference n at low high = or_right (at == 12) _ (and_from (nat_le 16 at) _ (le-leb 16 at low) (le-leb (at + 5) n high))
 
--- so a lawful block is one
+-- so a valid block is one
 pub block_reference : (words : List ℕ) (head : SegmentHead) (at : ℕ) → is_block words head at ≡ true → head.free ≤ length words
     → is_reference (length words) at ≡ true
 block_reference words head at lawful free =

@@ -55,7 +55,7 @@ stray_stage Strayed e = refl
 pub goes_on : (p : Publishing) (step : PubStep) → step ≡ answer p.stage → step ≡ said.More → is_some (next_event p) ≡ true
 goes_on p step is more = more_goes p.reference p.stage (sym is ∙ more)
 
--- a step keeps the list on which its publish stands
+-- a step keeps the list of its publish
 pub step_keeps : (old new : Publishing) (words new_words chain : List ℕ) (step : PubStep) → IsStep old words new new_words step → (reach : IsReach (length words) old)
     → (on : StandsOn words chain old) → Kept words chain old on reach.from reach.ends new_words (chain_after words chain old) new.stage
 step_keeps old new words new_words chain step is reach on =
@@ -63,7 +63,7 @@ step_keeps old new words new_words chain step is reach on =
     subst (λ (x : List ℕ × PubStage). Kept words chain old on reach.from reach.ends x.0 (chain_after words chain old) x.1)
     (λ i. (sym is.words_are i, sym (ap (λ (p : Publishing). p.stage) is.new_is) i)) kept
 
--- so the publish stands on it, as its stage then says
+-- so the publish is on it, as its new stage says
 pub step_stands : (old new : Publishing) (words new_words chain : List ℕ) (step : PubStep) → IsStep old words new new_words step → IsReach (length words) old
     → StandsOn words chain old → StandsOn new_words (chain_after words chain old) new
 step_stands old new words new_words chain step is reach on =
@@ -86,7 +86,7 @@ pub done_stop : (p : Publishing) (words chain : List ℕ) (step : PubStep) → S
     → IsStop chain p.reference
 done_stop p words chain step on is done = subst (PublishStands words chain p.reference) (done_stage p.stage (sym is ∙ done)) on.stands
 
--- and none that stands on a list has strayed
+-- and none that is on a list has strayed
 pub no_stray : (p : Publishing) (words chain : List ℕ) (step : PubStep) → StandsOn words chain p → step ≡ answer p.stage → step ≢ said.Stray
 no_stray p words chain step on is stray = subst (PublishStands words chain p.reference) (stray_stage p.stage (sym is ∙ stray)) on.stands
 

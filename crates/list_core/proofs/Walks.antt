@@ -25,11 +25,11 @@ reach_by n next at true good old is = old
 reach_by n next at false true old is = is
 reach_by n next at false false old is = old
 
--- a walk stands where a list can have a record
+-- a walk is where a list can have a record
 pub reaches : (n next at : ℕ) → is_reference n at ≡ true → is_reference n (stands_after at (said_of n next)) ≡ true
 reaches n next at old = reach_by n next at (next == 12) (is_reference n next) old refl
 
--- the record behind a prefix, by what is behind it
+-- the record after a prefix, by what comes after it
 pub record_behind : (given rest chain : List ℕ) → chain ≡ given ++ rest → length given < length chain → IsPrefix (given ++ slice_index chain (length given) ∷ []) chain
 record_behind given [] chain is lt = absurd (omega (arith, ap length is, length-append given [], lt))
 record_behind given (r ∷ rs) chain is lt =
@@ -38,17 +38,17 @@ record_behind given (r ∷ rs) chain is lt =
     ∙ ap (λ (i : ℕ). get_or (r ∷ rs) i 0) none) in
     (rs, is ∙ (sym (append_assoc given (r ∷ []) rs) ∙ ap (λ (n : ℕ). (given ++ n ∷ []) ++ rs) (sym here)))
 
--- nothing is behind a prefix as long as the whole
+-- nothing comes after a prefix as long as the whole
 pub nothing_behind : (given rest chain : List ℕ) → chain ≡ given ++ rest → length given ≡ length chain → given ≡ chain
 nothing_behind given [] chain is same = sym (is ∙ append-nil given)
 nothing_behind given (r ∷ rs) chain is same = absurd (omega (arith, ap length is, length-append given (r ∷ rs), same))
 
--- a prefix of the chain with the record behind it, or all of the chain where the walk ends
+-- a prefix of the chain with the record after it, or all of the chain where the walk ends
 prefix_goes : (chain given : List ℕ) (said : WalkStep) → IsPrefix given chain → GivesNext chain (length given) said → IsGiven given chain said
 prefix_goes chain given said (rest, is) (inl (lt, says)) = subst (IsGiven given chain) (sym says) (record_behind given rest chain is lt)
 prefix_goes chain given said (rest, is) (inr (same, says)) = subst (IsGiven given chain) (sym says) (nothing_behind given rest chain is same)
 
--- the place where a walk stands that gave a prefix
+-- the place of a walk that gave a prefix
 pub place_of : (given rest chain : List ℕ) → chain ≡ given ++ rest → slice_index (stops chain) (length given) ≡ stands_behind given
 place_of [] rest chain is = refl
 place_of (x ∷ xs) rest chain is = ap (λ (l : List ℕ). get_or l (length xs) 0) is ∙ get_or_append_left (x ∷ xs) rest 0 (length xs) (omega arith)

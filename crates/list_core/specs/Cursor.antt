@@ -18,27 +18,27 @@ found_by words shared LoadCursor = shared
 found_by words shared (LoadNext at) = word_at words (at + BLOCK_NEXT)
 found_by words shared (MoveCursor at next) = shared
 
--- what a step says that found a number, in n words
+-- what a step that found a number says, in n words
 abbrev pub said_of : ℕ → ℕ → CursorStage → CursorStep
 said_of n found LoadCursor = if is_reference n found then More else Stray
 said_of n found (LoadNext at) = if found == QUEUE then End else if is_reference n found then More else Stray
 said_of n found (MoveCursor at next) = if found == at then Record next else More
 
--- what the cursor does after that: it begins anew where it gave a record, met the end or came too late, and a step that strays
--- leaves it
+-- what the cursor does after that: it starts again after it gave a record, found the end or came too late, and a step that strays
+-- leaves it unchanged
 abbrev pub stage_after : ℕ → ℕ → CursorStage → CursorStage
 stage_after n found LoadCursor = if is_reference n found then LoadNext found else LoadCursor
 stage_after n found (LoadNext at) = if found == QUEUE then LoadCursor else if is_reference n found then MoveCursor at found else LoadNext at
 stage_after n found (MoveCursor at next) = LoadCursor
 
--- the shared word after a step that said this: the record that was given, or as it was
+-- the shared word after a step that said this: the record that was given, or what it was
 abbrev pub shared_after : ℕ → CursorStep → ℕ
 shared_after shared (Record reference) = reference
 shared_after shared More = shared
 shared_after shared End = shared
 shared_after shared Stray = shared
 
--- one step of a cursor, with the word that it shares before and behind it
+-- one step of a cursor, with the word that it shares before and after it
 pub record IsStep (old : CursorStage) (words : List ℕ) (shared : ℕ) (new : CursorStage) (new_shared : ℕ) (step : CursorStep) : Type 0 where
   pub says : step ≡ said_of (length words) (found_by words shared old) old
   pub stage : new ≡ stage_after (length words) (found_by words shared old) old
@@ -53,7 +53,7 @@ IsReach n _ = ⊤
 abbrev pub IsRecordBy : CursorStage → ℕ → ℕ → Type 0
 IsRecordBy old shared reference = old ≡ MoveCursor shared reference
 
--- why a step says that the list ends: it loaded the next of the block where the cursor stood, and that is the queue block
+-- why a step says that the list ends: it loaded the next of the block where the cursor was, and that is the queue block
 abbrev pub IsEndBy : CursorStage → List ℕ → Type 0
 IsEndBy old words = (at : ℕ) × (old ≡ LoadNext at) × (word_at words (at + BLOCK_NEXT) ≡ QUEUE)
 
@@ -65,14 +65,14 @@ IsStrayBy old words shared =
 
 -- ---- cursors of one word
 
--- The word that cursors share stands behind the records that they gave, a front of the chain of words with a list.
+-- The words have a list, the records that cursors gave are a front of its chain, and the word that they share is at its end.
 pub record IsShared (words chain given : List ℕ) (shared : ℕ) : Type 0 where
   pub list : IsList words chain
   pub front : IsPrefix given chain
   pub behind : shared ≡ stands_behind given
 
--- where a cursor stands: what it loaded from the shared word is the queue block or a record that was given, and the next that
--- it loaded there is the record behind that on the chain
+-- where a cursor is: what it loaded from the shared word is the queue block or a record that was given, and the next that it
+-- loaded there is the record after that on the chain
 abbrev pub CursorStands : List ℕ → List ℕ → CursorStage → Type 0
 CursorStands chain given LoadCursor = ⊤
 CursorStands chain given (LoadNext at) = (k : ℕ) × (k ≤ length given) × (slice_index (stops chain) k ≡ at)
@@ -86,7 +86,7 @@ given_after given More = given
 given_after given End = given
 given_after given Stray = given
 
--- what a cursor may say where this was given of a chain: the record behind it, or the end where that is all of the chain
+-- what a cursor may say when this was given of a chain: the record after it, or the end if that is all of the chain
 abbrev pub MaySay : List ℕ → List ℕ → CursorStep → Type 0
 MaySay chain given (Record reference) = IsPrefix (given ++ reference ∷ []) chain
 MaySay chain given More = ⊤
@@ -104,7 +104,7 @@ pub record Sharing : Type 0 where
   pub cursors : ℕ → CursorStage
   pub given : List ℕ
 
--- Cursors share a word that began at the queue block, when each was at its start. In whatever order, one of them steps, or the list
+-- Cursors share a word that was the queue block at first, when each was at its start. In any order, one of them steps, or the list
 -- grows, and with it the chain at its end, as publishes make it.
 pub data AreSharing : Sharing → Type 0 where
   opened : (words chain : List ℕ) → IsList words chain
@@ -115,7 +115,7 @@ pub data AreSharing : Sharing → Type 0 where
       → IsStep (old.cursors id) old.words old.shared (cursors id) shared step → ((other : ℕ) → other ≢ id → cursors other ≡ old.cursors other)
       → AreSharing (record old { shared = shared; cursors = cursors; given = given_after old.given step })
 
--- What they gave is a front of the chain, each record once, and the word stands behind it. None strays, and one that says that the
+-- What they gave is a front of the chain, each record once, and the word is at its end. None strays, and one that says that the
 -- list ends says so when all of the chain was given.
 pub record GivesFront (state : Sharing) : Type 0 where
   pub front : IsPrefix state.given state.chain
@@ -124,6 +124,6 @@ pub record GivesFront (state : Sharing) : Type 0 where
   pub says : (id : ℕ) → MaySay state.chain state.given
       (said_of (length state.words) (found_by state.words state.shared (state.cursors id)) (state.cursors id))
 
--- cursors of one word give a front of the chain, each record once, in whatever order they step and while the list grows
+-- cursors of one word give a front of the chain, each record once, in any order of their steps, and while the list grows
 abbrev pub CursorsGiveFronts : Type 0
 CursorsGiveFronts = (state : Sharing) → AreSharing state → GivesFront state

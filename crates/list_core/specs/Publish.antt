@@ -27,7 +27,7 @@ link tail reference = exchange (tail + BLOCK_NEXT) QUEUE reference
 abbrev pub move_tail : ℕ → ℕ → Access
 move_tail old new = exchange TAIL_WORD old new
 
--- the event that is next at a stage, where the publish has not ended
+-- the next event at a stage, if the publish has not ended
 abbrev pub event_at : ℕ → PubStage → Option Access
 event_at reference StoreOwnNext = Some (store_own_next reference)
 event_at reference LoadTail = Some load_tail
@@ -36,16 +36,16 @@ event_at reference (MoveTail old new linked) = Some (move_tail old new)
 event_at reference Published = None
 event_at reference Strayed = None
 
--- the next event of a publish, or none where it has ended
+-- the next event of a publish, or none if it has ended
 abbrev pub next_event : Publishing → Option Access
 next_event publish = event_at publish.reference publish.stage
 
--- the stage behind a tail that was moved: a record that is linked is published, and another tries again
+-- the stage after the exchange of the tail: a record that is linked is published, and another tries again
 abbrev pub stage_of_move : Bool → PubStage
 stage_of_move true = Published
 stage_of_move false = LoadTail
 
--- the stage behind an event that found a number, in n words
+-- the stage after an event that found a number, in n words
 abbrev pub stage_after : ℕ → ℕ → ℕ → PubStage → PubStage
 stage_after n reference found StoreOwnNext = LoadTail
 stage_after n reference found LoadTail = if is_reference n found then Link found else Strayed
@@ -61,13 +61,13 @@ stage_after n reference found Strayed = Strayed
 abbrev pub moved : ℕ → Publishing → ℕ → Publishing
 moved n publish found = record publish { stage = stage_after n publish.reference found publish.stage }
 
--- what a step answers that leads to a stage
+-- what a step that leads to a stage returns
 abbrev pub answer : PubStage → PubStep
 answer Published = said.Done
 answer Strayed = said.Stray
 answer _ = said.More
 
--- one step: the next event happens, the publish is what that makes of it, and the answer says how it stands
+-- one step: the next event happens, the publish becomes what that makes of it, and the answer is that of its new stage
 pub record IsStep (old : Publishing) (words : List ℕ) (new : Publishing) (new_words : List ℕ) (step : PubStep) : Type 0 where
   pub event : Access
   pub next : next_event old ≡ Some event
@@ -97,7 +97,7 @@ pub record IsReach (n : ℕ) (publish : Publishing) : Type 0 where
 abbrev pub started : ℕ → Publishing
 started reference = record { reference = reference; stage = StoreOwnNext }
 
--- the chain after the event of a stage: longer by the record, at its end, where the link succeeds
+-- the chain after the event of a stage: longer by the record, at its end, if the link succeeds
 abbrev pub chain_at : List ℕ → List ℕ → ℕ → PubStage → List ℕ
 chain_at words chain reference (Link tail) = if word_at words (tail + BLOCK_NEXT) == QUEUE then chain ++ reference ∷ [] else chain
 chain_at words chain reference _ = chain
@@ -110,7 +110,7 @@ chain_after words chain publish = chain_at words chain publish.reference publish
 abbrev pub AwaitsLink : List ℕ → List ℕ → ℕ → Type 0
 AwaitsLink words chain reference = (¬ (IsStop chain reference)) × (word_at words (reference + BLOCK_NEXT) ≡ QUEUE)
 
--- where a publish stands, by its stage: its record is off the chain until it is linked
+-- where a publish is, by its stage: its record is off the chain until it is linked
 abbrev pub PublishStands : List ℕ → List ℕ → ℕ → PubStage → Type 0
 PublishStands words chain reference StoreOwnNext = ¬ (IsStop chain reference)
 PublishStands words chain reference LoadTail = AwaitsLink words chain reference
@@ -120,7 +120,7 @@ PublishStands words chain reference (MoveTail old new false) = AreNeighbours cha
 PublishStands words chain reference Published = IsStop chain reference
 PublishStands words chain reference Strayed = ⊥
 
--- words with a list, and a publish that stands where its stage says
+-- words with a list, and a publish that is where its stage says
 pub record StandsOn (words chain : List ℕ) (publish : Publishing) : Type 0 where
   pub list : IsList words chain
   pub stands : PublishStands words chain publish.reference publish.stage

@@ -9,16 +9,16 @@ use std::marker::Model;
 pub(crate) enum CursorStage {
     /// It loads the shared word.
     LoadCursor,
-    /// It loads the next of the block where the shared word stood.
+    /// It loads the next of the block that the shared word named.
     LoadNext { at: u64 },
-    /// It exchanges the shared word, from that block to the record behind it.
+    /// It exchanges the shared word, from that block to the record after it.
     MoveCursor { at: u64, next: u64 },
 }
 
 /// What a step of a cursor says.
 #[derive(Clone, Copy, Debug, PartialEq, Eq)]
 pub enum CursorStep {
-    /// The cursor goes on.
+    /// The cursor continues.
     More,
     /// The next record, which no other cursor of the shared word gave or gives. The cursor is at its start again.
     Record(u64),
@@ -28,8 +28,9 @@ pub enum CursorStep {
     Stray,
 }
 
-/// A cursor along the list (the iterator of Chromium's persistent_memory_allocator that threads share). Cursors share one
-/// word, which is 12 at first: the block where they stand together. A clause sees what it does next.
+/// A cursor along the list (the iterator of Chromium's persistent_memory_allocator that threads share). Cursors share
+/// one word, which names the block that they have reached together: at first 12. A clause sees what the cursor does
+/// next.
 #[derive(Debug, Drop)]
 pub struct Cursor {
     stage: CursorStage,
@@ -47,7 +48,7 @@ impl CursorStage {
     ghost use Rattle.std.specs.Prelude.{◌≡◌};
     ghost use Rattle.list_core.specs.Cursor.{said_of, stage_after};
 
-    // What a step says that found a number.
+    // What a step that found a number says.
     fn said(self, found: u64, count: usize) -> CursorStep
         ensures { result ≡ said_of count found self }
     {
@@ -93,23 +94,23 @@ impl Cursor {
         }
     }
 
-    /// Performs the cursor's next event, which changes no word but the shared one [step]. The words are at least 16,
-    /// and as many at each step; the cursor stays within them [reach]. It takes no memory.
+    /// Performs the cursor's next event, which changes no word but the shared one [step]. There are at least 16 words,
+    /// the same number at each step; the cursor stays within them [reach]. It takes no memory.
     ///
     /// A cursor loads the shared word, then the next of the block there, and exchanges the shared word for that next.
     ///
     /// - `Record`: the exchange succeeded. So the shared word was still what the cursor had loaded; it is this record
     ///   now, and the cursor is at its start [record].
-    /// - `More`: the shared word is unchanged [more]. Where another cursor was faster, the cursor begins anew.
-    /// - `End`: the next of the block where the cursor stood is 12, the queue block. The shared word is unchanged,
+    /// - `More`: the shared word is unchanged [more]. If another cursor was faster, this one starts again.
+    /// - `End`: the next of the block that the cursor had loaded is 12, the queue block. The shared word is unchanged,
     ///   and the cursor is at its start [end].
     /// - `Stray`: the shared word or the next is neither 12 nor from 16 to five below the number of words. Nothing
     ///   has changed [stray].
     ///
-    /// Now let the words have a list, and the shared word stand after what its cursors gave, a front of the chain.
-    /// Then `Record` gives the next record of the chain, `End` comes only where all of the chain was given, `Stray`
-    /// never comes, and the shared word stands after what was given then [given]. Any other cursor of the word stands
-    /// where it stood [others].
+    /// Now let the words have a list, and the shared word be at the end of what its cursors gave, a front of the chain.
+    /// Then `Record` gives the next record of the chain, `End` comes only when all of the chain was given, `Stray`
+    /// never comes, and the shared word is at the end of what was given then [given]. Any other cursor of the word
+    /// keeps its place [others].
     pub fn step(&mut self, words: &[u64], shared: &mut u64) -> CursorStep
         requires headed { HEADER_WORDS ≤ length words.now }
         requires reach { IsReach (length words.now) self.old }
@@ -145,7 +146,7 @@ impl Cursor {
 
 ghost use Rattle.std.specs.Prelude.{◌≡◌, ◌==◌, if◌then◌else◌};
 
-// Exchanges a word for a new value where it is the old one, and gives what it was.
+// Exchanges a word for a new value if it is the old one, and returns what it was.
 fn exchange_word(word: &mut u64, old: u64, new: u64) -> u64
     ensures found { result ≡ word.old }
     ensures word { word.new ≡ if word.old == old then new else word.old }

@@ -19,14 +19,14 @@ pub fn opening_words_have_a_list()
     ensures { (size page id : ℕ) → IsList (blank_words size page id) [] }
 {}
 
-/// In words with a list a publish may start of any record that is off the chain. Each of its steps keeps the list
-/// then, and leaves all others where they stand, by the clauses `list` and `others` of `Publish::step`.
+/// In words with a list, a publish may start for any record that is off the chain. Each of its steps then keeps the
+/// list, and leaves all other publishes in their places, by the clauses `list` and `others` of `Publish::step`.
 pub fn records_off_the_chain_may_start()
     ensures { (words chain : List ℕ) (reference : ℕ) → IsList words chain → ¬ (IsStop chain reference) → StandsOn words chain (started reference) }
 {}
 
-/// The list of words whose records are lawful blocks is the chain that a reader of the words finds: distinct lawful blocks
-/// that the nexts give from the queue block, and back to it.
+/// The list of words whose records are valid blocks is the chain that a reader of the words finds: distinct valid
+/// blocks that the nexts give from the queue block, and back to it.
 pub fn published_records_are_the_chain()
     ensures { (words chain : List ℕ) → IsList words chain
         → ((k : ℕ) → k < length chain → is_block words (head_of words) (slice_index chain k) ≡ true)
@@ -46,8 +46,8 @@ pub fn walks_give_prefixes()
         → IsGiven given chain (said_of (length words) (word_at words (stands_behind given + BLOCK_NEXT))) }
 {}
 
-/// Cursors that share a word give a front of the chain, each record once, in whatever order they step and while the
-/// list grows. None of them strays, and one says that the list ends only when all of the chain was given.
+/// Cursors that share a word give a front of the chain, each record once, in any order of their steps, and while
+/// the list grows. None of them strays, and one says that the list ends only when all of the chain was given.
 pub fn cursors_give_fronts()
     ensures { CursorsGiveFronts }
 {}

@@ -15,7 +15,7 @@ pub(crate) enum PubStage {
     LoadTail,
     /// It exchanges the next of the tail, from the end of the list to its record.
     Link { tail: u64 },
-    /// It exchanges the tail: to its record, which is linked, or to the record that it found behind the tail.
+    /// It exchanges the tail: to its record, which is linked, or to the record that it found after the tail.
     MoveTail { old: u64, new: u64, linked: bool },
     /// The record is on the list.
     Published,
@@ -26,7 +26,7 @@ pub(crate) enum PubStage {
 /// What a step of a publish says.
 #[derive(Clone, Copy, Debug, PartialEq, Eq)]
 pub enum PubStep {
-    /// The publish goes on.
+    /// The publish continues.
     More,
     /// The record is on the list.
     Done,
@@ -54,7 +54,7 @@ impl PubStage {
     ghost use Rattle.std.specs.Prelude.{◌≡◌};
     ghost use Rattle.list_core.specs.Publish.{answer};
 
-    // What a step says that led here.
+    // What a step that led to this stage says.
     fn answer(self) -> PubStep
         ensures { result ≡ answer self }
     {
@@ -85,8 +85,8 @@ impl Publish {
         }
     }
 
-    /// Performs the publish's next event, which changes one word at most [step]. The words are at least 16, and as
-    /// many at each step; the record begins five words or more before their end, and the publish stays within them
+    /// Performs the publish's next event, which changes one word at most [step]. There are at least 16 words, the same
+    /// number at each step; the record begins five words or more before their end, and the publish stays within them
     /// [reach]. The step before, if there was one, returned `More`. It takes no memory.
     ///
     /// - `More`: it continues, and has a next event [more].
@@ -94,14 +94,14 @@ impl Publish {
     /// - `Stray`: it loaded a tail, or found a next, that is neither 12 nor from 16 to five below the number of
     ///   words. Nothing has changed [stray].
     ///
-    /// Now let the words have a list (nexts along a chain, and the tail on it), on which the publish stands where its
-    /// stage says:
+    /// Now let the words have a list (nexts along a chain, and the tail on it), and the publish be where its stage
+    /// says:
     ///
     /// - They have a list after the step too, with the record at the end of the chain if the step linked it, and the
-    ///   publish stands on it [list].
-    /// - A publish of another record that stood on the list still stands on it [others].
+    ///   publish is where its new stage says [list].
+    /// - A publish of another record that was where its stage says still is there [others].
     /// - The tail is where it was, or at the next record [tail].
-    /// - `Done` comes only where the record is on the chain [done], and `Stray` never [lawful].
+    /// - `Done` comes only if the record is on the chain [done], and `Stray` never [lawful].
     pub fn step(&mut self, words: &mut [u64]) -> PubStep
         requires reach { IsReach (length words.old) self.old }
         requires running { is_some (next_event self.old) ≡ true }
@@ -121,7 +121,7 @@ impl Publish {
         self.stage.answer()
     }
 
-    /// Returns the exchange that its next event is, if it is one: the word, and the value that is wanted there.
+    /// Returns the exchange that its next event is, if it is one: the word, and the value that is expected there.
     pub fn next_exchange(&self) -> Option<Attempt>
         ensures { result ≡ attempt_of (next_event self.now) }
     {
@@ -169,7 +169,7 @@ impl Publish {
         }
     }
 
-    // What becomes of the publish by the number that was found, in so many words.
+    // What becomes of the publish after it found a number, in `count` words.
     fn go_on(&mut self, count: usize, found: u64)
         ensures { self.new ≡ moved count self.old found }
     {

@@ -9,13 +9,13 @@ use std::marker::Model;
 pub enum WalkStep {
     /// The next record of the list.
     Record(u64),
-    /// The list ends here for now. The walk stands where it stood, and can be stepped again.
+    /// The list ends here for now. The walk is where it was, and can be stepped again.
     End,
-    /// The word that was loaded is no reference that a list can have. The walk stands where it stood.
+    /// The word that was loaded is no reference that a list can have. The walk is where it was.
     Stray,
 }
 
-/// A walk along the list (Chromium's persistent_memory_allocator). A clause sees the block where it stands: 12, the queue
+/// A walk along the list (Chromium's persistent_memory_allocator). A clause sees the block where it is: 12, the queue
 /// block, or the record that it gave last.
 #[derive(Debug, Drop)]
 pub struct Walk {
@@ -34,7 +34,7 @@ impl WalkStep {
     ghost use Rattle.std.specs.Prelude.{◌≡◌};
     ghost use Rattle.list_core.specs.Walk.{stands_after};
 
-    // Where a walk stands that stood at a block and said this.
+    // Where a walk at a block is after it said this.
     fn stands(self, at: u64) -> u64
         ensures { result ≡ stands_after at self }
     {
@@ -68,14 +68,14 @@ impl Walk {
         Walk { at: reference }
     }
 
-    /// Loads the next of the block where the walk stands, and says what it names [says]. The words are at least 16,
-    /// and as many at each step. It takes no memory.
+    /// Loads the next of the block where the walk is, and says what it names [says]. There are at least 16 words, the
+    /// same number at each step. It takes no memory.
     ///
-    /// `Record` comes with a reference, where the walk then stands; `End` where the next is 12, and `Stray` where it
-    /// is neither 12 nor from 16 to five below the number of words. After these two the walk stands where it stood,
-    /// and can be stepped again [stands]. It stays within the words [reach]. Where it stood after what a walk from
-    /// the start had given, it stands after that and what it gives now [given]. In any words with a chain, a walk at
-    /// a place of it gives the record after that place, or `End` at the end of the chain [chain].
+    /// `Record` comes with a reference, where the walk is then; `End` if the next is 12, and `Stray` if it is neither
+    /// 12 nor from 16 to five below the number of words. After these two the walk is where it was, and can be stepped
+    /// again [stands]. It stays within the words [reach]. If it was at the end of what a walk from the start had given,
+    /// it is at the end of that and what it gives now [given]. In any words with a chain, a walk at a place of it gives
+    /// the record after that place, or `End` at the end of the chain [chain].
     pub fn step(&mut self, words: &[u64]) -> WalkStep
         requires headed { HEADER_WORDS ≤ length words.now }
         requires reach { is_reference (length words.now) self.old ≡ true }
@@ -90,14 +90,14 @@ impl Walk {
         said
     }
 
-    /// Returns the word that its next step loads: the next of the block where it stands.
+    /// Returns the word that its next step loads: the next of the block where it is.
     pub fn next_load(&self) -> usize
         ensures { result ≡ (self.now + BLOCK_NEXT) % 2 ^ 64 }
     {
         (self.at as usize).wrapping_add(BLOCK_NEXT)
     }
 
-    // The next of the block where the walk stands.
+    // The next of the block where the walk is.
     fn next(&self, words: &[u64]) -> u64
         requires headed { HEADER_WORDS ≤ length words.now }
         requires reach { is_reference (length words.now) self.now ≡ true }
@@ -110,7 +110,7 @@ impl Walk {
 ghost use Rattle.std.specs.Prelude.{◌≡◌};
 ghost use Rattle.list_core.specs.Walk.{said_of as said_of_next};
 
-// What a next says, in so many words.
+// What a next says, in `count` words.
 fn said_of(next: u64, count: usize) -> WalkStep
     ensures { result ≡ said_of_next count next }
 {

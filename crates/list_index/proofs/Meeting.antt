@@ -1,4 +1,4 @@
--- What is held of numbers that were met along a list.
+-- What is held of numbers that were visited along a list.
 use Rattle.std.proofs.Common.{◌≡◌, ◌≢◌, ◌∙◌, ◌==◌, ℕ, Bool, true, false, List, [], ◌∷◌, ◌++◌, suc, map, Option, Some, None, if◌then◌else◌, refl, sym, ap, subst, arith, eq-eqb, ne_eqb}
 use Rattle.std.specs.List.{All, AllPairs}
 use Rattle.std.specs.Option.{option_or, unwrap_or}
@@ -66,7 +66,7 @@ holds_passed met firsts at holds = record {
   all = λ grouping group. holds.all grouping group ∙ sym (all_passed met at group);
 }
 
--- where nothing has changed
+-- if nothing has changed
 pub holds_still : (met : List Met) (old new : Firsts) → Holds met old → IsUnchanged old new → is_grouping new ≡ is_grouping old → Holds met new
 holds_still met old new holds still same = record {
   first = λ key. still.first key ∙ holds.first key;
@@ -88,7 +88,7 @@ none_met ((r, Some mine) ∷ rest) key none = dite (ℕ_discrete mine key)
     (λ apart. All-cons (λ (m : Met). m.1 ≢ Some key) (r, Some mine) rest (some_apart mine key apart)
     (none_met rest key (sym (ap (λ (b : Bool). if b then Some r else first_met rest key) (ne_eqb mine key apart)) ∙ none)))
 
--- the first that has it, behind others that have not
+-- the first that has it, after others that have not
 pub one_met : (met : List Met) (key at : ℕ) → first_met met key ≡ Some at
     → (front behind : List Met) × (met ≡ front ++ (at, Some key) ∷ behind) × All (λ (m : Met). m.1 ≢ Some key) front
 one_met [] key at one = absurd (cc one)
@@ -119,7 +119,7 @@ one_met ((r, Some mine) ∷ rest) key at one = dite (ℕ_discrete mine key)
 
 -- ---- what a group has
 
--- what is said of all that were met is said of those of a group
+-- what holds of all that were visited holds of those of a group
 pub in_group : (P : ℕ → Type 0) (met : List Met) (group : ℕ) → All P (map (λ (m : Met). m.0) met) → All P (met_in met group)
 in_group P [] group all = All-nil P
 in_group P ((at, None) ∷ rest) group all = in_group P rest group (All-tail P at (map (λ (m : Met). m.0) rest) all)
@@ -129,7 +129,7 @@ in_group P ((at, Some own) ∷ rest) group all = by (group_of own == group) (in_
     by true later = All-cons P at (met_in rest group) (All-head P at (map (λ (m : Met). m.0) rest) all) later
     by false later = later
 
--- what is said of each that was met and each later one is said of those of a group
+-- what holds of each visited number and each later one holds of those of a group
 pub pairs_in_group : (R : ℕ → ℕ → Type 0) (met : List Met) (group : ℕ) → AllPairs R (map (λ (m : Met). m.0) met) → AllPairs R (met_in met group)
 pairs_in_group R [] group all = λ i j d lt inside. absurd (omega (arith, inside))
 pairs_in_group R ((at, None) ∷ rest) group all = pairs_in_group R rest group (λ i j d lt inside. all (suc i) (suc j) d (omega (arith, lt)) (omega (arith, inside)))
@@ -143,7 +143,7 @@ pairs_in_group R ((at, Some own) ∷ rest) group all =
     by true later = AllPairs-cons R at (met_in rest group) others later
     by false later = later
 
--- what is said of those of a group is said of each that was met with a key of it
+-- what holds of those of a group holds of each visited number with a key of it
 pub of_group : (P : ℕ → Type 0) (met : List Met) (group : ℕ) → All P (met_in met group)
     → All (λ (m : Met). (key : ℕ) → m.1 ≡ Some key → group_of key ≡ group → P m.0) met
 of_group P [] group all = All-nil (λ (m : Met). (key : ℕ) → m.1 ≡ Some key → group_of key ≡ group → P m.0)

@@ -1,4 +1,4 @@
--- What was met along a list, the first of each key, and all of each group of keys.
+-- What was visited along a list: the first number of each key, and all of each group of keys.
 use Rattle.std.specs.Prelude.{◌≡◌, ◌==◌, Bool, true, ℕ, List, [], ◌∷◌, Option, Some, None, if◌then◌else◌, nat_eq}
 use Rattle.std.specs.HashMap as hash
 use Rattle.list_index.specs.declared.firsts.Firsts.{Firsts}
@@ -24,7 +24,7 @@ limit_of firsts = firsts.limit
 abbrev pub all_of : Firsts → ℕ → List ℕ
 all_of firsts group = numbers_of firsts.groups group
 
--- a number that was met, with its key where it has one
+-- a number that was visited, with its key if it has one
 abbrev pub Met : Type 0
 Met = ℕ × Option ℕ
 
@@ -40,7 +40,7 @@ met_in [] group = []
 met_in ((at, Some own) ∷ rest) group = if group_of own == group then at ∷ met_in rest group else met_in rest group
 met_in ((at, None) ∷ rest) group = met_in rest group
 
--- Of each key the first of those that were met is held, and where there are groups, of each group all.
+-- Of each key the first of those that were visited is held, and if there are groups, of each group all.
 pub record Holds (met : List Met) (firsts : Firsts) : Type 0 where
   pub first : (key : ℕ) → first_of firsts key ≡ first_met met key
   pub all : is_grouping firsts ≡ true → (group : ℕ) → all_of firsts group ≡ met_in met group

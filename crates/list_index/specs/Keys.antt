@@ -9,7 +9,7 @@ next_key key word = (key * 2 ^ 64 + word) % 11400714819323198549
 abbrev pub next_byte_key : ℕ → ℕ → ℕ
 next_byte_key key byte = (key * 6364136223846793005 + byte) % 2 ^ 64
 
--- the key of a list, each of whose items makes a key of the one before it, behind a key
+-- the key that a list leads to from a key: each item makes a new key from the one before
 abbrev pub key_behind : (ℕ → ℕ → ℕ) → ℕ → List ℕ → ℕ
 key_behind then_key key [] = key
 key_behind then_key key (x ∷ xs) = key_behind then_key (then_key key x) xs

@@ -10,7 +10,7 @@ use crate::groups::{Groups, group_of};
 use std::alloc::Global;
 use std::collections::HashMap;
 
-/// Of each key the first number that was entered with it; and where it is made so, of each group of keys all numbers.
+/// For each key the first number that was entered with it; and, if it is made so, for each group of keys all numbers.
 #[derive(Drop)]
 pub struct Firsts {
     map: HashMap<u64, u64>,
@@ -78,7 +78,7 @@ impl Firsts {
         self.map.get(&key).copied()
     }
 
-    /// Returns the numbers that were entered with keys of a group, in their order; none where there are no groups.
+    /// Returns the numbers that were entered with keys of a group, in their order; none if there are no groups.
     pub fn all(&self, group: u64) -> &[u64]
         ensures { result.now ≡ all_of self.now group }
     {
@@ -87,9 +87,9 @@ impl Firsts {
 
     /// Enters a number with a key.
     ///
-    /// True: the key has the number if it had none before, and every other key has what it had [entered]. Where there
-    /// are groups the number comes after those of its key's group, and every other group has what it had [listed].
-    /// False where the limit is reached [few] or memory runs out: then nothing has changed [kept]. It counts how many
+    /// True: the key has the number if it had none before, and every other key has what it had [entered]. If there are
+    /// groups, the number comes after those of its key's group, and every other group has what it had [listed].
+    /// False if the limit is reached [few] or memory runs out: then nothing has changed [kept]. It counts how many
     /// were entered [counted]. Its limit does not change [limit], and it has groups if it had them before [grouping].
     pub fn enter(&mut self, key: u64, number: u64) -> bool
         ensures entered { result ≡ true → (other : ℕ) → first_of self.new other ≡ option_or (first_of self.old other) (if key == other then Some number else None) }
@@ -111,7 +111,7 @@ impl Firsts {
         true
     }
 
-    // Whether there is room for the first number of a key, which is made where there is none.
+    // Whether there is room for the first number of a key; room is made if there is none.
     fn has_room_for(&mut self, key: u64) -> bool
         ensures still { IsUnchanged self.old self.new }
         ensures room { result ≡ true → first_of self.new key ≡ None → 0 < spare self.new.map }
@@ -121,7 +121,7 @@ impl Firsts {
         self.map.contains_key(&key) || self.map.reserve(1).is_ok()
     }
 
-    // Enters a number with a group, where there are groups.
+    // Enters a number with a group, if there are groups.
     fn enter_in_group(&mut self, group: u64, number: u64) -> bool
         ensures map { self.new.map ≡ self.old.map }
         ensures listed { result ≡ true → is_grouping self.old ≡ true → (other : ℕ) → all_of self.new other ≡ all_of self.old other ++ (if group == other then number ∷ [] else []) }

@@ -6,10 +6,10 @@ ghost use Rattle.list_index.specs.Groups.{group_of as group_of_key, numbers_of};
 use std::alloc::Global;
 use std::collections::HashMap;
 
-// A group has as many keys, half of them below its number times this.
+// A group has this many keys, half of them below its number times this.
 const KEYS: u64 = 4_294_967_296;
 
-/// Returns the group of a key: a group has 2^32 keys, as many below its number times 2^32 as from there on.
+/// Returns the group of a key: a group has 2^32 keys, half of them below its number times 2^32.
 #[inline(always)]
 pub fn group_of(key: u64) -> u64
     ensures { result ≡ group_of_key key }
@@ -17,7 +17,7 @@ pub fn group_of(key: u64) -> u64
     key.wrapping_add(KEYS / 2) / KEYS
 }
 
-/// Of each group the numbers that were entered with it, in their order.
+/// For each group the numbers that were entered with it, in their order.
 #[derive(Drop)]
 pub struct Groups {
     alloc: Global,
@@ -47,7 +47,7 @@ impl Groups {
 
     /// Enters a number with a group.
     ///
-    /// True: the number comes after those of its group, and every other group has what it had [entered]. False where
+    /// True: the number comes after those of its group, and every other group has what it had [entered]. False if
     /// memory runs out: then nothing has changed [kept].
     pub fn enter(&mut self, group: u64, number: u64) -> bool
         ensures entered { result ≡ true → (other : ℕ) → numbers_of self.new other ≡ numbers_of self.old other ++ (if group == other then number ∷ [] else []) }

@@ -3,7 +3,7 @@
 ghost use Rattle.std.specs.Prelude.{◌≡◌};
 ghost use Rattle.list_index.specs.Keys.{next_key as key_then, next_byte_key as byte_key_then};
 
-// A prime below 2^64. The rest of 2^64 by it is no small number, so that names with few differences have different keys.
+// A prime below 2^64. The remainder of 2^64 by it is not small, so that names with few differences have different keys.
 const PRIME: u64 = 11_400_714_819_323_198_549;
 
 // An odd number.

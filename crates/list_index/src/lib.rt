@@ -1,8 +1,10 @@
-//! What was met along a list, by keys: of each key the first that was entered, and of each group of keys all.
+//! What was visited along a list, by keys: for each key the first number that was entered, and for each group of keys
+//! all.
 //!
-//! [`Firsts`] is a map that never makes a call fail: where it cannot grow, [`Firsts::enter`] says so, and nothing has changed. Keys
-//! are numbers, and those of a group stand beside one another ([`group_of`]). [`next_key`] makes one of the words of a name,
-//! [`next_byte_key`] one of its bytes. Two names may have one key, so whoever finds a name by its key compares the name.
+//! [`Firsts`] is a map that never makes a call fail: if it cannot grow, [`Firsts::enter`] says so, and nothing has
+//! changed. Keys are numbers, and those of a group are next to one another ([`group_of`]). [`next_key`] makes one of
+//! the words of a name, [`next_byte_key`] one of its bytes. Two names may have one key, so a caller that finds a name
+//! by its key compares the name.
 #![tactic(auto)]
 
 mod firsts;

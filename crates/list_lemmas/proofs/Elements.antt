@@ -1,4 +1,4 @@
--- Lists: what is in them and where, and, where one element changes, what is the same of all of them and what is one more.
+-- Lists: what is in them and where, and, if one element changes, what is the same of all of them and what is one more.
 use Rattle.std.proofs.Common.{◌≡◌, ◌≢◌, ℕ, zero, suc, ◌+◌, ◌<◌, ◌≤◌, Bool, true, false, cond, ◌||◌, List, [], ◌∷◌, ◌++◌, map, length, set, get_or, fold, sum_by, flat_map, filter, All, Contains, IsPermutation, append_assoc, inl, inr, ◌⊎◌, ⊎_elim, refl, sym, ap, ◌∙◌, subst, arith, length-append}
 use Rattle.std.proofs.lemmas.List.Elements.{All-weaker, All-contains_itself, Contains-append_left, Contains-append_right, Contains-append_cases}
 use Rattle.std.proofs.lemmas.List.Sorted.{IsPermutation-refl, IsPermutation-append, IsPermutation-append_comm}
@@ -60,7 +60,7 @@ below_length [] i x e = absurd (some-ne-none x (sym e))
 below_length (y ∷ ys) zero x e = omega arith
 below_length (y ∷ ys) (suc i) x e = let h = below_length ys i x e in omega (arith, h)
 
--- what stands in a mapped list comes from an element
+-- each element of a mapped list comes from an element of the list
 pub from_map : {A B : Type 0} (f : A → B) (l : List A) (i : ℕ) (y : B) → get_elem? (map f l) i ≡ some y → (x : A) × (get_elem? l i ≡ some x) × (f x ≡ y)
 from_map f [] i y e = absurd (some-ne-none y (sym e))
 from_map f (x ∷ xs) zero y e = (x, refl, some-injective (f x) y e)
@@ -77,7 +77,7 @@ index_at [] i x d e = absurd (some-ne-none x (sym e))
 index_at (y ∷ ys) zero x d e = some-injective y x e
 index_at (y ∷ ys) (suc i) x d e = index_at ys i x d e
 
--- of a list with one more behind it: an element stands where it stood, or is that one
+-- an element of a list with one more at the end is at its old place, or is that one
 pub at_snoc_index : {A : Type 0} (l : List A) (b x : A) (i : ℕ) → get_elem? (l ++ b ∷ []) i ≡ some x → (get_elem? l i ≡ some x) ⊎ ((i ≡ length l) × (b ≡ x))
 at_snoc_index [] b x zero e = inr (refl, some-injective b x e)
 at_snoc_index [] b x (suc i) e = absurd (some-ne-none x (sym e))
@@ -90,7 +90,8 @@ at_snoc_index (y ∷ ys) b x (suc i) e = elim (at_snoc_index ys b x i e) [ inl o
 pub all_of : {X : Type 0} (P : X → Type 0) (l : List X) → ((x : X) → Contains l x → P x) → All P l
 all_of P l each = All-weaker (Contains l) P each l (All-contains_itself l)
 
--- where an element stands in a list, the list is what stands before it, it, and what stands behind it; another in its place is so too
+-- if an element is in a list, the list is what comes before it, the element, and what comes after it; with another in its place the list
+-- splits in the same way
 pub split_at : {X : Type 0} (xs : List X) (i : ℕ) (x : X) → get_elem? xs i ≡ some x
     → (front : List X) × (behind : List X) × (xs ≡ front ++ x ∷ behind) × ((y : X) → set xs i y ≡ front ++ y ∷ behind)
 split_at [] i x e = absurd (some-ne-none x (sym e))
@@ -99,7 +100,7 @@ split_at (z ∷ zs) (suc i) x e =
     let rest = split_at zs i x e in
     (z ∷ rest.0, rest.1, ap (λ list. z ∷ list) rest.2, λ y. ap (λ list. z ∷ list) (rest.3 y))
 
--- where a mapped list has an element, the list has one
+-- if a mapped list splits at an element, the list splits at one
 pub split_map : {X Y : Type 0} (f : X → Y) (l : List X) (front behind : List Y) (y : Y) → map f l ≡ front ++ y ∷ behind
     → (xs ys : List X) × (x : X) × (l ≡ xs ++ x ∷ ys) × (map f xs ≡ front) × (f x ≡ y)
 split_map f [] [] behind y e = cc e
@@ -153,7 +154,7 @@ module _ {A B : Type 0} (f : A → B) where
   pub column : (l : List A) (i : ℕ) (x y : A) → get_elem? l i ≡ some x → f y ≡ f x → map f (set l i y) ≡ map f l
   column l i x y e same = map-set f l i y ∙ (ap (set (map f l) i) same ∙ set_again (map f l) i (f x) (at_map f l i x e))
 
--- lists that stand for its elements, one behind the other: they come to the same where those of the changed element do
+-- lists that belong to the elements, one after the other: they come to the same if those of the changed element do
 pub rows_total : {A B M : Type 0} (add : M → M → M) (total : List B → M) → IsTotal add total → (f : A → List B) (l : List A) (i : ℕ) (x y : A)
     → get_elem? l i ≡ some x → total (f y) ≡ total (f x) → total (flat_map f (set l i y)) ≡ total (flat_map f l)
 rows_total add total sums f [] i x y e same = refl
@@ -163,7 +164,7 @@ rows_total add total sums f (z ∷ zs) zero x y e same =
 rows_total add total sums f (z ∷ zs) (suc i) x y e same =
     sums (f z) (flat_map f (set zs i y)) ∙ (ap (add (total (f z))) (rows_total add total sums f zs i x y e same) ∙ sym (sums (f z) (flat_map f zs)))
 
--- and they are the same where that is
+-- and they are the same if that is the same
 pub rows : {A B : Type 0} (f : A → List B) (l : List A) (i : ℕ) (x y : A) → get_elem? l i ≡ some x → f y ≡ f x → flat_map f (set l i y) ≡ flat_map f l
 rows f = rows_total ◌++◌ (λ list. list) (λ xs ys. refl) f
 
@@ -179,7 +180,7 @@ sum_same f l i x y e same = let h = sum_beside f l i x y e in omega (arith, h, s
 
 -- ---- what is one more
 
--- where the new element's list is longer, all lists together are longer by as much
+-- if the new element's list is longer, all lists together are longer by as much
 pub rows_more : {A B : Type 0} (f : A → List B) (l : List A) (i : ℕ) (x y : A) (more : List B) → get_elem? l i ≡ some x → f y ≡ f x ++ more
     → IsPermutation (flat_map f (set l i y)) (flat_map f l ++ more)
 rows_more f [] i x y more e is = absurd (some-ne-none x (sym e))
@@ -206,7 +207,7 @@ any_there (x ∷ xs) zero b e = ap (λ c. fold ◌||◌ (b || c) xs) (some-injec
     or_true false xs = any_true xs
 any_there (x ∷ xs) (suc i) b e = any_there xs i (b || x) e
 
--- where one of all is true once one of them has changed, one of all was, or the changed one is
+-- if one of all is true once one of them has changed, one of all was true, or the changed one is
 pub any_from : {A : Type 0} (f : A → Bool) (l : List A) (i : ℕ) (y : A) (b : Bool) → fold ◌||◌ b (map f (set l i y)) ≡ true
     → (fold ◌||◌ b (map f l) ≡ true) ⊎ (f y ≡ true)
 any_from f [] i y b e = inl e

@@ -1,5 +1,5 @@
--- The first of a list that is such: where one is such there is a first, there is one only, it stays the first, and a list that is mapped has
--- the same.
+-- The first element of a list that has a property: if one has it there is a first, there is only one, it stays the first, and a list that
+-- is mapped has the same.
 use Rattle.std.proofs.Common.{◌≡◌, List, [], ◌∷◌, ◌++◌, map, All, Contains, append_assoc, inl, inr, ◌⊎◌, ⊎_elim, refl, sym, ap, ◌∙◌, subst, arith}
 use Rattle.std.proofs.lemmas.List.{map-append}
 use Rattle.std.proofs.lemmas.List.Elements.{All-nil, All-cons, All-head, All-tail, All-map, All-contains, Contains-append_left, Contains-append_right}
@@ -7,12 +7,12 @@ use Rattle.list_lemmas.specs.Firsts.{ComesFirst, IsFirstThat}
 use Rattle.list_lemmas.proofs.Elements.{all_of, at_from, split_at, split_map}
 use Rattle.list_lemmas.proofs.Maps.{contains_map}
 
--- where an element stands in a list, it is on it
+-- an element at which a list splits is on the list
 pub split_among : {X : Type 0} {l : List X} {x : X} (front behind : List X) → l ≡ front ++ x ∷ behind → Contains l x
 split_among {X} {l} {x} front behind split =
     subst (λ (l : List X). Contains l x) (sym split) (Contains-append_right front (x ∷ behind) x (0, omega arith, refl))
 
--- the first stays the first where the list becomes longer
+-- the first stays the first when the list becomes longer
 pub first_longer : {X : Type 0} (P : X → Type 0) (l more : List X) (x : X) → IsFirstThat P l x → IsFirstThat P (l ++ more) x
 first_longer {X} P l more x (front, behind, split, none, its) =
     (front, behind ++ more, ap (λ (l : List X). l ++ more) split ∙ append_assoc front (x ∷ behind) more, none, its)
@@ -41,21 +41,21 @@ first_or_none {X} P either (x ∷ rest) = by_head (either x) (first_or_none P ei
         inl (y, (x ∷ front, behind, ap (λ (l : List X). x ∷ l) is, All-cons (λ x. ¬ (P x)) x front absent before, its))
     by_head (inr absent) (inr nobody) = inr (All-cons (λ x. ¬ (P x)) x rest absent nobody)
 
--- so where one is such there is a first
+-- so if one has the property there is a first
 pub first_there : {X : Type 0} (P : X → Type 0) → ((x : X) → P x ⊎ (¬ (P x))) → (l : List X) (x : X) → Contains l x → P x → (y : X) × IsFirstThat P l y
 first_there P either l x there this =
     ⊎_elim (λ found. found) (λ nobody. absurd (All-contains (λ x. ¬ (P x)) l x nobody there this)) (first_or_none P either l)
 
 -- ---- lists and what they map to
 
--- something is told of an element, or of one before it
+-- a property holds of an element, or of one before it
 abbrev pub OrBefore : {X : Type 0} → (X → Type 0) → List X → X → Type 0
 OrBefore {X} P front x = P x ⊎ ((y : X) × Contains front y × P y)
 
--- What is told of an image is told of its element, or of one before that.
+-- A property that holds of an image holds of its element, or of one before that.
 module _ {X Y : Type 0} (f : X → Y) (l : List X) (P : X → Type 0) (Q : Y → Type 0)
     (from : (front behind : List X) (x : X) → l ≡ front ++ x ∷ behind → Q (f x) → OrBefore P front x) where
-  -- So the image of the first one is the first image, if it is told of that.
+  -- So the image of the first element is the first image, if the property holds of that image.
   pub first_image : (x : X) → IsFirstThat P l x → Q (f x) → IsFirstThat Q (map f l) (f x)
   first_image x (xs, ys, split, none, its) told = (
     map f xs,
@@ -74,7 +74,7 @@ module _ {X Y : Type 0} (f : X → Y) (l : List X) (P : X → Type 0) (Q : Y →
           (λ (y, before, here). All-contains (λ x. ¬ (P x)) xs y none (subst (λ (list : List X). Contains list y) (sym is) (Contains-append_left front (z ∷ behind) y before)) here)
           (from front (behind ++ x ∷ ys) z (split ∙ (ap (λ (list : List X). list ++ x ∷ ys) is ∙ append_assoc front (z ∷ behind) (x ∷ ys))) holds)
 
-  -- And the first image, before which the other is said of each, is that of the first one.
+  -- And the first image, before which the other property holds of each, is that of the first element.
   pub first_from : (Other : Y → Type 0) → ((x : X) → Contains l x → P x → Other (f x) → ⊥) → (y : Y) → ComesFirst Other Q (map f l) y
       → (x : X) × IsFirstThat P l x × (f x ≡ y)
   first_from Other apart y (front, behind, is, others, this) =

@@ -1,4 +1,4 @@
--- What is in a list, beside a map of it, a front of it and a longer one; and what a fold over appended logs is.
+-- What is in a list, compared with a map of it, a front of it and a longer list; and what a fold over appended logs is.
 use Rattle.std.proofs.Common.{◌≡◌, ◌≢◌, ◌⊎◌, ℕ, zero, suc, ◌+◌, ◌<◌, ◌≤◌, List, [], ◌∷◌, ◌++◌, map, length, take, drop, set, inl, inr, ⊎_elim, sym, refl, ap, ◌∙◌, subst, subst₂, length-set, take-append-drop, arith}
 use Rattle.std.specs.List.{Contains, All}
 use Rattle.std.proofs.lemmas.List.{get_or-map, length-map}
@@ -31,7 +31,7 @@ module _ {X : Type 0} where
   pub contains_take : (n : ℕ) (xs : List X) (x : X) → Contains (take n xs) x → Contains xs x
   contains_take n xs x there = subst (λ (list : List X). Contains list x) (take-append-drop n xs) (Contains-append_left (take n xs) (drop n xs) x there)
 
-  -- after two elements became others, each is one of these two or stood there before
+  -- after two elements were replaced, each element is one of these two, or was there before
   pub at_two : (xs : List X) (i j k : ℕ) (x y z : X) → get_elem? (set (set xs i x) j y) k ≡ some z
       → ((k ≡ j) × (y ≡ z)) ⊎ ((k ≡ i) × (x ≡ z)) ⊎ ((k ≢ j) × (k ≢ i) × (get_elem? xs k ≡ some z))
   at_two xs i j k x y z e = ⊎_elim
@@ -43,7 +43,7 @@ module _ {X : Type 0} where
   pub one_at : (xs : List X) (i : ℕ) (x y : X) → get_elem? xs i ≡ some x → get_elem? xs i ≡ some y → x ≡ y
   one_at xs i x y first last = some-injective x y (sym first ∙ last)
 
-  -- so what holds of both, and of all that stood there and was not changed, holds of each
+  -- so what holds of both, and of all that were there and were not replaced, holds of each
   pub each_of_two : (holds : ℕ → X → Type 0) (xs : List X) (i j : ℕ) (x y : X) → holds i x → holds j y
       → ((k : ℕ) (z : X) → k ≢ j → k ≢ i → get_elem? xs k ≡ some z → holds k z)
       → (k : ℕ) (z : X) → get_elem? (set (set xs i x) j y) k ≡ some z → holds k z
@@ -74,7 +74,7 @@ module _ {X : Type 0} where
       (λ t. let behind = t.1 in inr (t.0, omega (arith, behind), t.2))
       (at_either zs ys i x e)
 
-  -- what holds of all of two lists in a row holds of all of the first, and of all that is behind it
+  -- what holds of all of two lists in a row holds of all of the first, and of all that follows it
   pub all_left : (holds : X → Type 0) (xs ys : List X) → All holds (xs ++ ys) → All holds xs
   all_left holds xs ys all = all_of holds xs (λ x there. All-contains holds (xs ++ ys) x all (Contains-append_left xs ys x there))
 

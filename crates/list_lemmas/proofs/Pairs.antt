@@ -12,12 +12,12 @@ use Rattle.atomic_table.proofs.Lists.{at_set, at_index}
 abbrev pub AnyTwo : {X : Type 0} → (X → X → Type 0) → List X → Type 0
 AnyTwo {X} R l = (i j : ℕ) (x y : X) → i ≢ j → get_elem? l i ≡ some x → get_elem? l j ≡ some y → R x y
 
--- where an element stood before two were exchanged
+-- where an element was before two were exchanged
 abbrev IsFrom : ℕ → ℕ → ℕ → ℕ → Type 0
 IsFrom i j now before =
     ((now ≡ j) × (before ≡ i)) ⊎ ((now ≢ j) × (now ≡ i) × (before ≡ j)) ⊎ ((now ≢ j) × (now ≢ i) × (before ≡ now))
 
--- two that stand apart stood apart
+-- two that are at different places were at different places
 apart_before : (i j a b s t : ℕ) → IsFrom i j a s → IsFrom i j b t → a ≢ b → s ≢ t
 apart_before i j a b s t (inl x) (inl y) ne same = ne (omega (arith, x, y))
 apart_before i j a b s t (inl x) (inr (inl y)) ne same = y.0 (omega (arith, x, y, same))
@@ -34,7 +34,7 @@ pub element_at : {X : Type 0} (l : List X) (k : ℕ) (d : X) → k < length l �
 element_at l k d lt = at_index l k (get_or l k d) lt (get_or_default l k d (get_or l k d) lt)
 
 module _ {X : Type 0} (l : List X) (i j : ℕ) (d : X) (p : i < length l) (q : j < length l) where
-  -- an element of the list after the exchange stood in it before
+  -- an element of the list after the exchange was in it before
   stood : (a : ℕ) (x : X) → get_elem? (set (set l i (get_or l j d)) j (get_or l i d)) a ≡ some x
       → (s : ℕ) × (get_elem? l s ≡ some x) × IsFrom i j a s
   stood a x there = elim (at_set (set l i (get_or l j d)) j a (get_or l i d) x there) [

@@ -1,5 +1,5 @@
--- Sums over lists, of whatever is added: numbers, flags, or lists whose order is of no account. Two elements that together have
--- what two others had may stand in their place, and one more with an element that together have what that one had.
+-- Sums over lists, of anything that can be added: numbers, flags, or lists whose order does not matter. Two elements that together have
+-- what two others had may take their place; so may one more, with an element, if the two together have what that element had.
 use Rattle.std.proofs.Common.{◌≡◌, ℕ, ◌+◌, Bool, true, false, ◌||◌, ℤ, pos, ◌+ℤ◌, List, [], ◌∷◌, ◌++◌, map, sym, refl, ap, ◌∙◌, subst, append_assoc, append-nil, arith}
 use Rattle.std.specs.Prelude.{fold, IsPermutation}
 use Rattle.std.proofs.Math.Bool.{or_assoc, or_comm}
@@ -29,7 +29,7 @@ module _ {A M : Type 0} (same : M → M → Type 0) (add : M → M → M) (total
   turned : (x y z : M) → same (add x (add y z)) (add x (add z y))
   turned x y z = is.both x x (add y z) (add z y) (is.itself x) (is.order y z)
 
-  -- an element that stands further behind may as well stand second
+  -- an element further down the list may as well be second
   second : (a b : A) (mid behind : List A) → same (total (a ∷ (mid ++ b ∷ behind))) (add (total (a ∷ b ∷ [])) (total (mid ++ behind)))
   second a b mid behind =
       let first = sums (a ∷ []) (mid ++ b ∷ behind) in

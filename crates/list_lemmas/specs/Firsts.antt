@@ -1,11 +1,11 @@
--- The first of a list that is such.
+-- The first element of a list that has a property.
 use Rattle.std.specs.Prelude.{◌≡◌, List, ◌∷◌, ◌++◌}
 use Rattle.std.specs.List.{All}
 
--- x comes first in a list: it is so, and of each one before it the other is said. Where nobody is both, there is one first at most.
+-- x comes first in a list: `is` holds of it, and `other` of each one before it. If no element has both, at most one comes first.
 abbrev pub ComesFirst : {X : Type 0} → (X → Type 0) → (X → Type 0) → List X → X → Type 0
 ComesFirst {X} other is list x = (front behind : List X) × (list ≡ front ++ x ∷ behind) × All other front × is x
 
--- it is the first that is so: no one before it is
+-- it is the first that has the property: no one before it has it
 abbrev pub IsFirstThat : {X : Type 0} → (X → Type 0) → List X → X → Type 0
 IsFirstThat is = ComesFirst (λ other. ¬ (is other)) is

@@ -1,5 +1,5 @@
-//! What holds of lists, whatever is in them: what the first of a kind is (`specs/Firsts.antt`), and lemmas about elements at their
-//! places, sums, maps, pairs and firsts.
+//! What holds of lists of anything: what the first element of a kind is (`specs/Firsts.antt`), and lemmas about
+//! elements at their places, sums, maps, pairs and firsts.
 //!
 //! Nothing here runs.
 #![tactic(auto)]

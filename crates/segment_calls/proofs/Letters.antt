@@ -11,7 +11,7 @@ use Rattle.byteorder.specs.Endian.{little_bytes}
 use Rattle.segment_image.specs.Words.{bytes_of_words}
 use Rattle.segment_calls.specs.Asked.{AreNameWords}
 
--- zeros behind up to eight bytes
+-- zeros after up to eight bytes
 pub zeros_behind : (n : ℕ) → n ≤ 8 → drop n (0 ∷ 0 ∷ 0 ∷ 0 ∷ 0 ∷ 0 ∷ 0 ∷ 0 ∷ []) ≡ replicate {A = ℕ} (8 - n) 0
 zeros_behind zero few = refl
 zeros_behind (suc zero) few = refl
@@ -24,7 +24,7 @@ zeros_behind (suc (suc (suc (suc (suc (suc (suc zero))))))) few = refl
 zeros_behind (suc (suc (suc (suc (suc (suc (suc (suc zero)))))))) few = refl
 zeros_behind (suc (suc (suc (suc (suc (suc (suc (suc (suc n))))))))) few = absurd (omega (arith, few))
 
--- words that have the bytes of a name but for its rest, or, where nothing is left, zeros behind it up to a whole word
+-- words that have the bytes of a name but for its rest, or, if nothing is left, zeros after it up to a whole word
 pub record HaveBytes (name rest words : List ℕ) : Type 0 where
   pub zeros : ℕ
   pub few : zeros < 8
@@ -122,7 +122,7 @@ module _ (name words : List ℕ) (lawful : is_name name ≡ true) (spells : AreN
   pub some_letter : 0 < length words
   some_letter = let a = some_byte in let b = bytes_long in omega (arith, a, b)
 
-  -- so the last word of a lawful name is not 0
+  -- so the last word of a valid name is not 0
   pub last_letter : slice_index words (length words - 1) ≢ 0
   last_letter none =
       let least = some_byte in let long = bytes_long in let few = spells.1 in

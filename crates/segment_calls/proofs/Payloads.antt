@@ -118,7 +118,7 @@ module _ (name letters : List ℕ) (lawful : is_name name ≡ true) (spells : Ar
 
 -- ---- what asks
 
--- where there are ranges the spec has no fault
+-- if there are ranges, the spec has no fault
 pub of_ranges : {P : Type 0} (o : Option SpecFault) (r : List ℕ) → MatchOption o P (λ fault. Ok r ≡ Err fault) → (o ≡ None) × P
 of_ranges None r is = (refl, is)
 of_ranges (Some fault) r is = absurd (cc is)

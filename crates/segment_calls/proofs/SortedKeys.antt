@@ -1,4 +1,4 @@
--- Keys with units that are sorted by key: where no key stands twice, each is below those behind it.
+-- Keys with units that are sorted by key: if no key comes twice, each is below those after it.
 use Rattle.std.proofs.Common.{zero, ◌≡◌, ◌≢◌, ℕ, suc, ◌+◌, ◌<◌, ℤ, int_lt, if◌then◌else◌, map, sum_by, Bool, true, false, List, [], ◌∷◌, length, Less, Equal, Greater, refl, sym, ap, ◌∙◌, arith}
 use Rattle.std.specs.List.{AllByRecursion}
 use Rattle.std.specs.List.Sorted.{IsPermutation, IsSortedBy, IsStrictlySortedBy}
@@ -15,7 +15,7 @@ use Rattle.list_lemmas.proofs.Elements.{below_length, sum_at_least}
 use Rattle.list_lemmas.proofs.Pairs.{element_at}
 use Rattle.segment_calls.specs.Keys.{NoKeyRepeats}
 
--- whether a count stands before another
+-- whether a count comes before another
 abbrev sooner : ℤ × ℕ → ℤ × ℕ → Bool
 sooner x y = is_lt (int_cmp x.0 y.0)
 
@@ -35,7 +35,7 @@ all_from : (P : ℤ → Type 0) (xs : List (ℤ × ℕ)) → ((k : ℕ) (d : ℤ
 all_from P [] all = tt
 all_from P (x ∷ xs) all = (all 0 x (omega arith), all_from P xs (λ k d low. all (suc k) d (omega (arith, low))))
 
--- how often a key stands among them
+-- how often a key is among them
 abbrev times : ℤ → ℤ × ℕ → ℕ
 times key count = if int_eq count.0 key then 1 else 0
 
@@ -51,7 +51,7 @@ one_more n = omega arith
 tail_once : (x : ℤ × ℕ) (xs : List (ℤ × ℕ)) → NoKeyRepeats (x ∷ xs) → NoKeyRepeats xs
 tail_once x xs once key = let all = parts_of x xs key in let most = once key in omega (arith, all, most)
 
--- no key behind the first is that of the first
+-- no key after the first is the same as the first
 behind_differs : (x : ℤ × ℕ) (xs : List (ℤ × ℕ)) → NoKeyRepeats (x ∷ xs) → (k : ℕ) (d : ℤ × ℕ) → k < length xs → x.0 ≢ (get_or xs k d).0
 behind_differs x xs once k d low same =
     let all = parts_of x xs x.0 in

@@ -13,15 +13,15 @@ use Rattle.segment_calls.specs.declared.refusal.Refusal.TheVariants.{BadName, Ba
 
 -- ---- the words of its record
 
--- words that have the bytes of a name, and zeros behind them up to a whole word
+-- words that have the bytes of a name, followed by zeros up to a whole word
 abbrev pub AreNameWords : List ℕ → List ℕ → Type 0
 AreNameWords name words = (k : ℕ) × (k < 8) × (bytes_of_words words ≡ name ++ replicate k 0)
 
--- the words behind the header of a histogram's record, where these are the words of its name
+-- the words after the header of a histogram's record, with these words as those of its name
 abbrev pub payload_words : List ℕ → Spec → List ℕ → List ℕ
 payload_words name spec letters = spec_fields spec ++ 0 ∷ 0 ∷ 0 ∷ 0 ∷ 0 ∷ 0 ∷ length name ∷ (letters ++ spec_ranges spec)
 
--- They are these, of which so many are the name's.
+-- The payload is these words, and `count` of them are the name's.
 pub record IsPayloadFor (name : List ℕ) (spec : Spec) (payload : List ℕ) (count : ℕ) : Type 0 where
   pub letters : List ℕ
   pub spells : AreNameWords name letters
@@ -35,7 +35,7 @@ abbrev pub IsTooLarge : ℕ → List ℕ → Spec → Type 0
 IsTooLarge page name spec =
     (page < HISTOGRAM_NAME + (name_words (length name) + length (spec_ranges spec))) ⊎ (page < BLOCK_HEADER + 2 * buckets_of spec)
 
--- It asks for the histogram of a lawful name and a lawful spec. The record and its counts fit in a page, and the last word of the record
+-- It asks for the histogram of a valid name and a valid spec. The record and its counts fit in a page, and the last word of the record
 -- is not 0.
 pub record IsAskedFor (shape : Dimensions) (name : List ℕ) (spec : Spec) (asked : Asked) : Type 0 where
   pub named : asked.name.items ≡ name
@@ -48,7 +48,7 @@ pub record IsAskedFor (shape : Dimensions) (name : List ℕ) (spec : Spec) (aske
   pub last : slice_index asked.payload.items (length asked.payload.items - 1) ≢ 0
   pub payload : IsPayloadFor name spec asked.payload.items asked.letters
 
--- Why nothing may be asked so: the first of these that holds. Without memory it is not said whether it is too large.
+-- Why this may not be asked for: the first of these that holds. If memory runs out, it is not known whether it is too large.
 abbrev pub IsRefusedFor : Dimensions → List ℕ → Spec → Refusal → Type 0
 IsRefusedFor shape name spec BadName = is_name name ≡ false
 IsRefusedFor shape name spec (BadSpec fault) = (is_name name ≡ true) × (spec_fault spec ≡ Some fault)

@@ -17,6 +17,6 @@ has_buckets spec.Boolean = true
 has_buckets (spec.Custom values) = true
 has_buckets spec.Sparse = false
 
--- the words of its counts and marks; or of one sample, where it has no buckets
+-- the words of its counts and marks; or of one sample, if it has no buckets
 abbrev pub count_words : Spec → ℕ
 count_words spec = if has_buckets spec then BLOCK_HEADER + 2 * buckets_of spec else SAMPLE_LEAST

@@ -28,7 +28,7 @@ off_word version word =
     if version == 2 then 2 ^ 63 + word
     else (if word == 0 then 2 ^ 63 + 65535 else 2 ^ 63 + word / 2 ^ 32)
 
--- the word of so many units of a bucket
+-- the word of this many units of a bucket
 abbrev pub packed_word : ℕ → ℕ → ℕ
 packed_word bucket units = bucket * 2 ^ 32 + units
 

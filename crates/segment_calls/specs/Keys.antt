@@ -3,11 +3,11 @@ use Rattle.std.specs.Prelude.{ℕ, ◌≤◌, ℤ, List, map, sum_by, if◌then�
 use Rattle.std.specs.List.Sorted.{IsPermutation, IsStrictlySortedBy}
 use Rattle.std.specs.Ordering.{int_cmp, int_eq}
 
--- no key stands twice
+-- no key comes twice
 abbrev pub NoKeyRepeats : List (ℤ × ℕ) → Type 0
 NoKeyRepeats counts = (key : ℤ) → sum_by (λ count. if int_eq count.0 key then 1 else 0) counts ≤ 1
 
--- these keys with units in ascending order
+-- the same keys with units, in ascending order if no key comes twice
 pub record AreSorted (old new : List (ℤ × ℕ)) : Type 0 where
   pub moved : IsPermutation old new
   pub ascending : NoKeyRepeats old → IsStrictlySortedBy int_cmp (map (λ count. count.0) new)

@@ -18,7 +18,7 @@ refusal_number Corrupt = 8
 refusal_number Full = 9
 refusal_number OtherSpec = 10
 
--- the refusal of a spec that has a fault: want of memory is no fault of the spec
+-- the refusal of a spec that has a fault: running out of memory is no fault of the spec
 abbrev pub refusal_of_spec : SpecFault → Refusal
 refusal_of_spec spec.NoMemory = NoMemory
 refusal_of_spec fault = BadSpec fault

@@ -10,16 +10,16 @@ pub enum AdoptFault {
     /// The header has this fault.
     #[error("Image {0}")]
     Image(ImageFault),
-    /// It is an image of version 1, whose units may be on their way for good.
+    /// It is an image of version 1, in which units may be in transit for good.
     #[error("OldVersion")]
     OldVersion,
     /// Some thread found the segment corrupt.
     #[error("Corrupt")]
     Corrupt,
-    /// The words are none that a segment can have: the list stops before its end, a record is bad, blocks overlap, a word
-    /// behind the free pointer is not 0, there is no room for a block in its page, the tail is not on the list, a sample
-    /// counts that is not the first of its value, a name is not padded with zeros, or a count or a mark stands where none
-    /// is in use.
+    /// No segment can have these words: the list stops before its end, a record is bad, blocks overlap, a word from the
+    /// free pointer on is not 0, there is no room for a block in its page, the tail is not on the list, a sample that
+    /// is not the first of its value has a count or a mark, a name is not padded with zeros, or there is a count or a
+    /// mark where none is in use.
     #[error("Damaged")]
     Damaged,
     /// The histograms have used more than the 4,294,967,295 units that a segment has.

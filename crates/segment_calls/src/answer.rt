@@ -1,9 +1,9 @@
-//! What a delta and a snapshot answer.
+//! What a delta and a snapshot return.
 
 /// What a delta took of a histogram: what was counted since the deltas before it.
 #[derive(Debug, Drop)]
 pub struct Delta {
-    /// The keys of which it took units, ascending, each with how many.
+    /// The keys of which it took units, ascending, each with how many it took.
     pub counts: Vec<(i32, u64)>,
     /// What it took of the sum.
     pub sum: i64,

@@ -25,18 +25,18 @@ pub struct Asked {
     pub spec: Spec,
     /// The ranges of the spec.
     pub ranges: Ranges,
-    /// What a record of it has behind its header.
+    /// The words of its record after the header.
     pub payload: Vec<u64>,
-    /// How many words of that are the name's.
+    /// How many of these words are the name's.
     pub letters: usize,
 }
 
 impl Asked {
-    /// Returns what asks for the histogram of a name and a spec, in a segment of a shape; or why nothing may be
-    /// asked.
+    /// Returns what asks for the histogram of a name and a spec, in a segment of a shape; or why this may not be asked
+    /// for.
     ///
-    /// `BadName`, then `BadSpec`; then `NoMemory` where memory runs out; then `TooLarge` where the record or its
-    /// counts do not fit in a page.
+    /// `BadName`, then `BadSpec`; then `NoMemory` if memory runs out; then `TooLarge` if the record or its counts do
+    /// not fit in a page.
     pub fn of(alloc: Global, shape: Shape, name: &[u8], spec: &Spec) -> Result<Asked, Refusal>
         ensures { MatchResult result (IsAskedFor shape name.now spec.now) (IsRefusedFor shape name.now spec.now) }
     {
@@ -116,7 +116,7 @@ fn whole_word(bytes: &[u8]) -> u64
     LittleEndian::read_u64(bytes)
 }
 
-// The word of up to eight bytes, the least first, with zeros behind them.
+// The word of up to eight bytes, the least first, with zeros after them.
 fn word_of(bytes: &[u8]) -> u64
     requires { length bytes.now ≤ 8 }
     ensures { little_bytes 8 result ≡ bytes.now ++ replicate (8 - length bytes.now) 0 }
@@ -167,7 +167,7 @@ fn fields_of(spec: &Spec, ranges: &Ranges) -> [u64; 4]
     }
 }
 
-// Puts the least values of all buckets but the first at the end.
+// Appends the least values of all buckets but the first.
 fn push_ranges(words: &mut Vec<u64>, ranges: &Ranges) -> Result<(), AllocError>
     requires { 3 ≤ length ranges.now }
     ensures { OnOk result (words.new.items ≡ words.old.items ++ take (length ranges.now - 2) (drop 1 ranges.now)) }
@@ -178,7 +178,7 @@ fn push_ranges(words: &mut Vec<u64>, ranges: &Ranges) -> Result<(), AllocError>
     Ok(())
 }
 
-// Puts the ranges of a spec that stand behind the name at the end.
+// Appends the ranges of a spec that follow the name in its record.
 fn push_spec_ranges(words: &mut Vec<u64>, spec: &Spec, ranges: &Ranges) -> Result<(), AllocError>
     requires lawful { spec_fault spec.now ≡ None }
     requires ranges { ranges.now ≡ boundaries_of spec.now }
@@ -190,7 +190,7 @@ fn push_spec_ranges(words: &mut Vec<u64>, spec: &Spec, ranges: &Ranges) -> Resul
     }
 }
 
-// What a record has behind its header, and how many words of that are the name's.
+// The words of a record after its header, and how many of them are the name's.
 fn payload_of(
     alloc: Global,
     name: &[u8],

@@ -1,8 +1,10 @@
-//! What the calls on a segment take and return, and what every crate that runs one shares: what a `hist` asks for, with the words that
-//! its record is to have; what packing and disabling make of a single word; keys with units in the order of their keys; what a delta
-//! took and a snapshot saw; and why a call is refused, why there is no segment, and why an image may not be adopted.
+//! What the calls on a segment take and return, and what every crate that runs one shares: what a `hist` asks for, with
+//! the words that its record is to have; what packing and disabling make of a single word; keys with units in the order
+//! of their keys; what a delta took and a snapshot saw; and why a call is refused, why there is no segment, and why an
+//! image may not be adopted.
 //!
-//! It stands on the layout and on the buckets alone, so that what only reads names the same faults as what records.
+//! It depends on the layout and on the buckets alone, so that a crate that only reads names the same faults as one that
+//! records.
 #![tactic(auto)]
 
 mod adopt_fault;

@@ -5,7 +5,7 @@ use thiserror::Error;
 /// Why a segment was not made: the first of these that holds.
 #[derive(Clone, Copy, Debug, PartialEq, Eq, Error)]
 pub enum OpenFault {
-    /// The page, the size or the version is not lawful.
+    /// The page, the size or the version is not valid.
     #[error("BadShape")]
     BadShape = 1,
     /// There are to be more than eight shared cursors.

@@ -8,7 +8,7 @@ use bucket_ranges::limits::MAX_PACKED;
 pub use segment_image::layout::DISABLED_BIT;
 use segment_image::layout::{BUCKET_WEIGHT, NO_BUCKET, VERSION_FROZEN};
 
-/// Returns the single word with units of a bucket more, or `None` where it cannot take them: it has units of another
+/// Returns the single word with more units of a bucket, or `None` if it cannot take them: it has units of another
 /// bucket, or would have more than a single word holds. The word is 0 or has units.
 pub fn packed_with(word: u64, bucket: usize, units: u32) -> Option<u64>
     requires few { bucket ≤ 65535 }
@@ -48,7 +48,7 @@ pub fn unpacked(word: u64) -> (usize, u64)
     ((word / BUCKET_WEIGHT) as usize, word % BUCKET_WEIGHT)
 }
 
-/// Returns the bucket whose units a single word of a version holds or held, where there is one, and the units that it
+/// Returns the bucket whose units a single word of a version holds or held, if there is one, and the units that it
 /// holds; a word without a valid form has none [says]. These are at most 65,535 [small].
 pub fn packed_in(version: u64, word: u64, buckets: usize) -> (Option<usize>, u64)
     requires few { buckets ≤ 65535 }

@@ -5,7 +5,7 @@ use std::alloc::AllocError;
 use thiserror::Error;
 
 /// Why a call is refused. The first seven are checked in this order before the first event of the call, and the first
-/// that holds is answered.
+/// that holds is returned.
 #[derive(Clone, Copy, Debug, PartialEq, Eq, Error)]
 pub enum Refusal {
     /// The name is not 1 to 128 bytes from 0x21 to 0x7E without `,` and `"`, or it begins with `!`.
@@ -20,7 +20,7 @@ pub enum Refusal {
     /// The call takes more units than there are.
     #[error("NoUnits")]
     NoUnits,
-    /// As many recorders as there may be have not been joined.
+    /// There already are as many recorders that are not joined as there may be.
     #[error("TooMany")]
     TooMany,
     /// There was no memory, and nothing has changed.
@@ -88,8 +88,8 @@ impl From<AllocError> for Refusal {
     }
 }
 
-/// Why a batch is refused, and how many of its items are counted all the same: its first ones. The sum is not added
-/// then, and the others have changed nothing.
+/// Why a batch is refused, and how many of its items are counted all the same: its first ones. Then the sum is not
+/// added, and the other items have changed nothing.
 #[derive(Clone, Copy, Debug, PartialEq, Eq, Error)]
 #[error("{added} {why}")]
 pub struct BatchRefusal {

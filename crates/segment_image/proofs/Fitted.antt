@@ -116,7 +116,7 @@ checks-pass size page shape true true a b is-page is-size = by (is_page page) (i
 checks-pass size page shape false b a c is-page is-size = absurd (cc)
 checks-pass size page shape true false a c is-page is-size = absurd (cc)
 
--- the shape of so many pages
+-- the shape of this many pages
 abbrev pub of_pages : ℕ → ℕ → Dimensions
 of_pages words pages = record { size = pages * (words / pages / 16 * 16); page = words / pages / 16 * 16 }
 

@@ -20,13 +20,13 @@ TakesAtMost-after a b c read size most first more fits = (
   omega (arith, length-append read more.0),
 )
 
--- a reader gave bytes, and the bytes of words are those of the words before, and then these
+-- a reader gave bytes, and the bytes of words are those of the words before, followed by these
 pub record IsReadSo (a b : Option (List ℕ)) (old new : List ℕ) : Type 0 where
   pub read : List ℕ
   pub taken : Consumes a b read
   pub bytes_are : bytes_of_words new ≡ bytes_of_words old ++ read
 
--- so many bytes were read
+-- this many bytes were read
 pub length-read : (a b : Option (List ℕ)) (old new : List ℕ) (so : IsReadSo a b old new) → length so.read + 8 * length old ≡ 8 * length new
 length-read a b old new so =
     let all : length (bytes_of_words new) ≡ length (bytes_of_words old ++ so.read) = ap length so.bytes_are in
@@ -69,7 +69,7 @@ past_limit (Some x) (Some y) None read block filled limit first more within over
 past_limit (Some x) (Some y) (Some z) read block filled limit first more within over =
     grind (arith, length-append, length-take)
 
--- the same, where words were made of those so far
+-- the same, if words were made of those so far
 pub too_long : (a b c : Option (List ℕ)) (old words block : List ℕ) (filled limit : ℕ) → IsReadSo a b old words
     → Consumes b c (take filled block) → filled ≤ length block → length old ≤ limit → 8 * limit < 8 * length words + filled
     → IfSome a (λ bytes. 8 * (limit - length old) < length bytes)

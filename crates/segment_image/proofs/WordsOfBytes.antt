@@ -5,7 +5,7 @@ use Rattle.std.proofs.lemmas.List.Concat.{flat_map-append}
 use Rattle.byteorder.specs.Endian.{little_bytes, little_number}
 use Rattle.segment_image.specs.Words.{bytes_of_words, words_from, words_in}
 
--- the number of the first eight bytes, whatever comes behind
+-- the number of the first eight bytes, whatever follows
 first_number : (xs ys : List ℕ) → 8 ≤ length xs → little_number 8 (xs ++ ys) ≡ little_number 8 xs
 first_number xs ys long = grind (arith, get_or_append_left)
 
@@ -29,7 +29,7 @@ length-words_from (suc n) bytes = ap suc (length-words_from n (drop 8 bytes))
 pub length-words_in : (bytes : List ℕ) → length (words_in bytes) ≡ length bytes / 8
 length-words_in bytes = length-words_from (length bytes / 8) bytes
 
--- whole words, and then the words of what comes behind them
+-- whole words, and then the words of what follows
 pub words_in-append : (xs ys : List ℕ) → length xs % 8 ≡ 0 → words_in (xs ++ ys) ≡ words_in xs ++ words_in ys
 words_in-append xs ys whole =
     let sum : length (xs ++ ys) / 8 ≡ length xs / 8 + length ys / 8 = omega (arith, whole, length-append xs ys) in
@@ -44,7 +44,7 @@ words_in-short xs short = let none : length xs / 8 ≡ 0 = omega (arith, short) 
 words_in-one : (xs : List ℕ) → length xs ≡ 8 → words_in xs ≡ little_number 8 xs ∷ []
 words_in-one xs long = let one : length xs / 8 ≡ 1 = omega (arith, long) in ap (λ k. words_from k xs) one
 
--- a chunk of eight bytes, and the words behind it, at the end of the words before
+-- a chunk of eight bytes, and the words after it, at the end of the words before
 pub words_in-chunk : (words chunk rest : List ℕ) → length chunk ≡ 8
     → (words ++ little_number 8 chunk ∷ []) ++ words_in rest ≡ words ++ words_in (chunk ++ rest)
 words_in-chunk words chunk rest long =

@@ -8,7 +8,7 @@ use Rattle.segment_image.specs.declared.head.SegmentHead.{SegmentHead}
 use Rattle.segment_image.specs.declared.blocks.BlockHead.{BlockHead}
 use Rattle.segment_image.specs.declared.layout.TheConstants.{HEADER_WORDS, BLOCK_SIZE, BLOCK_COOKIE, BLOCK_TYPE, BLOCK_NEXT, BLOCK_LEAST, CLAIMED_COOKIE}
 
--- a reference at which the smallest block, of five words, lies behind the header and below the free pointer
+-- a reference at which the smallest block, of five words, lies after the header and below the free pointer
 abbrev pub is_placed : SegmentHead → ℕ → Bool
 is_placed head reference = nat_le HEADER_WORDS reference && nat_le (reference + BLOCK_LEAST) head.free
 
@@ -41,6 +41,6 @@ block_head_of words reference = record {
 abbrev pub block_of : List ℕ → SegmentHead → ℕ → Result BlockHead ImageFault
 block_of words head reference = checked (block_checks words head reference) (block_head_of words reference)
 
--- a lawful block stands at a reference
+-- there is a valid block at a reference
 abbrev pub is_block : List ℕ → SegmentHead → ℕ → Bool
 is_block words head reference = is_placed head reference && is_claimed words head reference

@@ -4,7 +4,7 @@ use Rattle.segment_image.specs.Shape.{Dimensions}
 use Rattle.segment_image.specs.declared.layout.TheConstants.{PAGE_STEP}
 use Rattle.segment_image.specs.declared.fitting.TheConstants.{FITTED_PAGE}
 
--- as few pages as hold so many words if none has over 4,096
+-- the fewest pages that hold this many words if none has over 4,096
 abbrev pub fitted_pages : ℕ → ℕ
 fitted_pages words = words / FITTED_PAGE + min 1 (words % FITTED_PAGE)
 

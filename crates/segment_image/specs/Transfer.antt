@@ -4,7 +4,7 @@ use Rattle.std.specs.Io.KnownBytes.{Consumes}
 use Rattle.segment_image.specs.declared.fault.ReadFault.{ReadFault}
 use Rattle.segment_image.specs.declared.fault.ReadFault.TheVariants.{NoMemory, Device, TooLong, NotWords}
 
--- A fault of a call that reads at most `limit` words has its cause in the bytes that the reader had left. Want of
+-- A fault of a call that reads at most `limit` words has its cause in the bytes that the reader had left. Running out of
 -- memory and a device that fails have none there.
 abbrev pub IsCausedBy : ℕ → List ℕ → ReadFault → Type 0
 IsCausedBy limit bytes NoMemory = ⊤
@@ -19,6 +19,6 @@ IsByteFault limit bytes Device = ⊤
 IsByteFault limit bytes TooLong = limit < length bytes
 IsByteFault limit bytes NotWords = ⊥
 
--- a call took at most so many of the bytes that a reader had, which were `old` and are `new`
+-- a call took at most this many of the bytes that a reader had, which were `old` and are `new`
 abbrev pub TakesAtMost : ℕ → Option (List ℕ) → Option (List ℕ) → Type 0
 TakesAtMost most old new = (taken : List ℕ) × Consumes old new taken × (length taken ≤ most)

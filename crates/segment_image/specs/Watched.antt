@@ -6,7 +6,7 @@ use Rattle.segment_image.specs.declared.watched.Watched.{Watched}
 abbrev pub has_failed : {T : Type 0} → Watched T → Bool
 has_failed watched = watched.failed
 
--- whether the last write or flush that it passed on was a flush, and went well
+-- whether the last write or flush that it passed on was a flush, and succeeded
 abbrev pub is_flushed : {T : Type 0} → Watched T → Bool
 is_flushed watched = watched.flushed
 

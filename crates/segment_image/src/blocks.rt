@@ -27,9 +27,9 @@ const LEAST: u64 = BLOCK_LEAST as u64;
 /// Returns the header of the block at a reference of an image whose header, read from the same words, is `head`; or
 /// the first fault of that block.
 ///
-/// `BadRef` where the reference is below 16 or the smallest block, of five words, does not fit below the free
-/// pointer; `BadBlock` where the cookie is another, the size is below five words, the block passes the free pointer,
-/// or its first and last word lie in different pages. It takes no memory.
+/// `BadRef` if the reference is below 16 or the smallest block, of five words, does not fit below the free pointer;
+/// `BadBlock` if the cookie is another, the size is below five words, the block passes the free pointer, or its first
+/// and last word lie in different pages. It takes no memory.
 pub fn block(words: &[u64], head: &SegmentHead, reference: u64) -> Result<BlockHead, ImageFault>
     requires { header_of words.now ≡ Ok head.now }
     ensures { result ≡ block_of words.now head.now reference }
@@ -48,7 +48,7 @@ pub fn block(words: &[u64], head: &SegmentHead, reference: u64) -> Result<BlockH
     })
 }
 
-// Whether the smallest block lies at a reference, behind the header and below the free pointer.
+// Whether the smallest block fits at a reference, after the header and below the free pointer.
 fn lies_within(head: &SegmentHead, reference: u64) -> bool
     ensures { result ≡ is_placed head.now reference }
 {

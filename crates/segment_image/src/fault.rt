@@ -2,7 +2,7 @@
 
 use thiserror::Error;
 
-/// What is wrong with an image. The header's faults are checked in this order, and the first that holds is answered.
+/// What is wrong with an image. The header's faults are checked in this order, and the first that holds is returned.
 #[derive(Clone, Copy, Debug, PartialEq, Eq, Error)]
 pub enum ImageFault {
     /// There are fewer than 16 words.
@@ -14,10 +14,10 @@ pub enum ImageFault {
     /// Word 1 names a version of the format that is not read.
     #[error("BadVersion")]
     BadVersion = 3,
-    /// Word 3 is no lawful number of words of a page.
+    /// Word 3 is no valid number of words of a page.
     #[error("BadPage")]
     BadPage = 4,
-    /// Word 2 is no lawful number of words of a segment, or not the number of words that there are.
+    /// Word 2 is no valid number of words of a segment, or not the number of words that there are.
     #[error("BadSize")]
     BadSize = 5,
     /// The segment was never made ready.
@@ -26,7 +26,7 @@ pub enum ImageFault {
     /// The segment was deleted.
     #[error("Deleted")]
     Deleted = 7,
-    /// The free pointer lies in the header or behind the end.
+    /// The free pointer is in the header or beyond the end.
     #[error("BadFree")]
     BadFree = 8,
     /// The block from which the list of records starts has another header.
@@ -35,10 +35,10 @@ pub enum ImageFault {
     /// A reference names no place of a block.
     #[error("BadRef")]
     BadRef = 10,
-    /// No lawful block stands at a reference.
+    /// There is no valid block at a reference.
     #[error("BadBlock")]
     BadBlock = 11,
-    /// A reference was met before on the list.
+    /// A reference was visited before on the list.
     #[error("Loop")]
     Loop = 12,
     /// There was no memory for the answer.

@@ -11,12 +11,12 @@ impl Shape {
     ghost use Rattle.std.specs.Prelude.{◌≡◌, ◌&&◌, ◌+◌, ◌*◌, ◌<◌, ◌≤◌, nat_le, if◌then◌else◌, Ok, Err, IfOk};
     ghost use Rattle.segment_image.specs.Fitting.{fitted, fitted_pages};
 
-    /// Returns the shape of a segment in so many words, with its page chosen: as few pages as hold the words if none has
-    /// over 4,096, all of one size [shape]. So it has at most these words, and less than 16 for each page are left over
-    /// [most]. From 4,096 words on a page has 2,048 or more, so that a histogram of 1,000 buckets, whose counts take
-    /// 2,004, fits; below that a page is the whole segment [page].
+    /// Returns the shape of a segment of at most this many words, with its page chosen: the fewest pages that hold the
+    /// words if none has over 4,096, all of one size [shape]. So it has at most these words, and fewer than 16 for each
+    /// page are left over [most]. From 4,096 words on a page has 2,048 or more, so that a histogram of 1,000 buckets,
+    /// whose counts take 2,004, fits; below that a page is the whole segment [page].
     ///
-    /// The one fault is `BadSize`: the words are not from 64 to 1,048,576 [shape].
+    /// The only fault is `BadSize`: the words are not from 64 to 1,048,576 [shape].
     pub fn fit(words: u64) -> Result<Shape, ImageFault>
         ensures shape { result ≡ (if nat_le MIN_PAGE words && nat_le words MAX_SIZE then Ok (fitted words) else Err ImageFault.BadSize) }
         ensures most { IfOk result (λ shape. (shape.size ≤ words) × (words < shape.size + PAGE_STEP * fitted_pages words)) }

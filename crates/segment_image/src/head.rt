@@ -79,7 +79,7 @@ pub fn header(words: &[u64]) -> Result<SegmentHead, ImageFault>
     })
 }
 
-// `NotReady` or `Deleted`, where a segment's state is one of these.
+// `NotReady` or `Deleted`, if a segment's state is one of these.
 fn state_fault(state: u64) -> Option<ImageFault>
     ensures { result ≡ first_fault ((not (state == 1) && not (state == 2), ImageFault.NotReady) ∷ (state == 2, ImageFault.Deleted) ∷ []) }
 {

@@ -34,7 +34,7 @@ impl Image {
 
     /// Returns a ready segment of `size` words in pages of `page` words without blocks.
     ///
-    /// The first fault of the shape is returned, `BadPage` or `BadSize`; then `NoMemory` where memory runs out.
+    /// The first fault of the shape is returned, `BadPage` or `BadSize`; then `NoMemory` if memory runs out.
     pub fn blank(alloc: Global, size: u64, page: u64, id: u64) -> Result<Image, ImageFault>
         ensures { MatchOption (first_fault (shape_checks size page)) (MatchResult result (λ image. image ≡ blank_words size page id) (λ fault. fault ≡ ImageFault.NoMemory)) (λ fault. result ≡ Err fault) }
     {
@@ -107,7 +107,7 @@ ghost use Rattle.std.specs.Prelude.{ℕ, Ok, true};
 ghost use Rattle.segment_image.specs.Shape.{is_page, is_size};
 ghost use Rattle.segment_image.specs.Head.{header_of, head_of};
 
-/// A law: the words of a new segment of a lawful shape have a lawful header.
+/// A law: the words of a new segment of a valid shape have a valid header.
 pub fn blank_is_ready()
     ensures { (size page id : ℕ) → is_page page ≡ true → is_size size page ≡ true
         → header_of (blank_words size page id) ≡ Ok (head_of (blank_words size page id)) }

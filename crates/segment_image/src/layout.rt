@@ -1,10 +1,10 @@
 //! The words of a segment by name: the header, a block, and each record (Chromium's `persistent_memory_allocator`
 //! and `PersistentHistogramData`, in 64-bit words); and how many there may be.
 //!
-//! The words of the header stand at these indexes of a segment; those of blocks and records count from the first
+//! The words of the header are at these indexes of a segment; those of blocks and records count from the first
 //! word of their block.
 
-/// The words of the header; blocks begin behind them.
+/// The words of the header; blocks begin after them.
 pub const HEADER_WORDS: usize = 16;
 
 /// The fewest words of a page.
@@ -13,7 +13,7 @@ pub const MIN_PAGE: u64 = 64;
 /// The most words of a page.
 pub const MAX_PAGE: u64 = 65_536;
 
-/// A page has a multiple of so many words.
+/// The number of words of a page is a multiple of this.
 pub const PAGE_STEP: u64 = 16;
 
 /// The most words of a segment.
@@ -46,7 +46,7 @@ pub const FREE_WORD: usize = 7;
 /// The header's word with the tail of the list of records.
 pub const TAIL_WORD: usize = 8;
 
-/// Where the queue block stands, from which the list of records starts; and the next of the last record of the list.
+/// Where the queue block is, from which the list of records starts; and the next of the last record of the list.
 pub const QUEUE: u64 = 12;
 
 /// The cookie of a segment.
@@ -76,7 +76,7 @@ pub const QUEUE_SIZE: u64 = 4;
 /// The cookie of the queue block.
 pub const QUEUE_COOKIE: u64 = 1;
 
-/// A block's word with the number of its words, these of its header included.
+/// A block's word with the number of its words, those of its header included.
 pub const BLOCK_SIZE: usize = 0;
 
 /// A block's word with its cookie.
@@ -88,7 +88,7 @@ pub const BLOCK_TYPE: usize = 2;
 /// A block's word with the reference of the next record on the list.
 pub const BLOCK_NEXT: usize = 3;
 
-/// The words of a block's header; its payload begins behind them.
+/// The words of a block's header; its payload begins after them.
 pub const BLOCK_HEADER: usize = 4;
 
 /// The least number of words of a block.
@@ -133,10 +133,10 @@ pub const HISTOGRAM_SINGLE: usize = 9;
 /// From this word on, a single word says that the counts are in use: it is disabled, or frozen.
 pub const DISABLED_BIT: u64 = 1 << 63;
 
-/// What the bucket counts in a single word that packs units of it: the units stand below this, and the bucket above.
+/// The weight of the bucket in a single word that packs units of it: the units are below this, and the bucket above.
 pub const BUCKET_WEIGHT: u64 = 1 << 32;
 
-/// What a disabled word of version 1 has in place of a bucket where none was packed.
+/// What a disabled word of version 1 has in place of a bucket if none was packed.
 pub const NO_BUCKET: u64 = 65_535;
 
 /// A histogram's word with the mark of its packed bucket.
@@ -154,7 +154,7 @@ pub const HISTOGRAM_REDUNDANT: usize = 13;
 /// A histogram's word with the number of bytes of its name.
 pub const HISTOGRAM_NAME_LENGTH: usize = 14;
 
-/// The first word of a histogram's name; behind the name stand the boundaries of a custom one.
+/// The first word of a histogram's name; after the name come the boundaries of a custom one.
 pub const HISTOGRAM_NAME: usize = 15;
 
 /// The least number of words of a histogram's record.

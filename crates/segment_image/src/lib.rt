@@ -3,16 +3,16 @@
 //! An image is a list of 64-bit words, in a file eight bytes for each, the least byte first. The layout follows
 //! Chromium's `persistent_memory_allocator`, with words of its own. No call here trusts a word.
 //!
-//! - [`Shape::of`], [`header`] and [`block`] answer what the words say exactly where all checks hold, and otherwise
-//!   the first check that fails, in the order that [`ImageFault`] lists them. They take no memory.
-//! - [`Shape::fit`] answers the shape for a number of words, whose page it chooses.
-//! - [`read_bytes`] answers all bytes that a reader had left, up to a limit, and otherwise why there are none.
-//! - [`read_words`] answers the words whose bytes are all that a reader had left, and otherwise why there are none;
+//! - [`Shape::of`], [`header`] and [`block`] return what the words say exactly if all checks hold, and otherwise the
+//!   fault of the first check that fails, in the order of [`ImageFault`]. They take no memory.
+//! - [`Shape::fit`] returns the shape for a number of words, and chooses its page.
+//! - [`read_bytes`] returns all bytes that a reader had left, up to a limit, and otherwise why there are none.
+//! - [`read_words`] returns the words whose bytes are all that a reader had left, and otherwise why there are none;
 //!   [`read_more_words`] appends them to words that are there.
 //! - [`write_words`] writes the bytes that words are.
 //! - An [`Image`] has the words of a whole segment: those of a new one, or such as [`header`] accepts.
-//! - A [`Watched`] passes reads and writes on, and says whether one of them failed, and whether a flush went well
-//!   behind the last write.
+//! - A [`Watched`] passes reads and writes on, and says whether one of them failed, and whether a flush succeeded
+//!   after the last write.
 #![tactic(auto)]
 
 mod blocks;

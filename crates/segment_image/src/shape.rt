@@ -31,8 +31,8 @@ impl Shape {
 
     /// Returns the shape of a segment of `size` words in pages of `page` words.
     ///
-    /// The first fault is returned: `BadPage` where the page is no multiple of 16 from 64 to 65,536, then `BadSize`
-    /// where the segment is no multiple of the page from one page to 1,048,576 words.
+    /// The first fault is returned: `BadPage` if the page is no multiple of 16 from 64 to 65,536, then `BadSize` if
+    /// the segment is no multiple of the page from one page to 1,048,576 words.
     pub fn of(size: u64, page: u64) -> Result<Shape, ImageFault>
         ensures { result ≡ checked (shape_checks size page) (record { size = size; page = page }) }
     {

@@ -18,11 +18,11 @@ const BLOCK_WORDS: usize = 1024;
 const BLOCK_BYTES: usize = 8192;
 
 /// Reads until a block is full or the reader is at its end, and returns how many bytes came: no more than the block
-/// has room for [within], the next that the reader had left, at the front of the block [bytes]. Where there are
-/// fewer, the reader is at its end [end]. At most as many as the block has room for are taken from it [taken].
+/// has room for [within], the next that the reader had left, at the front of the block [bytes]. If there are fewer,
+/// the reader is at its end [end]. At most as many as the block has room for are taken from it [taken].
 ///
-/// The reader has not failed before. The fault is `Device` [device]; then the reader has failed [failed], and else it
-/// has not [went].
+/// The reader has not failed before. The only fault is `Device` [device]; then the reader has failed [failed], and
+/// otherwise it has not [went].
 pub fn fill<R: Read>(reader: &mut Watched<R>, block: &mut [u8]) -> Result<usize, ReadFault>
     requires { has_failed reader.old ≡ false }
     ensures within { IfOk result (λ n. n ≤ length block.new) }
@@ -46,10 +46,10 @@ pub fn fill<R: Read>(reader: &mut Watched<R>, block: &mut [u8]) -> Result<usize,
 
 /// Reads all bytes that a reader has left, at most `limit` of them.
 ///
-/// The reader has not failed before. On `Ok` these are all bytes that it had left; `TooLong` comes only where there
-/// are more than `limit` [answer]. On `Ok` there are at most `limit`, whatever the reader is [within], and the reader
-/// is at its end [end]. `Device` comes exactly where a read failed in this call, of whatever sort the failure is
-/// [device]. `NoMemory` comes where memory runs out for the bytes, for which memory is asked only as they come.
+/// The reader has not failed before. On `Ok` these are all bytes that it had left; `TooLong` comes only if there are
+/// more than `limit` [answer]. On `Ok` there are at most `limit`, whatever the reader is [within], and the reader
+/// is at its end [end]. `Device` comes exactly if a read failed in this call, whatever kind of failure it is
+/// [device]. `NoMemory` comes if memory runs out for the bytes, and memory is asked for only as they come.
 /// `NotWords` never comes [other]. At most `limit + 1` bytes are taken from the reader [taken].
 pub fn read_bytes<R: Read>(
     alloc: Global,
@@ -95,9 +95,9 @@ fn word(bytes: &[u8]) -> u64
     LittleEndian::read_u64(bytes)
 }
 
-/// Appends the whole words of bytes, eight for each, the least first [words]; up to seven bytes after them make none
-/// [len]. Where there are none such, the bytes of the words are what they were, and then these [bytes]. There are no
-/// fewer words than before, also where memory runs out, which is the one error [longer].
+/// Appends the whole words of bytes, eight bytes for each, the least first [words]; up to seven bytes after them make
+/// no word [len]. If there are no such bytes, the bytes of the words are what they were, followed by these [bytes].
+/// There are never fewer words than before, even if memory runs out, which is the only error [longer].
 pub fn push_words(words: &mut Vec<u64>, bytes: &[u8]) -> Result<(), AllocError>
     ensures words { OnOk result (words.new.items ≡ words.old.items ++ words_in bytes.now) }
     ensures bytes { length bytes.now % 8 ≡ 0 → OnOk result (bytes_of_words words.new.items ≡ bytes_of_words words.old.items ++ bytes.now) }
@@ -113,13 +113,13 @@ pub fn push_words(words: &mut Vec<u64>, bytes: &[u8]) -> Result<(), AllocError>
 /// Reads all bytes that a reader has left, as words of eight bytes each, the least byte first, after the words that are
 /// there: `limit` words at most, these included.
 ///
-/// The reader has not failed before. On `Ok` the bytes of the words are those of the words that were there, and then
-/// all that the reader had left. `TooLong` comes only where there are more bytes than the words up to `limit` have;
-/// `NotWords` only where there are no more and their number is no multiple of eight, which is known at their end
+/// The reader has not failed before. On `Ok` the bytes of the words are those of the words that were there, followed by
+/// all that the reader had left. `TooLong` comes only if there are more bytes than the words up to `limit` have;
+/// `NotWords` only if there are no more and their number is no multiple of eight, which is known at their end
 /// [answer]. On `Ok` there are at most `limit` words, whatever the reader is [within], and the reader is at its end
-/// [end]. `Device` comes exactly where a read failed in this call, of whatever sort the
-/// failure is [device]. `NoMemory` comes where memory runs out for the words, for which memory is asked only as bytes
-/// come. At most one byte more is taken from the reader than the words up to `limit` have [taken].
+/// [end]. `Device` comes exactly if a read failed in this call, whatever kind of failure it is [device]. `NoMemory`
+/// comes if memory runs out for the words, and memory is asked for only as bytes come. At most one byte more is taken
+/// from the reader than the words up to `limit` have [taken].
 pub fn read_more_words<R: Read>(
     words: &mut Vec<u64>,
     reader: &mut Watched<R>,
@@ -158,12 +158,12 @@ pub fn read_more_words<R: Read>(
 
 /// Reads all bytes that a reader has left, as at most `limit` words of eight bytes each, the least byte first.
 ///
-/// The reader has not failed before. On `Ok` the words' bytes are all that it had left. `TooLong` comes only where
-/// there are more than `8 * limit` bytes; `NotWords` only where there are no more and their number is no multiple of
-/// eight, which is known at their end [answer]. On `Ok` there are at most `limit` words, whatever the reader is
-/// [within], and the reader is at its end [end]. `Device` comes exactly where a read failed in this call, of whatever
-/// sort the failure is [device]. `NoMemory` comes where memory runs out for the words, for which memory is asked only
-/// as bytes come. At most `8 * limit + 1` bytes are taken from the reader [taken].
+/// The reader has not failed before. On `Ok` the words' bytes are all that it had left. `TooLong` comes only if there
+/// are more than `8 * limit` bytes; `NotWords` only if there are no more and their number is no multiple of eight,
+/// which is known at their end [answer]. On `Ok` there are at most `limit` words, whatever the reader is [within],
+/// and the reader is at its end [end]. `Device` comes exactly if a read failed in this call, whatever kind of failure
+/// it is [device]. `NoMemory` comes if memory runs out for the words, and memory is asked for only as bytes come. At
+/// most `8 * limit + 1` bytes are taken from the reader [taken].
 pub fn read_words<R: Read>(
     alloc: Global,
     reader: &mut Watched<R>,
@@ -184,8 +184,8 @@ pub fn read_words<R: Read>(
 
 /// Writes words, eight bytes for each, the least byte first. It takes no memory, and does not flush.
 ///
-/// On `Ok` what the writer holds grew by exactly these bytes [bytes]. `Device` comes where a write failed in this
-/// call, of whatever sort the failure is. The writer has then failed, and else it has failed only if it had before
+/// On `Ok` what the writer holds grew by exactly these bytes [bytes]. `Device` comes if a write failed in this call,
+/// whatever kind of failure it is. Then the writer has failed, and otherwise it has failed only if it had before
 /// [failed]. If there was a word to write it is not flushed [flushed].
 pub fn write_words<W: Write>(writer: &mut Watched<W>, words: &[u64]) -> Result<(), WriteFault>
     ensures bytes { OnOk result (Appends (W.contents (watched_inner writer.old)) (W.contents (watched_inner writer.new)) (bytes_of_words words.now)) }

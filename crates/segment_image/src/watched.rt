@@ -7,7 +7,7 @@ ghost use Rattle.std.specs.Io.KnownBytes.{Appends, Consumes, Keeps, ReadConsumes
 use std::io;
 use std::io::{Read, Write};
 
-/// Passes reads and writes on, and remembers whether one of them failed, and whether a flush went well behind the last
+/// Passes reads and writes on, and remembers whether one of them failed, and whether a flush succeeded after the last
 /// write.
 #[derive(Debug, Drop)]
 pub struct Watched<T> {

@@ -17,8 +17,8 @@ use Rattle.segment_machine.specs.Examples.{with_log, with_taken, shape, letter_a
 abbrev pub AreOf : List ℕ → Anatomy → Type 0
 AreOf words anatomy = words ≡ render shape (layout_of anatomy)
 
--- for these keys of a name, what the blocks of version 1 hold and what is in transit is what the actors counted and took; so are
--- the sum, its mark and the redundant count
+-- for these keys of a name, what the blocks of version 1 hold and what is in transit is what the actors counted and took; the same of the
+-- sum, its mark and the redundant count
 abbrev pub Agree : List ℕ → List ℤ → List Piece → List Actor → Type 0
 Agree name keys pieces actors =
     (map (λ key. all_held (units_held 1 name key) pieces + all_moving name key actors) keys ≡ map (tally_units (all_counted actors) name) keys)
@@ -96,7 +96,7 @@ LimitAgrees =
 
 -- ---- what deltas took
 
--- three deltas of one, and two takers of whom the second took nothing
+-- three deltas of one taker, and two takers of which the second took nothing
 abbrev pub TakersAgree : Type 0
 TakersAgree =
     Agree letter_a keys
@@ -140,7 +140,7 @@ sparse_anatomy = record (blank 1 7 128) {
       ∷ listed (record { reference = 40; made = made.Sample 16 (pos 7) }) ∷ [];
 }
 
--- who recorded two units of -5 and one of 7, and took them
+-- the actor that recorded two units of -5 and one of 7, and took them
 abbrev pub sparse_recorder : Actor
 sparse_recorder = with_taken
     (with_log (maker []) (map whole (sample_entry letter_s [] (negsuc 4, 2) ∷ sample_entry letter_s [] (pos 7, 1) ∷ [])))

@@ -1,5 +1,5 @@
--- What each block of a segment is, and how the words of a segment are made of blocks: more than the words tell, since it says of
--- each word what it stands for.
+-- What each block of a segment is, and how the words of a segment are made of blocks. This is more than the words show, since it says of
+-- each word what it means.
 use Rattle.std.specs.Prelude.{◌≡◌, Bool, true, false, ℕ, ◌+◌, ◌-◌, ◌*◌, ℤ, List, [], ◌∷◌, ◌++◌, map, length, replicate, slice_index}
 use Rattle.std.specs.Int.{w64, cast_unsigned}
 use Rattle.std.specs.List.{filter}
@@ -16,8 +16,8 @@ use Rattle.segment_machine.specs.declared.actor.Published.{Published}
 
 -- ---- what a block is
 
--- the published record of a histogram: what was given to its maker, then the words that change, then the words of its name and
--- what stands behind the name and the ranges
+-- the published record of a histogram: what was given to its maker, then the words that change, then the words of its name and what follows
+-- the name and the ranges
 pub record Record : Type 0 where
   pub name : List ℕ
   pub spec : Spec
@@ -32,8 +32,8 @@ pub record Record : Type 0 where
   pub letters : List ℕ
   pub rest : List ℕ
 
--- a counts block that a record names: that record's reference, name and spec, then a count and a mark for each bucket, and what
--- stands behind
+-- a counts block that a record names: that record's reference, name and spec, then a count and a mark for each bucket, and what follows
+-- them
 pub record Counts : Type 0 where
   pub of : ℕ
   pub name : List ℕ
@@ -44,7 +44,7 @@ pub record Counts : Type 0 where
   pub marks : List ℕ
   pub rest : List ℕ
 
--- a published sparse sample: its histogram's reference and name, its value, then its count, its mark, and what stands behind
+-- a published sparse sample: its histogram's reference and name, its value, then its count, its mark, and what follows them
 pub record Sample : Type 0 where
   pub of : ℕ
   pub name : List ℕ
@@ -55,10 +55,10 @@ pub record Sample : Type 0 where
   pub mark : ℕ
   pub rest : List ℕ
 
--- the queue block; words that nobody has claimed, as a block in the making, a wasted rest of a page or what lies between the
--- blocks of an adopted image; a claimed block that is still its claimer's own; a record; a counts block; a sample; and a block of
--- which nothing changes but its next, which only an adopted image can have: a published record of another type, a histogram's record that is
--- passed over, since it is not the first of its name, and the counts block that such a record names
+-- the queue block; words that nobody has claimed, such as a block in the making, a wasted rest of a page or what lies between the blocks of
+-- an adopted image; a claimed block that is still its claimer's own; a record; a counts block; a sample; and a block of which nothing
+-- changes but its next, which only an adopted image can have: a published record of another type, a histogram's record that is passed over,
+-- since it is not the first of its name, or the counts block that such a record names
 pub data Body : Type 0 where
   queue : (next : ℕ) → Body
   plain : (words : List ℕ) → Body
@@ -139,9 +139,9 @@ pub record Listed : Type 0 where
 abbrev pub listed : Published → Listed
 listed p = record { reference = p.reference; made = std.Some p.made }
 
--- What a segment consists of: what its header says, its blocks in a row, how many words are behind them, and the records on its
--- list, in the order of the list, with what each was given. The other bits of the word of flags and the three words between the
--- tail and the queue block are 0 in a new segment, and an adopted one keeps what it has there.
+-- What a segment consists of: what its header says, its blocks in a row, how many words follow them, and the records on its list, in the
+-- order of the list, each with what it was given. The other bits of the word of flags and the three words between the tail and the queue
+-- block are 0 in a new segment; an adopted one keeps what it has there.
 pub record Anatomy : Type 0 where
   pub version : ℕ
   pub id : ℕ
@@ -154,7 +154,7 @@ pub record Anatomy : Type 0 where
   pub spare : ℕ
   pub records : List Listed
 
--- the layout that an anatomy says
+-- the layout of an anatomy
 abbrev pub layout_of : Anatomy → layout.Layout
 layout_of anatomy = record {
   version = anatomy.version;

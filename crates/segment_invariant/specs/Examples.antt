@@ -1,4 +1,4 @@
--- Worked examples: what the words of small segments count, a consistent state, and small ones that are not, one for each part.
+-- Worked examples: what the words of small segments count, a consistent state, and small states that are not consistent, one for each part.
 use Rattle.std.specs.Prelude.{◌≡◌, ℕ, ◌+◌, ◌^◌, pos, negsuc, List, [], ◌∷◌, map, replicate, slice_set, true}
 use Rattle.segment_image.specs.Image.{blank_words}
 use Rattle.segment_image.specs.Blocks.{field_at}
@@ -17,8 +17,8 @@ use Rattle.segment_machine.specs.Examples.{with_taken, packed_segment, mounted_s
 
 -- ---- packed, then mounted
 
--- Two samples of 1 are packed as 2 units of bucket 1. A sample of 0 then mounts a counts block, disables the word, moves the two
--- units and counts its own: the words are the segment's, and the totals are the tally of the three entries.
+-- Two samples of 1 are packed as 2 units of bucket 1. A sample of 0 then mounts a counts block, disables the word, moves the two units and
+-- counts its own: the words become those of the mounted segment, and the totals are the tally of the three entries.
 abbrev pub PackedThenMounted : Type 0
 PackedThenMounted =
     (packed_word 1 2 ≡ 4294967298) × (off_word 1 4294967298 ≡ 9223372036854775809)
@@ -31,7 +31,7 @@ PackedThenMounted =
 
 -- ---- stopped in transit
 
--- two units of the bucket 1 are in transit, and in no count
+-- two units of bucket 1 are in transit, and in no count
 abbrev pub StoppedInTransit : Type 0
 StoppedInTransit =
     (map (total_of 1 in_transit 16) (0 ∷ 1 ∷ 2 ∷ []) ≡ 0 ∷ 0 ∷ 0 ∷ [])
@@ -52,8 +52,8 @@ PackingLimit =
 
 -- ---- deltas and marks
 
--- samples 1 and 1, a delta, a sample 0, and two deltas: the marks are what was taken, the mark of bucket 1 is the single mark,
--- and the second and the third delta are final ones, the first is not
+-- samples 1 and 1, a delta, a sample 0, and two deltas: the marks are what was taken, the mark of bucket 1 is the single mark, and the
+-- second and the third delta are final, the first is not
 abbrev pub DeltasAndMarks : Type 0
 DeltasAndMarks =
     (map (mark_of 1 marked 16) (0 ∷ 1 ∷ 2 ∷ []) ≡ 1 ∷ 2 ∷ 0 ∷ [])
@@ -64,7 +64,7 @@ DeltasAndMarks =
 
 -- ---- two takers of a packed word
 
--- what the deltas of two takers took: Y's all, X's nothing
+-- what the deltas of two takers took: Y took all, X nothing
 abbrev two_deltas : List Taken
 two_deltas = taken_at 4 ((pos 0, 1) ∷ (pos 1, 3) ∷ []) (pos 3) ∷ taken_at 4 [] (pos 0) ∷ []
 
@@ -97,11 +97,11 @@ opening = record { words = blank_words 128 64 7; claims = [] }
 abbrev pub state_of : List ℕ → List Actor → State
 state_of words actors = record { words = words; cursors = []; actors = actors }
 
--- the segment that was packed and then mounted, and who recorded 1, 1 and 0
+-- the segment that was packed and then mounted, and the actor that recorded 1, 1 and 0
 abbrev pub MountedIsConsistent : Type 0
 MountedIsConsistent = IsConsistent opening (state_of mounted (mounter (1 ∷ 1 ∷ 0 ∷ []) ∷ []))
 
--- a word behind the free pointer is not 0
+-- a word after the free pointer is not 0
 abbrev pub ListBreaks : Type 0
 ListBreaks = (chain : List ℕ) → ¬ (ListIsChain opening.words [] (slice_set mounted 50 1) [] (mounter (1 ∷ 1 ∷ 0 ∷ []) ∷ []) chain)
 
@@ -140,6 +140,6 @@ FlagsBreak =
 abbrev pub saver : Actor
 saver = record (maker (1 ∷ [])) { units = record (maker (1 ∷ [])).units { share = 4294967295 } }
 
--- a unit was counted that nobody spent
+-- a unit was spent, and its spender still has it in the share
 abbrev pub UnitsBreak : Type 0
 UnitsBreak = ¬ (UnitsAreKept (packed_segment 4294967297 0 1 0 1) (saver ∷ []) (16 ∷ []))

@@ -1,5 +1,5 @@
--- What holds of a segment and of all its actors between any two events: more than its consistency, as much as keeping that needs.
--- It says what each block is, and has one part for each thing that is looked after. No part mentions how an event goes.
+-- What holds of a segment and of all its actors between any two events: more than its consistency, as much as is needed to keep it. It says
+-- what each block is, and has one part for each concern. No part mentions how an event proceeds.
 use Rattle.std.specs.Prelude.{◌≡◌, ◌≢◌, ◌⊎◌, Bool, true, false, not, ◌&&◌, ◌||◌, ◌==◌, max, ℕ, ◌+◌, ◌-◌, ◌*◌, ◌^◌, ◌<◌, ◌≤◌, ℤ, pos, ◌+ℤ◌, ◌-ℤ◌, unsigned_abs, if◌then◌else◌, List, [], ◌∷◌, ◌++◌, map, fold, take, drop, length, replicate, sum_by, slice_index, Option, Some, None, IsPermutation, ⊤}
 use Rattle.std.specs.Int.{w64, cast_signed}
 use Rattle.std.specs.List.{filter, Contains, All, flat_map}
@@ -47,8 +47,8 @@ use Rattle.segment_invariant.specs.Seen.{Stands, HasStill, HoldsAs, HasPlain, Ha
 
 -- ---- the list
 
--- a listed record stands as what it was given; one to which nothing was given is no sample, and has five words at least, as each
--- claimed block
+-- a listed record holds what it was given; one to which nothing was given is no sample, and has five words at least, as each claimed block
+-- has
 abbrev pub StandsAs : List Piece → Listed → Option Made → Type 0
 StandsAs pieces l (Some (made.Histogram name spec)) =
     (r : Record) × HasRecord pieces l.reference r × (r.name ≡ name) × (r.spec ≡ spec)
@@ -58,15 +58,15 @@ StandsAs pieces l None =
     (size tag next : ℕ) × (payload : List ℕ) × Stands pieces l.reference none (other size tag next payload)
     × (tag ≢ TYPE_SAMPLE) × (1 ≤ length payload)
 
--- a published block is on the list; a counts block need not be
+-- a published block is on the list, but a counts block need not be
 abbrev pub IsOnList : List Listed → ℕ → Body → Type 0
 IsOnList records at (histogram r) = Contains records (record { reference = at; made = Some (made.Histogram r.name r.spec) })
 IsOnList records at (sample s) = Contains records (record { reference = at; made = Some (made.Sample s.of s.value) })
 IsOnList records at (other size tag next payload) = tag ≢ TYPE_COUNTS → Contains records (record { reference = at; made = None })
 IsOnList records at _ = ⊤
 
--- The nexts lead along the records in their order; these are the records of the opening, then those that actors linked; each
--- stands as what it was given, and there are no others; the tail is on the list.
+-- The nexts lead along the records in their order; these are the records of the opening, then those that actors linked; each holds what it
+-- was given, and there are no others; the tail is on the list.
 pub record ListIsKept (words : List ℕ) (opened anatomy : Anatomy) (actors : List Actor) : Type 0 where
   pub linked : IsLinked words (order_of anatomy)
   pub once : (front : List Listed) × (anatomy.records ≡ opened.records ++ front)
@@ -77,8 +77,8 @@ pub record ListIsKept (words : List ℕ) (opened anatomy : Anatomy) (actors : Li
 
 -- ---- what records and counts blocks are
 
--- the words of a record fit in its block, its name and spec are lawful, its counts fit in a page, and its single word has a form.
--- While no bucket is or was packed the single mark is 0; a sparse record has neither single word nor counts
+-- the words of a record fit in its block, its name and spec are valid, its counts fit in a page, and its single word has a form. While no
+-- bucket is or was packed the single mark is 0; a sparse record has neither single word nor counts
 abbrev pub IsLawfulRecord : ℕ → ℕ → Record → Type 0
 IsLawfulRecord version page r = record {
   sized : r.size ≡ HISTOGRAM_NAME + (length r.letters + (length (spec_ranges r.spec) + length r.rest));
@@ -112,7 +112,7 @@ IsCountsOf version at r c = record {
       → r.mark ≤ max (slice_index c.units i + units_packed (form_at version r) i) 65535;
 }
 
--- the words of a sample fit in its block, and its value is one
+-- the words of a sample fit in its block, its value is one that can be recorded, and no more is taken than was counted
 abbrev pub IsLawfulSample : Sample → Type 0
 IsLawfulSample s = record {
   sized : s.size ≡ SAMPLE_LEAST + length s.rest;
@@ -124,9 +124,9 @@ IsLawfulSample s = record {
 abbrev pub CountsNothing : Record → Type 0
 CountsNothing r = (r.counts ≡ 0) × (r.single ≡ 0) × (r.mark ≡ 0) × (r.sum ≡ 0) × (r.sum_mark ≡ 0) × (r.noted ≡ 0)
 
--- Records are lawful; each counts reference leads to the record's own counts block and back, so no two records name one; while a
--- record names none its single mark is at most its packed units; a sample names a sparse record before it, the first of its name;
--- and what is not the first of its name or value counts nothing.
+-- Records are valid; each counts reference leads to the record's own counts block and back, so no two records name the same one; while a
+-- record names none, its single mark is at most its packed units; a sample names a sparse record before it, the first of its name; and what
+-- is not the first of its name or value counts nothing.
 pub record RecordsAreKept (page : ℕ) (anatomy : Anatomy) : Type 0 where
   pub lawful : (at : ℕ) (r : Record) → HasRecord anatomy.pieces at r → IsLawfulRecord anatomy.version page r
   pub mounted : (at : ℕ) (r : Record) → HasRecord anatomy.pieces at r → r.counts ≢ 0
@@ -152,8 +152,8 @@ total_in version r c i = slice_index c.units i + units_packed (form_at version r
 abbrev pub mark_in : ℕ → Record → Counts → ℕ → ℕ
 mark_in version r c i = if is_packed_bucket (form_at version r) i then r.mark else slice_index c.marks i
 
--- A record is passed over, since one of those that are before it on the list has its name. It is lawful, no total is above what a segment
--- may count, no mark above its total, and its sums are such as a segment can reach; what it counts is bound to nothing else.
+-- A record is passed over, since one of those before it on the list has its name. It is valid, no total is above what a segment may count,
+-- no mark is above its total, and its sums are such as a segment can reach; nothing else is said of what it counts.
 pub record IsPassedOver (version page : ℕ) (pieces : List Piece) (front : List Listed) (at : ℕ) (r : Record) : Type 0 where
   pub stands : HoldsAs pieces at (histogram r)
   pub lawful : IsLawfulRecord version page r
@@ -171,8 +171,8 @@ IsOfOtherType pieces at = (size tag next : ℕ) × (payload : List ℕ) × Stand
 abbrev pub HasPassedOver : Anatomy → ℕ → Record → Type 0
 HasPassedOver opened at r = Contains opened.records (record { reference = at; made = None }) × HoldsAs opened.pieces at (histogram r)
 
--- Of the records of the opening those to which nothing was given are of another type, or passed over. The counts block that one of these
--- names is no other's, and not on the list. All these blocks stay, and so does each word of the opening that never changes.
+-- Of the records of the opening, those to which nothing was given are of another type, or are passed over. The counts block that one of
+-- these names is no other's, and is not on the list. All these blocks stay, and so does each word of the opening that never changes.
 pub record ArePassedOver (page : ℕ) (opened : Anatomy) (pieces : List Piece) : Type 0 where
   pub stay : (at size tag : ℕ) (payload : List ℕ) → HasStill opened.pieces at size tag payload → HasStill pieces at size tag payload
   pub fixed : (s : Sighting) → WasFixed opened.pieces s → WasFixed pieces s
@@ -183,7 +183,7 @@ pub record ArePassedOver (page : ℕ) (opened : Anatomy) (pieces : List Piece) :
 
 -- ---- what an actor has in hand
 
--- what it has loaded of a histogram is what it saw: a single word, and the counts reference, which stays
+-- what the actor has loaded of a histogram is what it saw: a single word, and the counts reference, which stays
 abbrev pub LooksRight : Actor → Look → Type 0
 LooksRight a look = record {
   known : Known;
@@ -192,18 +192,18 @@ LooksRight a look = record {
   counts : look.counts ≢ 0 → Contains a.seen.words (record { at = look.histogram + HISTOGRAM_COUNTS; word = look.counts });
 }
 
--- it has loaded a single word that is off, and the counts
+-- the actor has loaded a single word that is off, and the counts
 abbrev pub LoadedOff : Actor → Look → Type 0
 LoadedOff a look = LooksRight a look × (look.counts ≢ 0) × ((word : ℕ) × (look.single ≡ Some word) × (is_off word ≡ true))
 
--- it has met a sample of a histogram that it knows
+-- the actor has visited a sample of a histogram that it knows
 abbrev pub MetKnownSample : Actor → ℕ → Type 0
 MetKnownSample a reference =
     (histogram : ℕ) × (known : Known) × (value : ℤ) × Sparse a histogram known × Contains a.seen.chain reference
     × SawSample a.seen histogram value reference
 
--- what holds where a running call stands: the block in its hands holds just what it stored, and what it loaded it saw; who is spent is
--- a purse, of no units where it was a recorder
+-- what holds at the place of a running call: the block in its hands holds just what it stored, and it saw what it loaded; an actor that is
+-- spent is a purse, with no units if it was a recorder
 abbrev pub StandsRight : Dimensions → Anatomy → ℕ → Actor → Place → Type 0
 StandsRight shape anatomy id a Spent = a ≡ purse a.units.share
 StandsRight shape anatomy id a Idle = ⊤
@@ -236,7 +236,7 @@ StandsRight shape anatomy id a (BehindCursor cursor at next) =
     AreNeighbours (order_of anatomy) at next × Contains a.seen.cursors (record { at = cursor; word = at })
     × IsReachedAt (order_of anatomy) (slice_index a.done.lost cursor) at
 
--- a block of its own stands as it was stored, and has room for its payload
+-- a block of its own holds what was stored in it, and has room for its payload
 pub record HoldsOwn (shape : Dimensions) (pieces : List Piece) (id : ℕ) (own : Own) : Type 0 where
   pub stands : HasOwn pieces id own
   pub placed : IsPlace shape own.at own.size
@@ -246,8 +246,8 @@ pub record HoldsOwn (shape : Dimensions) (pieces : List Piece) (id : ℕ) (own :
 
 -- ---- running calls
 
--- the entries of a running call: those before the one that goes on have ended, nothing has happened of those behind it, and of
--- that one the units are counted before the amount is added, and this before the units are noted; what was added is not 0
+-- the entries of a running call: those before the one in progress have ended, nothing has happened of those after it, and in that one the
+-- units are counted before the amount is added, and the amount is added before the units are noted; an amount that was added is not 0
 pub record AreInOrder (running : List EntryProgress) : Type 0 where
   pub one_by_one : (i j : ℕ) (x y : EntryProgress) → i < j → get_elem? running i ≡ some x → get_elem? running j ≡ some y
       → (has_ended x ≡ true) ⊎ (is_untouched y ≡ true)
@@ -255,10 +255,10 @@ pub record AreInOrder (running : List EntryProgress) : Type 0 where
   pub summed_next : All (λ c. c.noted ≡ true → is_summed c ≡ true) running
   pub amounted : All (λ c. c.summed ≡ true → c.entry.amount ≢ pos 0) running
 
--- A running call holds what its entries cost, of a histogram that its actor knows; in a log all entries have ended, and for each name
--- the units of these are spent, with what the opening has used, which is the units of the first entries, or the redundant count that was
--- there where that is more; of each entry of a sparse histogram that has units and was counted by its actor, or before it, its actor met the sample.
--- A delta that goes on is the last one, and runs beside no call; the log is as it was when that began.
+-- A running call holds what its entries cost, of a histogram that its actor knows. In a log all entries have ended, and for each name their
+-- units are spent, and so are those that the opening has used: the units of the first entries, or the redundant count that was there if
+-- that is more. Of each entry of a sparse histogram that has units and was counted by the actor, or before it, the actor has visited the
+-- sample. A delta in progress is the last one, and no call runs at the same time; the log has not changed since it began.
 abbrev pub CallsRight : Anatomy → Actor → Type 0
 CallsRight anatomy a = record {
   ordered : AreInOrder a.entries.running;
@@ -275,7 +275,8 @@ CallsRight anatomy a = record {
       × (last.moment.log ≡ length (log_of a)));
 }
 
--- an entry that has units, and units that were taken, have the key of a bucket of a histogram, or the value of one of its samples
+-- the key of an entry that has units, or of units that were taken: it is that of a bucket of a histogram, or the value of one of its
+-- samples
 abbrev pub HasKey : List Listed → List ℕ → ℤ → Type 0
 HasKey records name key =
     (kind : Spec) × (at : ℕ) × IsFirst records name kind at
@@ -284,8 +285,8 @@ HasKey records name key =
 
 -- ---- sums
 
--- the units that were spent on a histogram, or are held by a call whose amount is already in its sum: what its sum has grown by at
--- most, in 2^31
+-- the units that were spent on a histogram, or are held by a call whose amount is already in its sum: in multiples of 2^31, the most that
+-- its sum has grown by
 abbrev pub summed_cost : List ℕ → Actor → ℕ
 summed_cost name a =
     cost_of a.units.costs name + (if length (filter (λ c. c.summed) a.entries.running) == 0 then 0 else cost_of a.units.held name)
@@ -315,9 +316,9 @@ is_living a = not (is_opener a.role) && not (is_spent a.hand.place)
     is_spent Spent = true
     is_spent _ = false
 
--- The first actor is the one opener; it runs nothing, and offers no more than it has. The recorders that live are as many as it has outstanding. Each was made at
--- a time of its own; one that was made while none was outstanding is older than all that live; and what it inherited the opener
--- has in its log, which is just that while only this one lives.
+-- The first actor is the one opener; it runs nothing, and offers no more than it has. As many recorders live as it has outstanding. Each
+-- was made at a time of its own; one that was made while none was outstanding is older than all others that live. What a recorder inherited
+-- is a front of the opener's log, and all of it while that recorder is alone.
 pub record RolesAreKept (actors : List Actor) : Type 0 where
   pub opener : Actor
   pub stands : get_elem? actors 0 ≡ some opener
@@ -342,7 +343,7 @@ IsAlone actors a = (opener : Actor) × (get_elem? actors 0 ≡ some opener) × (
 
 -- ---- names
 
--- a `hist` was answered with the histogram of a name, or the maker of the first record of it owes the answer
+-- a `hist` has returned the histogram of a name, or the maker of its first record still has to return it
 abbrev pub IsAnswered : List Actor → List ℕ → Spec → ℕ → Type 0
 IsAnswered actors name kind at =
     ((known : Known) × Contains (all_names actors) known × (known.name ≡ name))
@@ -354,18 +355,18 @@ AreAnswered records actors = (name : List ℕ) (kind : Spec) (at : ℕ) → IsFi
 
 -- ---- deltas and snapshots
 
--- nothing of a bucket can be in transit when an actor loads its count: in version 2 never, in version 1 where it is not the packed
--- bucket, or no other actor is there
+-- nothing of a bucket can be in transit when an actor loads its count: the version is 2, or the recorder is alone, or it is not the packed
+-- bucket
 abbrev pub NoneInTransit : Anatomy → List Actor → Actor → Known → ℕ → Type 0
 NoneInTransit anatomy actors a known bucket =
     (anatomy.version ≡ 2) ⊎ IsAlone actors a
     ⊎ ((r : Record) → HasRecord anatomy.pieces known.reference r → packed_bucket (form_at anatomy.version r) ≢ Some bucket)
 
--- What a recorder saw of a bucket since its delta or snapshot began is no more than what is counted there. And it is no less than
--- what had been accepted: packed units that it saw, and counts that it loaded where nothing can be in transit, with the units that
--- a frozen word keeps. So of a sample, and of redundant counts. Counters that it saw before are no more than those that it sees
--- now, and single words that it saw before lead to those. Where it saw counts before, the single word is off by now. A sum that one
--- alone has loaded is the sum.
+-- What a recorder saw of a bucket since its delta or snapshot began is no more than what is counted there. And it is no less than what had
+-- been accepted: packed units that it saw, and counts that it loaded when nothing can be in transit, with the units that a frozen word
+-- keeps. The same holds of a sample, and of redundant counts. Counters that it saw before are no more than those that it sees now, and
+-- single words that it saw before lead to those. If it saw counts before, the single word is off by now. A sum that a recorder has loaded
+-- while it is alone is the present sum.
 abbrev pub LooksBack : Anatomy → List Actor → Actor → Actor → Type 0
 LooksBack anatomy actors opener a = record {
   most : (known : Known) (bucket total : ℕ) → Contains a.answers.names known → bucket < buckets_of known.spec → SawBucket a known bucket total
@@ -395,13 +396,13 @@ LooksBack anatomy actors opener a = record {
       → HasRecord anatomy.pieces reference r → sum ≡ cast_signed w64 r.sum;
 }
 
--- nothing was counted of a name behind so many entries of a log, nor by a running call
+-- nothing was counted of a name after the first `entries` entries of a log, nor by a running call
 abbrev pub IsQuiet : Actor → List ℕ → ℕ → Type 0
 IsQuiet a name entries =
     All (λ entry. is_of name entry ≡ false) (drop entries (log_of a))
     × All (λ c. (is_of name c.entry ≡ false) ⊎ (is_untouched c ≡ true)) a.entries.running
 
--- the deltas of an actor that are not going on any more
+-- the deltas of an actor that have ended
 abbrev pub ended_deltas : Actor → List Taken
 ended_deltas a = if a.deltas.taking then take (length a.deltas.taken - 1) a.deltas.taken else a.deltas.taken
 
@@ -410,8 +411,8 @@ abbrev pub IsMomentOf : Actor → Moment → Type 0
 IsMomentOf a m =
     ((t : Taken) × Contains a.deltas.taken t × (t.moment ≡ m)) ⊎ ((s : Answered) × Contains a.deltas.snapshots s × (s.moment ≡ m))
 
--- A moment lies in the log and before the recorders that are made next; a recorder's own is told of that recorder. Where none was
--- outstanding, all recorders that live, but the one itself, were made later.
+-- A moment lies in the log and before the recorders that are made next; a recorder's moments have when that recorder was made and how many
+-- were outstanding then. If none was outstanding, all recorders that live, but the one itself, were made later.
 abbrev pub IsMoment : List Actor → Actor → ℕ → Actor → Moment → Type 0
 IsMoment actors opener id a m = record {
   logged : m.log ≤ length (log_of a);
@@ -431,10 +432,10 @@ TookAllOf actors entries later name =
     ((key : ℤ) → units_taken actors name key ≡ tally_units entries name key + taken_units (map portion_of later) name key)
     × (taken_sum (all_taken actors) name ≡ tally_sum entries name +ℤ taken_sum (map portion_of later) name)
 
--- Where a final delta was taken, all deltas have taken what is counted and the sum; and a final snapshot has what is counted, the
--- sum and the redundant units. Final is so far: the recorder is alone, and nothing was counted since. So is the sum of a delta that
--- goes on, once it was swapped. Of any delta whose recorder was alone, and is the youngest, all deltas but those behind it have taken what that recorder
--- had accepted, or inherited, when it began.
+-- If there is a final delta, all deltas have taken what is counted, and the sum; and a final snapshot has what is counted, the sum and the
+-- redundant units. A delta or a snapshot is final for as long as the recorder is alone, and nothing was counted since. The same holds of
+-- the sum of a delta in progress, once it was swapped. Of any delta whose recorder was alone, and is the youngest: all deltas but those
+-- after it have taken what that recorder had accepted, or inherited, when it began.
 abbrev pub FinalsAreExact : List Actor → Actor → ℕ → Actor → Type 0
 FinalsAreExact actors opener id a = record {
   deltas : (t : Taken) → Contains (ended_deltas a) t → t.moment.outstanding ≡ 0 → t.moment.before + 1 ≡ made_of opener.role
@@ -452,7 +453,7 @@ FinalsAreExact actors opener id a = record {
       → taken_sum (all_taken actors) last.name ≡ tally_sum (all_summed actors) last.name;
 }
 
--- who owes the answer of a `hist` has published its record
+-- the record of a histogram that a `hist` still has to return has been published
 abbrev pub HasPublishedRecord : List Published → Known → Type 0
 HasPublishedRecord published mine = Contains published (record { reference = mine.reference; made = made.Histogram mine.name mine.spec })
 
@@ -462,13 +463,13 @@ OwesPublished published owed = All (HasPublishedRecord published) owed
 
 -- ---- what came too late
 
--- its link has come too late, and it has not moved the tail on yet
+-- the actor's link has come too late, and it has not moved the tail on yet
 abbrev pub is_beaten : Place → Bool
 is_beaten (Beaten tail behind) = true
 is_beaten _ = false
 
--- The list is ahead of what came too late: the tail stands behind one record at least for each link of an actor that did, but where the
--- actor is still to move it on, and each shared cursor behind one for each exchange that did.
+-- The list is ahead of what came too late: the tail comes after at least one record for each link of an actor that did, unless the actor is
+-- still to move it on; and each shared cursor comes after at least one for each exchange that did.
 pub record IsAhead (chain : List ℕ) (present : ℕ) (cursors : List ℕ) (place : Place) (beaten : ℕ) (lost : List ℕ) : Type 0 where
   pub links : is_beaten place ≡ false → IsReachedAt chain beaten present
   pub many : length lost ≡ length cursors
@@ -492,8 +493,8 @@ pub record Fits (shape : Dimensions) (anatomy : Anatomy) (cursors : List ℕ) (a
   pub finals : FinalsAreExact actors opener id a
   pub snapshots : All (IsWithinCounts actors) a.deltas.snapshots
 
--- a shared cursor stands on the list, and has given the records up to there, each once, to each recorder in their order; what it
--- gave is on the list
+-- a shared cursor is on the list, and has given the records up to there, each once, and to each recorder in their order; what it gave is on
+-- the list
 pub record CursorsAreKept (chain cursors : List ℕ) (actors : List Actor) : Type 0 where
   pub stand : (k : ℕ) → k < length cursors → (place : ℕ) × (place ≤ length chain)
       × (slice_index (stops chain) place ≡ slice_index cursors k) × IsPermutation (all_given actors k) (take place chain)
@@ -502,11 +503,11 @@ pub record CursorsAreKept (chain cursors : List ℕ) (actors : List Actor) : Typ
       → get_elem? chain k ≡ some x.reference → get_elem? chain l ≡ some y.reference → k < l
   pub given : (id : ℕ) (a : Actor) → get_elem? actors id ≡ some a → All (λ g. Contains chain g.reference) a.done.given
 
--- a flag is set where it was at the opening or an actor has set it
+-- a flag is set exactly if it was set at the opening or an actor has set it
 abbrev pub IsSetBy : Bool → Bool → List Bool → Type 0
 IsSetBy now opened set = now ≡ (opened || fold ◌||◌ false set)
 
--- a flag is set where an actor has seen it
+-- a flag is set if an actor has seen it
 abbrev pub IsSetWhereSeen : Bool → List Bool → Type 0
 IsSetWhereSeen now seen = fold ◌||◌ false seen ≡ true → now ≡ true
 
@@ -516,7 +517,7 @@ ClaimedRight piece = is_claimed piece.body ≡ true
     → (slice_index (words_of piece.body) BLOCK_SIZE ≡ extent_of piece) × (BLOCK_LEAST ≤ extent_of piece)
     × ((piece.owner ≡ none) ⊎ ((block : Own) × (piece.body ≡ held block)))
 
--- the blocks of the opening stand where they stood
+-- the blocks of the opening are where they were
 abbrev pub StandStill : List Piece → List Piece → Type 0
 StandStill opened pieces = (k : ℕ) (p : Piece) → get_elem? opened k ≡ some p → (q : Piece) × (get_elem? pieces k ≡ some q) × (q.at ≡ p.at)
 

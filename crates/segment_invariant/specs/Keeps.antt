@@ -1,5 +1,5 @@
--- What is to be shown of what holds between any two events: it holds of a new segment, each event keeps it, recorders that are made
--- and joined keep it, what is published goes on, and it has the parts of consistency in it.
+-- What is to be shown of the invariant: it holds of a new segment, each event keeps it, so do openers that make and join recorders, what is
+-- published continues, and consistency follows from it.
 use Rattle.std.specs.Prelude.{◌≡◌, ◌⊎◌, ℕ, zero, suc, take, drop, length, slice_set, false}
 use mathlib.Core.Option.{some}
 use lib.ListN.{get_elem?}
@@ -32,7 +32,7 @@ abbrev pub OpeningIsKept : Type 0
 OpeningIsKept = (shape : Dimensions) (version id cursors : ℕ) → IsShape shape → (version ≡ 1) ⊎ (version ≡ 2)
     → Invariant shape (blank version id shape.size) (new_state shape version id cursors)
 
--- from one state the first actor has made so many recorders, one after the other, each with the units that were offered before
+-- from one state the first actor has made this many recorders, one after the other, each with the units that were offered before
 abbrev pub HasMadeRecorders : ℕ → State → State → Type 0
 HasMadeRecorders zero old new = old ≡ new
 HasMadeRecorders (suc n) old new = (mid said : State) × (units : ℕ) × HasMadeRecorders n old mid × IsOffered mid 0 units said × IsSplit said 0 new
@@ -42,7 +42,7 @@ abbrev pub OpeningsAreKept : Type 0
 OpeningsAreKept = (shape : Dimensions) (version id cursors recorders : ℕ) (state : State) → IsShape shape → (version ≡ 1) ⊎ (version ≡ 2)
     → HasMadeRecorders recorders (new_state shape version id cursors) state → Invariant shape (blank version id shape.size) state
 
--- a state is kept, and what was published in an earlier one that was kept goes on there; its sums change by no more than what was spent
+-- a state is kept, and what was published in an earlier state that was kept continues there; its sums change by no more than what was spent
 abbrev pub KeptOn : (shape : Dimensions) (opened : Anatomy) {before : State} → Invariant shape opened before → State → Type 0
 KeptOn shape opened {before} kept state = (next : Invariant shape opened state) × Rises kept.anatomy next.anatomy
     × SumsRise kept.anatomy.pieces next.anatomy.pieces before.actors state.actors
@@ -60,7 +60,7 @@ happened version state id a event =
     let words = after size version event (memory state) in
     record { words = take size words; cursors = drop size words; actors = slice_set state.actors id (next a event (found_at state event)) }
 
--- an event that a recorder may do keeps what holds, what is published goes on, and its actor learns of the number that it found
+-- an event that a recorder may do keeps the invariant, what is published continues, and its actor learns about the number that it found
 abbrev pub EventKeeps : Event → Type 0
 EventKeeps event = (shape : Dimensions) (opened : Anatomy) (state : State) (id : ℕ) (a : Actor) (kept : Invariant shape opened state)
     → get_elem? state.actors id ≡ some a → is_opener a.role ≡ false → Ready a event
@@ -94,71 +94,71 @@ TakingKeeps = (event : TakingEvent) → EventKeeps (taking_event event)
 abbrev pub CursorsKeep : Type 0
 CursorsKeep = (event : CursorEvent) → EventKeeps (cursor_event event)
 
--- so does each event
+-- each event does, of any family
 abbrev pub EventsKeep : Type 0
 EventsKeep = (event : Event) → EventKeeps event
 
 -- ---- at notes
 
--- a note that a recorder may make keeps what holds, and what is published goes on
+-- a note that a recorder may make keeps the invariant, and what is published continues
 abbrev pub NoteKeeps : Note → Type 0
 NoteKeeps note = (shape : Dimensions) (opened : Anatomy) (state : State) (id : ℕ) (a : Actor) (kept : Invariant shape opened state)
     → get_elem? state.actors id ≡ some a → is_opener a.role ≡ false → MayNote a note
     → KeptOn shape opened kept (record state { actors = slice_set state.actors id (noted a note) })
 
--- each note does, and so does an announcement of notes
+-- each note does
 abbrev pub NotesKeep : Type 0
 NotesKeep = (note : Note) → NoteKeeps note
 
--- so does an announcement
+-- so does an announcement, of any number of notes
 abbrev pub AnnouncementsKeep : Type 0
 AnnouncementsKeep = (shape : Dimensions) (opened : Anatomy) (old new : State) (id : ℕ) (kept : Invariant shape opened old) → IsAnnounced old id new
     → KeptOn shape opened kept new
 
 -- ---- at seats
 
--- a recorder is offered units, made, and joined
+-- an opener that offers units keeps the invariant, and what is published continues
 abbrev pub OffersKeep : Type 0
 OffersKeep = (shape : Dimensions) (opened : Anatomy) (old new : State) (id units : ℕ) (kept : Invariant shape opened old) → IsOffered old id units new → KeptOn shape opened kept new
 
--- so does an opener that makes a recorder
+-- so does one that makes a recorder
 abbrev pub SplitsKeep : Type 0
 SplitsKeep = (shape : Dimensions) (opened : Anatomy) (old new : State) (id : ℕ) (kept : Invariant shape opened old) → IsSplit old id new → KeptOn shape opened kept new
 
--- and one that joins a recorder
+-- so does one that joins a recorder
 abbrev pub JoinsKeep : Type 0
 JoinsKeep = (shape : Dimensions) (opened : Anatomy) (old new : State) (id other : ℕ) (kept : Invariant shape opened old) → IsJoin old id other new → KeptOn shape opened kept new
 
--- it is lent units, and gives units back
+-- so does one that lends units to a recorder
 abbrev pub LendsKeep : Type 0
 LendsKeep = (shape : Dimensions) (opened : Anatomy) (old new : State) (id other units : ℕ) (kept : Invariant shape opened old) → IsLent old id other units new
     → KeptOn shape opened kept new
 
--- and a recorder that gives units back
+-- so does a recorder that gives units back
 abbrev pub ReturnsKeep : Type 0
 ReturnsKeep = (shape : Dimensions) (opened : Anatomy) (old new : State) (id other units : ℕ) (kept : Invariant shape opened old) → IsReturned old id other units new
     → KeptOn shape opened kept new
 
--- an opener that fills a purse
+-- so does an opener that fills a purse
 abbrev pub FillsKeep : Type 0
 FillsKeep = (shape : Dimensions) (opened : Anatomy) (old new : State) (id : ℕ) (kept : Invariant shape opened old) → IsFilled old id new → KeptOn shape opened kept new
 
--- and a recorder to which one is poured out
+-- so does a recorder to which a purse is poured out
 abbrev pub PoursKeep : Type 0
 PoursKeep = (shape : Dimensions) (opened : Anatomy) (old new : State) (id other : ℕ) (kept : Invariant shape opened old) → IsPoured old id other new
     → KeptOn shape opened kept new
 
 -- ---- what it has in it
 
--- blocks open segments: in some state they are kept, just as they are
+-- an anatomy is an opening: there is a state that is kept with just this anatomy
 abbrev pub IsOpening : Dimensions → Anatomy → Type 0
 IsOpening shape opened = (start : State) × (kept : Invariant shape opened start) × (kept.anatomy ≡ opened)
 
--- the words of such blocks, and those that were claimed
+-- the words of such an anatomy, and its claimed blocks
 abbrev pub opening_of : Dimensions → Anatomy → Opening
 opening_of shape opened = record { words = render shape (layout_of opened); claims = claims_of opened.pieces }
 
--- a new segment's
+-- the blocks of a new segment are an opening, and its words are the opening of a new segment
 abbrev pub NewIsOpening : Type 0
 NewIsOpening = (shape : Dimensions) (version id : ℕ) → IsShape shape → (version ≡ 1) ⊎ (version ≡ 2)
     → IsOpening shape (blank version id shape.size) × (opening_of shape (blank version id shape.size) ≡ new_opening shape version id)
@@ -168,7 +168,7 @@ abbrev pub KeptIsChain : Type 0
 KeptIsChain = (shape : Dimensions) (opened : Anatomy) (state : State) → IsOpening shape opened → (kept : Invariant shape opened state)
     → ListIsChain (opening_of shape opened).words (opening_of shape opened).claims state.words state.cursors state.actors (order_of kept.anatomy)
 
--- its flags are set where they were at the opening, or somebody set them
+-- its flags are set if they were set at the opening, or somebody has set them
 abbrev pub KeptFlagsAreSet : Type 0
 KeptFlagsAreSet = (shape : Dimensions) (opened : Anatomy) (state : State) → Invariant shape opened state
     → FlagsAreSet (opening_of shape opened).words state.words state.actors

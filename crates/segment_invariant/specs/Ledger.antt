@@ -1,5 +1,5 @@
--- The ledger: for each name and key, what the blocks of a segment hold, what is in transit with actors, and what actors did. An
--- event changes one block and one actor at most, so it keeps these sums where it keeps one equation between the two.
+-- The ledger: for each name and key, what the blocks of a segment hold, what is in transit with actors, and what actors did. An event
+-- changes one block and one actor at most, so it keeps these sums if it keeps one equation between the two.
 use Rattle.std.specs.Prelude.{◌≡◌, ℕ, ◌+◌, ◌≤◌, ℤ, pos, ◌+ℤ◌, if◌then◌else◌, List, map, fold, sum_by, length, slice_index, Option, Some, None}
 use Rattle.std.specs.Int.{w64, cast_signed}
 use Rattle.std.specs.List.{range_with_len}
@@ -25,21 +25,21 @@ use Rattle.segment_invariant.specs.Body.{Record, Body, histogram, counts, sample
 abbrev pub key_of_bucket : Spec → ℕ → ℤ
 key_of_bucket spec i = pos (slice_index (boundaries_of spec) i)
 
--- a number that stands for a bucket, where that bucket has the key
+-- a number that belongs to a bucket, if that bucket has the key; otherwise 0
 abbrev pub at_bucket : Spec → ℤ → Option ℕ → ℕ → ℕ
 at_bucket spec key None n = 0
 at_bucket spec key (Some bucket) n = if int_eq (key_of_bucket spec bucket) key then n else 0
 
--- numbers, one for each bucket: those of the buckets that have the key
+-- numbers, one for each bucket: the sum of those of the buckets that have the key
 abbrev pub keyed : Spec → ℤ → List ℕ → ℕ
 keyed spec key numbers =
     sum_by (λ i. if int_eq (key_of_bucket spec i) key then slice_index numbers i else 0) (range_with_len 0 (length numbers))
 
--- a number that is told of a name, where that is the name
+-- a number that belongs to a name, if that is the name; otherwise 0
 abbrev pub of_name : List ℕ → List ℕ → ℕ → ℕ
 of_name mine name n = if bytes_eq mine name then n else 0
 
--- an amount of a name, where that is the name
+-- an amount that belongs to a name, if that is the name; otherwise 0
 abbrev pub amount_of_name : List ℕ → List ℕ → ℤ → ℤ
 amount_of_name mine name n = if bytes_eq mine name then n else pos 0
 
@@ -55,7 +55,7 @@ units_held version name key (counts c) = of_name c.name name (keyed c.spec key c
 units_held version name key (sample s) = of_name s.name name (if int_eq s.value key then s.units else 0)
 units_held version name key _ = 0
 
--- the marks of a key: that of the packed bucket, those behind the counts, and of a sample
+-- the marks of a key: that of the packed bucket, those after the counts, and that of a sample
 abbrev pub marks_held : ℕ → List ℕ → ℤ → Body → ℕ
 marks_held version name key (histogram r) = of_name r.name name (at_bucket r.spec key (packed_bucket (form_at version r)) r.mark)
 marks_held version name key (counts c) = of_name c.name name (keyed c.spec key c.marks)
@@ -105,8 +105,8 @@ all_moving name key actors = sum_by (λ a. moving_at a name key a.hand.place) ac
 
 -- ---- the ledger
 
--- What blocks hold and what is in transit is what actors did: counted units, taken units, amounts, taken sums and redundant units,
--- beside the redundant units that were there at the opening, for which no entry stands.
+-- What blocks hold and what is in transit is what actors did: counted units, taken units, amounts, taken sums and redundant units. The
+-- redundant units that were there at the opening come on top: there is no entry for them.
 pub record IsBalanced (version : ℕ) (opened pieces : List Piece) (actors : List Actor) : Type 0 where
   pub units : (name : List ℕ) (key : ℤ)
       → all_held (units_held version name key) pieces + all_moving name key actors ≡ tally_units (all_counted actors) name key

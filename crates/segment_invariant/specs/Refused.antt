@@ -1,4 +1,4 @@
--- States that no segment can be in, each refused.
+-- States that no segment can be in; each is refused.
 use Rattle.std.specs.Prelude.{[], ◌∷◌, slice_set}
 use Rattle.bucket_ranges.specs.declared.spec.Spec.TheVariants as spec
 use Rattle.segment_machine.specs.declared.actor.Made.TheVariants as made
@@ -12,7 +12,7 @@ use Rattle.segment_invariant.specs.Accounts.{settled, mounted_anatomy}
 use Rattle.segment_machine.specs.Refused.{recorder, look}
 use Rattle.segment_machine.specs.declared.actor.Role.TheVariants.{Opener}
 
--- what was loaded as a count of a bucket is one of a bucket, and as one of a sample is one of a sample
+-- what was loaded as a count of a bucket is the count of a bucket, and what was loaded as one of a sample is the count of a sample
 abbrev pub CountsLoaded : Type 0
 CountsLoaded =
     (¬ (StandsRight shape (mounted_anatomy settled) 1 (record recorder { answers = record recorder.answers { names = known_a ∷ [] } }) (CountLoaded (look 9223372036854775809 32) 3 0)))
@@ -22,7 +22,7 @@ CountsLoaded =
 abbrev pub UnitsSpent : Type 0
 UnitsSpent = ¬ (CallsRight (mounted_anatomy settled) (record (maker (1 ∷ [])) { units = record (maker (1 ∷ [])).units { costs = [] } }))
 
--- a count that was seen of a known record owes what was accepted, whether the counts reference was seen or not
+-- a count that was seen of a known record has at least what was accepted, whether the counts reference was seen or not
 abbrev pub CountsOwe : Type 0
 CountsOwe =
     let opener = record (opener_of shape 1 1) { role = Opener 1 1 0 } in
@@ -33,6 +33,6 @@ CountsOwe =
 abbrev pub WordsFormed : Type 0
 WordsFormed = ¬ (WasSingle 1 settled (record { at = 25; word = 65541 }))
 
--- a record's kind is one that is read
+-- a record's kind is one of those that are read
 abbrev pub KindsRead : Type 0
 KindsRead = ¬ (HoldsMade (slice_set (packed_segment 0 0 0 0 0) 20 5) (16 ∷ []) 16 (made.Histogram letter_a (spec.Linear 1 2 3)))

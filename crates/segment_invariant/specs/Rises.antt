@@ -1,4 +1,4 @@
--- What is published goes on from one state to a later one: fixed words stay, counters rise, single words lead on, the list becomes longer
+-- What is published continues from one state to a later one: fixed words stay, counters rise, single words lead on, the list becomes longer
 -- at its end, flags and the free pointer rise; a sum changes by no more than what was spent on it.
 use Rattle.std.specs.Prelude.{◌≡◌, ◌≢◌, ◌⊎◌, true, ℕ, ◌+◌, ◌*◌, ◌<◌, ◌≤◌, ◌-ℤ◌, unsigned_abs, List, ◌++◌, length, slice_index}
 use Rattle.std.specs.Int.{w64, cast_signed}
@@ -10,8 +10,8 @@ use Rattle.segment_invariant.specs.Body.{Record, Counts, Sample, Body, queue, pl
 use Rattle.segment_invariant.specs.Seen.{Stands, HasRecord, IsNoLater}
 use Rattle.segment_invariant.specs.Invariant.{summed_costs}
 
--- A record goes on as another: what was given to its maker stays, and its counts reference once it has one; its single word leads on; its
--- mark and its redundant count rise.
+-- A record continues as another: what was given to its maker stays, and so does its counts reference once it has one; its single word leads
+-- on to the new one; its mark and its redundant count rise.
 pub record RecordGoes (version : ℕ) (r s : Record) : Type 0 where
   pub is : s ≡ record r {
     next = s.next;
@@ -27,19 +27,19 @@ pub record RecordGoes (version : ℕ) (r s : Record) : Type 0 where
   pub mark : r.mark ≤ s.mark
   pub noted : r.noted ≤ s.noted
 
--- So does a counts block: its counts and marks rise.
+-- A counts block continues as another: its counts and marks rise.
 pub record CountsGo (c d : Counts) : Type 0 where
   pub is : d ≡ record c { units = d.units; marks = d.marks }
   pub long : (length d.units ≡ length c.units) × (length d.marks ≡ length c.marks)
   pub rise : (i : ℕ) → slice_index (words_of (counts c)) i ≤ slice_index (words_of (counts d)) i
 
--- And a sample: its count and its mark rise.
+-- A sample continues as another: its count and its mark rise.
 pub record SampleGoes (s t : Sample) : Type 0 where
   pub is : t ≡ record s { next = t.next; units = t.units; mark = t.mark }
   pub units : s.units ≤ t.units
   pub mark : s.mark ≤ t.mark
 
--- a block goes on as one of its kind
+-- a block continues as one of its kind
 abbrev pub GoesAs : ℕ → Body → Body → Type 0
 GoesAs version (histogram r) body = (s : Record) × (body ≡ histogram s) × RecordGoes version r s
 GoesAs version (counts c) body = (d : Counts) × (body ≡ counts d) × CountsGo c d
@@ -49,13 +49,13 @@ GoesAs version (queue next) body = body ≡ queue next
 GoesAs version (plain words) body = body ≡ plain words
 GoesAs version (held block) body = body ≡ held block
 
--- a block lies where no published one was
+-- a block lies where there was no published one
 abbrev pub LiesApart : List Piece → ℕ → Body → Type 0
 LiesApart pieces at body =
     (other i j : ℕ) (before : Body) → is_claimed before ≡ true → Stands pieces other none before → i < length (words_of body)
     → j < length (words_of before) → at + i ≢ other + j
 
--- Published blocks go on, and those that come beside them lie where none was; the list becomes longer at its end, and what was no later
+-- Published blocks continue, and those that are added lie where there was none; the list becomes longer at its end, and what was no later
 -- than the tail still is; the free pointer and the flags rise.
 pub record Rises (old new : Anatomy) : Type 0 where
   pub version : new.version ≡ old.version

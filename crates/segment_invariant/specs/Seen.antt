@@ -1,6 +1,5 @@
--- What an actor has seen, and that it lies behind the present. All that is said here stays true whatever others do, since a
--- segment only grows: blocks keep their places, words that are fixed stay, counters rise, single words lead on, the list becomes
--- longer at its end.
+-- What an actor has seen, and that it is no later than the present. All that is said here stays true whatever others do, since a segment
+-- only grows: blocks keep their places, words that are fixed stay, counters rise, single words lead on, the list becomes longer at its end.
 use Rattle.std.specs.Prelude.{◌≡◌, ◌≢◌, ◌⊎◌, true, ℕ, ◌+◌, ◌<◌, ◌≤◌, ℤ, List, length, slice_index, Some, None}
 use Rattle.std.specs.List.{All, Contains}
 use mathlib.Core.Option.{Option, some, none}
@@ -24,15 +23,15 @@ use Rattle.segment_invariant.specs.Body.{Record, Counts, Sample, Body, plain, he
 
 -- ---- blocks by their places
 
--- a block of this owner and kind begins at a word
+-- a block with this owner and body begins at this word
 abbrev pub Stands : List Piece → ℕ → Option ℕ → Body → Type 0
 Stands pieces at owner body = (k : ℕ) × (get_elem? pieces k ≡ some (record { at = at; owner = owner; body = body }))
 
--- words that are no block yet begin there, and this actor has them
+-- words that are no block yet begin there, and belong to this actor
 abbrev pub HasPlain : List Piece → ℕ → ℕ → List ℕ → Type 0
 HasPlain pieces id at words = Stands pieces at (some id) (plain words)
 
--- a block begins there that this actor has in hand
+-- a block that this actor has in hand begins there
 abbrev pub HasOwn : List Piece → ℕ → Own → Type 0
 HasOwn pieces id own = Stands pieces own.at (some id) (held own)
 
@@ -48,7 +47,7 @@ HasCounts pieces at c = Stands pieces at none (counts c)
 abbrev pub HasSample : List Piece → ℕ → Sample → Type 0
 HasSample pieces at s = Stands pieces at none (sample s)
 
--- a block of which nothing changes but its next has this size, type and payload
+-- a block of which nothing changes but its next begins there, with this size, type and payload
 abbrev pub HasStill : List Piece → ℕ → ℕ → ℕ → List ℕ → Type 0
 HasStill pieces at size tag payload = (next : ℕ) × Stands pieces at none (other size tag next payload)
 
@@ -60,25 +59,25 @@ HoldsAs pieces at body =
 
 -- ---- the first record of a name, and of a value
 
--- a listed record is one of a histogram of a name
+-- a listed record is of a histogram with this name
 abbrev pub IsRecordNamed : List ℕ → Listed → Type 0
 IsRecordNamed name l = (spec : Spec) × (l.made ≡ Some (made.Histogram name spec))
 
--- and one of a sample of a value
+-- a listed record is of a sample of this value
 abbrev pub IsValued : ℕ → ℤ → Listed → Type 0
 IsValued of value l = l.made ≡ Some (made.Sample of value)
 
--- the histogram of a name is the first record of it on the list
+-- the histogram of a name is the first record with this name on the list
 abbrev pub IsFirst : List Listed → List ℕ → Spec → ℕ → Type 0
 IsFirst records name spec at = IsFirstThat (IsRecordNamed name) records (record { reference = at; made = Some (made.Histogram name spec) })
 
--- the sample of a value is the first record of it on the list
+-- the sample of a value is the first record of this value on the list
 abbrev pub IsFirstOf : List Listed → ℕ → ℤ → ℕ → Type 0
 IsFirstOf records of value at = IsFirstThat (IsValued of value) records (record { reference = at; made = Some (made.Sample of value) })
 
 -- ---- words that are seen
 
--- a word of a block that never changes any more
+-- a word of a block that never changes again
 abbrev pub IsFixedIn : Body → ℕ → Type 0
 IsFixedIn (histogram r) i =
     (i ≡ BLOCK_TYPE) ⊎ ((HISTOGRAM_KIND ≤ i) × (i < HISTOGRAM_COUNTS)) ⊎ ((i ≡ HISTOGRAM_COUNTS) × (r.counts ≢ 0))
@@ -95,13 +94,13 @@ IsCounterIn (counts c) i = (BLOCK_HEADER ≤ i) × (i < BLOCK_HEADER + (length c
 IsCounterIn (sample s) i = (i ≡ SAMPLE_COUNT) ⊎ (i ≡ SAMPLE_MARK)
 IsCounterIn _ i = ⊥
 
--- a word that was seen is that of a block, and will be
+-- a word that was seen is a fixed word of a block, and so it stays
 abbrev pub WasFixed : List Piece → Sighting → Type 0
 WasFixed pieces s =
     (at i : ℕ) × (body : Body) × Stands pieces at none body × (s.at ≡ at + i) × IsFixedIn body i
     × (slice_index (words_of body) i ≡ s.word)
 
--- a counter that was seen is at least as much by now
+-- a counter that was seen is by now at least as large
 abbrev pub WasCounter : List Piece → Sighting → Type 0
 WasCounter pieces s =
     (at i : ℕ) × (body : Body) × Stands pieces at none body × (s.at ≡ at + i) × IsCounterIn body i
@@ -124,7 +123,7 @@ abbrev pub IsNoLater : List ℕ → ℕ → ℕ → Type 0
 IsNoLater chain seen present =
     (i j : ℕ) × (i ≤ j) × (j ≤ length chain) × (slice_index (stops chain) i ≡ seen) × (slice_index (stops chain) j ≡ present)
 
--- a place is reached behind so many records of the list, or later
+-- a place is reached after this many records of the list, or later
 abbrev pub IsReachedAt : List ℕ → ℕ → ℕ → Type 0
 IsReachedAt chain least at = (k : ℕ) × (least ≤ k) × (k ≤ length chain) × (slice_index (stops chain) k ≡ at)
 
@@ -132,13 +131,13 @@ IsReachedAt chain least at = (k : ℕ) × (least ≤ k) × (k ≤ length chain) 
 abbrev pub AreNoLater : List ℕ → List ℕ → ℕ → Type 0
 AreNoLater chain seen present = All (λ place. IsNoLater chain place present) seen
 
--- a sample whose count or mark was seen was met
+-- a sample whose count or mark was seen has been visited
 abbrev pub WasMet : List Piece → Seen → Sighting → Type 0
 WasMet pieces seen s =
     (at : ℕ) (x : Sample) → HasSample pieces at x → (s.at ≡ at + SAMPLE_COUNT) ⊎ (s.at ≡ at + SAMPLE_MARK)
     → Contains seen.chain at × SawSample seen x.of x.value at
 
--- what an actor knows of a histogram
+-- what an actor knows of a histogram is right: the record is the first of the name, and has the same spec
 abbrev pub IsRightlyKnown : Anatomy → Known → Type 0
 IsRightlyKnown anatomy known = record {
   first_spec : Spec;

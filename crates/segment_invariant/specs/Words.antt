@@ -1,5 +1,5 @@
--- What the invariant says of the words alone. It mentions no actor, so it can hold of words that are those of no state, as of words that
--- were loaded at different moments and put together.
+-- What the invariant says of the words alone. It mentions no actor, so it can also hold of words that are those of no state, such as words
+-- that were loaded at different moments and put together.
 use Rattle.std.specs.Prelude.{◌≡◌, ◌≢◌, ◌⊎◌, false, ℕ, ◌<◌, ◌≤◌, List, ◌++◌, Some, None}
 use Rattle.std.specs.Int.{w64, cast_signed}
 use Rattle.std.specs.List.{Contains, All}
@@ -17,8 +17,8 @@ use Rattle.segment_invariant.specs.Invariant.{StandsAs, IsOnList, ClaimedRight, 
 
 -- ---- what lies where
 
--- The nexts lead along the records in their order; these are the records of the opening, and behind them others, each of which was given
--- something; each stands as what it was given, and there are no others; the tail is on the list.
+-- The nexts lead along the records in their order; these are the records of the opening, and after them others, each of which was given
+-- something; each record holds what it was given, and there are no others; the tail is on the list.
 pub record ListIsLaid (words : List ℕ) (opened anatomy : Anatomy) : Type 0 where
   pub linked : IsLinked words (order_of anatomy)
   pub longer : (more : List Listed) × (anatomy.records ≡ opened.records ++ more) × ((l : Listed) → Contains more l → l.made ≢ None)
@@ -26,8 +26,8 @@ pub record ListIsLaid (words : List ℕ) (opened anatomy : Anatomy) : Type 0 whe
   pub alone : (at : ℕ) (body : Body) → Stands anatomy.pieces at none body → IsOnList anatomy.records at body
   pub tail : IsStop (order_of anatomy) anatomy.tail
 
--- The words are those of blocks, which are lawful: there is an anatomy of them, of the opening's version, whose claimed blocks say their
--- sizes, with its list, its records and those that are passed over.
+-- The words are those of valid blocks: there is an anatomy of them, of the opening's version, whose claimed blocks say their sizes, with
+-- its list, its records and those that are passed over.
 pub record AreLaid (shape : Dimensions) (opened : Anatomy) (words : List ℕ) : Type 0 where
   pub anatomy : Anatomy
   pub shown : IsShown shape words (layout_of anatomy)
@@ -46,13 +46,13 @@ IsMarkBounded version words at i =
     (mark_of version words at i ≤ total_of version words at i)
     ⊎ ((version ≡ 1) × (packed_bucket (record_single version words at) ≡ Some i) × (mark_of version words at i ≤ 65535))
 
--- this of each bucket of a record, and that no total is above what a segment may count
+-- this holds of each bucket of a record, and no total is above what a segment may count
 pub record AreBounded (version : ℕ) (words : List ℕ) (at n : ℕ) : Type 0 where
   pub total : (i : ℕ) → i < n → total_of version words at i ≤ 4294967295
   pub mark : (i : ℕ) → i < n → IsMarkBounded version words at i
 
--- The numbers are such as a segment can reach: the totals and marks of the first record of each name, and the units of the first sample of
--- each value; and the sum of a record and its mark are near 0 and near each other.
+-- The numbers are those that a segment can reach: the totals and marks of the first record of each name, and the units of the first sample
+-- of each value; and the sum of a record and its sum mark are near 0 and near each other.
 pub record AreInBounds (words : List ℕ) (anatomy : Anatomy) : Type 0 where
   pub buckets : (at : ℕ) (r : Record) → HasRecord anatomy.pieces at r → IsFirst anatomy.records r.name r.spec at
       → AreBounded anatomy.version words at (buckets_of r.spec)

@@ -1,4 +1,4 @@
--- What the heap answered: the block and the right to free it, or nothing. Assumes `Logic`.
+-- What the heap returned: the block and the right to free it, or nothing. Assumes `Logic`.
 use Rattle.std.proofs.Common.{◌≡◌, ℕ, true, false, List, [], ◌∷◌, ◌++◌, ap, ◌∙◌, Ok, Err}
 use seplogic.Ra.Ura.{Ura}
 use mir.Syntax.{Ty}

@@ -22,7 +22,7 @@ bytes_at p n = room_for (units_of n) p
 abbrev pub freeing : Ty → Ptr → Fml
 freeing = ghosts.dealloc_token (record { memory = record { seal = tt } })
 
--- where the block at p is the heap's, the right to free it
+-- if the block at p is the heap's, the right to free it
 abbrev pub owed : Bool → ℕ → Ptr → Fml
 owed true n p = freeing (units_of n) p
 owed false n p = ftrue

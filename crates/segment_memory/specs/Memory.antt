@@ -8,7 +8,7 @@ use Rattle.segment_memory.specs.declared.shelf.Shelf.{Shelf}
 use Rattle.segment_memory.specs.declared.memory.Memory.{Memory}
 use Rattle.segment_memory.specs.declared.memory.Lender.{Lender}
 
--- a request of n bytes is the heap's where no room is lent, and where it asks for none
+-- a request of n bytes is the heap's if no room is lent, or if it asks for none
 abbrev pub is_of_heap : Memory → ℕ → Bool
 is_of_heap memory n = is_none memory.lent || n == 0
 
@@ -21,7 +21,7 @@ room_size (Some shelf) = (arc_value shelf).size
 abbrev pub whole_units : ℕ → ℕ
 whole_units n = next_multiple_of (max n 16) 16
 
--- the block for a request of n bytes: of the heap as many, and else all of the room
+-- the size of the block for a request of n bytes: n in whole units if it is the heap's, otherwise all of the room
 abbrev pub block_size : Memory → ℕ → ℕ
 block_size memory n = if is_of_heap memory n then whole_units n else room_size memory.lent
 

@@ -10,7 +10,7 @@ use std::marker::Model;
 /// How each block is aligned.
 pub(crate) const UNIT: usize = 16;
 
-/// `size` bytes in which nothing lies. Where they are of the heap, it has the right to free them.
+/// `size` bytes in which nothing lies. If they are the heap's, it has the right to free them.
 pub(crate) struct Block {
     pub(crate) ptr: *mut u8,
     pub(crate) size: usize,
@@ -25,7 +25,7 @@ impl Model for Block {
 impl Block {
     ghost use Rattle.segment_memory.specs.Rooms.{block_of, room_of};
 
-    // A block of the heap. None where there is no memory.
+    // A block of the heap. None if there is no memory.
     pub(crate) fn reserve(heap: &Global, size: usize) -> Option<Block>
         requires { IsBlockSize size × (size < 2 ^ 63) }
         ensures { IfSome result (λ block. (block.of_heap ≡ true) × (block.size ≡ size)) }
@@ -36,7 +36,7 @@ impl Block {
         }
     }
 
-    // Back to the heap.
+    // Gives the block back to the heap.
     pub(crate) fn free(self, heap: &Global)
         requires { self.of_heap ≡ true }
     {

@@ -20,7 +20,7 @@ pub struct Memory {
     lent: Option<Arc<Shelf, Global>>,
 }
 
-/// Who lent a room. It has the room while no block is in it.
+/// The lender of a room. It has the room while no block is in it.
 #[derive(Drop)]
 pub struct Lender {
     shelf: Arc<Shelf, Global>,
@@ -40,8 +40,8 @@ impl Lender {
         Ok((Memory { heap, lent }, Lender { shelf }))
     }
 
-    /// Lends a room: returns a memory that allocates in it, and its lender, which knows its size [ok]. Where the heap
-    /// has no memory for what these two share, the same room comes back [err].
+    /// Lends a room: returns a memory that allocates in it, and its lender, which knows its size [ok]. If the heap has
+    /// no memory for what these two share, the same room comes back [err].
     pub fn lend(heap: Global, room: Room) -> Result<(Memory, Lender), Room>
         ensures ok { IfOk result (λ made. IsRoomLent room.size made.0 made.1) }
         ensures err { IfErr result (λ back. back ≡ room) }
@@ -56,8 +56,8 @@ impl Lender {
         }
     }
 
-    /// Returns the room that was lent, which has the size of the one that was lent; none while a block is in it, and
-    /// where it was taken back before.
+    /// Returns the room that was lent, with the size that it had then; none while a block is in it, or if it was taken
+    /// back before.
     pub fn take_back(&self) -> Option<Room>
         ensures { IfSome result (λ room. room.size ≡ lent_size self.now) }
     {
@@ -75,7 +75,7 @@ impl Memory {
         Memory { heap, lent: None }
     }
 
-    // The room that is lent, where a request of so many bytes is to lie in it.
+    // The room that is lent, if a request of `size` bytes is to lie in it.
     fn lent_for(&self, size: usize) -> Option<&Shelf>
         ensures { MatchOption result (is_of_heap self.now size ≡ true) (λ shelf. (is_of_heap self.now size ≡ false) × (shelf.now.size ≡ room_size self.now.lent)) }
     {

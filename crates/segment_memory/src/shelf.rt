@@ -12,7 +12,7 @@ const FREE: u64 = 0;
 
 const BUSY: u64 = 1;
 
-// Its key is how many bytes a room has that is put there.
+// Its key is the number of bytes of each room that is put there.
 pub(crate) struct ShelfRule;
 
 impl TableRule<Option<Room>, usize, usize> for ShelfRule {
@@ -21,7 +21,7 @@ impl TableRule<Option<Room>, usize, usize> for ShelfRule {
     ghost first = { λ size. size };
 }
 
-// What is on the shelf is taken, where it is free.
+// What is on the shelf is taken, if it is free.
 struct Reach;
 
 impl Play<Option<Room>, usize> for Reach {
@@ -45,7 +45,7 @@ pub(crate) struct Shelf {
 }
 
 impl Shelf {
-    // It has none.
+    // A shelf without a room.
     pub(crate) fn new(alloc: Global, size: usize) -> Result<Shelf, AllocError>
         ensures { IfOk result (λ shelf. shelf.size ≡ size) }
     {
@@ -57,8 +57,8 @@ impl Shelf {
         }
     }
 
-    // Puts a room or none there, and takes what was there. Where another thread is doing so, it does nothing, and what it was to put
-    // there comes back.
+    // Puts a room or none there, and takes what was there. If another thread is doing so, it does nothing, and
+    // returns what it was to put there.
     pub(crate) fn replace(&self, room: Option<Room>) -> Option<Room>
         requires { HasSize self.now.size room }
         ensures { HasSize self.now.size result }

@@ -1,11 +1,11 @@
-//! What no clause says: that blocks are given where there is memory, and that a room comes back.
+//! What no clause says: that blocks are given if there is memory, and that a room comes back.
 
 use crate::block::Block;
 use crate::memory::{Lender, Memory};
 use crate::room::Room;
 use std::alloc::{AllocError, Global};
 
-// A room of so many bytes. The heap does not get it back.
+// A room of `size` bytes. The heap does not get it back.
 fn room(heap: Global, size: usize) -> Result<Room, AllocError> {
     if size < 16 || size % 16 != 0 || size > 4096 {
         return Err(AllocError);

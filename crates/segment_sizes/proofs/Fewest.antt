@@ -91,7 +91,7 @@ enough page bound blocks near q left =
     let less : (q + 1) * page ≤ pages_over page blocks bound * page = mul-le-mul_right page (few page blocks bound q near left) in
     turned q page (pages_over page blocks bound * page) less
 
--- blocks that fit in a page are claimed in whatever order, within the pages by a bound
+-- blocks that fit in a page are claimed in any order, within the pages by a bound
 in_order : (shape : Dimensions) (blocks order : List ℕ) (bound : ℕ) → IsShape shape → bound ≤ shape.page → All IsLeast blocks → All (FitsPage shape.page) blocks
     → IsPermutation blocks order → pages_over shape.page blocks bound * shape.page ≤ shape.size
     → (end : ℕ) × AreClaimedFrom shape order 16 end × (end ≤ pages_over shape.page blocks bound * shape.page)
@@ -135,7 +135,7 @@ some_pages page blocks fit =
 both : {page words : ℕ} → page ≤ words → words ≤ 1048576 → words % page ≡ 0 → is_size words page ≡ true
 both wide few whole = grind (arith, nat_tests)
 
--- so many whole pages are a size, if they are few enough
+-- this many whole pages are a size, if they are few enough
 pub is_a_size : (page pages : ℕ) → 1 ≤ pages → pages * page ≤ 1048576 → is_size (pages * page) page ≡ true
 is_a_size page pages one few =
     let whole : (pages * page) % page ≡ 0 = mul-mod_left pages page in

@@ -14,11 +14,11 @@ use Rattle.segment_sizes.proofs.Places.{StandsAt, claims, wastes}
 abbrev pub weight : (bound block : ℕ) → ℕ
 weight bound block = block + (block - bound)
 
--- so many pages were left, with a load: each is more than a page with the block that did not fit
+-- this many pages were left, with a load: each is more than a page with the block that did not fit
 abbrev pub MayLeave : (page bound load q : ℕ) → Type 0
 MayLeave page bound load q = (q ≡ 0) ⊎ (q * (page + 1) + bound ≤ load + q * bound)
 
--- blocks of a load were claimed, and the free pointer stands in the page after those that were left
+-- blocks of a load were claimed, and the free pointer is in the page after those that were left
 pub record Reaches (page bound load free : ℕ) : Type 0 where
   pub q : ℕ
   pub has : ℕ
@@ -40,12 +40,12 @@ module _ (shape : Dimensions) (bound total words : ℕ) (inside : words ≤ shap
       → shape.page < has + block → MayLeave shape.page bound (load + weight bound block) (q + 1)
   leaves q has load block most below over = inr (omega arith)
 
-  -- the load and the pages, where the next block is the first of the page after
+  -- the load and the pages, if the next block is the first of the page after
   begins : (q has load block : ℕ) → q * (shape.page + 1) + has ≤ load + q * bound → shape.page < has + block
       → (q + 1) * (shape.page + 1) + (0 + block) ≤ load + weight bound block + (q + 1) * bound
   begins q has load block below over = omega arith
 
-  -- the next block is claimed at the begin of the page after
+  -- the next block is claimed at the beginning of the page after
   opens : (q has load free block : ℕ) → 5 ≤ block → block ≤ shape.page → load + weight bound block ≤ total
       → q * (shape.page + 1) + has ≤ load + q * bound → shape.page < has + block → free ≡ q * shape.page + shape.page
       → (next : ℕ) × IsClaimedAt shape block free next × Reaches shape.page bound (load + weight bound block) next
@@ -76,7 +76,7 @@ module _ (shape : Dimensions) (bound total words : ℕ) (inside : words ≤ shap
       let o = opens q has load (free + w.0) block least fits most below over w.2 in
       (o.0, inr (w.0, w.1, o.1), o.2)
 
-  -- the next block is claimed, by where the free pointer stands, and whether the block fits there
+  -- the next block is claimed, by where the free pointer is, and whether the block fits there
   goes_by : (q has load free block : ℕ) → 5 ≤ block → block ≤ shape.page → load + weight bound block ≤ total → q * (shape.page + 1) + has ≤ load + q * bound
       → MayLeave shape.page bound load q
       → ((free ≡ q * shape.page + has) × (has + 5 ≤ shape.page)) ⊎ ((free ≡ q * shape.page + shape.page) × (shape.page < has + 5))
@@ -104,7 +104,7 @@ module _ (shape : Dimensions) (bound total words : ℕ) (inside : words ≤ shap
   ends_by q has free room within (inl at) = let h = at.0 in omega arith
   ends_by q has free room within (inr at) = let h = at.0 in omega arith
 
-  -- the free pointer stands within the words
+  -- the free pointer is within the words
   ends : (load free : ℕ) → load ≤ total → Reaches shape.page bound load free → free ≤ words
   ends load free most r =
       ends_by r.q r.has free (enough r.q (may_leave shape.page bound load total r.q most r.left)) r.stands.within r.stands.place

@@ -9,7 +9,7 @@ use Rattle.alloc_core.specs.declared.planned.Planned.TheVariants.{Claim, Waste, 
 use Rattle.alloc_core.specs.Planned.{room_at, planned}
 use Rattle.segment_sizes.specs.Filling.{IsClaimedAt}
 
--- The free pointer of a page that has so many words: it stands after them, or, where fewer than five words are left, at the end.
+-- The free pointer of a page with `has` words taken: it is after them, or, if fewer than five words are left, at the end.
 pub record StandsAt (page q has free : ℕ) : Type 0 where
   pub within : has ≤ page
   pub place : ((free ≡ q * page + has) × (has + 5 ≤ page)) ⊎ ((free ≡ q * page + page) × (page < has + 5))
@@ -73,7 +73,7 @@ wastes_by shape q has free block is below over inside false false absorbs e f g 
     let more : block ≤ room_at shape free = ltb-false (room_at shape free) block f in
     absurd (omega (arith, room, more))
 
--- a block that has no room in a page wastes the rest of it: the free pointer stands at its end then
+-- a block that has no room in a page wastes the rest of it: then the free pointer is at its end
 pub wastes : (shape : Dimensions) (q has free block : ℕ) → free ≡ q * shape.page + has → has < shape.page → shape.page < has + block
     → free + block ≤ shape.size → (room : ℕ) × (planned free block shape ≡ Waste room) × (free + room ≡ q * shape.page + shape.page)
 unfolding plan_by

@@ -5,13 +5,13 @@ use Rattle.segment_image.specs.declared.layout.TheConstants.{HEADER_WORDS, BLOCK
 use Rattle.segment_sizes.specs.declared.fault.SizeFault.{SizeFault}
 use Rattle.segment_sizes.specs.declared.fault.SizeFault.TheVariants.{BadPage, TooSmall, TooLarge, TooMany, NoSize}
 
--- The words of the header and of all blocks, and of each block once more what it has above a bound.
+-- The words of the header and of all blocks, plus the words that each block has above a bound.
 abbrev pub load_over : (blocks : List ℕ) (bound : ℕ) → ℕ
 load_over blocks bound = HEADER_WORDS + sum_by (λ block. block + (block - bound)) blocks
 
--- How many pages are begun at most, by a bound. What a page that was left has, and the block that did not fit into it, are more words
--- than a page. So every page but the last two adds at least a page, and one word, less the bound; what the blocks that did not fit
--- have above the bound is in the load. The last two add more than a page together.
+-- How many pages are begun at most, by a bound. The words taken in a page that was left, and those of the block that did not fit
+-- into it, are more than a page. So every page but the last two adds at least a page and one word, less the bound, to the load; what
+-- the blocks that did not fit have above the bound is in the load. The last two pages together add more than a page.
 abbrev pub pages_over : (page : ℕ) (blocks : List ℕ) (bound : ℕ) → ℕ
 pages_over page blocks bound =
     let load = load_over blocks bound in

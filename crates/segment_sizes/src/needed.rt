@@ -8,7 +8,7 @@ ghost use Rattle.segment_sizes.specs.Needed.{load_over as load_of, pages_over as
 use crate::fault::SizeFault;
 use segment_image::layout::{BLOCK_LEAST, HEADER_WORDS, MAX_PAGE, MAX_SIZE, MIN_PAGE, PAGE_STEP};
 
-// The words of the header and of all blocks, and of each block once more what it has above a bound.
+// The words of the header and of all blocks, plus the words that each block has above a bound.
 fn load_over(blocks: &[u64], bound: u64) -> u64
     requires narrow { All (FitsPage 65536) blocks.now }
     requires few { 5 * length blocks.now ≤ MAX_SIZE }
@@ -85,13 +85,14 @@ fn check(blocks: &[u64], page: u64) -> Result<(), SizeFault>
     Ok(())
 }
 
-/// Returns a size of a segment with pages of `page` words in which blocks of these words, their headers among them, fit in whatever
-/// order they are claimed one after the other [fits]. It is a valid one for the page [valid], and that of the formula [words]: with
-/// one or two pages it is the least in which any order fits, and with more it may be more than the worst order takes.
+/// Returns a size of a segment with pages of `page` words in which blocks of these words, their headers among them, fit
+/// in any order in which they are claimed [fits]. It is a valid size for the page [valid], and that of the formula
+/// [words]: with one or two pages it is the least in which any order fits, and with more it may be more than the worst
+/// order takes.
 ///
-/// `BadPage` comes where the page is invalid, `TooSmall` and `TooLarge` where a block has fewer than five words or more than a page,
-/// `TooMany` where a segment of the greatest size has no room for so many of five words, and `NoSize` where the formula gives more
-/// than the greatest size [fault].
+/// `BadPage` comes if the page is invalid, `TooSmall` and `TooLarge` if a block has fewer than five words or more than
+/// a page, `TooMany` if a segment of the greatest size has no room for that many blocks of five words, and `NoSize` if
+/// the formula gives more than the greatest size [fault].
 pub fn needed_size(blocks: &[u64], page: u64) -> Result<u64, SizeFault>
     ensures fits { IfOk result (FitInEveryOrder page blocks.now) }
     ensures valid { IfOk result (λ words. is_size words page ≡ true) }

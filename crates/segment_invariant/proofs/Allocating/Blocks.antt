@@ -1,4 +1,4 @@
--- A state is kept where an actor that allocates changes nothing, stores into a block in its making, takes words for one, or sets a flag.
+-- A state is kept when an actor that allocates changes nothing, stores into a block in its making, takes words for one, or sets a flag.
 use Rattle.segment_invariant.proofs.Prelude.Std.{◌≡◌, ℕ, ◌+◌, ◌-◌, ◌≤◌, Bool, false, true≢false, List, [], ◌∷◌, ◌++◌, map, set, All, inl, inr, refl, sym, ap, ◌∙◌, subst, append_assoc, arith, true, IsPermutation, fold, ◌||◌, flat_map, All-weaker, IsPermutation-refl, some, get_elem?, rows, column}
 use Rattle.segment_invariant.proofs.Prelude.Machine.{Dimensions, IsShown, Behind, IsLinked, Actor, Claim, Own, Place, State, is_opener}
 use Rattle.segment_invariant.proofs.Prelude.Invariant.{held, is_claimed, Piece, extent_of, Anatomy, layout_of, order_of, free_of, claims_of, StandsRight, HoldsOwn, IsSetBy, ClaimedRight, Invariant, KeptOn}
@@ -26,7 +26,7 @@ pub record IsStore (shape : Dimensions) (anatomy : Anatomy) (id k : ℕ) (p q : 
   pub shown : IsShown shape words (layout_of (with_piece anatomy k q))
   pub linked : IsLinked words (order_of anatomy)
 
--- what a free pointer is behind, it stays behind
+-- what is no later than a free pointer is no later than a later one
 behind_on : (seen old new : ℕ) → old + 5 ≤ new → Behind seen old → Behind seen new
 behind_on seen old new five (inl same) = inr (omega (arith, same, five))
 behind_on seen old new five (inr less) = inr (omega (arith, less, five))
@@ -36,7 +36,7 @@ module _ (shape : Dimensions) (opened : Anatomy) (state : State) (kept : Invaria
   abbrev anatomy : Anatomy
   anatomy = kept.anatomy
 
-  -- the state with these words, and with the actor that goes on
+  -- the state with these words, and with the actor that has moved on
   abbrev pub GoesTo : List ℕ → Doing → Type 0
   GoesTo words d = KeptOn shape opened kept (record { words = words; cursors = state.cursors; actors = set state.actors id (doing a (unlisted a d)) })
 
@@ -72,7 +72,7 @@ module _ (shape : Dimensions) (opened : Anatomy) (state : State) (kept : Invaria
   full_kept d same =
       kept.full ∙ ap (λ set. opened.full || fold ◌||◌ false set) (sym (column (λ (a : Actor). a.done.filled) state.actors id a (doing a (unlisted a d)) mine same))
 
-  -- ---- nothing changes but where it stands, and what it saw of the free pointer
+  -- ---- nothing changes but its place, and what it saw of the free pointer
 
   pub waits : (p : Place) (seen : ℕ) → TurnsTo a p → KeepsUp a.hand.place p → Behind seen (free_of anatomy)
       → StandsRight shape anatomy id (record a { hand = record a.hand { place = p }; seen = record a.seen { free = seen } }) p
@@ -150,7 +150,7 @@ module _ (shape : Dimensions) (opened : Anatomy) (state : State) (kept : Invaria
         })
         a.hand.own own
 
-    -- words that nobody has claimed become others, and the actor stands elsewhere
+    -- words that nobody has claimed become others, and the actor is at another place
     pub makes : is_claimed p.body ≡ false → is_claimed q.body ≡ false → (place : Place) → TurnsTo a place → KeepsUp a.hand.place place
         → StandsRight shape after id (record a { hand = record a.hand { place = place } }) place → GoesTo words (record (doing_of a) { place = place })
     makes was is place turns up stands =

@@ -1,4 +1,4 @@
--- A state is kept where one actor goes on that allocates: it sees nothing but the free pointer, and publishes nothing.
+-- A state is kept when an actor that allocates moves on: it sees nothing but the free pointer, and publishes nothing.
 use Rattle.segment_invariant.proofs.Prelude.Std.{◌≡◌, ◌≢◌, ℕ, pos, Bool, List, [], ◌∷◌, ◌++◌, map, set, All, inl, inr, refl, sym, ap, ◌∙◌, subst, false, true, IsPermutation, ⊤, flat_map, dite, some, none, some-injective, some-ne-none, ℕ_discrete, get_elem?, at_set, set_else, at_longer}
 use Rattle.segment_invariant.proofs.Prelude.Machine.{Dimensions, IsShown, Behind, IsLinked, Actor, Own, State, is_opener}
 use Rattle.segment_invariant.proofs.Prelude.Invariant.{Body, queue, plain, held, Piece, Anatomy, layout_of, order_of, free_of, claims_of, Stands, StandsRight, HoldsOwn, IsSetBy, ClaimedRight, StandStill, Invariant, KeptOn}
@@ -65,7 +65,7 @@ module _ (pieces : List Piece) (id : ℕ) (q : Piece) (mine : q.owner ≡ some i
     amounts = λ holds silent. amounts_grown holds pieces q (making_silent (pos 0) holds q.body silent making);
   }
 
--- blocks stand where they stood
+-- blocks are where they were
 pub still_same : (pieces : List Piece) → StandStill pieces pieces
 still_same pieces k p there = (p, there, refl)
 
@@ -99,7 +99,7 @@ right_longer pieces q right all i x here = elim (at_snoc pieces q x i here) [
 
 -- ---- what an actor does that allocates
 
--- What has to be shown where such an actor goes on to a doing.
+-- What has to be shown when such an actor moves on with a doing.
 pub record Acts (shape : Dimensions) (opened : Anatomy) (state : State) (old new : Anatomy) (id : ℕ) (a : Actor) (d : Doing) (words : List ℕ) : Type 0 where
   pub shown : IsShown shape words (layout_of new)
   pub stays : Stays old.pieces new.pieces
@@ -129,7 +129,7 @@ module _ (shape : Dimensions) (opened : Anatomy) (state : State) (kept : Invaria
 
   module _ (d : Doing) (turns : TurnsTo a d.place) (up : KeepsUp a.hand.place d.place) (pieces : List Piece) (spare : ℕ) (corrupt full : Bool) (words : List ℕ)
       (acts : Acts shape opened state before (reshaped before pieces spare corrupt full before.tail) id a (unlisted a d) words) where
-    -- it goes on, and the state is kept
+    -- it moves on, and the state is kept
     pub acts_on : KeptOn shape opened kept (record { words = words; cursors = state.cursors; actors = set state.actors id (doing a (unlisted a d)) })
     acts_on =
         let fits = kept.each id a mine turns.lived in

@@ -55,13 +55,13 @@ module _ (shape : Dimensions) (opened : Anatomy) (state : State) (kept : Invaria
       subst (λ (words : List ℕ). KeptOn shape opened kept (record { words = words; cursors = state.cursors; actors = set state.actors id b }))
       (sym (ap (set state.words at) same ∙ set-get_or state.words at 0))
 
-  -- flags with the corrupt one are those of a segment where it is set
+  -- flags with the corrupt one are those of a segment in which it is set
   found_corrupt : (bit_and (word_at state.words 6) 1 == 0) ≡ false → anatomy.corrupt ≡ true
   found_corrupt clear =
       sym (corrupt_read anatomy.corrupt anatomy.full anatomy.other_flags)
       ∙ (ap (λ (n : ℕ). not (bit_and n 1 == 0)) (sym (flags_word shape state.words (layout_of anatomy) kept.shown)) ∙ ap not clear)
 
-  -- the flags are loaded, and the corrupt one is seen where it is set
+  -- the flags are loaded, and the corrupt one is seen if it is set
   flags_at : (clear : Bool) → (clear ≡ false → anatomy.corrupt ≡ true) → is_bound a.hand.place ≡ false
       → KeptOn shape opened kept (record {
         words = state.words;

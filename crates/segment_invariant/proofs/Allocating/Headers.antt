@@ -62,7 +62,7 @@ module _ (shape : Dimensions) (opened : Anatomy) (state : State) (kept : Invaria
       linked = linked_beside_own shape state.words anatomy kept.shown kept.list.standing there.0 id j v (raw at old) there.1 refl within kept.list.linked;
     }
 
-    -- and the actor stands behind that
+    -- and the actor is at the place after that
     made : (place : Place) → is_plain a.hand.place ≡ true → is_beaten a.hand.place ≡ false → is_plain place ≡ true
         → (HasPlain (set anatomy.pieces there.0 (raw at new)) id at new → StandsRight shape (record anatomy { pieces = set anatomy.pieces there.0 (raw at new) }) id (record a { hand = record a.hand { place = place } }) place)
         → Goes (at + j) v (record a { hand = record a.hand { place = place } })
@@ -173,7 +173,7 @@ module _ (shape : Dimensions) (opened : Anatomy) (state : State) (kept : Invaria
                 (omega (arith, before, five)) kept.list.linked;
           }
 
-      -- none of its own blocks stands there yet
+      -- none of its own blocks is there yet
       none_there : All (HoldsOwn shape anatomy.pieces id) a.hand.own → (i : ℕ) (x : Own) → get_elem? a.hand.own i ≡ some x → x.at ≢ at
       none_there holds i x is same =
           true≢false (ap is_claimed (one_stands shape state.words anatomy kept.shown at (some id) (some id) (held x) p.body

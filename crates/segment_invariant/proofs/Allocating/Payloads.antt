@@ -45,7 +45,7 @@ set_zeros (suc n) (suc m) v lt =
     let e : n - m - 1 ≡ suc n - suc m - 1 = omega arith in
     ap (λ (l : List ℕ). 0 ∷ l) (set_zeros n m v (omega (arith, lt)) ∙ ap (λ (k : ℕ). replicate {A = ℕ} m 0 ++ v ∷ replicate {A = ℕ} k 0) e)
 
--- a payload with zeros behind it, with another word stored behind it
+-- a payload followed by zeros, with another word stored after it
 payload_stored : (payload : List ℕ) (n index v : ℕ) → length payload ≤ index → index < n
     → stored payload index v ++ replicate (n - length (stored payload index v)) 0 ≡ set (payload ++ replicate (n - length payload) 0) index v
 payload_stored payload n index v from to =
@@ -173,7 +173,7 @@ module _ (shape : Dimensions) (opened : Anatomy) (state : State) (kept : Invaria
     abbrev pub filling : Place → Doing
     filling place = record (doing_of a) { place = place; own = set a.hand.own i y }
 
-    -- the state is kept with that block, wherever the actor stands then
+    -- the state is kept with that block, at whatever place the actor is then
     pub fills_at : (place : Place) → TurnsTo a place → KeepsUp a.hand.place place → StandsRight shape after id (doing a (filling place)) place
         → KeptOn shape opened kept (record { words = words; cursors = state.cursors; actors = set state.actors id (record a { hand = record { place = place; own = set a.hand.own i y } }) })
     fills_at place turns up stands =
@@ -181,7 +181,7 @@ module _ (shape : Dimensions) (opened : Anatomy) (state : State) (kept : Invaria
         (claims_kept shape opened state kept id a mine records pieces (filling place) (claims_same anatomy.pieces k p q at_k refl same_at long) refl)
         refl refl refl stands own_holds own_apart
 
-    -- where it stood, while the block is of the type that it was
+    -- the actor stays at its place, if the block is still of the type that it was
     pub fills : y.tag ≡ x.tag → KeptOn shape opened kept (record { words = words; cursors = state.cursors; actors = set state.actors id (record a { hand = record a.hand { own = set a.hand.own i y } }) })
     fills same_tag =
         let stays : Stays anatomy.pieces pieces = stays_put anatomy.pieces k id p q at_k refl refl tt tt in

@@ -1,4 +1,4 @@
--- A rise that a plan leads to, from a lawful free pointer, is one of a block in one page.
+-- A rise that a plan leads to, from a valid free pointer, is the rise of a block in one page.
 use Rattle.segment_invariant.proofs.Prelude.Std.{◌≡◌, ℕ, ◌≤◌, Bool, true, if◌then◌else◌, inl, inr, sym, ap, subst, ◌∙◌}
 use Rattle.segment_invariant.proofs.Prelude.Machine.{Dimensions, IsShape}
 use Rattle.alloc_core.specs.declared.planned.Planned.{Planned}
@@ -10,7 +10,7 @@ use Rattle.alloc_core.specs.Alloc.{IsAimed, IsRise, stage_of_plan}
 use Rattle.alloc_core.proofs.Lawful.{moved_lawful}
 use Rattle.segment_machine.specs.Allocating.{MayRise}
 
--- what a plan aims at from a lawful free pointer
+-- what a plan aims at from a valid free pointer
 pub plan_aims : (shape : Dimensions) (size free : ℕ) (plan : Planned) → IsShape shape → 5 ≤ size → size ≤ shape.page → is_pointer shape free ≡ true
     → plan ≡ planned free size shape
     → IsAimed (record { shape = shape; size = size; tag = 0; seen = free; stage = stage_of_plan free plan }) (stage_of_plan free plan)

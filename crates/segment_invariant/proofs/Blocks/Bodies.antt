@@ -1,5 +1,5 @@
--- A block of one's own that may be published holds just the words of what it is published as: a lawful record or sample that counts
--- nothing, and a counts block of zeros.
+-- A block of one's own that may be published holds just the words of what it is published as: a valid record or sample that counts nothing,
+-- or a counts block of zeros.
 use Rattle.segment_invariant.proofs.Prelude.Std.{◌≡◌, ◌≢◌, ◌⊎◌, ℕ, suc, ◌+◌, ◌-◌, ◌*◌, ◌≤◌, ℤ, true, List, [], ◌∷◌, ◌++◌, length, replicate, All, inl, inr, refl, sym, ap, ◌∙◌, subst, arith, length-append, append_assoc, Some, None, nat_le, w64, cast_unsigned, and_parts, leb-true, length-replicate}
 use Rattle.segment_invariant.proofs.Prelude.Machine.{Spec, Linear, Boolean, Custom, Sparse, SingleWord, Empty, buckets_of, spec_fault, spec_fields, spec_ranges, single_of, packed_bucket, Own, units_in, AreNameWords}
 use Rattle.segment_invariant.proofs.Prelude.Invariant.{Record, Counts, Sample, record_words, form_at, IsLawfulRecord, IsCountsOf, CountsNothing}
@@ -89,7 +89,7 @@ module _ (own : Own) (name : List ℕ) (spec : Spec) (letters : List ℕ)
     pub record_nothing : CountsNothing r
     record_nothing = (refl, refl, refl, refl, refl, refl)
 
-    -- it is lawful
+    -- it is valid
     pub record_lawful : IsLawfulRecord version page r
     record_lawful =
         let zeros = length-replicate {A = ℕ} (own.size - 4 - length own.payload) 0 in
@@ -134,7 +134,7 @@ module _ (block : Own) (at : ℕ) (name : List ℕ) (spec : Spec) (tag : block.t
   abbrev c : Counts
   c = counts_of block at name spec
 
-  -- the zeros of the block are those of its counts, of its marks and of what stands behind
+  -- the zeros of the block are those of its counts, of its marks and of what follows them
   zeros_are : replicate {A = ℕ} (block.size - 4 - length block.payload) 0 ≡ c.units ++ c.marks ++ c.rest
   zeros_are =
       let none : length block.payload ≡ 0 = ap length bare in
@@ -186,7 +186,7 @@ sample_of own name histogram value = record {
   rest = replicate (own.size - 8) 0;
 }
 
--- zeros behind a front that ends in zeros
+-- zeros after a front that ends in zeros
 zeros_behind : (payload front : List ℕ) (k n : ℕ) → payload ++ replicate k 0 ≡ front → payload ++ replicate (k + n) 0 ≡ front ++ replicate n 0
 zeros_behind payload front k n is =
     ap (λ (l : List ℕ). payload ++ l) (sym (replicate-append-replicate k n 0))
@@ -198,7 +198,7 @@ module _ (own : Own) (name : List ℕ) (histogram : ℕ) (value : ℤ) (k : ℕ)
   abbrev s : Sample
   s = sample_of own name histogram value
 
-  -- behind what was stored of its payload are its count, its mark and what stands behind them
+  -- after what was stored of its payload come its count, its mark and what follows them
   payload_whole : own.payload ++ replicate {A = ℕ} (own.size - 4 - length own.payload) 0 ≡ histogram ∷ cast_unsigned w64 value ∷ 0 ∷ 0 ∷ s.rest
   payload_whole =
       let both = ap length payload_is in

@@ -73,7 +73,7 @@ module _ (shape : Dimensions) (words : List ℕ) (anatomy : Anatomy) (shown : Is
   pub not_empty : (k : ℕ) (p : Piece) → get_elem? anatomy.pieces k ≡ some p → 0 < extent_of p
   not_empty k p there = positive shape.page 12 _ k (block_of p) shown.sound.laid (block_there k p there)
 
-  -- and at one place stands one piece
+  -- and there is one piece at each place
   pub one_piece : (k j : ℕ) (p q : Piece) → get_elem? anatomy.pieces k ≡ some p → get_elem? anatomy.pieces j ≡ some q → p.at ≡ q.at
       → (k ≡ j) × (p ≡ q)
   one_piece k j p q there here same =
@@ -86,7 +86,7 @@ module _ (shape : Dimensions) (words : List ℕ) (anatomy : Anatomy) (shown : Is
       let same = (one_piece a.0 b.0 _ _ a.1 b.1 refl).1 in
       (ap (λ (p : Piece). p.owner) same, ap (λ (p : Piece). p.body) same)
 
-  -- a piece begins behind the words of the header
+  -- a piece begins after the words of the header
   pub piece_from : (k : ℕ) (p : Piece) → get_elem? anatomy.pieces k ≡ some p → (p.at ≡ 12) ⊎ (16 ≤ p.at)
   piece_from zero p there = inl (first_piece p there).0
   piece_from (suc k) p there =
@@ -146,7 +146,7 @@ free_with anatomy k p q there long =
     sym (ap layout.free_of (layout_with anatomy k q))
     ∙ free_put (layout_of anatomy) k (block_of p) (block_of q) (at_map block_of anatomy.pieces k p there) long
 
--- what stands at other places stays, and nothing else comes
+-- what is at other places stays, and nothing else is added
 module _ (pieces : List Piece) (k : ℕ) (p q : Piece) (there : get_elem? pieces k ≡ some p) where
   pub stands_here : Stands (set pieces k q) q.at q.owner q.body
   stands_here = (k, set_at pieces k p q there)

@@ -1,4 +1,4 @@
--- Words of a block that are told apart by their places lie in it.
+-- Words of a block that are distinguished by their places lie in it.
 use Rattle.std.proofs.Common.{ℕ, ◌<◌, ◌++◌, length, inl, inr, arith, length-append}
 use Rattle.segment_invariant.specs.Body.{Body, queue, plain, held, histogram, counts, sample, other, words_of}
 use Rattle.segment_invariant.specs.Seen.{IsFixedIn, IsCounterIn}

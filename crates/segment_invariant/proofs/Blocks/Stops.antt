@@ -1,4 +1,4 @@
--- The blocks of the list: the queue block and the records stand as blocks without owner, so a store elsewhere leaves the list.
+-- The blocks of the list: the queue block and the records are there as blocks without owner, so a store elsewhere leaves the list.
 use Rattle.segment_invariant.proofs.Prelude.Std.{◌≡◌, ℕ, zero, suc, ◌+◌, ◌<◌, ◌≤◌, List, set, All, inl, inr, refl, sym, ap, ◌∙◌, subst, arith, slice_index, length-map, some, none, some-injective, some-ne-none, get_elem?, at_map, index_at, all_at}
 use Rattle.segment_invariant.proofs.Prelude.Machine.{Dimensions, IsShown, stops, IsStop, IsLinked, Made}
 use Rattle.segment_invariant.proofs.Prelude.Invariant.{Piece, extent_of, Listed, Anatomy, layout_of, order_of, StandsAs}

@@ -1,4 +1,4 @@
--- A state is kept where a recorder counts, packs or takes: it changes a word of a published block, and itself.
+-- A state is kept when a recorder counts, packs or takes: it changes a word of a published block, and itself.
 use Rattle.segment_invariant.proofs.Prelude.Std.{append-nil, ◌≡◌, ◌≢◌, ℕ, ◌<◌, ◌≤◌, ℤ, true, List, [], ◌++◌, set, All, Contains, IsPermutation, inl, inr, ⊎_elim, refl, sym, ap, ◌∙◌, subst, arith, false, All-weaker, some, get_elem?, at_set, rows, column, sum_same}
 use Rattle.segment_invariant.proofs.Prelude.Machine.{Dimensions, IsShown, Behind, IsLinked, Entry, Actor, Portion, Answered, Claim, Own, Spent, tally_units, counted_of, all_counted, units_of, taken_of, is_opener, State}
 use Rattle.segment_invariant.proofs.Prelude.Invariant.{IsWithinCounts, Record, Body, plain, held, histogram, Piece, Anatomy, layout_of, order_of, free_of, claims_of, Stands, Sees, StandsAs, RecordsAreKept, StandsRight, HoldsOwn, CallsRight, HasKey, LooksBack, FinalsAreExact, Fits, IsSetBy, ClaimedRight, StandStill, is_living, Invariant, KeptOn}
@@ -23,8 +23,8 @@ use Rattle.segment_invariant.proofs.Changes.Sums.{SumsGoOn}
 use Rattle.segment_invariant.proofs.Changes.Others.{Deed, deed_of, changed, changed_role, changed_roles, alone_was, none_alone, finals_else, looks_on}
 use Rattle.segment_invariant.proofs.Frames.PassedOver.{passed_on, still_onward}
 
--- What has to be shown where a recorder changes what is published, and goes on to a deed: of the blocks and the words that are then there; of
--- the ledger, the keys and the sums; and of the recorder itself. Published blocks go on, and those that come beside them are `added`.
+-- What has to be shown when a recorder changes what is published, and moves on with a deed: of the blocks and the words that are then
+-- there; of the ledger, the keys and the sums; and of the recorder itself. Published blocks continue, and those that are new are `added`.
 pub record Changes (shape : Dimensions) (opened : Anatomy) (state : State) (old new : Anatomy) (opener : Actor) (id : ℕ) (a : Actor) (d : Deed) (words : List ℕ)
     (added : ℕ → Body → Type 0) : Type 0 where
   pub shown : IsShown shape words (layout_of new)

@@ -1,4 +1,4 @@
--- A count of a counts block rises: the block goes on, and holds so many units more of the bucket's key.
+-- A count of a counts block rises: the block continues, and holds that many units more of the bucket's key.
 use Rattle.segment_invariant.proofs.Prelude.Std.{◌≡◌, ◌≢◌, ℕ, zero, suc, ◌+◌, ◌<◌, ◌≤◌, max, ℤ, Bool, true, false, if◌then◌else◌, List, ◌∷◌, ◌++◌, length, set, sum_by, refl, sym, ap, ◌∙◌, subst, arith, length-append, length-set, slice_index, range_with_len, int_eq, get_or-set_same, sum_by-cons, dite, ℕ_discrete}
 use Rattle.segment_invariant.proofs.Prelude.Machine.{Spec, is_off}
 use Rattle.segment_invariant.proofs.Prelude.Invariant.{Record, Counts, counts, key_of_bucket, keyed, IsCountsOf}
@@ -10,7 +10,7 @@ use Rattle.segment_invariant.proofs.Counting.Seen.{count_in}
 
 -- ---- numbers of buckets
 
--- a sum over a range, where one term is another
+-- a sum over a range, of which one term is replaced
 range_same : (f g : ℕ → ℕ) (start n i : ℕ) → i < start → ((k : ℕ) → k ≢ i → g k ≡ f k) → sum_by g (range_with_len start n) ≡ sum_by f (range_with_len start n)
 range_same f g start zero i below same = refl
 range_same f g start (suc n) i below same =
@@ -38,7 +38,7 @@ range_one f g start (suc n) i from below same = dite (ℕ_discrete start i)
     let q = sum_by-cons g start (range_with_len (start + 1) n) in
     omega (arith, one, rest, p, q))
 
--- a number of a bucket is so much more
+-- a number of a bucket is larger by this much
 pub keyed_risen : (kind : Spec) (key : ℤ) (numbers : List ℕ) (i u : ℕ) → i < length numbers
     → keyed kind key (set numbers i (slice_index numbers i + u)) ≡ keyed kind key numbers + (if int_eq (key_of_bucket kind i) key then u else 0)
 keyed_risen kind key numbers i u below =
@@ -59,7 +59,7 @@ keyed_risen kind key numbers i u below =
 -- ---- the block
 
 module _ (c : Counts) (i u : ℕ) (below : i < length c.units) where
-  -- with so many units more of a bucket
+  -- with `u` units more of a bucket
   abbrev pub risen : Counts
   risen = record c { units = set c.units i (slice_index c.units i + u) }
 
@@ -96,7 +96,7 @@ module _ (c : Counts) (i u : ℕ) (below : i < length c.units) where
       omega (arith, words, now, was))
       (λ ne. let now = get_or-set_other (counts_words c) (4 + i) k v 0 ne in omega (arith, words, now))
 
-  -- it goes on so
+  -- the block continues in this way
   pub risen_turns : (version : ℕ) → Turns version (counts c) (counts risen) (4 + i) (slice_index c.units i + u)
   risen_turns version = word_turns version (counts c) (counts risen) (4 + i) (slice_index c.units i + u) refl refl risen_words within (omega arith)
       (risen, refl, record { is = refl; long = (length-set c.units i (slice_index c.units i + u), refl); rise = rises })

@@ -1,4 +1,4 @@
--- The ledger, where one block and one actor change: it is kept where one equation for each column holds between the two.
+-- The ledger, when one block and one actor change: it is kept if one equation for each column holds between the two.
 use Rattle.segment_invariant.proofs.Prelude.Std.{◌≡◌, ℕ, zero, suc, ◌+◌, ◌≤◌, ℤ, ◌+ℤ◌, List, [], ◌∷◌, ◌++◌, set, sym, ap, ◌∙◌, arith, append-nil, flat_map, +ℤ_idl, some, some-injective, some-ne-none, get_elem?, split_at, sum_beside, rows, IsTotal}
 use Rattle.segment_invariant.proofs.Prelude.Machine.{Actor, tally_units, tally_sum, tally_noted, counted_of, summed_of, noted_of, taken_units, taken_sum, all_counted, all_taken, taken_of}
 use Rattle.segment_invariant.proofs.Prelude.Invariant.{Body, Piece, units_held, marks_held, noted_held, moving_at}
@@ -12,8 +12,8 @@ use Rattle.segment_invariant.proofs.Lists.Portions.{taken_total, taken_sum_total
 
 -- ---- one among others
 
--- lists that stand for the elements, one behind the other: another in the place of one, beside what that one had, has with the others what they
--- had beside what it has
+-- lists that belong to the elements, one after the other: if an element is replaced, the new total with what the old element had is the old
+-- total with what the new element has
 pub rows_beside : {A B : Type 0} (total : List B → ℕ) → IsTotal ◌+◌ total → (f : A → List B) (l : List A) (i : ℕ) (x y : A) → get_elem? l i ≡ some x
     → total (flat_map f (set l i y)) + total (f x) ≡ total (flat_map f l) + total (f y)
 rows_beside total sums f [] i x y e = absurd (some-ne-none x (sym e))
@@ -28,7 +28,7 @@ rows_beside total sums f (z ∷ zs) (suc i) x y e =
     let was = sums (f z) (flat_map f zs) in
     omega (arith, rest, now, was)
 
--- amounts: where it has so much more, all have
+-- amounts: if one element has more, all together have as much more
 moved : (x m n d : ℤ) → (x +ℤ (m +ℤ d)) +ℤ n ≡ (x +ℤ (m +ℤ n)) +ℤ d
 moved x m n d =
     +ℤ_assoc x (m +ℤ d) n
@@ -69,7 +69,7 @@ module _ (pieces : List Piece) (k : ℕ) (p q : Piece) (there : get_elem? pieces
       (λ xs ys. ap total (flat_map-append f xs ys) ∙ sums (flat_map f xs) (flat_map f ys)) actors id a b d mine
       (ap total (append-nil (f b)) ∙ (more ∙ ap (λ n. n +ℤ d) (sym (ap total (append-nil (f a))))))
 
-  -- the ledger is kept, where no more was taken than was counted
+  -- the ledger is kept, if no more was taken than was counted
   pub balanced_beside : (version : ℕ) (opened : List Piece) → Balances version p.body q.body a b
       → ((name : List ℕ) (key : ℤ) → taken_units (all_taken (set actors id b)) name key ≤ tally_units (all_counted (set actors id b)) name key)
       → IsBalanced version opened pieces actors → IsBalanced version opened (set pieces k q) (set actors id b)
@@ -106,7 +106,7 @@ module _ (pieces : List Piece) (k : ℕ) (p q : Piece) (there : get_elem? pieces
     taken = taken;
   }
 
-  -- so it is where nothing was taken, and no less was counted
+  -- so it is if nothing was taken, and no less was counted
   pub taken_on : taken_of b ≡ taken_of a → ((name : List ℕ) (key : ℤ) → tally_units (counted_of a) name key ≤ tally_units (counted_of b) name key)
       → ((name : List ℕ) (key : ℤ) → taken_units (all_taken actors) name key ≤ tally_units (all_counted actors) name key)
       → (name : List ℕ) (key : ℤ) → taken_units (all_taken (set actors id b)) name key ≤ tally_units (all_counted (set actors id b)) name key

@@ -1,4 +1,4 @@
--- A recorder sees one counter more: what it saw lies behind the present, and it looks back at no more than there is.
+-- A recorder sees one counter more: what it saw is no later than the present, and it looks back at no more than there is.
 use Rattle.segment_invariant.proofs.Prelude.Std.{◌≡◌, ◌≢◌, ◌⊎◌, ℕ, ◌+◌, ◌<◌, ◌≤◌, ℤ, true, List, [], ◌∷◌, ◌++◌, Contains, inl, inr, ⊎_elim, sym, ap, ◌∙◌, subst, arith, Some, length-append, take, drop, drop-append-le, All-push, Contains-append_cases, one_in}
 use Rattle.segment_invariant.proofs.Prelude.Machine.{buckets_of, single_of, units_packed, Actor, Known, Seen, Sighting, is_off, tally_units, tally_noted, accepted_by, all_counted, bucket_key, cost_of, word_seen}
 use Rattle.segment_invariant.proofs.Prelude.Invariant.{Record, Anatomy, form_at, HasRecord, IsFirstOf, WasCounter, WasInUse, WasMet, Sees, LooksBack}

@@ -1,5 +1,5 @@
--- What holds of actors where one recorder that lives counts, packs or takes: of the others it stays, for none of them is alone; and of
--- what was seen before it stays, for words of published blocks only go on.
+-- What holds of actors when one recorder that lives counts, packs or takes: what holds of the others stays, for none of them is alone; and
+-- so does what was seen before it, for words of published blocks only continue.
 use Rattle.segment_invariant.proofs.Prelude.Std.{◌≡◌, ◌≢◌, ℕ, ◌+◌, ◌<◌, ◌≤◌, ℤ, true, false, List, Option, Some, length, set, All, Contains, inl, inr, ⊎_elim, refl, sym, ap, ◌∙◌, subst, arith, w64, cast_signed, drop, All-contains, dite, some, none, ℕ_discrete, get_elem?}
 use Rattle.segment_invariant.proofs.Prelude.Machine.{Dimensions, IsShown, SingleWord, buckets_of, packed_bucket, units_packed, single_of, EntryProgress, Place, Spent, SumLoaded, Actor, Known, Moment, Own, Taken, Seen, Sighting, is_off, Leads, tally_units, accepted_by, all_counted, bucket_key, SawCount, is_opener, made_of, outstanding_of, State}
 use Rattle.segment_invariant.proofs.Prelude.Invariant.{Record, Counts, Body, histogram, counts, Listed, Anatomy, layout_of, form_at, HasRecord, HasCounts, IsFirstOf, WasCounter, WasInUse, is_living, RolesAreKept, RecordsAreKept, IsAlone, LooksBack, FinalsAreExact, Invariant}
@@ -45,12 +45,12 @@ module _ (shape : Dimensions) (opened : Anatomy) (state : State) (kept : Invaria
 
 -- ---- who is alone
 
--- Others become others, who live where they lived; the first stays.
+-- Others become others, which live if they lived; the first stays.
 module _ (old new : List Actor) (roles : RolesAreKept old) (beside : SameRoles old new) where
   abbrev opener : Actor
   opener = roles.opener
 
-  -- who is alone was alone
+  -- an actor that is alone was alone
   pub alone_was : (b c : Actor) → outstanding_of b.role ≡ outstanding_of c.role → made_of b.role ≡ made_of c.role → IsAlone new b → IsAlone old c
   alone_was b c outstanding made (one, at, eldest, youngest) =
       (one, sym beside.opener ∙ at, sym outstanding ∙ eldest, ap (λ (n : ℕ). n + 1) (sym made) ∙ youngest)
@@ -63,7 +63,7 @@ module _ (old new : List Actor) (roles : RolesAreKept old) (beside : SameRoles o
     lives = λ k c at lives. let s = beside.stood k c at lives in inl (s.was, s.at, s.lives, s.made);
   }
 
-  -- Beside a recorder that lives
+  -- In the presence of a recorder that lives
   module _ (id : ℕ) (a : Actor) (mine : get_elem? old id ≡ some a) (lives : is_living a ≡ true) where
     -- no other is alone
     pub none_alone : (other : ℕ) (b : Actor) → other ≢ id → get_elem? old other ≡ some b → is_living b ≡ true → IsAlone old b → ⊥
@@ -80,7 +80,7 @@ module _ (old new : List Actor) (roles : RolesAreKept old) (beside : SameRoles o
         let young = roles.younger id a mine lives in
         omega (arith, later, young, youngest)
 
-    -- so what it took and answered stays
+    -- so what it took and returned stays
     pub finals_else : (other : ℕ) (b : Actor) → other ≢ id → get_elem? old other ≡ some b → b.hand.place ≢ Spent → FinalsAreExact old opener other b
         → FinalsAreExact new opener other b
     finals_else other b ne there live exact = record {
@@ -137,7 +137,7 @@ module _ (shape : Dimensions) (words : List ℕ) (old new : Anatomy) (shown : Is
               let (place, k, body, stood, found, counter, least) = All-contains (WasCounter old.pieces) x.seen.counts sighting counters saw in
               onward.apart s.counts place i k (counts d) body new_one stood (counter_within (counts d) i (from, below)) (counter_within body k counter) (sym spot ∙ found)
 
-  -- so what it looks back at stays, where no less was counted
+  -- so what it looks back at stays, if no less was counted
   module _ (before after : List Actor) (opener : Actor) (d : Deed)
       (more : (name : List ℕ) (key : ℤ) → tally_units (all_counted before) name key ≤ tally_units (all_counted after) name key)
       (alone : IsAlone after x → IsAlone before x)

@@ -53,7 +53,7 @@ module _ (shape : Dimensions) (opened : Anatomy) (state : State) (kept : Invaria
     took : all_taken actors ≡ all_taken state.actors
     took = rows taken_of state.actors id a b mine refl
 
-    -- what it took and answered is as exact as it was
+    -- what it took and returned is as exact as it was
     finals_on : FinalsAreExact state.actors kept.roles.opener id a → FinalsAreExact actors kept.roles.opener id b
     finals_on exact = record {
       deltas = λ t has eldest youngest quiet.

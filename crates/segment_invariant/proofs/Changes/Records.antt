@@ -1,4 +1,4 @@
--- Records are kept where a word of a record, of its counts, or of a sample becomes another.
+-- Records are kept when a word of a record, of its counts, or of a sample becomes another.
 use Rattle.segment_invariant.proofs.Prelude.Std.{◌≡◌, ◌≢◌, ℕ, ◌≤◌, List, inl, inr, ⊎_elim, refl, sym, ap, ◌∙◌, subst, dite, none, ℕ_discrete}
 use Rattle.segment_invariant.proofs.Prelude.Machine.{Dimensions, Spec, State, units_in}
 use Rattle.segment_invariant.proofs.Prelude.Invariant.{Record, Counts, Sample, Body, histogram, counts, sample, Piece, Anatomy, form_at, Stands, HasRecord, HasCounts, IsFirst, IsLawfulRecord, IsCountsOf, CountsNothing, RecordsAreKept, Invariant}
@@ -12,12 +12,12 @@ module _ (shape : Dimensions) (opened : Anatomy) (state : State) (kept : Invaria
   abbrev version : ℕ
   version = kept.anatomy.version
 
-  -- a block that goes on among the others
+  -- a block that continues among the others
   module _ (body then_is : Body) (j v : ℕ) (stands : Stands pieces at none body) (turns : Turns version body then_is j v) where
     abbrev new : List Piece
     new = turned shape opened state kept at body then_is j v stands turns
 
-    -- what is no such block stays, and came from there
+    -- a body other than this one stays, and was there before
     same_kind : (place : ℕ) (b : Body) → b ≢ body → Stands pieces place none b → Stands new place none b
     same_kind place b apart there = stands_still shape opened state kept at body then_is j v stands turns place none b there (inr apart)
 
@@ -32,7 +32,7 @@ module _ (shape : Dimensions) (opened : Anatomy) (state : State) (kept : Invaria
         (λ t. subst (λ (p : ℕ × Body). holds p.0 p.1) (λ i. (sym t.0 i, sym t.1 i)) mine)
         (came_from shape opened state kept at body then_is j v stands turns place none b there)
 
-    -- what stood there was the block
+    -- what was there is the block
     one_there : (place : ℕ) (b : Body) → Stands pieces place none b → place ≡ at → b ≡ body
     one_there place b there same =
         (one_stands shape state.words kept.anatomy kept.shown at none none b body (subst (λ (n : ℕ). Stands pieces n none b) same there) stands).1
@@ -43,7 +43,7 @@ module _ (shape : Dimensions) (opened : Anatomy) (state : State) (kept : Invaria
     still_there : (place : ℕ) (b : Body) → Stands pieces place none b → place ≢ at → Stands new place none b
     still_there place b there ne = stands_still shape opened state kept at body then_is j v stands turns place none b there (inl ne)
 
-  -- what is told of records, where one is told
+  -- a statement about records, for a body that is one
   abbrev OfRecords : (ℕ → Record → Type 0) → ℕ → Body → Type 0
   OfRecords holds place b = (z : Record) → b ≡ histogram z → holds place z
 
@@ -53,7 +53,7 @@ module _ (shape : Dimensions) (opened : Anatomy) (state : State) (kept : Invaria
   abbrev OfSamples : (ℕ → Sample → Type 0) → ℕ → Body → Type 0
   OfSamples holds place b = (x : Sample) → b ≡ sample x → holds place x
 
-  -- a record goes on with the counts that it names; it is the first of its name
+  -- a record continues with the counts that it names; it is the first of its name
   module _ (r s : Record) (j v : ℕ) (stands : HasRecord pieces at r) (turns : Turns version (histogram r) (histogram s) j v)
       (mounts : s.counts ≡ r.counts) (lawful : IsLawfulRecord version shape.page s)
       (its : (c : Counts) → HasCounts pieces r.counts c → IsCountsOf version at r c → IsCountsOf version at s c)
@@ -100,7 +100,7 @@ module _ (shape : Dimensions) (opened : Anatomy) (state : State) (kept : Invaria
       later_samples = λ place who x there. kept.records.later_samples place who x (was_kind (histogram r) (histogram s) j v stands turns place (sample x) (λ e. cc e) there);
     }
 
-  -- counts go on, of the same record
+  -- counts continue, of the same record
   module _ (c d : Counts) (j v : ℕ) (stands : HasCounts pieces at c) (turns : Turns version (counts c) (counts d) j v) (of_same : d.of ≡ c.of)
       (its : (place : ℕ) (z : Record) → HasRecord pieces place z → z.counts ≡ at → IsCountsOf version place z c → IsCountsOf version place z d) where
     abbrev after : List Piece

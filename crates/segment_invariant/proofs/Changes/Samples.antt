@@ -1,4 +1,4 @@
--- A word of a sample becomes another: records are kept, where it is the first of its value.
+-- A word of a sample becomes another: records are kept, if it is the first of its value.
 use Rattle.segment_invariant.proofs.Prelude.Std.{◌≡◌, ◌≢◌, ℕ, List, inr, ⊎_elim, refl, sym, ◌∙◌, subst, none}
 use Rattle.segment_invariant.proofs.Prelude.Machine.{Dimensions, State}
 use Rattle.segment_invariant.proofs.Prelude.Invariant.{Sample, Body, histogram, counts, sample, Piece, Anatomy, Stands, HasSample, IsFirstOf, RecordsAreKept, Invariant}
@@ -13,7 +13,7 @@ module _ (shape : Dimensions) (opened : Anatomy) (state : State) (kept : Invaria
   abbrev new : List Piece
   new = turned shape opened state kept at (sample x) (sample y) j v stands turns
 
-  -- what is no sample stays, and came from there
+  -- a body other than this sample stays, and was there before
   pub no_sample_then : (place : ℕ) (b : Body) → b ≢ sample x → Stands pieces place none b → Stands new place none b
   no_sample_then place b apart there = stands_still shape opened state kept at (sample x) (sample y) j v stands turns place none b there (inr apart)
 

@@ -1,4 +1,4 @@
--- Sums of a record stay near, and change by no more than what was spent, where none of them becomes another.
+-- Sums of a record stay near, and change by no more than what was spent, if none of them becomes another.
 use Rattle.segment_invariant.proofs.Prelude.Std.{◌≡◌, ℕ, ℤ, List, inl, inr, sym, ap, ◌∙◌, arith, w64, cast_signed}
 use Rattle.segment_invariant.proofs.Prelude.Machine.{Dimensions, IsShown, Actor}
 use Rattle.segment_invariant.proofs.Prelude.Invariant.{Record, Piece, Anatomy, layout_of, HasRecord, IsSumOf, SumsAreNear}
@@ -7,7 +7,7 @@ use Rattle.segment_invariant.specs.Rises.{SumsRise}
 use Rattle.segment_invariant.proofs.Frames.SumsRise.{CostsRise, sums_come}
 use Rattle.segment_invariant.proofs.Frames.Together.{LoadedBefore}
 
--- a record has the sums of one that stood there, of its name
+-- a record has the sums of one that was there before, of its name
 abbrev pub SameSum : List Piece → List Piece → Type 0
 SameSum old new = (at : ℕ) (s : Record) → HasRecord new at s
     → (r : Record) × HasRecord old at r × (r.name ≡ s.name) × (r.sum ≡ s.sum) × (r.sum_mark ≡ s.sum_mark)

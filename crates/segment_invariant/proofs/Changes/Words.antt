@@ -1,4 +1,4 @@
--- One word of a published block becomes another, and the block goes on: what has then to be shown of the blocks.
+-- One word of a published block becomes another, and the block continues: what has then to be shown of the blocks.
 use Rattle.segment_invariant.proofs.Prelude.Std.{◌≡◌, ◌≢◌, ◌⊎◌, ℕ, ◌+◌, ◌<◌, ◌≤◌, ℤ, true, List, length, set, All, Contains, inl, inr, ⊎_elim, refl, sym, ap, ◌∙◌, subst, arith, length-set, false, slice_index, dite, ℕ_discrete, some, none, some-injective, some-ne-none, get_elem?, at_set, set_else, sum_same}
 use Rattle.segment_invariant.proofs.Prelude.Machine.{Dimensions, IsShown, stops, IsLinked, Entry, Actor, Portion, Own, Spent, SumLoaded, Seen, Behind, tally_units, counted_of, all_counted, all_taken, taken_units, taken_of, is_opener, State}
 use Rattle.segment_invariant.proofs.Prelude.Invariant.{Body, held, words_of, is_claimed, Piece, extent_of, Anatomy, layout_of, order_of, claims_of, free_of, Record, histogram, Stands, Sees, HasRecord, RecordsAreKept, StandsRight, HoldsOwn, CallsRight, HasKey, LooksBack, FinalsAreExact, StandStill, Invariant, KeptOn, summed_cost}
@@ -18,7 +18,7 @@ use Rattle.segment_invariant.proofs.Changes.Sums.{SameSum, SumsGoOn, sums_on}
 use Rattle.segment_invariant.proofs.Counting.Seen.{known_stands}
 use Rattle.segment_invariant.proofs.Frames.Together.{loaded_set}
 
--- What a block is, where word j of it becomes v: it goes on.
+-- What a block is when its word j becomes v: it continues.
 pub record Turns (version : ℕ) (body then_is : Body) (j v : ℕ) : Type 0 where
   pub claimed : is_claimed body ≡ true
   pub still : is_claimed then_is ≡ true
@@ -27,7 +27,7 @@ pub record Turns (version : ℕ) (body then_is : Body) (j v : ℕ) : Type 0 wher
   pub inside : (j ≢ 0) × (j ≢ 3)
   pub goes : GoesAs version body then_is
 
--- so a word behind the next of a block does
+-- what is enough if the word comes after the next of the block
 pub word_turns : (version : ℕ) (body then_is : Body) (j v : ℕ) → is_claimed body ≡ true → is_claimed then_is ≡ true → words_of then_is ≡ set (words_of body) j v
     → j < length (words_of body) → 4 ≤ j → GoesAs version body then_is → Turns version body then_is j v
 word_turns version body then_is j v claimed still is within from goes = record {
@@ -56,7 +56,7 @@ module _ (shape : Dimensions) (opened : Anatomy) (state : State) (kept : Invaria
   abbrev pub behind : Anatomy
   behind = record kept.anatomy { pieces = turned }
 
-  -- it stands there then
+  -- the new block is there then
   pub stands_then : Stands turned at none then_is
   stands_then = stands_here kept.anatomy.pieces k p q stands.1
 
@@ -73,7 +73,7 @@ module _ (shape : Dimensions) (opened : Anatomy) (state : State) (kept : Invaria
       (λ t. inl ((i, t.1), λ same. t.0 (one_piece shape state.words kept.anatomy kept.shown i k _ p t.1 stands.1 same).0))
       (at_set kept.anatomy.pieces k i q (record { at = place; owner = owner; body = b }) here)
 
-  -- no sum becomes another, where it is no record then
+  -- no sum becomes another, if the block is no record then
   pub sums_beside : ((s : Record) → then_is ≢ histogram s) → SameSum kept.anatomy.pieces turned
   sums_beside apart place s there = ⊎_elim
       (λ was. (s, was.0, refl, refl, refl))
@@ -113,15 +113,15 @@ module _ (shape : Dimensions) (opened : Anatomy) (state : State) (kept : Invaria
   pub turned_free : free_of behind ≡ free_of kept.anatomy
   turned_free = free_with kept.anatomy k p q stands.1 long
 
-  -- what a recorder saw lies behind the present
+  -- what a recorder saw is no later than the present
   pub sees_turned : (seen : Seen) → Sees kept.anatomy state.cursors seen → Sees behind state.cursors seen
   sees_turned seen sees = sees_on kept.anatomy behind (λ at body. ⊥) turned_onward state.cursors seen (subst (Behind seen.free) (sym turned_free) sees.free)
       sees.walked sees.tails sees.shared sees
 
-  -- Of a recorder that goes on with no sum loaded
+  -- Of a recorder that moves on with no sum loaded
   module _ (id : ℕ) (a : Actor) (mine : get_elem? state.actors id ≡ some a) (recorder : is_opener a.role ≡ false) (lived : a.hand.place ≢ Spent)
       (d : Deed) (lives : d.place ≢ Spent) (unsummed : (reference : ℕ) (sum : ℤ) → d.place ≢ SumLoaded reference sum) where
-    -- what it looks back at stays, where no less was counted
+    -- what it looks back at stays, if no less was counted
     pub looks_turned : RecordsAreKept shape.page behind
         → ((name : List ℕ) (key : ℤ) → tally_units (all_counted state.actors) name key ≤ tally_units (all_counted (set state.actors id (changed a d))) name key)
         → LooksBack behind (set state.actors id (changed a d)) kept.roles.opener (changed a (sees_no_more a d))
@@ -134,7 +134,7 @@ module _ (shape : Dimensions) (opened : Anatomy) (state : State) (kept : Invaria
         (λ known has. let (r, there, named, bounds, many) = known_stands shape opened state kept id a mine lived known has in (r, there, many))
         (fits.looks recorder) (λ reference sum s loaded. absurd (unsummed reference sum loaded)) (λ at s new_one. new_one)
 
-    -- and sums are near on, where none becomes another
+    -- and sums are still near, if none becomes another
     pub sums_turned : SameSum kept.anatomy.pieces turned → ((name : List ℕ) → summed_cost name (changed a d) ≡ summed_cost name a)
         → SumsGoOn kept.anatomy.pieces turned state.actors (set state.actors id (changed a d))
     sums_turned same costs = sums_on shape state.words kept.anatomy kept.shown turned state.actors (set state.actors id (changed a d)) same
@@ -148,7 +148,7 @@ module _ (shape : Dimensions) (opened : Anatomy) (state : State) (kept : Invaria
       let four = (first_piece shape state.words kept.anatomy kept.shown p (subst (λ (m : ℕ). get_elem? kept.anatomy.pieces m ≡ some p) first stands.1)).2 in
       omega (arith, five, four)
 
-  -- its words are shown, it stays where it is, and as it was claimed; the list goes on
+  -- its words are shown, it stays where it is, and as it was claimed; the list continues
   pub turned_shown : IsShown shape (set state.words (at + j) v) (layout_of behind)
   turned_shown = piece_stored shape state.words kept.anatomy k p q j v kept.shown stands.1 not_queue turns.within turns.is refl
 
@@ -176,7 +176,7 @@ module _ (shape : Dimensions) (opened : Anatomy) (state : State) (kept : Invaria
   pub turned_claims : claims_of turned ≡ claims_of kept.anatomy.pieces
   turned_claims = claims_same kept.anatomy.pieces k p q stands.1 (turns.still ∙ sym turns.claimed) refl long
 
-  -- What has to be shown beside: of the records, the ledger, the keys and the sums, and of the recorder, which keeps its blocks.
+  -- What else has to be shown: of the records, the ledger, the keys and the sums, and of the recorder, which keeps its blocks.
   pub record Turned (opener : Actor) (id : ℕ) (a : Actor) (d : Deed) : Type 0 where
     pub records : RecordsAreKept shape.page behind
     pub balances : Balances kept.anatomy.version body then_is a (changed a d)
@@ -236,7 +236,7 @@ module _ (shape : Dimensions) (opened : Anatomy) (state : State) (kept : Invaria
       stands_owned : (who place : ℕ) (b : Body) → Stands kept.anatomy.pieces place (some who) b → Stands turned place (some who) b
       stands_owned who place b = stands_beside kept.anatomy.pieces k p q stands.1 place (some who) b (λ same. some-ne-none who (ap (λ (z : Piece). z.owner) same))
 
--- no sum becomes another where a record keeps its name and its sums
+-- no sum becomes another if a record keeps its name and its sums
 pub record_sums : (shape : Dimensions) (opened : Anatomy) (state : State) (kept : Invariant shape opened state) (at : ℕ) (r s : Record) (j v : ℕ)
     (stands : HasRecord kept.anatomy.pieces at r) (turns : Turns kept.anatomy.version (histogram r) (histogram s) j v) → r.name ≡ s.name → r.sum ≡ s.sum
     → r.sum_mark ≡ s.sum_mark → SameSum kept.anatomy.pieces (turned shape opened state kept at (histogram r) (histogram s) j v stands turns)

@@ -1,4 +1,4 @@
--- The claimed blocks of a kept segment among its words: lawful ones, apart from each other, and not too many.
+-- The claimed blocks of a kept segment among its words: they are valid, apart from each other, and not too many.
 use Rattle.segment_invariant.proofs.Prelude.Std.{◌≡◌, Bool, true, false, cond, ℕ, suc, ◌+◌, ◌*◌, ◌<◌, ◌≤◌, List, [], ◌∷◌, map, length, filter, get_or, inl, inr, ⊎_elim, refl, sym, ap, subst, ◌∙◌, arith, slice_index, All, Contains, cases_order, some, some-injective, some-ne-none, get_elem?, at_map, from_map, contains_at, contains_filter, below_length, contains_map}
 use Rattle.segment_invariant.proofs.Prelude.Machine.{Dimensions, word_at, head_of, is_block, IsShown, Claim}
 use Rattle.segment_invariant.proofs.Prelude.Invariant.{Body, queue, plain, held, histogram, counts, sample, other, words_of, is_claimed, Piece, extent_of, Anatomy, layout_of, claims_of, ClaimedRight}
@@ -14,7 +14,7 @@ use Rattle.list_lemmas.proofs.Elements.{all_from}
 use Rattle.segment_invariant.proofs.Blocks.Pieces.{claim_of, piece_word, first_piece, some_first, one_piece, pieces_apart, piece_from, piece_ends}
 use Rattle.list_lemmas.proofs.Pairs.{AnyTwo, element_at}
 
--- a claimed block has the cookie behind its size
+-- a claimed block has the cookie after its size
 pub cookie_of : (body : Body) → is_claimed body ≡ true → slice_index (words_of body) 1 ≡ 0xC8799269
 cookie_of (queue next) e = cc e
 cookie_of (plain words) e = cc e
@@ -72,7 +72,7 @@ wide_blocks at (x ∷ xs) wide =
     let more = more_words x (filter (λ piece. is_claimed piece.body) xs) (is_claimed x.body) (wide 0 x refl) in
     omega (arith, h, more)
 
--- beside the four words of the queue block
+-- and in addition the four words of the queue block
 wide_behind : (at : ℕ) (pieces : List Piece) (first : Piece) → get_elem? pieces 0 ≡ some first → extent_of first ≡ 4 → AreWide pieces
     → at + (4 + 5 * length (claims_of pieces)) ≤ end_of at (map block_of pieces)
 wide_behind at [] first there four wide = absurd (some-ne-none first (sym there))
@@ -120,7 +120,7 @@ module _ (shape : Dimensions) (words : List ℕ) (anatomy : Anatomy) (shown : Is
         in_page = in_one_page shape.page 12 _ k (block_of p) shown.sound.laid (at_map block_of anatomy.pieces k p there);
       }
 
-  -- a claimed block is lawful
+  -- a claimed block is valid
   pub lawful_piece : (k : ℕ) (p : Piece) → get_elem? anatomy.pieces k ≡ some p → is_claimed p.body ≡ true → is_block words (head_of words) p.at ≡ true
   lawful_piece k p there claimed = lawful_at shape words p.at (extent_of p) (claimed_piece k p there claimed)
 

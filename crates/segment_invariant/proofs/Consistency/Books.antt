@@ -45,7 +45,7 @@ keyed_one kind numbers i lawful bucketed long below =
 -- ---- books
 
 -- what blocks hold of a name and a key: a number of a record's packed bucket, those of a counts block, and one of a sample; those of a
--- record and of a sample are 0 where nothing is counted
+-- record and of a sample are 0 if nothing is counted
 pub record IsBook (version : ℕ) (name : List ℕ) (key : ℤ) (holds : Body → ℕ) (packed : Record → ℕ) (buckets : Counts → List ℕ) (valued : Sample → ℕ) : Type 0 where
   pub of_record : (r : Record) → holds (histogram r) ≡ of_name r.name name (at_bucket r.spec key (packed_bucket (form_at version r)) (packed r))
   pub of_counts : (c : Counts) → holds (counts c) ≡ of_name c.name name (keyed c.spec key (buckets c))
@@ -87,7 +87,7 @@ marks_book version name key = record {
 
 module _ (version : ℕ) (name : List ℕ) (key : ℤ) (holds : Body → ℕ) (packed : Record → ℕ) (buckets : Counts → List ℕ) (valued : Sample → ℕ)
     (book : IsBook version name key holds packed buckets valued) where
-  -- a block holds nothing where its record, its counts or its sample, if they are of the name, do not
+  -- a block holds nothing if its record, its counts or its sample, if they are of the name, do not
   pub nothing_held : (body : Body)
       → ((r : Record) → body ≡ histogram r → r.name ≡ name → at_bucket r.spec key (packed_bucket (form_at version r)) (packed r) ≡ 0)
       → ((c : Counts) → body ≡ counts c → c.name ≡ name → keyed c.spec key (buckets c) ≡ 0)

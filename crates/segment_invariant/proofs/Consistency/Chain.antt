@@ -117,7 +117,7 @@ module _ (shape : Dimensions) (opened : Anatomy) (state : State) (opens : Opens 
   size : length words ≡ length before
   size = length_shown shape words (layout_of anatomy) kept.shown ∙ sym (length_shown shape before (layout_of opened) opens.shown)
 
-  -- the records of the opening come first, and behind them are those that actors linked
+  -- the records of the opening come first, and after them come those that actors linked
   abbrev more : List Listed
   more = kept.list.once.0
 

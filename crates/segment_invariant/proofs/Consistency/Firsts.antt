@@ -103,7 +103,7 @@ module _ (shape : Dimensions) (opened : Anatomy) (words : List ℕ) (kept : AreL
         ap (cast_signed w64) (word 5 (omega arith)) ∙ value_word s.value (kept.records.valued at s (k, there)).valued,
       )
 
-  -- the first record of a name stands as one of that name
+  -- the first record of a name is there as one of that name
   pub record_of_first : (name : List ℕ) (spec : Spec) (at : ℕ) → IsFirst kept.anatomy.records name spec at → (r : Record) × Named name spec at r
   record_of_first name spec at first = let (r, has, named, specified) = standing_of _ (split_among first.0 first.1 first.2) in (r, (has, named, specified))
 
@@ -125,7 +125,7 @@ module _ (shape : Dimensions) (opened : Anatomy) (words : List ℕ) (kept : AreL
 -- ---- by the words
 
 module _ (shape : Dimensions) (opened : Anatomy) (words : List ℕ) (kept : AreLaid shape opened words) where
-  -- what was given to the maker of a record of a name; it may be passed over, behind another of that name
+  -- what was given to the maker of a record of a name; the record may be passed over, after another of that name
   pub given_name : (front behind : List Listed) (l : Listed) (name : List ℕ) → kept.anatomy.records ≡ front ++ l ∷ behind → consistent.HasName words name l.reference
       → ((spec : Spec) × (r : Record) × (l.made ≡ Some (made.Histogram name spec)) × Named shape opened words kept name spec l.reference r)
       ⊎ ((r : Record) × (l.made ≡ None) × (r.name ≡ name) × PassedOver shape opened words kept front l.reference r)
@@ -180,7 +180,7 @@ module _ (shape : Dimensions) (opened : Anatomy) (words : List ℕ) (kept : AreL
       by_made None is (size, tag, next, payload, (k, there), third, long) =
           absurd (third (sym (piece_word shape words kept.anatomy kept.shown k _ 2 there (omega arith)) ∙ valued.0))
 
-  -- where a record stands on the list
+  -- where a record is on the list
   listed_at : (at : ℕ) → Contains (order_of kept.anatomy) at → (front behind : List Listed) × (l : Listed) × (kept.anatomy.records ≡ front ++ l ∷ behind) × (l.reference ≡ at)
   listed_at at there =
       let (k, place) = at_from (order_of kept.anatomy) at there in

@@ -1,4 +1,4 @@
--- The flags of a kept state are set exactly where they were at the opening or an actor has set them.
+-- A flag of a kept state is set exactly if it was set at the opening or an actor has set it.
 use Rattle.segment_invariant.proofs.Prelude.Std.{◌≡◌, ◌⊎◌, Bool, true, false, ◌||◌, ℕ, suc, ◌/◌, List, [], ◌∷◌, fold, inl, inr, refl, true≢false, sym, ap, subst, ◌∙◌, arith, ⊎_elim, bit_and, Contains, at_from}
 use Rattle.segment_invariant.proofs.Prelude.Machine.{word_at}
 use Rattle.segment_invariant.proofs.Prelude.Invariant.{layout_of, IsSetBy}
@@ -10,7 +10,7 @@ use Rattle.segment_invariant.specs.Keeps.{KeptFlagsAreSet}
 use Rattle.list_lemmas.proofs.Elements.{any_there}
 use Rattle.segment_invariant.proofs.Frames.Books.{noticed_there}
 
--- one of a list of truth values is true where all of them together are
+-- one of a list of truth values is true if all of them together are
 one_of : (list : List Bool) → fold ◌||◌ false list ≡ true → Contains list true
 one_of [] e = cc e
 one_of (true ∷ list) e = (0, omega arith, refl)
@@ -19,7 +19,7 @@ one_of (false ∷ list) e = let (k, below, is) = one_of list e in (suc k, omega 
 all_of : (list : List Bool) → Contains list true → fold ◌||◌ false list ≡ true
 all_of list there = let place = at_from list true there in any_there list place.0 false place.1
 
--- a flag is set where it was at the opening, or an actor has set it
+-- a flag is set if it was set at the opening, or an actor has set it
 set_by : (now was : Bool) (set : List Bool) → IsSetBy now was set → (now ≡ true) ↔ ((was ≡ true) ⊎ Contains set true)
 set_by now true set is = (λ on. inl refl, λ either. is)
 set_by now false set is = (

@@ -1,4 +1,4 @@
--- Records among words that are laid out have lawful forms: those in which somebody counts or nobody has, and those that are passed over.
+-- Records among words that are laid out have valid forms: those in which somebody counts or nobody does, and those that are passed over.
 use Rattle.segment_invariant.proofs.Prelude.Std.{◌≡◌, ◌≢◌, Bool, true, false, ◌&&◌, nat_le, ℕ, ◌+◌, ◌-◌, ◌*◌, ◌<◌, ◌≤◌, List, ◌++◌, length, All, Contains, inl, inr, refl, sym, ap, subst, ◌∙◌, arith, length-append, ◌==◌, slice_index, eqb-true, eqb-false, eq-eqb, and_from, le-leb}
 use Rattle.segment_invariant.proofs.Prelude.Machine.{Dimensions, head_of, field_at, is_block, buckets_of, record_buckets, record_single, packed_bucket, is_off, units_in}
 use Rattle.segment_invariant.proofs.Prelude.Invariant.{Record, Counts, record_words, histogram, counts, Listed, Anatomy, order_of, form_at, HasRecord, IsLawfulRecord, IsCountsOf, IsPassedOver}
@@ -22,13 +22,13 @@ use Rattle.segment_invariant.proofs.Consistency.PassedOver.{told, told_shown, to
 
 -- ---- a record among the words
 
--- Words tell a counts block at a place: a lawful block with its words.
+-- Words show a counts block at a place: a valid block with its words.
 pub record TellsCounts (words : List ℕ) (at : ℕ) (c : Counts) : Type 0 where
   pub block : is_block words (head_of words) at ≡ true
   pub word : (j : ℕ) → j < length (counts_words c) → field_at words at j ≡ slice_index (counts_words c) j
 
--- They tell a record: its own words up to its name, its buckets, its form, and its counts where it names some; until then its mark is at
--- most its packed units.
+-- They show a record: its own words up to its name, its buckets, its form, and its counts if it names some; until then its mark is at most
+-- its packed units.
 pub record TellsRecord (words : List ℕ) (page version at : ℕ) (r : Record) : Type 0 where
   pub lawful : IsLawfulRecord version page r
   pub word : (j : ℕ) → j < 15 → field_at words at j ≡ slice_index (record_words r) j
@@ -59,7 +59,7 @@ module _ (words : List ℕ) (version at : ℕ) (r : Record) (c : Counts) (tells 
       ap (λ (n : ℕ). field_at words r.counts (4 + n + i)) (sym units)
       ∙ (tells.word (4 + length c.units + i) (omega (arith, below, long, units, marks)) ∙ mark_in c i (omega (arith, below, marks)))
 
-  -- all of them are 0 where they are all 0
+  -- the words of all of them are 0 if they are all 0
   told_nothing : (i : ℕ) → All (λ n. n ≡ 0) c.units → All (λ n. n ≡ 0) c.marks → i < 2 * buckets_of r.spec → field_at words r.counts (4 + i) ≡ 0
   told_nothing i no_units no_marks below = elim (cases_lt i (buckets_of r.spec)) [
     | inl low ↦ told_count i low ∙ zero_index c.units i no_units
@@ -69,7 +69,7 @@ module _ (words : List ℕ) (version at : ℕ) (r : Record) (c : Counts) (tells 
         ap (field_at words r.counts) place ∙ (told_mark (i - n) (omega (arith, high, below)) ∙ zero_index c.marks (i - n) no_marks)
   ]
 
-  -- they are a lawful counts block
+  -- they are a valid counts block
   counts_lawful : (is_block words (head_of words) r.counts && (field_at words r.counts 2 == 2) && nat_le (4 + 2 * buckets_of r.spec) (field_at words r.counts 0)) ≡ true
   counts_lawful =
       let long = counts_long in
@@ -130,7 +130,7 @@ module _ (words : List ℕ) (page version at : ℕ) (r : Record) (tells : TellsR
 -- ---- words that are laid out
 
 module _ (shape : Dimensions) (opened : Anatomy) (words : List ℕ) (kept : AreLaid shape opened words) where
-  -- its words tell each record
+  -- the words show each record
   pub tells_record : (at : ℕ) (r : Record) → HasRecord kept.anatomy.pieces at r → TellsRecord words shape.page kept.anatomy.version at r
   tells_record at r has =
       let lawful = kept.records.lawful at r has in
@@ -151,7 +151,7 @@ module _ (shape : Dimensions) (opened : Anatomy) (words : List ℕ) (kept : AreL
         packed = kept.records.packed at r has;
       }
 
-  -- a block that holds what counts would tells them
+  -- of a block that holds what counts would, they show counts
   pub tells_counts : (at : ℕ) (c : Counts) → HoldsAs kept.anatomy.pieces at (counts c) → TellsCounts words at c
   tells_counts at c holds =
       let (k, there) = told_stands shape opened words kept at (counts c) holds in
@@ -178,7 +178,7 @@ module _ (shape : Dimensions) (opened : Anatomy) (words : List ℕ) (kept : AreL
         packed = over.packed;
       }
 
-  -- so they tell each record on the list
+  -- so they show each record on the list
   pub tells_listed : (at : ℕ) → Contains (order_of kept.anatomy) at → field_at words at 2 ≡ 1
       → (r : Record) × TellsRecord words shape.page kept.anatomy.version at r
   tells_listed at there one = elim (record_on_list shape opened words kept at there one) [

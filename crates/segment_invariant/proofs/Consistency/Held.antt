@@ -1,4 +1,4 @@
--- What the words of a kept state's records say beside their spec: which counts are theirs, and that nobody counts in later ones.
+-- What the words of a kept state's records say in addition to their spec: which counts are theirs, and that nobody counts in later ones.
 use Rattle.segment_invariant.proofs.Prelude.Std.{◌≡◌, ◌≢◌, ℕ, ◌+◌, ◌-◌, ◌*◌, ◌<◌, ◌≤◌, ℤ, List, length, inl, inr, sym, ap, subst, ◌∙◌, arith, Option, Some, None, true, refl, slice_index, All, Contains, none}
 use Rattle.segment_invariant.proofs.Prelude.Machine.{Dimensions, word_at, field_at, IsShown, Spec, name_of, record_buckets, sample_value, Sighting, Made, State, Leads}
 use Rattle.segment_invariant.proofs.Prelude.Invariant.{IsHistogram, Record, record_words, Counts, Body, histogram, counts, sample, other, Listed, Anatomy, layout_of, order_of, is_claimed, Stands, HasRecord, HasCounts, IsFirst, IsFirstOf, WasSingle, StandsAs, CountsNothing, Invariant}
@@ -19,7 +19,7 @@ use Rattle.segment_invariant.proofs.Consistency.PassedOver.{passed_word}
 use Rattle.segment_invariant.proofs.Frames.PassedOver.{PassedOver, in_opening}
 
 module _ (shape : Dimensions) (opened : Anatomy) (state : State) (kept : Invariant shape opened state) where
-  -- a block stands at one place
+  -- there is one block at a place
   counts_there : (at : ℕ) (c d : Counts) → HasCounts kept.anatomy.pieces at c → HasCounts kept.anatomy.pieces at d → c ≡ d
   counts_there at c d first second =
       let bodies : counts c ≡ counts d = (one_stands shape state.words kept.anatomy kept.shown at none none (counts c) (counts d) first second).1 in
@@ -42,7 +42,7 @@ module _ (shape : Dimensions) (opened : Anatomy) (state : State) (kept : Invaria
 -- ---- on the list
 
 module _ (shape : Dimensions) (opened : Anatomy) (state : State) (kept : Invariant shape opened state) where
-  -- nobody's counts stand where a record that is passed over has its own
+  -- nobody's counts are where a record that is passed over has its own
   counts_apart : (at place : ℕ) (c : Counts) (body : Body) → HasCounts kept.anatomy.pieces at c → HoldsAs kept.anatomy.pieces place body → at ≢ place
   counts_apart at place c body has (size, tag, next, payload, stands, same) is =
       let one : counts c ≡ other size tag next payload =
@@ -141,7 +141,7 @@ module _ (shape : Dimensions) (opened : Anatomy) (state : State) (kept : Invaria
         )
   ]
 
-  -- single words lead on from those that were seen
+  -- single words that were seen lead to the present ones
   pub single_leads : (s : Sighting) (at : ℕ) → WasSingle kept.anatomy.version kept.anatomy.pieces s → s.at ≡ at + 9
       → Leads opened.version (record_buckets state.words at) s.word (word_at state.words s.at)
   single_leads s at (place, r, has, there, formed, leads) same =

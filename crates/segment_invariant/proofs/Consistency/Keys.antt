@@ -30,7 +30,7 @@ further boundaries ascending i j lt below =
     let rest = ascends boundaries (i + 1) j ascending (omega (arith, lt)) below in
     omega (arith, step, rest)
 
--- two buckets of a lawful spec that have one key are one
+-- two buckets of a valid spec that have the same key are the same
 pub one_key : (spec : Spec) (i j : ℕ) → spec_fault spec ≡ None → spec ≢ Sparse → i < buckets_of spec → j < buckets_of spec
     → key_of_bucket spec i ≡ key_of_bucket spec j → i ≡ j
 one_key spec i j lawful bucketed low high same =
@@ -93,14 +93,14 @@ pub no_packed : (version n word : ℕ) → (version ≡ 1) ⊎ (version ≡ 2) �
 no_packed version n word (inl one) empty = (λ i. packed_bucket (single_of (one i) n (empty i)))
 no_packed version n word (inr two) empty = (λ i. packed_bucket (single_of (two i) n (empty i)))
 
--- ---- what stands for a bucket
+-- ---- what belongs to a bucket
 
 pub at_no_bucket : (spec : Spec) (key : ℤ) (packed : Option ℕ) → at_bucket spec key packed 0 ≡ 0
 at_no_bucket spec key None = refl
 at_no_bucket spec key (Some bucket) = if_nothing (int_eq (key_of_bucket spec bucket) key) 0 0 refl
 
 module _ (spec : Spec) (lawful : spec_fault spec ≡ None) (bucketed : spec ≢ Sparse) (i : ℕ) (below : i < buckets_of spec) where
-  -- a bucket has the key of another where it is that one
+  -- a bucket has the key of another if it is that one
   pub key_test : (bucket : ℕ) → bucket < buckets_of spec → int_eq (key_of_bucket spec bucket) (key_of_bucket spec i) ≡ (bucket == i)
   key_test bucket within = by_equal (bucket == i) (eqb-true bucket i) (eqb-false bucket i)
     where

@@ -26,7 +26,7 @@ use Rattle.segment_invariant.proofs.Consistency.Totals.{kind_word}
 use Rattle.segment_invariant.proofs.Consistency.Held.{own_counts, counts_named, single_leads, later_record, later_sample, holds_nothing}
 use Rattle.segment_invariant.proofs.Consistency.Forms.{formed_as, passed_as}
 
--- ---- lawful specs are named lawfully
+-- ---- the words of valid specs are valid
 
 -- numbers that ascend, by a test
 test_ascends : (low : ℕ) (xs : List ℕ) → ((y : ℕ) → Member y xs → low < y) → Ascends xs → ascends_above low xs ≡ true
@@ -177,7 +177,7 @@ module _ (shape : Dimensions) (opened : Anatomy) (state : State) (opens : Opens 
       let ((body, stands, claimed), unlisted) = counts_named shape opened state kept at there one some_there in
       (claimed_at shape opened state kept stands.0 _ stands.1 claimed, unlisted)
 
-  -- a record in which nobody counts is as it was, or holds nothing
+  -- a record in which nobody counts is unchanged, or holds nothing
   later : (front : List ℕ) (at other : ℕ) → IsChain before (head_of before) front → Contains (order_of kept.anatomy) at → field_at state.words at 2 ≡ 1
       → IsHistogram state.words (order_of kept.anatomy) (name_of state.words at) other → other ≢ at
       → (Contains front at → CountsStill before state.words at) × (¬ (Contains front at) → HoldsNothing state.words at)
@@ -195,7 +195,7 @@ module _ (shape : Dimensions) (opened : Anatomy) (state : State) (opens : Opens 
         )
       ]
 
-  -- each record of the list has a lawful form
+  -- each record of the list has a valid form
   formed : (at : ℕ) → Contains (order_of kept.anatomy) at → field_at state.words at 2 ≡ 1 → HasForm opened.version state.words at
   formed at there one = elim (record_on_list shape opened state.words (laid_out shape opened state kept) at there one) [
     | inl (l, name, kind, r, among, place, made, (has, named, specified)) ↦ formed_as shape opened state.words (laid_out shape opened state kept) at r has

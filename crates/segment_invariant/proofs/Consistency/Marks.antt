@@ -94,7 +94,7 @@ module _ (shape : Dimensions) (opened : Anatomy) (words : List ℕ) (kept : AreL
       packed = packed_mark r.spec (kept.records.lawful at r has).lawful bucketed i below (form r) r.mark
           (λ bucket is. packed_within kept.anatomy.version (buckets_of r.spec) r.single bucket is)
 
-      -- the mark is the single one, or stands behind the counts
+      -- the mark is the single one, or comes after the counts
       either : (b : Bool) (mark rest : ℕ) → (b ≡ true → rest ≡ 0) → (if b then mark else rest) ≡ (if b then mark else 0) + rest
       either true mark rest none_there = let e = none_there refl in omega (arith, e)
       either false mark rest none_there = omega arith

@@ -1,4 +1,4 @@
--- The blocks that open segments, by their words: a chain of claimed blocks, each of which stands as what it was given.
+-- The blocks that open segments, by their words: a chain of claimed blocks, each of which holds what it was given.
 use Rattle.segment_invariant.proofs.Prelude.Std.{◌≡◌, ◌≢◌, ℕ, List, Some, refl, subst, All, Contains, some, get_elem?}
 use Rattle.segment_invariant.proofs.Prelude.Machine.{Dimensions, head_of, IsShown, Spec, buckets_of, record_buckets, IsChain, State}
 use Rattle.segment_invariant.proofs.Prelude.Invariant.{Record, histogram, Piece, Anatomy, layout_of, order_of, noted_held, all_held, HasRecord, IsFirst, StandsAs, ClaimedRight, CountsNothing, IsLawfulRecord, Invariant}
@@ -35,7 +35,7 @@ pub record Opens (shape : Dimensions) (opened : Anatomy) : Type 0 where
   pub many : (at : ℕ) (r : Record) → HoldsAs opened.pieces at (histogram r) → IsLawfulRecord opened.version shape.page r
       → record_buckets (opened_words shape opened) at ≡ buckets_of r.spec
 
--- the blocks of a kept state are such
+-- the blocks of a kept state are of this kind
 of_kept : (shape : Dimensions) (opened : Anatomy) (state : State) (kept : Invariant shape opened state) → Opens shape kept.anatomy
 of_kept shape opened state kept = record {
   shown = record { shows = refl; sound = kept.shown.sound };

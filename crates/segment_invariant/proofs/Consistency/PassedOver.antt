@@ -1,4 +1,4 @@
--- Records that are passed over, among words that are laid out: a block that holds what a body would is told as that body.
+-- Records that are passed over, among words that are laid out: if a block holds what a body would, the words show that body.
 use Rattle.segment_invariant.proofs.Prelude.Std.{◌≡◌, ◌≢◌, ◌<◌, ℕ, List, refl, subst, arith, some, none, get_elem?, slice_index}
 use Rattle.segment_invariant.proofs.Prelude.Machine.{Dimensions, IsShown, field_at}
 use Rattle.segment_invariant.proofs.Prelude.Invariant.{Record, Body, histogram, other, Piece, Listed, Anatomy, layout_of, record_words, Stands, IsPassedOver}
@@ -10,7 +10,7 @@ use Rattle.segment_invariant.proofs.Blocks.Pieces.{first_piece, with_piece}
 use Rattle.segment_invariant.proofs.Blocks.Published.{relabelled}
 use Rattle.segment_invariant.proofs.Consistency.Records.{record_word, record_name}
 
--- ---- told as what it holds
+-- ---- shown as what it holds
 
 module _ (shape : Dimensions) (opened : Anatomy) (words : List ℕ) (kept : AreLaid shape opened words) (at : ℕ) (body : Body)
     (holds : HoldsAs kept.anatomy.pieces at body) where

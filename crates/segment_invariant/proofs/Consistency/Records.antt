@@ -11,7 +11,7 @@ use Rattle.segment_invariant.proofs.Blocks.Pieces.{piece_word, piece_ends, free_
 
 -- ---- which ones the list has
 
--- a record of the list stands as what it was given
+-- a record of the list holds what it was given
 pub listed_there : (anatomy : Anatomy) (at : ℕ) → All (λ l. StandsAs anatomy.pieces l l.made) anatomy.records → Contains (order_of anatomy) at
     → (l : Listed) × Contains anatomy.records l × (l.reference ≡ at) × StandsAs anatomy.pieces l l.made
 listed_there anatomy at standing there =

@@ -1,4 +1,4 @@
--- What became of the blocks with which a kept segment was opened: they hold what they held, and those of which nobody counts are as they were.
+-- What became of the blocks with which a kept segment was opened: they hold what they held, and those in which nobody counts are unchanged.
 use Rattle.segment_invariant.proofs.Prelude.Std.{◌≡◌, ◌≢◌, Bool, true, false, ℕ, ◌+◌, ◌*◌, ◌<◌, ◌≤◌, List, ◌++◌, length, if◌then◌else◌, inl, inr, refl, sym, ap, subst, ◌∙◌, arith, length-append, Option, Some, None, slice_index, ◌==◌, Contains, flat_map, eqb-false, eq-eqb, All-contains, Contains-append_left, some, none, get_elem?, at_from, split_at, first_longer, split_among, contains_map, contains_mapped}
 use Rattle.segment_invariant.proofs.Prelude.Machine.{Dimensions, word_at, field_at, Spec, name_of, record_buckets, Made, Sighting, State}
 use Rattle.segment_invariant.proofs.Prelude.Invariant.{IsHistogram, Record, Sample, Body, histogram, sample, other, words_of, record_words, is_claimed, Piece, Listed, Anatomy, order_of, claims_of, noted_held, all_held, Stands, HasRecord, IsRecordNamed, IsFirst, StandsAs, IsPassedOver, IsLawfulRecord, Invariant}
@@ -48,7 +48,7 @@ module _ (shape : Dimensions) (opened : Anatomy) (state : State) (opens : Opens 
   abbrev before : List ℕ
   before = opened_words shape opened
 
-  -- a fixed word is as it was
+  -- a fixed word is unchanged
   fixed_still : (at i : ℕ) (body : Body) → Stands opened.pieces at none body → IsFixedIn body i → field_at state.words at i ≡ field_at before at i
   fixed_still at i body (k, there) fixed =
       let was = piece_word shape before opened opens.shown k _ i there (fixed_within body i fixed) in
@@ -82,7 +82,7 @@ module _ (shape : Dimensions) (opened : Anatomy) (state : State) (opens : Opens 
         fixed_still at i body (k, there) (fixed i (omega (arith, below, size)) (subst (λ (t : ℕ). NeverChanges t i) tag_is given)),
   )
 
-  -- a record of the opening stands there as what it was given
+  -- a record of the opening holds there what it was given
   listed_then : (at : ℕ) → Contains (order_of opened) at → (l : Listed) × Contains opened.records l × (l.reference ≡ at) × StandsAs opened.pieces l l.made
   listed_then at there =
       let (l, among, is) = contains_mapped (λ (l : Listed). l.reference) opened.records at there in
@@ -103,7 +103,7 @@ module _ (shape : Dimensions) (opened : Anatomy) (state : State) (opens : Opens 
 
   -- ---- names
 
-  -- a listed record that stands as one of a name was given the name
+  -- a listed record that is one of a name was given the name
   named_at : (l : Listed) (r : Record) → Contains kept.anatomy.records l → HasRecord kept.anatomy.pieces l.reference r → IsRecordNamed r.name l
   named_at l r there has = by_made l.made refl (standing_of shape opened state.words (laid_out shape opened state kept) l there)
     where
@@ -121,7 +121,7 @@ module _ (shape : Dimensions) (opened : Anatomy) (state : State) (opens : Opens 
   listed_still : (l : Listed) → Contains opened.records l → Contains kept.anatomy.records l
   listed_still l among = subst (λ (list : List Listed). Contains list l) (sym kept.list.once.1) (Contains-append_left opened.records kept.list.once.0 l among)
 
-  -- where the opening had a record of a name, the first of it was the first there
+  -- if the opening had a record of a name, the first of it was the first there
   first_then : (name : List ℕ) (kind : Spec) (at : ℕ) → IsFirst kept.anatomy.records name kind at → (l : Listed) → Contains opened.records l → IsRecordNamed name l
       → (sort : Spec) × IsFirst opened.records name sort at
   first_then name kind at first l among named =
@@ -132,7 +132,7 @@ module _ (shape : Dimensions) (opened : Anatomy) (state : State) (opens : Opens 
 
   -- ---- redundant counts
 
-  -- what the opening had noted of the name of one of its records stood in that
+  -- what the opening had noted of the name of one of its records was in that record
   pub noted_there : (name : List ℕ) (kind : Spec) (at : ℕ) → IsFirst kept.anatomy.records name kind at → Contains (order_of opened) at
       → all_held (noted_held name) opened.pieces ≡ field_at before at 13
   noted_there name kind at first there =

@@ -32,11 +32,11 @@ module _ (mine name : List ℕ) where
       by_test true same = empty (same refl)
       by_test false same = refl
 
--- what is so of a block's record of this name, where it is one
+-- what holds of a block's record of this name, if it is one
 abbrev pub OfRecord : List ℕ → Body → (Record → Type 0) → Type 0
 OfRecord name body is = (r : Record) → body ≡ histogram r → r.name ≡ name → is r
 
--- what no block but a record holds, a block does not hold where its record does not
+-- what no block but a record holds, a block does not hold if its record does not
 of_record : {X : Type 0} (nothing : X) (holds : Body → X) → ((next : ℕ) → holds (queue next) ≡ nothing) → ((words : List ℕ) → holds (plain words) ≡ nothing)
     → ((block : Own) → holds (held block) ≡ nothing) → ((c : Counts) → holds (counts c) ≡ nothing) → ((s : Sample) → holds (sample s) ≡ nothing)
     → ((size tag next : ℕ) (payload : List ℕ) → holds (other size tag next payload) ≡ nothing) → (body : Body)
@@ -49,7 +49,7 @@ of_record nothing holds queues plains owns all_counts samples others (counts c) 
 of_record nothing holds queues plains owns all_counts samples others (sample s) empty = samples s
 of_record nothing holds queues plains owns all_counts samples others (other size tag next payload) empty = others size tag next payload
 
--- a block holds no sum where its record of the name has empty
+-- a block holds no sum if its record of the name has empty ones
 pub no_sum : (name : List ℕ) (body : Body) → OfRecord name body (λ r. r.sum ≡ 0) → sum_held name body ≡ pos 0
 no_sum name body empty = of_record (pos 0) (sum_held name) (λ n. refl) (λ w. refl) (λ b. refl) (λ c. refl) (λ s. refl) (λ z t n p. refl) body
     (λ r is. no_amount_of r.name name _ (λ same. ap (cast_signed w64) (empty r is same)))

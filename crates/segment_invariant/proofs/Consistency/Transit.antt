@@ -30,7 +30,7 @@ module _ (shape : Dimensions) (opened : Anatomy) (state : State) (kept : Invaria
       (λ still. let none = still.1 at i in absurd (omega (arith, none, above)))
       (moves_or_not place)
 
-  -- so where units of a bucket are in transit
+  -- so this holds if units of a bucket are in transit
   pub in_transit : (at i : ℕ) → 0 < transit_of state.actors at i → Moves at i
   in_transit at i above =
       let (who, a, there, counts) = some_counts (λ (a : Actor). transit_at a.hand.place at i) state.actors above in

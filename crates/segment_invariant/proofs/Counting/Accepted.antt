@@ -19,7 +19,7 @@ two_rows total sums f l i j x y z ne there here none =
     let two = rows_beside total sums f (set l i z) j y z (set_else l i j z (λ e. ne (sym e)) ∙ here) in
     omega (arith, one, two, none)
 
--- what is behind some entries of a list is behind them in a longer one
+-- what comes after some entries of a list also comes after them in a longer one
 rest_most : (total : List Entry → ℕ) → IsTotal ◌+◌ total → (n : ℕ) (xs ys : List Entry) → total (drop n xs) ≤ total (drop n (xs ++ ys))
 rest_most total sums zero xs ys = let both = sums xs ys in omega (arith, both)
 rest_most total sums (suc n) [] ys = let nothing = sums [] [] in omega (arith, nothing)

@@ -76,7 +76,7 @@ module _ (shape : Dimensions) (opened : Anatomy) (state : State) (kept : Invaria
   summed_same : summed_of b ≡ summed_of a
   summed_same = passes_same is_summed next.behind c d refl refl a.entries.first a.entries.log next.front ∙ ap (λ (l : List EntryProgress). a.entries.first ++ summed_among (a.entries.log ++ l)) (sym next.is)
 
-  -- they come to so many units more
+  -- they come to `units` more
   noted_more : (name : List ℕ) → tally_noted (noted_of b) name ≡ tally_noted (noted_of a) name + of_name r.name name units
   noted_more name =
       let beside = passes_beside is_noted [] a.entries.log next.front next.behind c d (λ entries. tally_noted entries name) (noted_total name) in
@@ -126,7 +126,7 @@ module _ (shape : Dimensions) (opened : Anatomy) (state : State) (kept : Invaria
   found_is : word_at state.words (known.reference + 13) ≡ r.noted
   found_is = piece_word shape state.words kept.anatomy kept.shown stands.0 _ 13 stands.1 (omega arith)
 
-  -- what the count was was as much as was accepted
+  -- what the count was before was no less than what was accepted
   looked : LooksBack kept.anatomy state.actors kept.roles.opener
       (seer a Idle (record a.seen { counts = a.seen.counts ++ record { at = known.reference + 13; word = word_at state.words (known.reference + 13) } ∷ [] }) a.done.given a.done.lost)
   looked = looks_count shape opened state kept id a mine recorder lived (known.reference + 13) Idle a.done.given

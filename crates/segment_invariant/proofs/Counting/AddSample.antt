@@ -42,7 +42,7 @@ module _ (shape : Dimensions) (opened : Anatomy) (state : State) (kept : Invaria
   abbrev units : ℕ
   units = entry.entry.units
 
-  -- it met the sample
+  -- it has visited the sample
   met : Contains a.seen.chain at × SawSample a.seen known.reference entry.entry.key at
   met =
       let (front, rest, is, its) = saw in (

@@ -45,7 +45,7 @@ no_amount_is z off = by_test (int_eq z (pos 0)) refl off
     by_test true is e = (Decides-int_eq z (pos 0)).0 is
     by_test false is e = absurd (cc e)
 
--- where one at most has an amount, beside one that has it the others have none
+-- if at most one entry has an amount, and this one has it, the others have none
 others_zero : (front behind : List Entry) (e : Entry) → length (filter has_amount (front ++ e ∷ behind)) ≤ 1 → has_amount e ≡ true
     → All (λ x. x.amount ≡ pos 0) front × All (λ x. x.amount ≡ pos 0) behind
 others_zero front behind e most has =

@@ -32,7 +32,7 @@ lawful_amount version page r sum noted narrow is = lawful_anew version page r r.
 module _ (shape : Dimensions) (opened : Anatomy) (state : State) (kept : Invariant shape opened state) (id : ℕ) (a : Actor)
     (mine : get_elem? state.actors id ≡ some a) (recorder : is_opener a.role ≡ false) (unbound : is_bound a.hand.place ≡ false)
     (c d : EntryProgress) (next : Next a.entries.running c) (entry : d.entry ≡ c.entry) (known : Known) (has : Contains a.answers.names known) where
-  -- who may turn lives, and has nothing on its way
+  -- an actor that may turn lives, and has nothing on its way
   pub turner_lives : a.hand.place ≢ Spent
   turner_lives spent = cc (unbound, ap is_bound spent)
 

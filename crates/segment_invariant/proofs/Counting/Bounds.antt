@@ -28,7 +28,7 @@ name_most costs name = sum_by-le-sum_by (λ cost. if bytes_eq cost.name name the
     by_test true n = omega arith
     by_test false n = omega arith
 
--- what each has noted, beside the redundant count that it found, all have
+-- what each has noted, on top of the redundant count that it found, all have together
 all_within : (actors : List Actor) (name : List ℕ)
     → ((a : Actor) → Contains actors a → cost_of a.entries.first_noted name + tally_noted (noted_of a) name ≤ cost_of a.units.costs name + cost_of a.units.held name)
     → sum_by (λ (a : Actor). cost_of a.entries.first_noted name) actors + tally_noted (flat_map noted_of actors) name ≤ all_costs actors name
@@ -49,7 +49,7 @@ module _ (shape : Dimensions) (opened : Anatomy) (state : State) (kept : Invaria
       let pool = kept.pool in
       omega (arith, all, pool)
 
-  -- what an actor does holds of a spent one where it holds of one that did nothing
+  -- what an actor does holds of a spent one if it holds of one that did nothing
   each_one : (holds : Actor → Type 0) → ((units : ℕ) → holds (purse units)) → ((a : Actor) → CallsRight kept.anatomy a → holds a) → (a : Actor) → Contains state.actors a → holds a
   each_one holds nothing lives a among =
       let (who, there) = at_from state.actors a among in
@@ -74,7 +74,7 @@ module _ (shape : Dimensions) (opened : Anatomy) (state : State) (kept : Invaria
       let most = costs_most in
       omega (arith, below, all, most)
 
-  -- so do units that are noted, beside those of the opening
+  -- so do units that are noted, with those of the opening
   pub noted_covered : cost_of kept.roles.opener.entries.first_noted name + tally_noted (all_noted state.actors) name ≤ all_costs state.actors name
   noted_covered =
       let all = all_within state.actors name

@@ -63,7 +63,7 @@ module _ (shape : Dimensions) (opened : Anatomy) (state : State) (kept : Invaria
   count_there = subst (λ (n : ℕ). n < length state.words) (sym spot) (word_within shape opened state kept look.counts (4 + bucket) (counts c) the_counts.3 refl
       (let low = the_counts.5 in counter_within (counts c) (4 + bucket) (omega arith, omega (arith, low))))
 
-  -- it is in use where it counts something
+  -- it is in use if it counts something
   in_use : 1 ≤ word_at state.words at → is_off the_counts.0.single ≡ true
   in_use some_units = by_test (is_off the_counts.0.single) refl the_counts.6
     where
@@ -92,7 +92,7 @@ module _ (shape : Dimensions) (opened : Anatomy) (state : State) (kept : Invaria
         (counter_within (counts c) (4 + bucket) (omega arith, omega (arith, low))) (omega (arith, few)) (omega (arith, same)) in
         absurd (cc bodies)
 
-    -- the state is kept where it sees that count, and goes on to a place
+    -- the state is kept when it sees that count, and moves on to a place
     pub off_seen : (place : Place) → is_bound place ≡ false → ((reference : ℕ) (sum : ℤ) → place ≢ SumLoaded reference sum)
         → StandsRight shape kept.anatomy id (seer a place (record a.seen { counts = a.seen.counts ++ z ∷ [] }) a.done.given a.done.lost) place
         → KeptOn shape opened kept (record {

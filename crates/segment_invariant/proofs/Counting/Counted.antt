@@ -117,7 +117,7 @@ module _ (shape : Dimensions) (opened : Anatomy) (state : State) (kept : Invaria
     abbrev new : Anatomy
     new = behind shape opened state kept at body then_is j v stands turns
 
-    -- What has to be shown: of the records, of what the block holds, and of the entry, whose key is there and whose sample was met.
+    -- What has to be shown: of the records, of what the block holds, and of the entry, whose key is there and whose sample was visited.
     pub record CountedInto : Type 0 where
       pub records : RecordsAreKept shape.page new
       pub units : (name : List ℕ) (key : ℤ) → units_held kept.anatomy.version name key then_is ≡ units_held kept.anatomy.version name key body + its_units c name key

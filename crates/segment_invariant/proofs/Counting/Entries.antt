@@ -1,4 +1,4 @@
--- A recorder that goes on with an entry of its running call: its call stays right, and of other names nothing changes.
+-- A recorder moves on with an entry of its running call: its call stays right, and of other names nothing changes.
 use Rattle.segment_invariant.proofs.Prelude.Std.{◌≡◌, ◌≢◌, ◌⊎◌, ℕ, ◌<◌, ℤ, pos, true, false, List, [], ◌∷◌, ◌++◌, map, All, Contains, inl, ⊎_elim, refl, sym, ap, ◌∙◌, subst, arith, map-append, All-contains, Contains-append_right}
 use Rattle.segment_invariant.proofs.Prelude.Machine.{Entry, EntryProgress, Actor, is_counted, is_summed, is_of, tally_units, tally_sum, tally_noted, counted_of, all_counted, all_summed, all_noted, all_taken, taken_units, taken_sum, SawSample, is_untouched}
 use Rattle.segment_invariant.proofs.Prelude.Invariant.{Anatomy, IsFirst, IsFirstOf, CallsRight, IsQuiet, RolesAreKept, FinalsAreExact}
@@ -14,7 +14,7 @@ module _ (a : Actor) (c d : EntryProgress) (next : Next a.entries.running c) (en
   abbrev pub after : List EntryProgress
   after = next.front ++ d ∷ next.behind
 
-  -- it goes on so
+  -- its deed is then this
   abbrev pub going : Deed → Deed
   going deed = record deed { running = after; own = a.hand.own; taken = a.deltas.taken }
 
@@ -27,7 +27,7 @@ module _ (a : Actor) (c d : EntryProgress) (next : Next a.entries.running c) (en
   runs : a.entries.running ≢ []
   runs none_runs = not_empty next.front next.behind c (sym next.is ∙ none_runs)
 
-  -- its call stays right, where it met the samples of what it counted
+  -- its call stays right, if it visited the samples of what it counted
   pub calls_next : (old new : Anatomy) (deed : Deed)
       → (d.summed ≡ true → is_counted d ≡ true) → (d.noted ≡ true → is_summed d ≡ true) → (d.summed ≡ true → d.entry.amount ≢ pos 0)
       → ((entry : Entry) (of : ℕ) → Contains (a.entries.inherited ++ counted_of (changed a (going deed))) entry → 0 < entry.units → IsFirst new.records entry.name spec.Sparse of
@@ -45,7 +45,7 @@ module _ (a : Actor) (c d : EntryProgress) (next : Next a.entries.running c) (en
     taking = λ taking. absurd (runs (calls.taking taking).0);
   }
 
-  -- it is quiet of a name where it was, and then the entry is of another
+  -- it is quiet of a name if it was, and then the entry is of another
   quiet_next : (deed : Deed) (name : List ℕ) (k : ℕ) → is_untouched d ≡ false → IsQuiet (changed a (going deed)) name k → IsQuiet a name k × (is_of name c.entry ≡ false)
   quiet_next deed name k touched quiet =
       let holds : EntryProgress → Type 0 = λ c. (is_of name c.entry ≡ false) ⊎ (is_untouched c ≡ true) in
@@ -54,7 +54,7 @@ module _ (a : Actor) (c d : EntryProgress) (next : Next a.entries.running c) (en
       ap (is_of name) (sym entry) ∙ ⊎_elim (λ other. other) (λ untouched. absurd (cc (untouched, touched))) one in
       ((quiet.0, subst (All holds) (sym next.is) (all_replaced holds next.front next.behind d c quiet.1 (inl apart))), apart)
 
-  -- so what was taken and answered is as exact as it was
+  -- so what was taken and returned is as exact as it was
   module _ (old new : List Actor) (roles : RolesAreKept old) (beside : SameRoles old new) (id : ℕ) (deed : Deed)
       (touched : is_untouched d ≡ false) (taken : all_taken new ≡ all_taken old)
       (counted : (name : List ℕ) (key : ℤ) → is_of name c.entry ≡ false → tally_units (all_counted new) name key ≡ tally_units (all_counted old) name key)

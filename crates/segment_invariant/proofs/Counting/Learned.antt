@@ -1,4 +1,4 @@
--- What an actor learns of a histogram that it knows: its counts reference stays, and is there where its single word was seen off; its sums
+-- What an actor learns of a histogram that it knows: its counts reference stays, and is there if its single word was seen off; its sums
 -- fit, and so does the difference of two.
 use Rattle.segment_invariant.proofs.Prelude.Std.{◌≡◌, ◌≢◌, Bool, true, false, ℕ, ◌+◌, ◌*◌, ◌<◌, ◌≤◌, ◌-ℤ◌, ℤ, pos, List, Contains, inl, inr, refl, sym, ap, ◌∙◌, subst, arith, unsigned_abs, slice_index, if◌then◌else◌, w64, cast_signed, bytes_eq, +ℤ_idr, All-contains, some, get_elem?}
 use Rattle.segment_invariant.proofs.Prelude.Machine.{Dimensions, word_at, Actor, Cost, Known, Spent, SumLoaded, Buckets, cost_of, cost_total, units_of, is_off, State}

@@ -1,4 +1,4 @@
--- The counts reference of a histogram is loaded, and its actor goes on with what it had loaded of it before.
+-- The counts reference of a histogram is loaded, and its actor moves on with what it had loaded of it before.
 use Rattle.segment_invariant.proofs.Prelude.Std.{◌≡◌, ◌≢◌, Bool, true, false, ◌==◌, if◌then◌else◌, ℕ, ◌+◌, List, [], ◌∷◌, ◌++◌, Contains, Some, refl, sym, ◌∙◌, subst, arith, ne_eqb, Contains-push, some, get_elem?}
 use Rattle.segment_invariant.proofs.Prelude.Machine.{Dimensions, word_at, Actor, Place, Looking, Sighting, look_of, sight_counts, load_counts, counting_event, Ready, next, State, is_opener}
 use Rattle.segment_invariant.proofs.Prelude.Invariant.{histogram, Anatomy, HasRecord, StandsRight, Invariant, EventKeeps}
@@ -13,7 +13,7 @@ use Rattle.segment_invariant.proofs.Counting.Looks.{knows_of}
 use Rattle.segment_invariant.proofs.Counting.References.{words_seen}
 use Rattle.segment_invariant.proofs.Counting.Sights.{word_within}
 
--- the single word in what an actor goes on with is one that it saw
+-- the single word in what an actor has loaded so far is one that it saw
 single_right : (shape : Dimensions) (anatomy : Anatomy) (id : ℕ) (a : Actor) (place : Place) (h word : ℕ) → StandsRight shape anatomy id a place
     → (look_of place h).single ≡ Some word → Contains a.seen.singles (record { at = (look_of place h).histogram + 9; word = word })
 single_right shape anatomy id a (Looking look) h word right is = by_test (look.histogram == h) is

@@ -1,4 +1,4 @@
--- The counts of a histogram are loaded: no word changes, and the actor comes to know where its counts stand.
+-- The counts of a histogram are loaded: no word changes, and the actor comes to know where its counts are.
 use Rattle.segment_invariant.proofs.Prelude.Std.{◌≡◌, ◌≢◌, ℕ, ◌+◌, Bool, [], ◌∷◌, ◌++◌, All, inl, inr, refl, sym, ap, ◌∙◌, subst, arith, append-nil, length-append, eq-eqb, ne_eqb, if◌then◌else◌, All-push, dite, some, ℕ_discrete, get_elem?}
 use Rattle.segment_invariant.proofs.Prelude.Machine.{Dimensions, word_at, Actor, State, sight_counts, Buckets, Spent}
 use Rattle.segment_invariant.proofs.Prelude.Invariant.{Record, counts, histogram, Anatomy, HasRecord, WasFixed, Invariant}

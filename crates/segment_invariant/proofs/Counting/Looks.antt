@@ -1,4 +1,4 @@
--- What an actor looks back at, where it sees one word more: a single word, or a counter, as it is now.
+-- What an actor looks back at when it sees one word more: a single word, or a counter, as it is now.
 use Rattle.segment_invariant.proofs.Prelude.Std.{◌≡◌, ◌≢◌, ◌⊎◌, ℕ, ◌+◌, ◌<◌, ◌≤◌, ℤ, true, false, List, [], ◌∷◌, ◌++◌, length, take, drop, Contains, inl, inr, ⊎_elim, refl, sym, ap, ◌∙◌, subst, arith, length-append, None, true≢false, slice_index, Some, drop-append-le, All-contains, Contains-append_cases, dite, some, none, some-injective, ℕ_discrete, get_elem?, one_in}
 use Rattle.segment_invariant.proofs.Prelude.Machine.{Dimensions, word_at, buckets_of, single_of, packed_bucket, units_packed, Actor, Given, Known, Place, Spent, SumLoaded, Moving, Seen, Sighting, tally_units, is_off, Leads, word_seen, all_counted, bucket_key, SawCount, is_opener, made_of, SawBucket, State, Look}
 use Rattle.segment_invariant.proofs.Prelude.Invariant.{Record, Counts, Body, histogram, counts, sample, words_of, Piece, Anatomy, form_at, key_of_bucket, Stands, HasRecord, HasCounts, IsFirst, WasFixed, WasCounter, WasInUse, WasSingle, IsRightlyKnown, StandsRight, IsAlone, LooksBack, Invariant}
@@ -72,7 +72,7 @@ module _ (shape : Dimensions) (opened : Anatomy) (state : State) (kept : Invaria
       let same = one_record at q r (subst (λ (n : ℕ). HasRecord blocks n q) here stands) there in
       subst (λ (z : Record). (single_of version (buckets_of z.spec) s.word ≢ None) × Leads version (buckets_of z.spec) s.word z.single) same (formed, leads)
 
-  -- a count that stands behind a counts reference
+  -- a count after a counts reference
   pub count_now : (place bucket : ℕ) (c : Counts) → HasCounts blocks place c → bucket < length c.units
       → word_at state.words (place + 4 + bucket) ≡ slice_index c.units bucket
   count_now place bucket c stands below =
@@ -123,7 +123,8 @@ module _ (shape : Dimensions) (opened : Anatomy) (state : State) (kept : Invaria
     counts_seen at place r there seen = counts_was at place r there (All-contains (WasFixed blocks) a.seen.words _ (kept.each id a mine lives).sees.fixed
         (word_contains a.seen.words (at + 8) place seen))
 
-    -- what was seen of a bucket is at most what was counted: where the word is the record's, the counts reference is fixed, and the count no more than it is
+    -- what was seen of a bucket is at most what was counted, if the word is the record's, the counts reference is fixed, and the count no
+    -- more than it is
     pub fixed_most : (known : Known) (bucket word place count : ℕ) → Contains a.answers.names known → bucket < buckets_of known.spec
         → ((r : Record) → HasRecord blocks known.reference r → word ≡ r.single) → WasFixed blocks (record { at = known.reference + 8; word = place })
         → ((c : Counts) → HasCounts blocks place c → bucket < length c.units → count ≤ slice_index c.units bucket)
@@ -142,7 +143,7 @@ module _ (shape : Dimensions) (opened : Anatomy) (state : State) (kept : Invaria
         let key = ap (tally_units (all_counted state.actors) known.name) (keys bucket) in
         omega (arith, up, whole, form, key)
 
-    -- so it is where it saw that reference
+    -- so it is if it saw that reference
     pub off_most : (known : Known) (bucket word place count : ℕ) → Contains a.answers.names known → bucket < buckets_of known.spec
         → ((r : Record) → HasRecord blocks known.reference r → word ≡ r.single) → word_seen a.seen.words (known.reference + 8) ≡ Some place
         → ((c : Counts) → HasCounts blocks place c → bucket < length c.units → count ≤ slice_index c.units bucket)
@@ -172,7 +173,7 @@ module _ (shape : Dimensions) (opened : Anatomy) (state : State) (kept : Invaria
             let same = one_record known.reference q r (subst (λ (n : ℕ). HasRecord blocks n q) at its) stands in
             true≢false (sym off ∙ (ap (λ (z : Record). is_off z.single) same ∙ on)))
 
-    -- nothing of a bucket is in transit where it is settled, and the actor itself moves nothing
+    -- nothing of a bucket is in transit if it is settled, and the actor itself moves nothing
     pub settled_quiet : (known : Known) (bucket : ℕ) (r : Record) → HasRecord blocks known.reference r → NoneInTransit kept.anatomy state.actors a known bucket
         → ((look : Look) (bucket units : ℕ) → a.hand.place ≢ Moving look bucket units) → transit_of state.actors known.reference bucket ≡ 0
     settled_quiet known bucket r stands settled still = rests shape opened state kept known.reference bucket nobody

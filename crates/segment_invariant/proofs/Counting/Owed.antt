@@ -19,7 +19,7 @@ use Rattle.segment_invariant.proofs.Consistency.Totals.{sparse_kind}
 use Rattle.segment_invariant.proofs.Counting.Held.{not_sparse}
 use Rattle.segment_invariant.proofs.Counting.Seen.{known_stands, seen_leads, off_is, counter_most, mark_most}
 
--- the counts reference of a record is fixed where it is not 0
+-- the counts reference of a record is fixed if it is not 0
 mounted_of : (r : Record) → IsFixedIn (histogram r) 8 → r.counts ≢ 0
 mounted_of r (inl two) = absurd (omega (arith, two))
 mounted_of r (inr (inl field)) = let below = field.1 in absurd (omega (arith, below))
@@ -125,7 +125,7 @@ module _ (shape : Dimensions) (opened : Anatomy) (state : State) (kept : Invaria
         let all = kept.balanced.marks known.name value in
         omega (arith, most, held, all)
 
-  -- where it is alone, what it saw of a bucket is no less than what had been accepted
+  -- if it is alone, what it saw of a bucket is no less than what had been accepted
   module _ (records : is_opener a.role ≡ false) (alone : IsAlone state.actors a) where
     pub bucket_owed : (known : Known) (bucket total : ℕ) → Contains a.answers.names known → bucket < buckets_of known.spec → SawBucket a known bucket total
         → tally_units (accepted_by a) known.name (bucket_key (Some known) bucket) ≤ total

@@ -1,4 +1,4 @@
--- A recorder sees more words that stay, as a counts reference: it goes on to a place, and no word of the segment changes.
+-- A recorder sees more words that stay, such as a counts reference: it moves on to a place, and no word of the segment changes.
 use Rattle.segment_invariant.proofs.Prelude.Std.{◌≡◌, ◌≢◌, ℕ, ◌+◌, ◌<◌, ◌≤◌, ℤ, List, ◌++◌, set, All, Contains, inl, inr, false, refl, ap, arith, All-contains, All-weaker, some, get_elem?, Some}
 use Rattle.segment_invariant.proofs.Prelude.Machine.{Dimensions, buckets_of, Actor, Known, Place, Spent, SumLoaded, Seen, Sighting, tally_units, all_counted, bucket_key, is_bound, is_opener, SawBucket, State}
 use Rattle.segment_invariant.proofs.Prelude.Invariant.{Anatomy, order_of, moving_at, WasFixed, WasMet, StandsRight, LooksBack, Invariant, KeptOn}

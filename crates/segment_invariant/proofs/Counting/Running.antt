@@ -1,4 +1,4 @@
--- One entry of a running call goes on: what the entries come to, and that they are still in order.
+-- One entry of a running call advances: what the entries come to, and that they are still in order.
 use Rattle.segment_invariant.proofs.Prelude.Std.{◌≡◌, ◌≢◌, ◌⊎◌, ℕ, zero, suc, ◌+◌, ◌<◌, ℤ, pos, ◌+ℤ◌, Bool, true, false, cond, not, List, [], ◌∷◌, ◌++◌, map, filter, All, Contains, inl, inr, ⊎_elim, refl, sym, ap, ◌∙◌, subst, arith, append_assoc, All-nil, All-cons, All-head, All-tail, Contains-append_left, Contains-append_right, Contains-append_cases, some, some-injective, get_elem?, IsTotal, one_in}
 use Rattle.segment_invariant.proofs.Prelude.Machine.{Entry, EntryProgress, is_counted, is_summed, has_ended, is_untouched}
 use Rattle.std.proofs.Math.IntN.{+ℤ_assoc, +ℤ_comm}
@@ -8,7 +8,7 @@ use Rattle.segment_invariant.proofs.Lists.Countings.{one_of}
 
 -- ---- the entry that is next
 
--- those before it have ended; where it is changed, the others stay
+-- those before it have ended; when it is changed, the others stay
 pub record Next (list : List EntryProgress) (c : EntryProgress) : Type 0 where
   pub front : List EntryProgress
   pub behind : List EntryProgress
@@ -47,14 +47,14 @@ next_of (x ∷ xs) c rest e = by_test (has_ended x) refl (λ e. next_of xs c res
 abbrev OneByOne : List EntryProgress → Type 0
 OneByOne list = (i j : ℕ) (x y : EntryProgress) → i < j → get_elem? list i ≡ some x → get_elem? list j ≡ some y → (has_ended x ≡ true) ⊎ (is_untouched y ≡ true)
 
--- nothing has happened of those behind one that goes on
+-- nothing has happened of those after one in progress
 untouched_of : (front behind : List EntryProgress) (c : EntryProgress) → OneByOne (front ++ c ∷ behind) → has_ended c ≡ false
     → (k : ℕ) (y : EntryProgress) → get_elem? behind k ≡ some y → is_untouched y ≡ true
 untouched_of [] behind c one goes k y there = ⊎_elim (λ ended. absurd (cc (ended, goes))) (λ untouched. untouched) (one 0 (suc k) c y (omega arith) refl there)
 untouched_of (x ∷ xs) behind c one goes k y there =
     untouched_of xs behind c (λ i j x y lt first last. one (suc i) (suc j) x y (omega (arith, lt)) first last) goes k y there
 
--- so another may stand in its place
+-- so another may take its place
 in_order_of : (front behind : List EntryProgress) (d : EntryProgress) → All (λ x. has_ended x ≡ true) front
     → ((k : ℕ) (y : EntryProgress) → get_elem? behind k ≡ some y → is_untouched y ≡ true) → OneByOne (front ++ d ∷ behind)
 in_order_of [] behind d ended untouched i zero x y lt first last = absurd (omega (arith, lt))
@@ -99,7 +99,7 @@ module _ (test : EntryProgress → Bool) (behind : List EntryProgress) (c d : En
       by_test true rest = ap (λ (l : List Entry). x.entry ∷ l) rest
       by_test false rest = rest
 
-  -- where the test tells the same of another, those that pass are the same entries
+  -- if the test gives the same result for another, those that pass are the same entries
   pub passes_same : (first : List Entry) (log front : List EntryProgress)
       → first ++ map (λ c. c.entry) (filter test (log ++ (front ++ d ∷ behind))) ≡ first ++ map (λ c. c.entry) (filter test (log ++ (front ++ c ∷ behind)))
   passes_same first log front =
@@ -108,7 +108,7 @@ module _ (test : EntryProgress → Bool) (behind : List EntryProgress) (c d : En
       ∙ (same_among (log ++ front) ∙ ap (λ (l : List EntryProgress). map (λ c. c.entry) (filter test l)) (append_assoc log front (c ∷ behind))))
 
 module _ (test : EntryProgress → Bool) (first : List Entry) (log front behind : List EntryProgress) (c d : EntryProgress) where
-  -- the entries that pass, with one that goes on
+  -- the entries that pass, with the one that advances
   abbrev pub passing : EntryProgress → List Entry
   passing x = first ++ map (λ c. c.entry) (filter test (log ++ (front ++ x ∷ behind)))
 
@@ -141,7 +141,7 @@ module _ (test : EntryProgress → Bool) (first : List Entry) (log front behind 
       ∙ (sym (+ℤ_assoc x (y +ℤ (m +ℤ n)) more)
       ∙ ap (λ z. z +ℤ more) (sym (ap total (sorted c) ∙ one_of ◌+ℤ◌ total sums test first (log ++ front) behind c)))))))
 
--- an entry that passes then passed before, or is the one that goes on
+-- an entry that passes then passed before, or is the one that advances
 module _ (test : EntryProgress → Bool) (behind : List EntryProgress) (c d : EntryProgress) (entry : Entry) where
   abbrev listed : List EntryProgress → List Entry
   listed list = map (λ c. c.entry) (filter test list)

@@ -1,4 +1,4 @@
--- An actor sees the count or the mark of a sample that it met, as it is: no word changes, and it goes on to a place.
+-- An actor sees the count or the mark of a sample that it visited, as it is: no word changes, and it moves on to a place.
 use Rattle.segment_invariant.proofs.Prelude.Std.{◌≡◌, ◌≢◌, ◌⊎◌, ℕ, ◌+◌, ◌<◌, ℤ, false, List, [], ◌∷◌, ◌++◌, set, Contains, ⊎_elim, refl, sym, ap, ◌∙◌, subst, arith, All-push, some, get_elem?}
 use Rattle.segment_invariant.proofs.Prelude.Machine.{Dimensions, word_at, Actor, Look, Place, Spent, SumLoaded, Moving, Seen, Sighting, is_bound, is_opener, SawSample, State}
 use Rattle.segment_invariant.proofs.Prelude.Invariant.{Sample, sample, Anatomy, moving_at, HasSample, WasCounter, WasInUse, WasMet, StandsRight, Invariant, KeptOn}
@@ -24,7 +24,7 @@ module _ (shape : Dimensions) (opened : Anatomy) (state : State) (kept : Invaria
   still : (look : Look) (bucket units : ℕ) → a.hand.place ≢ Moving look bucket units
   still look bucket units moving = cc (unbound, ap is_bound moving)
 
-  -- a sample that stands there is the one that it met
+  -- a sample that is there is the one that it visited
   met_again : (s : Sample) (other j : ℕ) (x : Sample) → HasSample kept.anatomy.pieces at s → s.of ≡ of → s.value ≡ value
       → HasSample kept.anatomy.pieces other x → at + i ≡ other + j → j < 8 → Contains a.seen.chain other × SawSample a.seen x.of x.value other
   met_again s other j x stands of_it valued is_sample spot low =

@@ -1,5 +1,5 @@
--- Samples that an actor met: they stand as what it saw; the first that it saw of a value is the first on the list, and a later one counts
--- nothing.
+-- Samples that an actor visited: they are there as what it saw; the first that it saw of a value is the first on the list, and a later one
+-- counts nothing.
 use Rattle.segment_invariant.proofs.Prelude.Std.{◌≡◌, ◌≢◌, ℕ, suc, ◌+◌, ◌<◌, ℤ, List, ◌∷◌, ◌++◌, map, length, drop, Contains, inl, inr, refl, sym, ap, ◌∙◌, subst, arith, append_assoc, length-append, slice_index, Some, None, w64, cast_signed, cast_unsigned, get_or_append_left, map-append, All-contains, Contains-append_left, Contains-append_right, some, get_elem?, at_from, all_of, split_at}
 use Rattle.segment_invariant.proofs.Prelude.Machine.{Dimensions, word_at, IsLinked, Actor, Made, Spent, word_seen, SawSample, SawOther, IsFirstSample, State}
 use Rattle.segment_invariant.proofs.Prelude.Invariant.{Sample, histogram, sample, other, Listed, Anatomy, order_of, HasSample, IsFirstOf, StandsAs, Invariant}
@@ -17,7 +17,7 @@ use Rattle.segment_invariant.proofs.Blocks.Pieces.{piece_word}
 use Rattle.segment_invariant.proofs.Consistency.Records.{listed_there}
 use Rattle.segment_invariant.proofs.Walking.Words.{sighted}
 
--- where a record stands on a list, so that the same is behind it
+-- a record is on a list once, so what follows it is the same
 once : (words chain rest p q r s : List ℕ) (h : ℕ) → IsLinked words chain → chain ≡ (p ++ h ∷ r) ++ rest → p ++ h ∷ r ≡ q ++ h ∷ s → r ≡ s
 once words chain rest p q r s h linked is same =
     let all = ap length is in
@@ -54,7 +54,7 @@ module _ (shape : Dimensions) (opened : Anatomy) (state : State) (kept : Invaria
       → slice_index (sample_words s) i ≡ word
   word_is at i word s below stands = sighted shape opened state kept id a mine lives at i word (sample s) stands (omega (arith, below))
 
-  -- a listed record that it saw to be a sample was given so, and stands so
+  -- a listed record that it saw to be a sample was given as one, and is one
   made_sample : (l : Listed) (of : ℕ) (value : ℤ) → Contains records l → SawSample a.seen of value l.reference
       → (l.made ≡ Some (made.Sample of value)) × StandsSample l.reference of value
   made_sample l of value among (tag, of_it, valued, small) =
@@ -85,7 +85,7 @@ module _ (shape : Dimensions) (opened : Anatomy) (state : State) (kept : Invaria
       by_saw s stands mine_is valued (inr (inr (word, seen, apart))) =
           apart (sym (word_is l.reference 5 word s (omega arith) stands seen) ∙ ap (cast_unsigned w64) valued)
 
-  -- a sample that it met stands as what it saw
+  -- a sample that it visited is what it saw
   pub sample_met : (at of : ℕ) (value : ℤ) → Contains a.seen.chain at → SawSample a.seen of value at → StandsSample at of value
   sample_met at of value met saw =
       let (rest, is) = (kept.each id a mine lives).sees.walked in
@@ -94,7 +94,7 @@ module _ (shape : Dimensions) (opened : Anatomy) (state : State) (kept : Invaria
       subst (λ (n : ℕ). StandsSample n of value) place
       (made_sample l of value among (subst (λ (n : ℕ). SawSample a.seen of value n) (sym place) saw)).1
 
-  -- the first sample of a value that it saw behind the record of its histogram is the first on the list
+  -- the first sample of a value that it saw after the record of its histogram is the first on the list
   pub first_met : (of : ℕ) (value : ℤ) (at : ℕ) → IsFirstSample a.seen of value at → IsFirstOf records of value at
   first_met of value at (front, tail, chain_is, (between, behind, tail_is, others, saw)) =
       let (rest, walked) = (kept.each id a mine lives).sees.walked in

@@ -1,4 +1,4 @@
--- What an actor has seen of a bucket is at most what was counted there, also where it comes to know the counts only now.
+-- What an actor has seen of a bucket is at most what was counted there, even if it comes to know the counts only now.
 use Rattle.segment_invariant.proofs.Prelude.Std.{◌≡◌, ◌≢◌, ℕ, ◌+◌, ◌-◌, ◌<◌, ◌≤◌, true, [], ◌∷◌, ◌++◌, length, Contains, refl, sym, ap, ◌∙◌, subst, arith, length-append, slice_index, pos, Some, get_or_append_left, All-contains, some, none, some-injective, get_elem?, split_among}
 use Rattle.segment_invariant.proofs.Prelude.Machine.{Dimensions, buckets_of, boundaries_of, single_of, units_packed, Actor, Known, Spent, is_off, Leads, all_counted, bucket_key, SawCount, tally_units, State}
 use Rattle.segment_invariant.proofs.Prelude.Invariant.{Record, Counts, Body, histogram, counts, words_of, Piece, Anatomy, form_at, Stands, HasRecord, HasCounts, WasCounter, WasSingle, IsRightlyKnown, StandsAs, Invariant}
@@ -11,7 +11,7 @@ use Rattle.segment_invariant.proofs.Consistency.Keys.{same_boundaries, same_buck
 use Rattle.segment_invariant.proofs.Counting.Held.{held_most}
 use Rattle.segment_invariant.proofs.Frames.Leads.{off_leads}
 
--- a count stands behind the header of its block
+-- a count comes after the header of its block
 pub count_in : (c : Counts) (i : ℕ) → i < length c.units → slice_index (words_of (counts c)) (4 + i) ≡ slice_index c.units i
 count_in c i below =
     let long = length-append c.units c.marks in
@@ -20,7 +20,7 @@ count_in c i below =
     ∙ (ap (slice_index (c.units ++ c.marks ++ c.rest)) back
     ∙ (get_or_append_left (c.units ++ c.marks) c.rest 0 i (omega (arith, below, long)) ∙ get_or_append_left c.units c.marks 0 i below))
 
--- and a mark behind the counts
+-- and a mark after the counts
 pub mark_in : (c : Counts) (i : ℕ) → i < length c.marks → slice_index (words_of (counts c)) (4 + length c.units + i) ≡ slice_index c.marks i
 mark_in c i below =
     let long = length-append c.units c.marks in
@@ -33,7 +33,7 @@ mark_in c i below =
 
 module _ (shape : Dimensions) (opened : Anatomy) (state : State) (kept : Invariant shape opened state) (id : ℕ) (a : Actor)
     (mine : get_elem? state.actors id ≡ some a) (lives : a.hand.place ≢ Spent) where
-  -- a histogram that it knows stands as a record of that name and as many buckets, with the same keys
+  -- a histogram that it knows is there as a record of that name and with as many buckets, with the same keys
   pub known_stands : (known : Known) → Contains a.answers.names known
       → (r : Record) × HasRecord kept.anatomy.pieces known.reference r × (r.name ≡ known.name) × (boundaries_of r.spec ≡ boundaries_of known.spec)
       × (buckets_of r.spec ≡ buckets_of known.spec)
@@ -111,7 +111,7 @@ module _ (shape : Dimensions) (opened : Anatomy) (state : State) (kept : Invaria
       let value = mark_in c bucket below in
       omega (arith, most, value)
 
-  -- so what it saw of a bucket, where it saw the single word off and a count of the counts that the record names
+  -- so is what it saw of a bucket, if it saw the single word off and a count of the counts that the record names
   pub seen_most : (known : Known) (bucket word place count : ℕ) → Contains a.answers.names known → bucket < buckets_of known.spec
       → SawSingle a (known.reference + 9) word → is_off word ≡ true
       → ((r : Record) → HasRecord kept.anatomy.pieces known.reference r → r.counts ≡ place) → place ≢ 0 → SawCount a (place + 4 + bucket) count

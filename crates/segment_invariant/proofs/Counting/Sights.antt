@@ -1,4 +1,4 @@
--- A word of the segment is loaded: the actor goes on to a place and sees it. What a counter is that is seen as it is now.
+-- A word of the segment is loaded: the actor moves on to a place and sees it. And what a counter is that is seen as it is now.
 use Rattle.segment_invariant.proofs.Prelude.Std.{◌≡◌, ◌≢◌, ℕ, ◌+◌, ◌<◌, ℤ, true, false, List, ◌++◌, length, set, All, refl, sym, ap, ◌∙◌, arith, length-append, some, none, get_elem?}
 use Rattle.segment_invariant.proofs.Prelude.Machine.{Dimensions, word_at, Actor, Place, Spent, Seen, Sighting, is_bound, is_opener, State}
 use Rattle.segment_invariant.proofs.Prelude.Invariant.{Body, Anatomy, counts, is_claimed, layout_of, order_of, words_of, moving_at, Stands, WasCounter, WasInUse, WasSingle, WasMet, SumsAreNear, StandsRight, LooksBack, Invariant, KeptOn}

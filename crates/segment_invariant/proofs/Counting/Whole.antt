@@ -21,7 +21,7 @@ module _ (shape : Dimensions) (opened : Anatomy) (state : State) (kept : Invaria
   abbrev version : ℕ
   version = kept.anatomy.version
 
-  -- nothing of a bucket is in transit where nobody moves units of it
+  -- nothing of a bucket is in transit if nobody moves units of it
   pub rests : (at i : ℕ) → ((who : ℕ) (x : Actor) (look : Look) (units : ℕ) → get_elem? state.actors who ≡ some x → x.hand.place ≡ Moving look i units
       → look.histogram ≡ at → ⊥) → transit_of state.actors at i ≡ 0
   rests at i nobody = sum_none (λ x. transit_at x.hand.place at i) state.actors (λ who x there _. ⊎_elim

@@ -1,4 +1,4 @@
--- Each event of shared cursors keeps what holds, and its actor learns where the cursor stood.
+-- Each event of shared cursors keeps what holds, and its actor learns where the cursor was.
 use Rattle.segment_machine.specs.Cursors.{load_cursor, move_cursor}
 use Rattle.segment_invariant.specs.Keeps.{CursorsKeep}
 use Rattle.segment_invariant.proofs.Cursors.Loads.{cursor_loaded}

@@ -14,7 +14,7 @@ use Rattle.segment_invariant.proofs.Walking.Walks.{reference_is}
 use Rattle.segment_invariant.proofs.Walking.Nexts.{no_later_itself}
 use Rattle.segment_invariant.proofs.Frames.Anew.{looks_anew_at, sees_anew}
 
--- what an actor looks back at, where it sees no more than cursors and has loaded no sum
+-- what an actor looks back at, if it sees no more than cursors and has loaded no sum
 pub looks_past : (anatomy : Anatomy) (actors : _) (opener a : Actor) (place : Place) (cursors : List Sighting) (given : List Given) (lost : List ℕ)
     → ((reference : ℕ) (sum : ℤ) → place ≢ SumLoaded reference sum) → LooksBack anatomy actors opener a
     → LooksBack anatomy actors opener (seer a place (record a.seen { cursors = cursors }) given lost)
@@ -30,7 +30,7 @@ sees_cursor anatomy cursors seen s sees is = sees_anew anatomy cursors cursors s
 
 module _ (shape : Dimensions) (opened : Anatomy) (state : State) (kept : Invariant shape opened state) (id : ℕ) (a : Actor)
     (mine : get_elem? state.actors id ≡ some a) (records : is_opener a.role ≡ false) where
-  -- a cursor stands on the list
+  -- a cursor is on the list
   pub cursor_stop : (cursor : ℕ) → cursor < length state.cursors → IsStop (order_of kept.anatomy) (slice_index state.cursors cursor)
   cursor_stop cursor below = let (place, within, is, gave) = kept.cursors.stand cursor below in (place, within, is)
 

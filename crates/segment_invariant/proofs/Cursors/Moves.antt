@@ -26,7 +26,7 @@ use Rattle.segment_invariant.proofs.Walking.Nexts.{no_later_itself}
 use Rattle.segment_invariant.proofs.Cursors.Loads.{looks_past, sees_cursor, cursor_stop}
 use Rattle.segment_invariant.proofs.Frames.Books.{GivenInOrder, noticed_there}
 
--- what a cursor gave, with one more behind
+-- what a cursor gave, with one more at the end
 given_push : (k : ℕ) (list : List Given) (g : Given) → given_by k (list ++ g ∷ []) ≡ given_by k list ++ given_by k (g ∷ [])
 given_push k list g = ap (map (λ (g : Given). g.reference)) (filter-append (λ (g : Given). g.cursor == k) list (g ∷ [])) ∙ map-append (λ (g : Given). g.reference) _ _
 
@@ -38,7 +38,7 @@ given_elsewhere : (k cursor reference : ℕ) → cursor ≢ k → given_by k (re
 given_elsewhere k cursor reference apart =
     ap (λ (b : Bool). map (λ (g : Given). g.reference) (if b then record { cursor = cursor; reference = reference } ∷ [] else [])) (ne_eqb cursor k apart)
 
--- a record among the first of a list stands there
+-- a record among the first of a list is at one of their places
 in_front : (words chain : List ℕ) → IsLinked words chain → (front k reference : ℕ) → front ≤ length chain → Contains (take front chain) reference
     → get_elem? chain k ≡ some reference → k < front
 in_front words chain linked front k reference le among there =
@@ -67,12 +67,12 @@ module _ (shape : Dimensions) (opened : Anatomy) (state : State) (kept : Invaria
     within = (All-contains (λ s. (s.at < length state.cursors) × IsNoLater order s.word (slice_index state.cursors s.at)) a.seen.cursors
         (record { at = cursor; word = old }) (kept.each id a mine lived).sees.shared stands.1).0
 
-    -- what was seen of it lies no later than where it stands
+    -- what was seen of it is no later than where it is
     passed : IsNoLater order old (slice_index state.cursors cursor)
     passed = (All-contains (λ s. (s.at < length state.cursors) × IsNoLater order s.word (slice_index state.cursors s.at)) a.seen.cursors
         (record { at = cursor; word = old }) (kept.each id a mine lived).sees.shared stands.1).1
 
-    -- where another actor moved it on first, it stands behind one record more
+    -- if another actor moved it on first, it comes after one record more
     goes_past : slice_index state.cursors cursor ≢ old → IsReachedAt order (slice_index a.done.lost cursor + 1) (slice_index state.cursors cursor)
     goes_past miss =
         let (k, low, within_list, is) = stands.2 in
@@ -158,7 +158,7 @@ module _ (shape : Dimensions) (opened : Anatomy) (state : State) (kept : Invaria
       abbrev cursors : List ℕ
       cursors = set state.cursors cursor new
 
-      -- it stood behind so many records of the list, and stands behind one more
+      -- it came after `place` records of the list, and comes after one more
       stood : (k : ℕ) → k ≤ length order → slice_index (stops order) k ≡ slice_index state.cursors cursor → k ≡ place
       stood k le is = one_place state.words order k place kept.list.linked le (let lt = stands.0.1 in omega (arith, lt)) (is ∙ (hit ∙ sym stands.0.2))
 
@@ -180,7 +180,7 @@ module _ (shape : Dimensions) (opened : Anatomy) (state : State) (kept : Invaria
       gave_more : (k : ℕ) → given_by k (a.done.given ++ gift ∷ []) ≡ given_by k a.done.given ++ given_by k (gift ∷ [])
       gave_more k = given_push k a.done.given gift
 
-      -- what the actor was given by the cursor stands before that place
+      -- what the actor was given by the cursor comes before that place
       before : (x : Given) (k : ℕ) → Contains a.done.given x → x.cursor ≡ cursor → get_elem? order k ≡ some x.reference → k < place
       before x k has same there =
           let (front, inside, is, gave) = kept.cursors.stand cursor within in

@@ -15,7 +15,7 @@ use Rattle.segment_machine.proofs.SmallNumbers.{below_three}
 use Rattle.segment_invariant.proofs.Examples.OneRecord.{the_one, of_the_one}
 use Rattle.segment_invariant.proofs.Frames.Spending.{by_name}
 
--- who recorded 1, 1 and 0
+-- the actor that recorded 1, 1 and 0
 abbrev who : Actor
 who = mounter (1 ∷ 1 ∷ 0 ∷ [])
 

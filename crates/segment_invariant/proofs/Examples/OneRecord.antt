@@ -7,7 +7,7 @@ use Rattle.segment_invariant.proofs.Prelude.Invariant.{IsHistogram}
 pub the_one : (words name : List ℕ) → field_at words 16 2 ≡ 1 → name_of words 16 ≡ name → IsHistogram words (16 ∷ []) name 16
 the_one words name tag named = ([], [], refl, λ k d below. absurd (omega (arith, below)), (tag, named))
 
--- where it stands
+-- where the record is
 places : (front behind : List ℕ) (at : ℕ) → 16 ∷ [] ≡ front ++ at ∷ behind → 16 ≡ at
 places [] behind at e = ap (λ list. slice_index list 0) e
 places (x ∷ front) behind at e =

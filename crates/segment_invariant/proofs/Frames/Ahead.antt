@@ -1,5 +1,5 @@
--- The list stays ahead of what came too late: where an actor turns to another place, where the tail is moved on, and where the list
--- becomes longer.
+-- The list stays ahead of what came too late: when an actor turns to another place, when the tail is moved on, and when the list becomes
+-- longer.
 use Rattle.segment_invariant.proofs.Prelude.Std.{◌≡◌, ℕ, false, List, ◌++◌, length, replicate, refl, sym, ◌∙◌, subst, arith, ◌<◌, slice_index, length-replicate}
 use Rattle.segment_invariant.proofs.Prelude.Machine.{IsStop, IsLinked, Place, Idle, is_bound}
 use Rattle.segment_invariant.proofs.Prelude.Invariant.{IsNoLater, is_beaten, IsAhead}
@@ -11,18 +11,18 @@ use Rattle.segment_invariant.proofs.Frames.Growth.{reached_longer}
 
 -- ---- places
 
--- where its link has not come too late, it had not at the place before
+-- if its link has not come too late, it had not at the place before
 abbrev pub KeepsUp : Place → Place → Type 0
 KeepsUp old new = is_beaten new ≡ false → is_beaten old ≡ false
 
--- who may turn to another part of a call has no tail to move on
+-- an actor that may turn to another part of a call has no tail to move on
 pub unbound_unbeaten : (place : Place) → is_bound place ≡ false → is_beaten place ≡ false
 unbound_unbeaten (Beaten tail behind) bound = absurd (cc bound)
 unbound_unbeaten place bound = refl
 
 -- ---- one place of the list
 
--- what is reached is on the list, and is reached behind nothing
+-- what is reached is on the list, and is reached after no records at least
 pub reached_stop : (chain : List ℕ) (n at : ℕ) → IsReachedAt chain n at → IsStop chain at
 reached_stop chain n at (k, low, within, is) = (k, within, is)
 
@@ -39,7 +39,7 @@ reached_later words chain n old new linked later (k, low, within, is) =
 
 -- ---- what came too late
 
--- of who has tried nothing
+-- of an actor that has tried nothing
 pub ahead_anew : (chain : List ℕ) (present : ℕ) (cursors : List ℕ) (n : ℕ) → IsStop chain present → n ≡ length cursors
     → ((k : ℕ) → k < length cursors → IsStop chain (slice_index cursors k)) → IsAhead chain present cursors Idle 0 (replicate n 0)
 ahead_anew chain present cursors n stop long stops = record {

@@ -1,4 +1,4 @@
--- What holds of an anatomy, where blocks in the making change and what was published stays.
+-- What holds of an anatomy, when blocks in the making change and what was published stays.
 use Rattle.segment_invariant.proofs.Prelude.Std.{◌≡◌, ℕ, ◌+◌, ℤ, Bool, List, inl, inr, ⊎_elim, refl, sym, subst, ap, ◌∙◌, All, All-weaker, some}
 use Rattle.segment_invariant.proofs.Prelude.Machine.{Dimensions, Behind, IsStop, IsLinked, Actor, Known, Seen}
 use Rattle.segment_invariant.proofs.Prelude.Invariant.{Body, held, Piece, Listed, Anatomy, order_of, free_of, units_held, marks_held, noted_held, all_held, Stands, IsFirst, IsFirstOf, IsRightlyKnown, Sees, StandsAs, RecordsAreKept, SumsAreNear, Fits, CallsRight, LooksBack, IsAhead}
@@ -140,13 +140,13 @@ module _ (anatomy : Anatomy) (pieces : List Piece) (spare : ℕ) (corrupt full :
     snapshots = fits.snapshots;
   }
 
-  -- what an actor stands on whose words in the making stay
+  -- what an actor rests on stays, if its words in the making do
   pub grounds_along : (id : ℕ) → ((at : ℕ) (words : List ℕ) → HasPlain anatomy.pieces id at words → HasPlain pieces id at words) → Grounds anatomy later id
   grounds_along = grounds_grow anatomy later (λ at body. ⊥) grows
 
--- ---- the actor that goes on
+-- ---- the actor that moves on
 
--- what it saw and looks back at, where it sees nothing but the free pointer
+-- what it saw and looks back at, if it sees nothing but the free pointer
 abbrev pub sees_no_more : Actor → Doing → Doing
 sees_no_more a d = record d { seen_chain = a.seen.chain; seen_tails = a.seen.tails; seen_words = a.seen.words }
 

@@ -1,4 +1,4 @@
--- What is said of a record, of its counts, and of an actor, where some of it is shown anew and the rest rests on what stays.
+-- What holds of a record, of its counts, and of an actor, when some of it is shown again and the rest follows from what stays.
 use Rattle.segment_invariant.proofs.Prelude.Std.{◌≡◌, ◌≢◌, ℕ, ◌+◌, ◌<◌, ◌≤◌, ℤ, List, ◌++◌, length, true, false, ◌^◌, max, slice_index, Some, None, w64, cast_signed, All, Contains}
 use Rattle.segment_invariant.proofs.Prelude.Machine.{packed_bucket, units_packed, Dimensions, Behind, Entry, Place, SumLoaded, Actor, Seen, Sighting, counted_of, is_opener, is_off, SawSample}
 use Rattle.segment_invariant.proofs.Prelude.Invariant.{Record, Counts, Anatomy, order_of, free_of, IsWithinCounts, form_at, HasRecord, IsFirst, IsFirstOf, IsNoLater, Sees, IsLawfulRecord, IsCountsOf, IsAlone, CallsRight, LooksBack, FinalsAreExact, Fits}
@@ -7,7 +7,7 @@ use Rattle.segment_machine.specs.declared.actor.Role.{Role}
 
 -- ---- a record
 
--- a record is lawful with other words that change, where what is said of these is shown
+-- a record is valid with other words that change, if what these have to satisfy is shown
 pub lawful_anew : (version page : ℕ) (r : Record) (counts single mark sum sum_mark noted : ℕ) → IsLawfulRecord version page r
     → form_at version (record r { single = single }) ≢ None → (packed_bucket (form_at version (record r { single = single })) ≡ None → mark ≡ 0)
     → (is_off single ≡ true → counts ≢ 0) → (r.spec ≡ spec.Sparse → (counts ≡ 0) × (single ≡ 0) × (mark ≡ 0))
@@ -49,7 +49,7 @@ counts_anew version at r single mark c is packed unused low = record {
 
 -- ---- an actor
 
--- what it saw is right with another free pointer, other ends and other sightings of cursors, where what is said of these is shown
+-- what it saw is right with another free pointer, other ends and other sightings of cursors, if what these have to satisfy is shown
 pub sees_anew : (anatomy : Anatomy) (old new : List ℕ) (seen : Seen) (free : ℕ) (ends : List ℕ) (shared : List Sighting) → Sees anatomy old seen → Behind free (free_of anatomy)
     → All (λ s. (s.at < length new) × IsNoLater (order_of anatomy) s.word (slice_index new s.at)) shared
     → Sees anatomy new (record seen { free = free; ends = ends; cursors = shared })
@@ -98,7 +98,7 @@ looks_anew_at anatomy actors opener a place looks sum = record {
   sum = sum;
 }
 
--- beside other actors, with another share and another role, it fits where what rests on these is shown
+-- among other actors, with another share and another role, it fits if what depends on these is shown
 pub fits_anew : (shape : Dimensions) (anatomy : Anatomy) (cursors : List ℕ) (old new : List Actor) (opener later : Actor) (id : ℕ) (a : Actor) (share : ℕ) (role : Role)
     → let b = record a { units = record a.units { share = share }; role = role } in Fits shape anatomy cursors old opener id a
     → (is_opener role ≡ false → LooksBack anatomy new later b) → FinalsAreExact new later id b → All (IsWithinCounts new) a.deltas.snapshots

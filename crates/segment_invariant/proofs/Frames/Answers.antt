@@ -1,4 +1,4 @@
--- Of each name the first record is answered or owed, whatever actors do.
+-- The first record of each name has been returned by a `hist`, or is owed, whatever actors do.
 use Rattle.segment_invariant.proofs.Prelude.Std.{◌≡◌, ◌≢◌, ◌⊎◌, ℕ, Bool, true, false, not, ◌&&◌, ◌==◌, List, [], ◌∷◌, ◌++◌, Contains, set, inl, inr, ⊎_elim, refl, sym, ap, ◌∙◌, subst, eqb-true, arith, Some, None, bytes_eq, filter, flat_map, bytes_eq-Decides, set-set, All-nil, All-cons, All-weaker, All-append, Contains-append_left, Contains-append_right, some, get_elem?, rows, row_in, contains_filter}
 use Rattle.segment_invariant.proofs.Prelude.Machine.{Spec, Actor, Known, Made, Own, Published}
 use Rattle.segment_invariant.proofs.Prelude.Invariant.{Listed, IsRecordNamed, IsFirst}
@@ -49,7 +49,7 @@ owes_linked (Some own) at = by_made own.made
         let published : List Published = record { reference = at; made = Histogram name kind } ∷ [] in
         All-cons (HasPublishedRecord published) (debt name kind at) [] (0, omega arith, refl) (All-nil (HasPublishedRecord published))
 
--- where more was published
+-- when more was published
 pub owes_more : (published more : List Published) (owed : List Known) → OwesPublished published owed → OwesPublished (published ++ more) owed
 owes_more published more owed all = All-weaker (HasPublishedRecord published) (HasPublishedRecord (published ++ more))
     (λ mine has. Contains-append_left published more _ has) owed all
@@ -60,10 +60,10 @@ pub owes_both : (published more : List Published) (owed others : List Known) →
 owes_both published more owed others all rest = All-append (HasPublishedRecord (published ++ more)) owed others (owes_more published more owed all)
     (All-weaker (HasPublishedRecord more) (HasPublishedRecord (published ++ more)) (λ mine has. Contains-append_right published more _ has) others rest)
 
--- ---- what actors were answered and owe
+-- ---- what actors got as answers and owe
 
 module _ (records : List Listed) where
-  -- where no answer is lost
+  -- if no answer is lost
   pub answered_by : (old new : List Actor) → ((known : Known) → Contains (all_names old) known → Contains (all_names new) known)
       → ((mine : Known) → Contains (all_owed old) mine → Contains (all_owed new) mine)
       → AreAnswered records old → AreAnswered records new
@@ -87,7 +87,7 @@ module _ (records : List Listed) where
     debt_left : (owes : Known) → Contains (all_owed actors) owes → Contains (all_owed (set actors id b)) owes ⊎ Contains a.answers.owed owes
     debt_left owes has = row_left (λ (c : Actor). c.answers.owed) actors id a b owes mine has
 
-    -- it was answered the same, and owes no less
+    -- it got the same answers, and owes no less
     pub answered_more : b.answers.names ≡ a.answers.names → ((owes : Known) → Contains a.answers.owed owes → Contains b.answers.owed owes)
         → AreAnswered records actors → AreAnswered records (set actors id b)
     answered_more names owed = answered_by actors (set actors id b)
@@ -98,7 +98,7 @@ module _ (records : List Listed) where
     pub answered_set : b.answers.names ≡ a.answers.names → b.answers.owed ≡ a.answers.owed → AreAnswered records actors → AreAnswered records (set actors id b)
     answered_set names owed = answered_more names (λ owes has. subst (λ (list : List Known). Contains list owes) (sym owed) has)
 
-    -- it was answered, and owes nothing of that name any more
+    -- it got the answer, and owes nothing of that name any more
     pub answered_knows : (known : Known) → b.answers.names ≡ a.answers.names ++ known ∷ [] → b.answers.owed ≡ filter (λ (mine : Known). not (bytes_eq mine.name known.name)) a.answers.owed
         → AreAnswered records actors → AreAnswered records (set actors id b)
     answered_knows known names owed all name kind at first = along (all name kind at first)

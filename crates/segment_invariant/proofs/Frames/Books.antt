@@ -12,12 +12,12 @@ use Rattle.list_lemmas.proofs.Elements.{any_there, any_from}
 use Rattle.segment_invariant.proofs.Frames.Deeds.{Deeds, sums_of}
 use Rattle.segment_invariant.proofs.Frames.Together.{LoadedBefore, balanced, sums_near, taken_keys}
 
--- shared cursors stand on the list, and have given the records up to there
+-- shared cursors are on the list, and have given the records up to there
 abbrev pub CursorsStand : List ℕ → List ℕ → List Actor → Type 0
 CursorsStand chain cursors actors = (k : ℕ) → k < length cursors → (place : ℕ) × (place ≤ length chain)
     × (slice_index (stops chain) place ≡ slice_index cursors k) × IsPermutation (all_given actors k) (take place chain)
 
--- what a shared cursor gave an actor stands in the order of the list
+-- what a shared cursor gave an actor is in the order of the list
 abbrev pub GivenInOrder : List ℕ → List Given → Type 0
 GivenInOrder chain list = (i j k l : ℕ) (x y : Given) → i < j
     → get_elem? list i ≡ some x → get_elem? list j ≡ some y → x.cursor ≡ y.cursor
@@ -70,7 +70,7 @@ books_of shape opened state kept = record {
   stand = kept.cursors.stand;
 }
 
--- with what is said of each actor, all is kept
+-- with what holds of each actor, all is kept
 pub kept_by : (shape : Dimensions) (opened anatomy : Anatomy) (words cursors : List ℕ) (actors : List Actor)
     → Books shape opened anatomy words cursors actors → (roles : RolesAreKept actors)
     → ((name : List ℕ) → cost_of roles.opener.entries.first_noted name ≡ all_held (noted_held name) opened.pieces)
@@ -111,7 +111,7 @@ kept_by shape opened anatomy words cursors actors books roles first_noted ordere
   sums,
 )
 
--- the list is kept where others published the same
+-- the list is kept when others published the same
 listed_by : (words : List ℕ) (opened anatomy : Anatomy) (old new : List Actor) → IsPermutation (all_published new) (all_published old)
     → ListIsKept words opened anatomy old → ListIsKept words opened anatomy new
 listed_by words opened anatomy old new same list = record {
@@ -126,9 +126,9 @@ listed_by words opened anatomy old new same list = record {
   tail = list.tail;
 }
 
--- ---- where one actor becomes another
+-- ---- when one actor becomes another
 
--- shared cursors are kept where they gave it the same
+-- shared cursors are kept if they gave it the same
 pub cursors_set : (chain cursors : List ℕ) (actors : List Actor) (id : ℕ) (a b : Actor) → get_elem? actors id ≡ some a → is_opener a.role ≡ false → b.done.given ≡ a.done.given
     → CursorsAreKept chain cursors actors → CursorsAreKept chain cursors (set actors id b)
 cursors_set chain cursors actors id a b mine records same kept = record {
@@ -149,24 +149,24 @@ cursors_set chain cursors actors id a b mine records same kept = record {
   ];
 }
 
--- a flag is set where one actor has seen it
+-- a flag is set if one actor has seen it
 pub noticed_there : (now : Bool) (actors : List Actor) (id : ℕ) (a : Actor) → get_elem? actors id ≡ some a
     → IsSetWhereSeen now (map (λ a. a.seen.corrupt) actors) → a.seen.corrupt ≡ true → now ≡ true
 noticed_there now actors id a mine noticed is =
     noticed (any_there (map (λ (a : Actor). a.seen.corrupt) actors) id false (at_map (λ (a : Actor). a.seen.corrupt) actors id a mine ∙ ap some is))
 
--- and it is so on where the actor has seen it rightly
+-- and it still is if the actor has seen it rightly
 pub noticed_set : (now : Bool) (actors : List Actor) (id : ℕ) (b : Actor) → (b.seen.corrupt ≡ true → now ≡ true)
     → IsSetWhereSeen now (map (λ a. a.seen.corrupt) actors) → IsSetWhereSeen now (map (λ a. a.seen.corrupt) (set actors id b))
 noticed_set now actors id b rightly noticed seen = ⊎_elim noticed rightly (any_from (λ (a : Actor). a.seen.corrupt) actors id b false seen)
 
--- the list is kept where it published the same
+-- the list is kept if it published the same
 pub listed_set : (words : List ℕ) (opened anatomy : Anatomy) (actors : List Actor) (id : ℕ) (a b : Actor) → get_elem? actors id ≡ some a
     → b.done.published ≡ a.done.published → ListIsKept words opened anatomy actors → ListIsKept words opened anatomy (set actors id b)
 listed_set words opened anatomy actors id a b mine same = listed_by words opened anatomy actors (set actors id b)
     (subst (λ made. IsPermutation made (all_published actors)) (sym (rows (λ (a : Actor). a.done.published) actors id a b mine same)) (IsPermutation-refl _))
 
--- ---- where others did the same together
+-- ---- when others did the same together
 
 pub books_by : (shape : Dimensions) (opened anatomy : Anatomy) (words cursors : List ℕ) (old new : List Actor)
     → Deeds old new → LoadedBefore old new

@@ -1,4 +1,4 @@
--- What actors did together, whoever of them did it.
+-- What actors did together, no matter which of them did it.
 use Rattle.segment_invariant.proofs.Prelude.Std.{◌≡◌, ◌≤◌, ℕ, Bool, false, ◌||◌, ℤ, pos, ◌+ℤ◌, suc, List, [], ◌∷◌, ◌++◌, map, sym, refl, ap, ◌∙◌, subst, subst₂, ◌≢◌, zero, set, arith, some, some-injective, some-ne-none, get_elem?, fold, sum_by, if◌then◌else◌, IsPermutation, flat_map, sum_by-append, split_at, IsTotal}
 use Rattle.segment_invariant.proofs.Prelude.Machine.{Entry, Actor, Portion, is_of, tally_units, tally_sum, tally_noted, counted_of, summed_of, noted_of, taken_units, taken_sum, units_of, all_counted, all_summed, all_noted, all_taken, all_published, taken_of}
 use Rattle.segment_invariant.proofs.Prelude.Invariant.{moving_at, summed_cost}
@@ -139,7 +139,7 @@ pub record SameSums (old new : List Actor) : Type 0 where
   pub moving : (name : List ℕ) (key : ℤ) → all_moving name key new ≡ all_moving name key old
   pub costs : (name : List ℕ) → summed_costs name old ≤ summed_costs name new
 
--- where others did the same together
+-- when others did the same together
 pub sums_of : (old new : List Actor) → Deeds old new → SameSums old new
 sums_of old new same = record {
   counted = units_counted old new same;

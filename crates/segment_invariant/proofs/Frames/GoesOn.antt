@@ -1,4 +1,4 @@
--- A state is kept where one actor goes on, and at most one of the blocks in the making changes.
+-- A state is kept when one actor moves on, and at most one of the blocks in the making changes.
 use Rattle.segment_invariant.proofs.Prelude.Std.{true≢false, ◌≡◌, ◌≢◌, ℕ, ◌<◌, Bool, List, ◌++◌, map, length, set, take, drop, All, Contains, inl, inr, refl, sym, ap, ◌∙◌, subst, subst₂, length-set, false, true, take-append_seam, get_or_append_left, IsPermutation, flat_map, All-weaker, some, some-injective, get_elem?, at_set}
 use Rattle.segment_invariant.proofs.Prelude.Machine.{Dimensions, word_at, IsShown, Behind, IsStop, IsLinked, Actor, Own, Spent, State, Event, spot, next, Learned, is_opener}
 use Rattle.segment_invariant.proofs.Prelude.Invariant.{found_at, Body, plain, histogram, Piece, Anatomy, layout_of, order_of, free_of, claims_of, Stands, IsNoLater, Sees, StandsRight, HoldsOwn, CallsRight, LooksBack, Fits, IsSetBy, ClaimedRight, StandStill, Invariant, KeptOn, IsAhead}
@@ -21,7 +21,7 @@ use Rattle.segment_invariant.proofs.Frames.PassedOver.{still_there, passed_on}
 use Rattle.segment_invariant.proofs.Frames.Rises.{rises_reshaped}
 use Rattle.segment_invariant.proofs.Frames.SumsRise.{sums_come}
 
--- What has to be shown where an actor goes on to a doing: of the blocks and the words that are then there, and of the actor itself.
+-- What has to be shown when an actor moves on with a doing: of the blocks and the words that are then there, and of the actor itself.
 pub record Goes (shape : Dimensions) (opened : Anatomy) (state : State) (old new : Anatomy) (opener : Actor) (id : ℕ) (a : Actor) (d : Doing) (words : List ℕ) : Type 0 where
   pub shown : IsShown shape words (layout_of new)
   pub stays : Stays old.pieces new.pieces
@@ -79,7 +79,7 @@ module _ (shape : Dimensions) (opened : Anatomy) (state : State) (kept : Invaria
         goes.tail_later b.seen.tails fits.sees.tails)
         (ahead_later (order_of before) before.tail state.cursors b.hand.place b.done.beaten b.done.lost fits.ahead state.words tail kept.list.linked goes.tail_later) fits
 
-    -- the actor that goes on
+    -- the actor that moves on
     fits_mine : Fits shape behind state.cursors state.actors kept.roles.opener id (doing a d)
     fits_mine =
         let fits = kept.each id a mine turns.lived in record {
@@ -198,7 +198,7 @@ module _ (version : ℕ) (state : State) (id : ℕ) (a : Actor) (event : Event) 
     actors = set state.actors id (next a event (found_word i));
   }
 
-  -- so what is kept behind it is kept
+  -- so what is kept after it is kept
   pub happens : (shape : Dimensions) (opened : Anatomy) (was : Invariant shape opened state)
       → KeptOn shape opened was (after_word version state id a event) × Learned a event (word_at state.words at)
       → KeptOn shape opened was (happened version state id a event) × Learned a event (found_at state event)

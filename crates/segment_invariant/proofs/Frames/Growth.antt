@@ -14,7 +14,7 @@ use Rattle.segment_invariant.proofs.Frames.Onward.{goes_itself, Onward, stands_a
 
 -- ---- the next of a block
 
--- a block with another next, where it has one
+-- a block with another next, if it has one
 abbrev pub with_next : Body → ℕ → Body
 with_next (queue next) n = queue n
 with_next (plain words) n = plain words
@@ -76,7 +76,7 @@ next_claimed (counts c) n = refl
 next_claimed (sample s) n = refl
 next_claimed (other size tag next payload) n = refl
 
--- so it goes on
+-- so it continues
 next_goes : (version : ℕ) (body : Body) (n : ℕ) → GoesAs version body (with_next body n) ⊎ (is_claimed body ≡ false)
 next_goes version (queue next) n = inr refl
 next_goes version (plain words) n = inr refl
@@ -95,7 +95,7 @@ claimed_goes version body n claimed = ⊎_elim (λ goes. goes) (λ free. absurd 
 
 -- ---- the list is longer at its end
 
--- where stops of the chain stand stays
+-- the stops of the chain stay where they are
 pub stop_at : (chain more : List ℕ) (i : ℕ) → i ≤ length chain → slice_index (stops (chain ++ more)) i ≡ slice_index (stops chain) i
 stop_at chain more zero le = refl
 stop_at chain more (suc i) le = get_or_append_left chain more 0 i (omega (arith, le))
@@ -132,15 +132,15 @@ IsSilent nothing holds =
     ((words : List ℕ) → holds (plain words) ≡ nothing) × ((block : Own) → holds (held block) ≡ nothing)
     × ((next : ℕ) → holds (queue next) ≡ nothing)
 
--- What was published stays: a block without owner stands where it stood, and no other has come; and together they hold what they held.
+-- What was published stays: a block without owner is where it was, and no other is added; and together they hold what they held.
 pub record Stays (old new : List Piece) : Type 0 where
   pub there : (at : ℕ) (body : Body) → Stands old at none body → Stands new at none body
   pub back : (at : ℕ) (body : Body) → Stands new at none body → Stands old at none body
   pub held : (holds : Body → ℕ) → IsSilent 0 holds → all_held holds new ≡ all_held holds old
   pub amounts : (holds : Body → ℤ) → IsSilent (pos 0) holds → all_amounts holds new ≡ all_amounts holds old
 
--- Published blocks stay, but for their nexts; those that come beside them are `added`, and lie where no published one was. The list
--- becomes longer at its end.
+-- Published blocks stay, but for their nexts; new ones are `added`, and lie where there was no published one. The list becomes longer at
+-- its end.
 pub record Grows (old new : Anatomy) (added : ℕ → Body → Type 0) : Type 0 where
   pub version : new.version ≡ old.version
   pub more : List Listed
@@ -158,7 +158,7 @@ pub record Grows (old new : Anatomy) (added : ℕ → Body → Type 0) : Type 0 
       → IsFirstOf old.records of value at
       ⊎ ((s : Sample) × added at (sample s) × All (λ l. ¬ (IsValued of value l)) old.records)
 
--- where what was published stays, and the list too
+-- if what was published stays, and the list too
 pub grows_not : (anatomy : Anatomy) (pieces : List Piece) (spare : ℕ) (corrupt full : Bool) (tail : ℕ) → Stays anatomy.pieces pieces
     → Grows anatomy (reshaped anatomy pieces spare corrupt full tail) (λ at body. ⊥)
 grows_not anatomy pieces spare corrupt full tail stays = record {
@@ -173,7 +173,7 @@ grows_not anatomy pieces spare corrupt full tail stays = record {
   first_of_came = λ of at value first. inl first;
 }
 
--- nothing is a record, counts or a sample with another next but such a one
+-- what is a record, counts or a sample with another next was one before
 is_record : (before : Body) (n : ℕ) (r : Record) → histogram r ≡ with_next before n → (r0 : Record) × (before ≡ histogram r0) × (r ≡ record r0 { next = n })
 is_record (histogram r0) n r is = (r0, refl, cc is)
 is_record (queue next) n r is = absurd (cc is)
@@ -253,7 +253,7 @@ module _ (old new : Anatomy) (added : ℕ → Body → Type 0) (grows : Grows ol
 
   -- ---- so what was seen stays true
 
-  -- published blocks go on
+  -- published blocks continue
   pub grows_on : Onward old new added
   grows_on = record {
     version = grows.version;
@@ -287,11 +287,11 @@ module _ (old new : Anatomy) (added : ℕ → Body → Type 0) (grows : Grows ol
       (λ s t. (t.0, no_later_grows s.word (slice_index cursors s.at) t.1)) seen.cursors sees.shared)
       sees
 
-  -- a listed record stands as what it was given
+  -- a listed record holds what it was given
   pub stands_as_grows : (l : Listed) (given : std.Option Made) → StandsAs old.pieces l given → StandsAs new.pieces l given
   stands_as_grows = stands_as_on old new added grows_on
 
-  -- what an actor stands on stays, where its words in the making do
+  -- what an actor rests on stays, if its words in the making do
   pub grounds_grow : (id : ℕ) → ((at : ℕ) (words : List ℕ) → HasPlain old.pieces id at words → HasPlain new.pieces id at words) → Grounds old new id
   grounds_grow id others = record {
     version = grows.version;

@@ -34,7 +34,7 @@ module _ (shape : Dimensions) (old new : Anatomy) (added : ℕ → Body → Type
     (known_record : (known : Known) → Contains x.answers.names known → (r : Record) × HasRecord old.pieces known.reference r)
     (loaded_record : (reference : ℕ) (sum : ℤ) → x.hand.place ≡ SumLoaded reference sum → (r : Record) × HasRecord old.pieces reference r)
     (singles : All (WasSingle old.version old.pieces) x.seen.singles) (counters : All (WasCounter old.pieces) x.seen.counts) where
-  -- what was added stands where no record stood
+  -- what was added is where there was no record
   no_record : (at : ℕ) (body : Body) (r : Record) → 0 < length (words_of body) → added at body → HasRecord old.pieces at r → ⊥
   no_record at body r long new_one stands = grows.apart at at 0 0 body (histogram r) new_one stands long (omega arith) refl
 
@@ -68,7 +68,7 @@ module _ (shape : Dimensions) (old new : Anatomy) (added : ℕ → Body → Type
       let (n, still) = record_stays old new added grows known.reference r there in
       subst (λ (version : ℕ). packed_bucket (form_at version r) ≢ Some bucket) grows.version (apart (record r { next = n }) still)))
 
-  -- a single word that it saw is of a record that stood
+  -- a single word that it saw is of a record that was there
   no_single : (t : Sighting) (at : ℕ) (r : Record) → Contains (drop x.since.singles x.seen.singles) t → t.at ≡ at + 9 → added at (histogram r) → ⊥
   no_single t at r now spot new_one =
       let (place, q, stands, is, formed, leads) = All-contains (WasSingle old.version old.pieces) (drop x.since.singles x.seen.singles) t

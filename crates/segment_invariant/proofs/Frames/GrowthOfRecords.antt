@@ -1,4 +1,4 @@
--- The records of a segment that grows: the old ones stay what they are, and the new ones are lawful and count nothing.
+-- The records of a segment that grows: the old ones stay what they are, and the new ones are valid and count nothing.
 use Rattle.segment_invariant.proofs.Prelude.Std.{◌≡◌, ◌≢◌, ◌⊎◌, ℕ, ◌*◌, ◌-ℤ◌, ◌≤◌, ℤ, pos, List, ◌∷◌, ◌++◌, All, Contains, inl, inr, ⊎_elim, refl, sym, ap, ◌∙◌, subst, arith, Some, unsigned_abs, w64, cast_signed, All-contains, Contains-append_right, some, none, get_elem?, first_longer}
 use Rattle.segment_invariant.proofs.Prelude.Machine.{Spec, Actor, SumLoaded, units_in}
 use Rattle.segment_invariant.proofs.Prelude.Invariant.{Record, Counts, Sample, Body, histogram, sample, Listed, Anatomy, form_at, Stands, HasRecord, HasCounts, HasSample, IsRecordNamed, IsValued, IsFirst, IsFirstOf, StandsAs, IsLawfulRecord, IsCountsOf, CountsNothing, RecordsAreKept, HasKey, SumsAreNear, IsSumOf}
@@ -9,7 +9,7 @@ use Rattle.segment_invariant.proofs.Frames.Growth.{Grows, first_grows, record_st
 
 -- ---- what was added
 
--- What was added is lawful and counts nothing.
+-- What was added is valid and counts nothing.
 pub record AddedRight (page : ℕ) (old new : Anatomy) (added : ℕ → Body → Type 0) : Type 0 where
   pub lawful : (at : ℕ) (r : Record) → added at (histogram r) → IsLawfulRecord new.version page r
   pub nothing : (at : ℕ) (r : Record) → added at (histogram r) → CountsNothing r
@@ -20,7 +20,7 @@ pub record AddedRight (page : ℕ) (old new : Anatomy) (added : ℕ → Body →
       → ((left : List Listed) × (old.records ≡ front ++ record { reference = at; made = Some (made.Sample of value) } ∷ left))
       ⊎ ((name : List ℕ) × IsFirst front name spec.Sparse of × ((s : Sample) → HasSample new.pieces at s → s.name ≡ name))
 
--- where nothing was added
+-- if nothing was added
 pub nothing_added : (page : ℕ) (old new : Anatomy) → new.records ≡ old.records → AddedRight page old new (λ at body. ⊥)
 nothing_added page old new same = record {
   lawful = λ at r none_added. absurd none_added;
@@ -33,7 +33,7 @@ nothing_added page old new same = record {
 module _ (page : ℕ) (old new : Anatomy) (added : ℕ → Body → Type 0) (grows : Grows old new added) (right : AddedRight page old new added)
     (standing : All (λ l. StandsAs old.pieces l l.made) old.records)
     (alone : (at : ℕ) (body : Body) → Stands old.pieces at none body → IsOnList old.records at body) where
-  -- a listed sample stands as one, and nothing was added there
+  -- a listed sample is there as one, and nothing was added there
   no_sample : (at of : ℕ) (value : ℤ) (s : Sample) → Contains old.records (record { reference = at; made = Some (made.Sample of value) })
       → added at (sample s) → ⊥
   no_sample at of value s there new_one =

@@ -58,7 +58,7 @@ module _ (shape : Dimensions) (opened : Anatomy) (state : State) (kept : Invaria
       (Contains-append_cases x.entries.inherited (counted_of x) entry has))
       units
 
-  -- a histogram that it knows stands as a record, and so does one whose sum it has loaded
+  -- a histogram that it knows is there as a record, and so is one whose sum it has loaded
   pub known_record : (id : ℕ) (x : Actor) → get_elem? state.actors id ≡ some x → x.hand.place ≢ Spent
       → (known : Known) → Contains x.answers.names known → (r : Record) × HasRecord kept.anatomy.pieces known.reference r
   known_record id x there lives known has =
@@ -74,7 +74,7 @@ module _ (shape : Dimensions) (opened : Anatomy) (state : State) (kept : Invaria
       let (r, stands) = known_record id x there (λ spent. cc (sym is ∙ spent)) known has in
       (r, subst (λ (at : ℕ). HasRecord kept.anatomy.pieces at r) same stands)
 
-  -- running calls, and what was seen since a delta or a snapshot began, where one actor goes on and the segment grows
+  -- running calls, and what was seen since a delta or a snapshot began, when one actor moves on and the segment grows
   module _ (new : Anatomy) (added : ℕ → Body → Type 0) (grows : Grows kept.anatomy new added) where
     pub fits_on : (id : ℕ) (x : Actor) (d : Doing) → get_elem? state.actors id ≡ some x → x.hand.place ≢ Spent → SawMore x d
         → Sees new state.cursors (doing x d).seen → IsAhead (order_of new) new.tail state.cursors d.place d.beaten x.done.lost

@@ -1,4 +1,4 @@
--- Single words that lead on from one another.
+-- Single words that lead from one to another.
 use Rattle.segment_invariant.proofs.Prelude.Std.{◌≡◌, ◌≢◌, ◌⊎◌, Bool, true, false, ◌==◌, nat_lt, if◌then◌else◌, ℕ, ◌^◌, ◌/◌, ◌%◌, ◌≤◌, Option, Some, None, inl, inr, refl, sym, ap, ◌∙◌, subst, arith, eqb-true, lt-ltb}
 use Rattle.segment_invariant.proofs.Prelude.Machine.{SingleWord, Empty, Packed, single_of, is_packed_word, packed_bucket, is_off, units_in, Leads}
 use Rattle.std.proofs.lemmas.Bool.{leb-false}

@@ -1,4 +1,4 @@
--- Actors together, where one goes on with a call and neither counts, takes nor gives back anything: what all of them did is the same.
+-- Actors together, when one moves on with a call and neither counts, takes nor gives back anything: what all of them did is the same.
 use Rattle.segment_invariant.proofs.Prelude.Std.{◌⊎◌, ◌≡◌, ◌≢◌, ℕ, ◌+◌, ◌≤◌, ℤ, Bool, true, false, ◌&&◌, List, set, sum_by, inl, inr, ⊎_elim, refl, sym, ap, ◌∙◌, arith, not, if◌then◌else◌, ◌==◌, length, filter, some, get_elem?, rows, sum_same}
 use Rattle.segment_invariant.proofs.Prelude.Machine.{Dimensions, Known, Actor, Claim, Own, Published, Sighting, Look, Place, Spent, Idle, Looking, Moving, CountLoaded, SumLoaded, tally_units, tally_sum, tally_noted, is_bound, cost_of, counted_of, summed_of, noted_of, units_of, all_counted, all_summed, all_noted, all_taken, taken_units, taken_sum, taken_of, is_opener}
 use Rattle.segment_invariant.proofs.Prelude.Invariant.{moving_at, summed_cost, is_living, Fits, Anatomy}
@@ -13,8 +13,8 @@ use Rattle.segment_invariant.proofs.Frames.Roles.{SameRole, SameRoles, role_kept
 
 -- ---- one actor
 
--- what changes of an actor that goes on so: where it stands, its blocks, the rises that it made, the flags that it set and the words that it lacked, how often its link came too late, and what it saw of the free pointer,
--- the list and words that stay
+-- what changes of an actor that moves on like this: its place, its blocks, the rises that it made, the flags that it set and the words that
+-- it lacked, how often its link came too late, and what it saw of the free pointer, the list and words that stay
 pub record Doing : Type 0 where
   pub place : Place
   pub own : List Own
@@ -69,7 +69,7 @@ doing_of a = record {
   seen_words = a.seen.words;
 }
 
--- the actor may stand there next: it lives on, moves no units but those that it moved, and has loaded no sum but the one that it had
+-- the actor may be there next: it lives on, moves no units but those that it moved, and has loaded no sum but the one that it had
 pub record TurnsTo (a : Actor) (p : Place) : Type 0 where
   pub lived : a.hand.place ≢ Spent
   pub lives : p ≢ Spent
@@ -119,7 +119,7 @@ plain_rests p plain look bucket units moving = cc (plain, ap is_plain moving)
 plain_sums : (p : Place) (at : ℕ) (sum : ℤ) → is_plain p ≡ true → p ≢ SumLoaded at sum
 plain_sums p at sum plain is = cc (plain, ap is_plain is)
 
--- to a plain place it may turn from one where it lives and moves nothing: from another plain one, and from any where it is free to go on
+-- it may turn to a plain place from one where it lives and moves nothing: from another plain one, and from any where it is free to move on
 turns_to : (a : Actor) (p : Place) → a.hand.place ≢ Spent → ((look : Look) (bucket units : ℕ) → a.hand.place ≢ Moving look bucket units)
     → is_plain p ≡ true → TurnsTo a p
 turns_to a p lived rests plain = record {
@@ -136,7 +136,7 @@ pub turns_unbound : (a : Actor) (p : Place) → is_bound a.hand.place ≡ false 
 turns_unbound a p unbound =
     turns_to a p (λ spent. cc (unbound, ap is_bound spent)) (λ look bucket units moving. cc (unbound, ap is_bound moving))
 
--- it stays where it stands
+-- it stays at its place
 pub turns_not : (a : Actor) → a.hand.place ≢ Spent → TurnsTo a a.hand.place
 turns_not a lived = record { lived = lived; lives = lived; moves = λ name key. refl; sums = λ at sum is. is }
 
@@ -162,7 +162,7 @@ pub record SameDeeds (old new : List Actor) : Type 0 where
   pub loaded : LoadedBefore old new
   pub roles : SameRoles old new
 
--- of an actor that lives it is no matter where it stands
+-- of an actor that lives it does not matter at which place it is
 pub living_at : (a : Actor) (p : Place) → p ≢ Spent → is_living (record a { hand = record a.hand { place = p } }) ≡ is_living (record a { hand = record a.hand { place = Idle } })
 living_at a Spent lives = absurd (lives refl)
 living_at a Idle lives = refl
@@ -187,7 +187,7 @@ living_at a (BehindCursor cursor at behind) lives = refl
 pub lives_on : (a : Actor) → is_opener a.role ≡ false → a.hand.place ≢ Spent → is_living a ≡ true
 lives_on a records lives = living_at a a.hand.place lives ∙ ap (λ (b : Bool). b && true) (ap not records)
 
--- the actor that goes on has the role that it had
+-- the actor that moves on has the role that it had
 pub same_role : (a : Actor) (d : Doing) → TurnsTo a d.place → SameRole (doing a d) a
 same_role a d turns = role_kept a (doing a d) (living_at a d.place turns.lives ∙ sym (living_at a a.hand.place turns.lived)) refl refl refl refl refl
 
@@ -220,7 +220,7 @@ module _ (old new : List Actor) (same : SameDeeds old new) where
     costs = λ name. let costs = same.costs name in omega (arith, costs);
   }
 
-  -- who fitted beside the others fits still
+  -- an actor that fitted among the others still fits
   pub fits_same : (shape : Dimensions) (anatomy : Anatomy) (cursors : List ℕ) (opener : Actor) (id : ℕ) (a : Actor) → get_elem? old 0 ≡ some opener
       → Fits shape anatomy cursors old opener id a → Fits shape anatomy cursors new opener id a
   fits_same shape anatomy cursors opener id a first =

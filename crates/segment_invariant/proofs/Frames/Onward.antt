@@ -1,4 +1,4 @@
--- How published blocks go on: what is fixed in them stays, counters rise, single words lead on. So what was seen stays true.
+-- How published blocks continue: what is fixed in them stays, counters rise, single words lead on. So what was seen stays true.
 use Rattle.segment_invariant.proofs.Prelude.Std.{◌≡◌, ◌≢◌, ◌⊎◌, ℕ, ◌+◌, ◌-◌, ◌<◌, ◌≤◌, true, List, [], ◌∷◌, ◌++◌, length, All, Contains, inl, inr, ⊎_elim, refl, sym, ap, ◌∙◌, subst, arith, slice_index, Some, None, get_or_append_left, All-weaker, All-contains, none, all_of}
 use Rattle.segment_invariant.proofs.Prelude.Machine.{Spec, buckets_of, spec_ranges, single_of, Made, Seen, Sighting, Behind, IsPrefix, is_off, Leads, SawSample}
 use Rattle.segment_invariant.proofs.Prelude.Invariant.{Record, Counts, Sample, Body, queue, plain, held, histogram, counts, sample, other, words_of, is_claimed, Listed, Anatomy, order_of, free_of, Stands, HasRecord, HasCounts, HasSample, WasFixed, WasCounter, WasInUse, WasSingle, IsNoLater, Sees, WasMet, StandsAs}
@@ -13,13 +13,13 @@ use Rattle.segment_invariant.proofs.Blocks.Places.{counter_within}
 use Rattle.segment_invariant.proofs.Frames.Leads.{off_leads, leads_on}
 use Rattle.segment_image.specs.declared.layout.TheConstants.{CLAIMED_COOKIE}
 
--- ---- a block that goes on
+-- ---- a block that continues
 
 -- once the single word is off it stays
 pub off_stays : (version : ℕ) (r s : Record) → RecordGoes version r s → is_off r.single ≡ true → s.single ≡ r.single
 off_stays version r s goes off = sym (off_leads version (buckets_of r.spec) r.single s.single off goes.single)
 
--- a block goes on as itself
+-- a block continues as itself
 pub record_goes_itself : (version : ℕ) (r : Record) → RecordGoes version r r
 record_goes_itself version r = record { is = refl; counts = λ there. refl; single = inl refl; mark = omega arith; noted = omega arith }
 
@@ -34,7 +34,7 @@ goes_itself version (held block) = refl
 
 -- ---- its words
 
--- behind its redundant count a record has its name and its ranges
+-- after its redundant count a record has its name and its ranges
 record_behind : (r : Record) (i : ℕ) → 14 ≤ i
     → slice_index (words_of (histogram r)) i ≡ slice_index (length r.name ∷ (r.letters ++ spec_ranges r.spec ++ r.rest)) (i - 14)
 record_behind r i from =
@@ -56,7 +56,7 @@ record_spec r i from below =
     get_or-append_right (slice_index words 0 ∷ slice_index words 1 ∷ slice_index words 2 ∷ slice_index words 3 ∷ []) (fields ++ rest) 4 i 0 refl from
     ∙ get_or_append_left fields rest 0 (i - 4) (omega (arith, from, below))
 
--- what stands behind the mark of a sample
+-- what comes after the mark of a sample
 sample_behind : (s : Sample) (i : ℕ) → 8 ≤ i → slice_index (words_of (sample s)) i ≡ slice_index s.rest (i - 8)
 sample_behind s i from =
     let words = words_of (sample s) in
@@ -65,7 +65,7 @@ sample_behind s i from =
     ∷ slice_index words 6 ∷ slice_index words 7 ∷ [])
     s.rest 8 i 0 refl from
 
--- a fixed word of a block is one of that which it goes on as, and the same
+-- a fixed word of a block is a fixed word of what it continues as, and the same
 pub fixed_goes : (version : ℕ) (x y : Body) (i : ℕ) → GoesAs version x y → IsFixedIn x i
     → IsFixedIn y i × (slice_index (words_of y) i ≡ slice_index (words_of x) i)
 fixed_goes version (histogram r) y i (s, is, goes) fixed =
@@ -205,9 +205,9 @@ came_sample version (queue next) t is = absurd (cc is)
 came_sample version (plain words) t is = absurd (cc is)
 came_sample version (held block) t is = absurd (cc is)
 
--- ---- blocks that go on
+-- ---- blocks that continue
 
--- Published blocks go on; those that come beside them are `added`, and lie where no published one was.
+-- Published blocks continue; new ones are `added`, and lie where there was no published one.
 pub record Onward (old new : Anatomy) (added : ℕ → Body → Type 0) : Type 0 where
   pub version : new.version ≡ old.version
   pub goes : (at : ℕ) (body : Body) → is_claimed body ≡ true → Stands old.pieces at none body
@@ -218,7 +218,7 @@ pub record Onward (old new : Anatomy) (added : ℕ → Body → Type 0) : Type 0
       → j < length (words_of before) → at + i ≢ other + j
 
 module _ (old new : Anatomy) (added : ℕ → Body → Type 0) (onward : Onward old new added) where
-  -- records, counts and samples go on, and come from old ones
+  -- records, counts and samples continue, and come from old ones
   pub record_on : (at : ℕ) (r : Record) → HasRecord old.pieces at r → (s : Record) × HasRecord new.pieces at s × RecordGoes old.version r s
   record_on at r there =
       let (body, stands, (s, is, goes)) = onward.goes at (histogram r) refl there in
@@ -308,7 +308,7 @@ module _ (old new : Anatomy) (added : ℕ → Body → Type 0) (onward : Onward 
       is))
       (sample_from at y there)
 
-  -- a listed record stands as what it was given
+  -- a listed record holds what it was given
   pub stands_as_on : (l : Listed) (given : std.Option Made) → StandsAs old.pieces l given → StandsAs new.pieces l given
   stands_as_on l (Some (made.Histogram name spec)) (r, stands, named, same) =
       let (z, still, goes) = record_on l.reference r stands in
@@ -320,7 +320,7 @@ module _ (old new : Anatomy) (added : ℕ → Body → Type 0) (onward : Onward 
       let (body, still, (n, is)) = onward.goes l.reference (other size tag next payload) refl stands in
       (size, tag, n, payload, subst (Stands new.pieces l.reference none) is still, third, long)
 
-  -- and what stands is on the list
+  -- and what is there is on the list
   pub listed_on : (records : List Listed) (at : ℕ) (before body : Body) → GoesAs old.version before body → IsOnList records at before → IsOnList records at body
   listed_on records at (histogram r) body (s, is, goes) listed =
       subst (IsOnList records at) (sym is)
@@ -334,7 +334,7 @@ module _ (old new : Anatomy) (added : ℕ → Body → Type 0) (onward : Onward 
   listed_on records at (plain words) body is listed = subst (IsOnList records at) (sym is) tt
   listed_on records at (held block) body is listed = subst (IsOnList records at) (sym is) tt
 
-  -- all that was seen, where the list is as long or longer
+  -- all that was seen, if the list is as long or longer
   pub sees_on : (cursors : List ℕ) (seen : Seen) → Behind seen.free (free_of new) → IsPrefix seen.chain (order_of new) → AreNoLater (order_of new) seen.tails new.tail
       → All (λ s. (s.at < length cursors) × IsNoLater (order_of new) s.word (slice_index cursors s.at)) seen.cursors
       → Sees old cursors seen → Sees new cursors seen

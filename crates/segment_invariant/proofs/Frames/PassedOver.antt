@@ -42,7 +42,7 @@ passed_on page opened old new stay are = record {
 
 -- ---- the present ones
 
--- a record to which nothing was given is not among those that come behind others
+-- a record to which nothing was given is not among those that come after others
 in_front : (xs more front behind : List Listed) (at : ℕ) → xs ++ more ≡ front ++ record { reference = at; made = None } ∷ behind
     → ((l : Listed) → Contains more l → l.made ≢ None) → (left : List Listed) × (xs ≡ front ++ record { reference = at; made = None } ∷ left)
 in_front [] more front behind at same given =

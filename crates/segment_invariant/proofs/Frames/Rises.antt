@@ -1,4 +1,4 @@
--- What is published goes on from one state to the next, and so from one to any that is reached from it.
+-- What is published continues from one state to the next, and so from one to any that is reached from it.
 use Rattle.segment_invariant.proofs.Prelude.Std.{◌≡◌, ◌≢◌, ℕ, ◌+◌, ◌≤◌, Bool, true, List, [], ◌++◌, length, inl, inr, ⊎_elim, refl, sym, ap, ◌∙◌, subst, arith, append-nil, append_assoc, length-append, None, none}
 use Rattle.segment_invariant.proofs.Prelude.Machine.{Spec, Dimensions, State, buckets_of, Leads, Behind}
 use Rattle.segment_invariant.proofs.Prelude.Invariant.{Record, Counts, Sample, Body, queue, plain, held, histogram, counts, sample, other, words_of, is_claimed, Piece, Listed, Anatomy, order_of, free_of, form_at, Stands, IsNoLater, Invariant, KeptOn}
@@ -10,7 +10,7 @@ use Rattle.segment_invariant.proofs.Frames.SumsRise.{sums_rest, sums_again}
 
 -- ---- from one state to the next
 
--- where published blocks go on as `Onward` says
+-- if published blocks continue as `Onward` says
 pub rises_onward : (old new : Anatomy) (added : ℕ → Body → Type 0) → Onward old new added → new.id ≡ old.id → (more : List Listed)
     → new.records ≡ old.records ++ more → free_of old ≤ free_of new → ((seen : ℕ) → IsNoLater (order_of old) seen old.tail → IsNoLater (order_of new) seen new.tail)
     → (old.corrupt ≡ true → new.corrupt ≡ true) → (old.full ≡ true → new.full ≡ true) → Rises old new
@@ -34,7 +34,7 @@ behind_at_most : (seen free : ℕ) → Behind seen free → seen ≤ free
 behind_at_most seen free (inl same) = omega (arith, same)
 behind_at_most seen free (inr less) = omega (arith, less)
 
--- where they stay, and the list too
+-- if they stay, and the list too
 pub rises_reshaped : (anatomy : Anatomy) (pieces : List Piece) (spare : ℕ) (corrupt full : Bool) (tail : ℕ) → Stays anatomy.pieces pieces
     → Behind (free_of anatomy) (free_of (reshaped anatomy pieces spare corrupt full tail))
     → ((seen : ℕ) → IsNoLater (order_of anatomy) seen anatomy.tail → IsNoLater (order_of anatomy) seen tail)
@@ -51,7 +51,7 @@ rises_reshaped anatomy pieces spare corrupt full tail stays free later corrupts 
   full = fills;
 }
 
--- where nothing changes
+-- if nothing changes
 pub rises_itself : (anatomy : Anatomy) → Rises anatomy anatomy
 rises_itself anatomy = record {
   version = refl;
@@ -67,7 +67,7 @@ rises_itself anatomy = record {
 
 -- ---- one after the other
 
--- a record that goes on goes on again, where its single word has a form
+-- a record that has continued continues again, if its single word has a form
 record_again : (version : ℕ) (r s t : Record) → form_at version r ≢ None → RecordGoes version r s → RecordGoes version s t → RecordGoes version r t
 record_again version r s t formed first then =
     let kind : s.spec ≡ r.spec = ap (λ (z : Record). z.spec) first.is in
@@ -125,7 +125,7 @@ goes_again version (queue next) y z formed is then = subst (λ (body : Body). Go
 goes_again version (plain words) y z formed is then = subst (λ (body : Body). GoesAs version body z) is then
 goes_again version (held block) y z formed is then = subst (λ (body : Body). GoesAs version body z) is then
 
--- a block that goes on has as many words
+-- a block has as many words as the one that it continues as
 goes_long : (version : ℕ) (x y : Body) → GoesAs version x y → length (words_of y) ≡ length (words_of x)
 goes_long version (histogram r) y (s, is, goes) =
     ap (λ (body : Body). length (words_of body)) is ∙ ap (λ (z : Record). length (words_of (histogram z))) goes.is
@@ -171,7 +171,7 @@ module _ (shape : Dimensions) (opened : Anatomy) (state : State) (kept : Invaria
     goes_then at before between body there one two = goes_again old.version before between body (formed_at at before there) one
         (subst (λ (version : ℕ). GoesAs version between body) first.version two)
 
-    -- what goes on from a kept state goes on again
+    -- what continues from a kept state continues again
     pub rises_again : Rises old new
     rises_again = record {
       version = then.version ∙ first.version;
@@ -205,7 +205,7 @@ module _ (shape : Dimensions) (opened : Anatomy) (state : State) (kept : Invaria
       full = λ set. then.full (first.full set);
     }
 
-  -- and a state that is kept on behind one that is kept on is kept on
+  -- and if a state is kept after a first one, and another after that, the other is kept after the first
   pub kept_again : {between after : State} (first : KeptOn shape opened kept between) → KeptOn shape opened first.0 after
       → KeptOn shape opened kept after
   kept_again {between} {after} first then = (

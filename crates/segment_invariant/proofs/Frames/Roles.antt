@@ -1,4 +1,4 @@
--- Openers and recorders, where the recorders that live now lived before.
+-- Openers and recorders, if the recorders that live now lived before.
 use Rattle.segment_invariant.proofs.Prelude.Std.{◌≡◌, ◌≢◌, ℕ, ◌+◌, ◌<◌, ◌≤◌, true, false, List, [], ◌++◌, set, inl, inr, refl, sym, ap, ◌∙◌, subst, true≢false, arith, if◌then◌else◌, ℕ_discrete, some, get_elem?, at_set, set_else, sum_same}
 use Rattle.segment_invariant.proofs.Prelude.Machine.{Dimensions, Entry, Actor, log_of, is_opener, made_of, offered_of, outstanding_of}
 use Rattle.segment_invariant.proofs.Prelude.Invariant.{Anatomy, is_living, RolesAreKept, IsAlone, Fits}
@@ -8,7 +8,7 @@ use Rattle.list_lemmas.proofs.Maps.{one_at}
 use Rattle.segment_machine.specs.declared.actor.Role.TheVariants.{Opener, Recorder}
 use Rattle.segment_machine.specs.declared.actor.Role.{Role}
 
--- of two actors that differ in their roles alone, either both live or none, where their roles are of one kind
+-- of two actors that differ in their roles alone, either both live or none, if their roles are of one kind
 pub same_living : (a : Actor) (now was : Role) → is_opener now ≡ is_opener was → is_living (record a { role = now }) ≡ is_living (record a { role = was })
 same_living a (Opener m o f) (Opener n p g) same = refl
 same_living a (Opener m o f) (Recorder n p) same = absurd (true≢false same)
@@ -22,7 +22,7 @@ no_recorder a opens = same_living a a.role (Opener 0 0 0) opens
 pub opens_nothing : (a : Actor) → is_opener a.role ≡ true → is_living a ≡ true → ⊥
 opens_nothing a opens lives = absurd (true≢false (sym lives ∙ no_recorder a opens))
 
--- a recorder that lives has lived, made when it is said to be, with what it is said to have inherited
+-- a recorder that lives has lived before, made when it is said to be, with what it is said to have inherited
 pub record Stood (old : List Actor) (k : ℕ) (c : Actor) : Type 0 where
   pub was : Actor
   pub at : get_elem? old k ≡ some was
@@ -59,7 +59,7 @@ module _ (old new : List Actor) (roles : RolesAreKept old) (stood : AllStood old
       let f = t.made in
       omega (arith, below, e, f)
 
-  -- of another opener with the same log, who made as many, they are heirs too
+  -- of another opener with the same log, which made as many, they are heirs too
   pub still_heirs : (later : Actor) → log_of later ≡ log_of roles.opener → made_of later.role ≡ made_of roles.opener.role → (id : ℕ) (a : Actor) → get_elem? new id ≡ some a
       → is_living a ≡ true
       → (more : List Entry) × (log_of later ≡ a.entries.inherited ++ more) × (outstanding_of a.role ≡ 0 → made_of a.role + 1 ≡ made_of later.role → more ≡ [])
@@ -71,14 +71,14 @@ module _ (old new : List Actor) (roles : RolesAreKept old) (stood : AllStood old
         λ none last. was.2 (s.outstanding ∙ none) (ap (λ (n : ℕ). n + 1) s.made ∙ (last ∙ made)),
       )
 
--- what is said of the opener where only one is alone is said of it as it was
+-- a recorder that is alone now was alone before, if the opener has made no other since
 pub alone_before : (old new : List Actor) (opener later a : Actor) → get_elem? old 0 ≡ some opener → get_elem? new 0 ≡ some later
     → made_of later.role ≡ made_of opener.role → IsAlone new a → IsAlone old a
 alone_before old new opener later a first last e alone =
     let same = one_at new 0 alone.0 later alone.1 last in
     (opener, first, alone.2, alone.3 ∙ ap (λ (c : Actor). made_of c.role) same ∙ e)
 
--- who fitted beside the others fits still
+-- an actor that fitted among the others still fits
 pub fits_beside : (shape : Dimensions) (anatomy : Anatomy) (cursors : List ℕ) (old new : List Actor) (opener later : Actor) (id : ℕ) (a : Actor)
     → get_elem? old 0 ≡ some opener → get_elem? new 0 ≡ some later → made_of later.role ≡ made_of opener.role
     → (later.entries.first ≡ opener.entries.first) × (later.entries.first_noted ≡ opener.entries.first_noted) → SameSums old new → AllStood old new
@@ -106,7 +106,7 @@ pub record SameRole (b c : Actor) : Type 0 where
   pub inherited : b.entries.inherited ≡ c.entries.inherited
   pub offered : offered_of b.role ≡ offered_of c.role
 
--- an actor has the role that it had where it lives as it did, began with the same and inherited the same
+-- an actor has the role that it had if it lives as it did, began with the same and inherited the same
 pub role_kept : (a b : Actor) → is_living b ≡ is_living a → b.role ≡ a.role → b.entries.first ≡ a.entries.first → b.entries.first_noted ≡ a.entries.first_noted
     → b.entries.inherited ≡ a.entries.inherited → b.deltas.first_taken ≡ a.deltas.first_taken → SameRole b a
 role_kept a b living role first first_noted inherited first_taken = record {
@@ -168,7 +168,7 @@ module _ (actors : List Actor) (id : ℕ) (a b : Actor) (mine : get_elem? actors
 
 -- ---- who opens
 
--- whoever opens is the first
+-- an opener is the first actor
 pub opens_first : (actors : List Actor) (roles : RolesAreKept actors) (id : ℕ) (a : Actor) → get_elem? actors id ≡ some a → is_opener a.role ≡ true
     → (id ≡ 0) × (roles.opener ≡ a)
 opens_first actors roles id a at opens =

@@ -1,4 +1,4 @@
--- A state is kept where one actor goes on to a place, sees more, and no word of the segment changes.
+-- A state is kept when one actor moves on to a place, sees more, and no word of the segment changes.
 use Rattle.segment_invariant.proofs.Prelude.Std.{◌≡◌, ◌≢◌, ℕ, ◌+◌, ◌-◌, ◌<◌, ◌≤◌, ℤ, List, ◌++◌, length, set, take, drop, Contains, inl, inr, refl, sym, ap, ◌∙◌, subst, arith, false, true, take-append_seam, slice_index, IsPermutation, Some, All-weaker, some, get_elem?, at_set, set_else, rows, column, sum_same}
 use Rattle.segment_invariant.proofs.Prelude.Machine.{Dimensions, IsLinked, Actor, Portion, Claim, Given, Entry, Place, Spent, SumLoaded, Seen, tally_units, tally_sum, tally_noted, counted_of, summed_of, noted_of, units_of, all_counted, all_taken, taken_units, taken_sum, word_seen, taken_of, is_opener, State, Event, spot, next, Learned}
 use Rattle.segment_invariant.proofs.Prelude.Invariant.{found_at, Anatomy, order_of, claims_of, moving_at, IsNoLater, Sees, SumsAreNear, CallsRight, LooksBack, IsSetBy, StandsRight, IsAhead, Fits, Invariant, KeptOn, summed_cost}
@@ -22,11 +22,11 @@ use Rattle.segment_invariant.proofs.Frames.Anew.{calls_anew, sees_anew}
 
 -- ---- the actor
 
--- it stands there, has seen that, was given that by shared cursors, and came too late there so often
+-- it is there, has seen that, was given that by shared cursors, and came too late there this often
 abbrev pub seer : Actor → Place → Seen → List Given → List ℕ → Actor
 seer a place seen given lost = record a { hand = record a.hand { place = place }; seen = seen; done = record a.done { given = given; lost = lost } }
 
--- its calls are right, where it has walked no less and has seen no other words
+-- its calls are right, if it has walked no less and has seen no other words
 pub calls_more : (anatomy : Anatomy) (a : Actor) (place : Place) (seen : Seen) (given : List Given) (lost : List ℕ)
     → ((at : ℕ) → Contains a.seen.chain at → Contains seen.chain at)
     → ((at word : ℕ) → word_seen a.seen.words at ≡ Some word → word_seen seen.words at ≡ Some word)
@@ -38,7 +38,7 @@ calls_more anatomy a place seen given lost chain words calls = calls_anew anatom
 
 -- ---- the shared cursors
 
--- they are as many, and each stands where it stood or later
+-- there are as many, and each is where it was or later
 pub record AreLater (chain old new : List ℕ) : Type 0 where
   pub many : length new ≡ length old
   pub later : (k at : ℕ) → k < length new → IsNoLater chain at (slice_index old k) → IsNoLater chain at (slice_index new k)
@@ -46,7 +46,7 @@ pub record AreLater (chain old new : List ℕ) : Type 0 where
 pub later_itself : (chain cursors : List ℕ) → AreLater chain cursors cursors
 later_itself chain cursors = record { many = refl; later = λ k at below seen. seen }
 
--- what was seen of them lies behind them on
+-- what was seen of them is still no later than they are
 pub sees_later : (anatomy : Anatomy) (old new : List ℕ) (seen : Seen) → AreLater (order_of anatomy) old new → Sees anatomy old seen → Sees anatomy new seen
 sees_later anatomy old new seen are sees = sees_anew anatomy old new seen seen.free seen.ends seen.cursors sees sees.free
     (All-weaker
@@ -55,7 +55,7 @@ sees_later anatomy old new seen are sees = sees_anew anatomy old new seen seen.f
     (λ s t. let many = are.many in let below : s.at < length new = omega (arith, many, t.0) in (below, are.later s.at s.word below t.1))
     seen.cursors sees.shared)
 
--- and the list is ahead of what came too late on
+-- and the list is still ahead of what came too late
 pub ahead_behind : (words chain : List ℕ) (present : ℕ) (old new : List ℕ) (place : Place) (beaten : ℕ) (lost : List ℕ) → IsLinked words chain
     → AreLater chain old new → IsAhead chain present old place beaten lost → IsAhead chain present new place beaten lost
 ahead_behind words chain present old new place beaten lost linked are ahead = record {
@@ -118,11 +118,11 @@ module _ (shape : Dimensions) (opened : Anatomy) (state : State) (kept : Invaria
   not_first : id ≢ 0
   not_first = not_opener shape opened state kept id a mine records
 
-  -- sums are near on, where it has loaded none but the one that it had
+  -- sums are still near, if it has loaded none but the one that it had
   pub near_on : ((at : ℕ) (sum : ℤ) → place ≡ SumLoaded at sum → a.hand.place ≡ SumLoaded at sum) → SumsAreNear kept.anatomy.pieces actors
   near_on sums = sums_near kept.anatomy.pieces state.actors actors same (loaded_set state.actors id a b mine sums) kept.sums
 
-  -- cursors are kept on, where it was given nothing
+  -- cursors are still kept, if it was given nothing
   pub given_on : given ≡ a.done.given → CursorsAreKept (order_of kept.anatomy) state.cursors actors
   given_on none_more = cursors_set (order_of kept.anatomy) state.cursors state.actors id a b mine records none_more kept.cursors
 
@@ -237,7 +237,7 @@ module _ (version : ℕ) (state : State) (id : ℕ) (a : Actor) (event : Event) 
         actors = set state.actors id (next a event (found_cursor i));
       }
 
-  -- so what is kept behind it is kept
+  -- so what is kept after it is kept
   pub happens_there : (shape : Dimensions) (opened : Anatomy) (was : Invariant shape opened state)
       → KeptOn shape opened was (after_cursor_word version state id a event cursor) × Learned a event (slice_index state.cursors cursor)
       → KeptOn shape opened was (happened version state id a event) × Learned a event (found_at state event)

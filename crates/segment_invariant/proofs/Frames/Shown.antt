@@ -10,7 +10,7 @@ module _ (shape : Dimensions) (opened : Anatomy) (state : State) (kept : Invaria
   abbrev pub Goes : Event → Type 0
   Goes event = KeptOn shape opened kept (happened opened.version state id a event) × Learned a event (found_at state event)
 
-  -- what is kept where a word of the segment becomes another
+  -- what is kept when a word of the segment becomes another
   abbrev pub after_is : ℕ → ℕ → Actor → Type 0
   after_is at v b = KeptOn shape opened kept (record { words = set state.words at v; cursors = state.cursors; actors = set state.actors id b })
 

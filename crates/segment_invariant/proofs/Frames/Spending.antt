@@ -10,7 +10,7 @@ entry_of c = c.entry
 
 -- ---- entries of one name
 
--- the units of an entry, where it is of a name
+-- the units of an entry, if it is of a name
 abbrev mine : List ℕ → Entry → ℕ
 mine name e = if is_of name e then e.units else 0
 
@@ -64,7 +64,7 @@ module _ (anatomy : Anatomy) (a : Actor) (calls : CallsRight anatomy a) where
           subst (λ (held : List Cost). tally_noted (map entry_of a.entries.running) name ≤ cost_of held name) (sym holds)
           (by_name other name (map entry_of a.entries.running) cost within.of_name within.units)
 
-  -- so what passes a test, behind its first entries, it has spent, or holds
+  -- so what passes a test, after its first entries, it has spent, or holds
   pub among_spent : (test : EntryProgress → Bool) (name : List ℕ)
       → tally_noted (a.entries.first ++ map entry_of (filter test (a.entries.log ++ a.entries.running))) name ≤ cost_of a.units.costs name + cost_of a.units.held name
   among_spent test name =

@@ -1,4 +1,5 @@
--- Where an actor stands, it stands right on while it knows no less, and while the blocks and the list stay that this rests on.
+-- What holds at an actor's place continues to hold while the actor knows no less, and while the blocks and the list that this depends on
+-- stay.
 use Rattle.segment_invariant.proofs.Prelude.Std.{◌≡◌, ◌≢◌, ℕ, ◌+◌, List, All, Contains, refl, sym, ap, ◌∙◌, subst, true, Some, slice_index, All-weaker}
 use Rattle.segment_invariant.proofs.Prelude.Machine.{Dimensions, buckets_of, single_of, packed_bucket, Look, Place, Spent, Idle, Looking, Moving, CountLoaded, SumLoaded, Actor, Known, Own, Sighting, word_seen, is_off, purse, Seen}
 use Rattle.segment_invariant.proofs.Prelude.Invariant.{Record, Anatomy, order_of, Piece, HasRecord, WasMet, StandsRight, HoldsOwn}
@@ -123,16 +124,16 @@ module _ (shape : Dimensions) (old new : Anatomy) (id : ℕ) (x y : Actor) (grou
 
 -- ---- its blocks
 
--- blocks of an actor that stand on are what they were
+-- blocks of an actor whose place stays right are what they were
 pub own_stays : (shape : Dimensions) (old new : Anatomy) (id : ℕ) → ((own : Own) → HasOwn old.pieces id own → HasOwn new.pieces id own)
     → (list : List Own) → All (HoldsOwn shape old.pieces id) list → All (HoldsOwn shape new.pieces id) list
 own_stays shape old new id stays list all = All-weaker (HoldsOwn shape old.pieces id) (HoldsOwn shape new.pieces id)
     (λ own holds. record { stands = stays own holds.stands; placed = holds.placed; room = holds.room; tagged = holds.tagged; ends = holds.ends })
     list all
 
--- ---- samples that were met
+-- ---- samples that were visited
 
--- who has seen more has met them
+-- an actor that has seen more has visited them
 pub met_more : (pieces : List Piece) (old new : Seen) → ((at : ℕ) → Contains old.chain at → Contains new.chain at)
     → ((at word : ℕ) → word_seen old.words at ≡ Some word → word_seen new.words at ≡ Some word) → (s : Sighting) → WasMet pieces old s → WasMet pieces new s
 met_more pieces old new chain words s met at x there is =

@@ -21,7 +21,7 @@ no_distance m n same =
 pub distance_through : (x y z : ℤ) → unsigned_abs (x -ℤ z) ≤ unsigned_abs (x -ℤ y) + unsigned_abs (y -ℤ z)
 distance_through x y z = omega (arith, ints)
 
--- where each sum is what it was
+-- if each sum is what it was
 pub sums_same : (old new : List Piece) (before after : List Actor) → CostsRise before after
     → ((at : ℕ) (r s : Record) → HasRecord old at r → HasRecord new at s → r.sum ≡ s.sum) → SumsRise old new before after
 sums_same old new before after more same = record {
@@ -33,11 +33,11 @@ sums_same old new before after more same = record {
 }
 
 module _ (shape : Dimensions) (words : List ℕ) (anatomy : Anatomy) (shown : IsShown shape words (layout_of anatomy)) where
-  -- one record stands at a place
+  -- there is one record at a place
   pub one_there : (at : ℕ) (r s : Record) → HasRecord anatomy.pieces at r → HasRecord anatomy.pieces at s → r ≡ s
   one_there at r s first second = cc (one_stands shape words anatomy shown at none none (histogram r) (histogram s) first second).1
 
-  -- where each record has the sum of one that stood there
+  -- if each record has the sum of one that was there
   pub sums_come : (new : List Piece) (before after : List Actor) → CostsRise before after
       → ((at : ℕ) (s : Record) → HasRecord new at s → (r : Record) × HasRecord anatomy.pieces at r × (r.sum ≡ s.sum))
       → SumsRise anatomy.pieces new before after
@@ -45,7 +45,7 @@ module _ (shape : Dimensions) (words : List ℕ) (anatomy : Anatomy) (shown : Is
       let (q, stood, same) = came at s now in
       ap (λ (z : Record). z.sum) (one_there at r q there stood) ∙ same)
 
-  -- and where no block changes
+  -- and if no block changes
   pub sums_rest : (before after : List Actor) → CostsRise before after → SumsRise anatomy.pieces anatomy.pieces before after
   sums_rest before after more = sums_come anatomy.pieces before after more (λ at s there. (s, there, refl))
 

@@ -1,4 +1,4 @@
--- What holds of actors together, and of one beside the others, holds on where others did the same together.
+-- What holds of actors together, and of one among the others, still holds when others did the same together.
 use Rattle.segment_invariant.proofs.Prelude.Std.{set, ◌≡◌, ◌⊎◌, ℕ, ◌+◌, ◌<◌, ◌≤◌, Some, ℤ, Bool, true, false, List, ◌-◌, ◌++◌, map, drop, length, take, inl, inr, ⊎_elim, sym, refl, ap, ◌∙◌, arith, Contains, if◌then◌else◌, some, get_elem?, All-weaker, contains_at, Contains-permutation, at_set}
 use Rattle.segment_invariant.proofs.Prelude.Machine.{Dimensions, Entry, EntryProgress, SumLoaded, Actor, Portion, Answered, Cost, Moment, Taken, tally_units, tally_noted, bucket_key, cost_of, all_counted, all_taken, is_opener, made_of}
 use Rattle.segment_invariant.proofs.Prelude.Invariant.{IsWithinCounts, Record, Anatomy, Piece, Listed, is_living, IsAlone, IsSumOf, LooksBack, FinalsAreExact, Fits, HasKey, SumsAreNear}
@@ -37,7 +37,7 @@ abbrev pub LoadedBefore : List Actor → List Actor → Type 0
 LoadedBefore old new = (at : ℕ) (sum : ℤ) (id : ℕ) (a : Actor) → get_elem? new id ≡ some a → a.hand.place ≡ SumLoaded at sum
     → (k : ℕ) × (b : Actor) × (get_elem? old k ≡ some b) × (b.hand.place ≡ SumLoaded at sum)
 
--- so it is where one actor becomes another that has loaded none but the one that it had
+-- so it is when one actor becomes another that has loaded none but the one that it had
 pub loaded_set : (actors : List Actor) (id : ℕ) (a b : Actor) → get_elem? actors id ≡ some a
     → ((at : ℕ) (sum : ℤ) → b.hand.place ≡ SumLoaded at sum → a.hand.place ≡ SumLoaded at sum) → LoadedBefore actors (set actors id b)
 loaded_set actors id a b mine same at sum k c there stands = elim (at_set actors id k b c there) [
@@ -64,10 +64,10 @@ pub taken_keys : (records : List Listed) (old new : List Actor) → Deeds old ne
     → (t : Portion) (count : ℤ × ℕ) → Contains (all_taken new) t → Contains t.counts count → HasKey records t.name count.0
 taken_keys records old new same keys t count there = keys t count (Contains-permutation _ _ t same.taken there)
 
--- ---- one beside the others
+-- ---- one among the others
 
--- Of two openers, of one opening, the later one has made no fewer recorders, and the last of the earlier one's is not the last any more where it
--- has made more; who lives then lived before, or was made since.
+-- Of two openers, of one opening, the later one has made no fewer recorders, and if it has made more, the last of the earlier one's is not
+-- the last any more; a recorder that lives then lived before, or was made since.
 pub record IsLater (old new : List Actor) (opener later : Actor) : Type 0 where
   pub first : (later.entries.first ≡ opener.entries.first) × (later.entries.first_noted ≡ opener.entries.first_noted)
   pub more : made_of opener.role ≤ made_of later.role
@@ -160,7 +160,7 @@ finals old new opener later id a same since alone exact = record {
       same.taken_sums last.name ∙ exact.swapped before last taking is swapped (alone taking only) ∙ sym (same.summed last.name);
 }
 
--- an actor that fits beside some fits beside others that did the same; a recorder, or one that takes, may not be alone only since
+-- an actor that fits among some fits among others that did the same; a recorder, or one that takes, may not be alone only since then
 pub fits : (shape : Dimensions) (anatomy : Anatomy) (cursors : List ℕ) (old new : List Actor) (opener later : Actor) (id : ℕ) (a : Actor)
     → SameSums old new → IsLater old new opener later → ((is_opener a.role ≡ false) ⊎ (a.deltas.taking ≡ true) → IsAlone new a → IsAlone old a)
     → Fits shape anatomy cursors old opener id a → Fits shape anatomy cursors new later id a

@@ -1,4 +1,4 @@
--- What the entries among countings that pass a test come to, beside others.
+-- What the entries among countings that pass a test come to, together with others.
 use Rattle.segment_invariant.proofs.Prelude.Std.{◌≡◌, ℕ, ◌+◌, Bool, true, false, cond, ◌&&◌, ◌||◌, not, ℤ, pos, List, [], ◌∷◌, ◌++◌, map, Contains, refl, sym, ap, ◌∙◌, arith, eqb-true, if◌then◌else◌, ◌+ℤ◌, ◌==◌, filter, int_eq, Decides-int_eq, map-append, filter-append, Contains-append_right, sum_by-append, IsTotal}
 use Rattle.segment_invariant.proofs.Prelude.Machine.{Entry, EntryProgress, is_counted, is_summed, is_noted, is_of, tally_units, tally_sum, tally_noted, counted_among, noted_among, is_untouched}
 use Rattle.segment_machine.specs.Entry.{summed_among}
@@ -9,7 +9,7 @@ module _ {M : Type 0} (add : M → M → M) (total : List Entry → M) (sums : I
   abbrev pub among : List EntryProgress → List Entry
   among list = map (λ c. c.entry) (filter test list)
 
-  -- they come to nothing where each of them does
+  -- they come to nothing if each of them does
   pub nothing_among : (list : List EntryProgress) → ((c : EntryProgress) → Contains list c → test c ≡ true → total (c.entry ∷ []) ≡ total []) → total (among list) ≡ total []
   nothing_among [] each = refl
   nothing_among (c ∷ cs) each =
@@ -27,7 +27,7 @@ module _ {M : Type 0} (add : M → M → M) (total : List Entry → M) (sums : I
       (ap total (ap (map (λ c. c.entry)) (filter-append test xs ys) ∙ map-append (λ c. c.entry) (filter test xs) (filter test ys))
       ∙ sums (among xs) (among ys))
 
-  -- one among others, behind some
+  -- one among others, after some
   pub one_of : (front : List Entry) (xs behind : List EntryProgress) (c : EntryProgress)
       → total (front ++ among (xs ++ c ∷ behind)) ≡ add (total front) (add (total (among xs)) (add (total (among (c ∷ []))) (total (among behind))))
   one_of front xs behind c =
@@ -36,7 +36,7 @@ module _ {M : Type 0} (add : M → M → M) (total : List Entry → M) (sums : I
       (ap total (ap (map (λ c. c.entry)) (filter-append test (c ∷ []) behind) ∙ map-append (λ c. c.entry) (filter test (c ∷ [])) (filter test behind))
       ∙ sums (among (c ∷ [])) (among behind))
 
-  -- behind others, those that come to the same may stand in one another's place
+  -- after others, those that come to the same may take one another's place
   pub beside_same : (front : List Entry) (xs ys zs : List EntryProgress) → total (among ys) ≡ total (among zs)
       → total (front ++ among (xs ++ ys)) ≡ total (front ++ among (xs ++ zs))
   beside_same front xs ys zs same =
@@ -90,7 +90,7 @@ module _ (c : EntryProgress) (is : is_untouched c ≡ true) where
   pub noted_none : is_noted c ≡ true → c.entry.units ≡ 0
   noted_none e = eqb-true c.entry.units 0 (or_false c.noted (c.entry.units == 0) flags.2 e)
 
--- behind others they come to nothing
+-- after others they come to nothing
 module _ (front : List Entry) (xs ys : List EntryProgress) (untouched : (c : EntryProgress) → Contains ys c → is_untouched c ≡ true) where
   pub untouched_counts : (name : List ℕ) (key : ℤ) → tally_units (front ++ counted_among (xs ++ ys)) name key ≡ tally_units (front ++ counted_among (xs ++ [])) name key
   untouched_counts name key = beside_same ◌+◌ (λ entries. tally_units entries name key) (units_total name key) is_counted front xs ys []

@@ -1,4 +1,4 @@
--- Lists beside a block that leaves them, and beside one element more at the end.
+-- Lists without a block that leaves them, and with one element more at the end.
 use Rattle.segment_invariant.proofs.Prelude.Std.{◌≡◌, ◌≢◌, ◌⊎◌, ℕ, zero, suc, ◌==◌, not, cond, Bool, true, false, List, [], ◌∷◌, ◌++◌, length, filter, All, inl, inr, ⊎_elim, refl, sym, ap, ◌∙◌, arith, length-append, eq-eqb, ne_eqb, if◌then◌else◌, Some, some, some-injective, some-ne-none, get_elem?}
 use Rattle.segment_invariant.proofs.Prelude.Machine.{Made, Own}
 use Rattle.std.specs.Prelude as std
@@ -8,7 +8,7 @@ use Rattle.segment_machine.specs.Publishing.{own_at, published_as}
 
 -- ---- an element more at the end
 
--- where a list with one element more has an element, the list has it, or it is the new one
+-- if a list with one element more has an element, the list has it, or it is the new one
 pub snoc_split : {X : Type 0} (old front behind : List X) (l x : X) → old ++ l ∷ [] ≡ front ++ x ∷ behind
     → ((left : List X) × (old ≡ front ++ x ∷ left)) ⊎ ((l ≡ x) × (old ≡ front))
 snoc_split [] [] behind l x e = inr (cc e, refl)
@@ -29,7 +29,7 @@ snoc_split (o ∷ old) (y ∷ front) behind l x e =
 abbrev pub AreDistinct : List Own → Type 0
 AreDistinct list = (i j : ℕ) (x y : Own) → get_elem? list i ≡ some x → get_elem? list j ≡ some y → x.at ≡ y.at → i ≡ j
 
--- what passes a test stood there
+-- what passes a test was there
 from_filter : (test : Own → Bool) (list : List Own) (i : ℕ) (x : Own) → get_elem? (filter test list) i ≡ some x → (j : ℕ) × (get_elem? list j ≡ some x)
 from_filter test [] i x there = absurd (some-ne-none x (sym there))
 from_filter test (z ∷ zs) i x there = by (λ i e. from_filter test zs i x e) (test z) i there
@@ -63,7 +63,7 @@ all_without P at list all k d lt = (
       absurd (cc (sym (ap not (eq-eqb _ at same)) ∙ passes)),
 )
 
--- a block is found where no other begins at its word
+-- a block is found if no other begins at its word
 pub own_found : (list : List Own) (i : ℕ) (x : Own) → AreDistinct list → get_elem? list i ≡ some x → own_at list x.at ≡ Some x
 own_found [] i x apart there = absurd (some-ne-none x (sym there))
 own_found (z ∷ zs) zero x apart there =

@@ -61,7 +61,7 @@ module _ {X : Type 0} (f : X → ℕ) where
     ]
   ]
 
-  -- where something is counted, an element counts
+  -- if something is counted, an element counts
   pub some_counts : (l : List X) → 0 < sum_by f l → (k : ℕ) × (x : X) × (get_elem? l k ≡ some x) × (0 < f x)
   some_counts [] above = absurd (omega (arith, above))
   some_counts (x ∷ xs) above = by_first (f x) refl (λ rest. some_counts xs rest)
@@ -101,7 +101,7 @@ module _ {X Y : Type 0} (f : X → List Y) where
 
 -- ---- numbers for buckets
 
--- where a test takes what is nothing, that is nothing
+-- a test between nothing and nothing gives nothing
 pub if_nothing : {X : Type 0} (b : Bool) (x nothing : X) → x ≡ nothing → (if b then x else nothing) ≡ nothing
 if_nothing true x nothing e = e
 if_nothing false x nothing e = refl

@@ -30,6 +30,6 @@ portion_from first list p has = ⊎_elim
     (λ new. inr (contains_mapped portion_of list p new))
     (Contains-append_cases first (map portion_of list) p has)
 
--- what had been taken before is with any deltas behind it
+-- what had been taken before is in the list with any deltas after it
 pub portion_first : (first : List Portion) (list : List Taken) (p : Portion) → Contains first p → Contains (first ++ map portion_of list) p
 portion_first first list p has = Contains-append_left first (map portion_of list) p has

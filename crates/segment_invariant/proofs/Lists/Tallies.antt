@@ -1,4 +1,4 @@
--- What a tally tells of the entries that are in it.
+-- What a tally says of the entries that are in it.
 use Rattle.segment_invariant.proofs.Prelude.Std.{◌≡◌, ℕ, zero, suc, ◌<◌, Bool, true, false, ◌&&◌, ℤ, List, [], ◌∷◌, refl, ◌∙◌, arith, if◌then◌else◌, Contains, bytes_eq, int_eq, Decides-int_eq, bytes_eq-Decides, Contains-append_right, sum_by-cons, at_from, sum_at_least}
 use Rattle.segment_invariant.proofs.Prelude.Machine.{Entry, is_of, tally_units}
 
@@ -20,7 +20,7 @@ tally_from entries e there some_units =
 abbrev pub HasUnits : List Entry → List ℕ → ℤ → Type 0
 HasUnits entries name key = (e : Entry) × Contains entries e × (e.name ≡ name) × (e.key ≡ key) × (0 < e.units)
 
--- where a tally is not 0, there is one
+-- if a tally is not 0, there is one
 pub tally_at : (entries : List Entry) (name : List ℕ) (key : ℤ) → 0 < tally_units entries name key → HasUnits entries name key
 tally_at [] name key more = absurd (omega (arith, more))
 tally_at (e ∷ es) name key more = by_first (bytes_eq e.name name) (int_eq e.key key) refl refl (tally_at es name key)

@@ -1,4 +1,4 @@
--- What holds of an actor beside the others holds on where it notes something.
+-- What holds of an actor among the others still holds when it notes something.
 use Rattle.segment_invariant.proofs.Prelude.Std.{◌≡◌, ◌≢◌, ℕ, ◌+◌, ◌≤◌, max, true, List, ◌∷◌, [], ◌++◌, map, length, drop, take, All, Contains, inr, ⊎_elim, refl, sym, ap, subst, arith, Contains-append_left, Contains-append_right, Contains-append_cases, none_in}
 use Rattle.segment_invariant.proofs.Prelude.Machine.{Taken, Entry, has_ended, tally_noted, SawSample, Dimensions, Actor, Moment, Sighting, log_of, counted_of, cost_of}
 use Rattle.segment_invariant.proofs.Prelude.Invariant.{IsWithinCounts, Anatomy, IsRightlyKnown, IsFirst, IsFirstOf, CallsRight, LooksBack, IsQuiet, FinalsAreExact, Fits}
@@ -37,7 +37,7 @@ module _ (shape : Dimensions) (anatomy : Anatomy) (cursors : List ℕ) (actors :
 abbrev pub looking_on : Actor → Noting → Noting
 looking_on a n = record n { log = a.entries.log; names = a.answers.names; since_singles = a.since.singles; since_counts = a.since.counts }
 
--- or it looks anew
+-- or it begins to look again
 abbrev pub looking_anew : Actor → Noting → Noting
 looking_anew a n = record n { since_singles = length a.seen.singles; since_counts = length a.seen.counts }
 
@@ -64,7 +64,7 @@ module _ (anatomy : Anatomy) (actors : List Actor) (opener a : Actor) (n : Notin
 
 -- ---- what it took
 
--- it takes and answers nothing more
+-- it takes and returns nothing more
 abbrev pub taking_on : Actor → Noting → Noting
 taking_on a n = record n { taken = a.deltas.taken; taking = a.deltas.taking; snapshots = a.deltas.snapshots }
 
@@ -72,7 +72,7 @@ module _ (actors : List Actor) (opener : Actor) (id : ℕ) (a : Actor) (n : Noti
   abbrev later : Actor
   later = noting a (taking_on a n)
 
-  -- where its log is no shorter, begins as it did, and is quiet where it was not
+  -- if its log is no shorter and begins as it did, and the actor was quiet of a name if it is quiet now
   module _ (longer : length (log_of a) ≤ length (log_of later)) (begins : (k : ℕ) → k ≤ length (log_of a) → take k (log_of later) ≡ take k (log_of a))
       (quiet : (name : List ℕ) (k : ℕ) → k ≤ length (log_of a) → IsQuiet later name k → IsQuiet a name k) where
     moments_on : (m : Moment) → IsMoment actors opener id a m → IsMoment actors opener id later m

@@ -1,4 +1,4 @@
--- An actor notes what a block of its own is to hold: what holds is kept, since the words of the block are those that they were.
+-- An actor notes what a block of its own is to hold: the invariant is kept, since the words of the block do not change.
 use Rattle.segment_invariant.proofs.Prelude.Std.{◌≡◌, ℕ, ◌+◌, ◌==◌, List, set, refl, sym, ap, ◌∙◌, subst, eq-eqb, eqb-true, arith, Some, some, set-get_or, at_from, all_at}
 use Rattle.segment_invariant.proofs.Prelude.Machine.{word_at, Made, Own}
 use Rattle.segment_invariant.proofs.Prelude.Invariant.{held, HoldsOwn, KeptOn, NoteKeeps}

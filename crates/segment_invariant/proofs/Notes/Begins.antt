@@ -14,7 +14,7 @@ use Rattle.segment_invariant.proofs.Notes.Actors.{noting_fits, looks_anew, final
 pub takes_nothing : (a : Actor) (n : Noting) → SameTakes a (noting a (record n { taken = a.deltas.taken }))
 takes_nothing a n = record { taken = λ name key. refl; taken_sums = λ name. refl; from = λ t there. inl there }
 
--- ---- it looks anew
+-- ---- it begins to look again
 
 looks_counts : (a : Actor) → SameCounts a (noted a looks)
 looks_counts a = record { counted = λ name key. refl; summed = λ name. refl; noted = λ name. refl; costs = λ name. omega arith; units = refl }

@@ -1,5 +1,5 @@
--- Where a recorder is alone, each key of a histogram that is counted is that of one of its buckets, or the value of a sample that the
--- recorder met.
+-- If a recorder is alone, each key of a histogram that is counted is that of one of its buckets, or the value of a sample that the recorder
+-- visited.
 use Rattle.segment_invariant.proofs.Prelude.Std.{◌≡◌, ◌≢◌, ◌⊎◌, ℕ, ◌<◌, ℤ, pos, true, false, ◌++◌, All, Contains, inl, inr, ⊎_elim, refl, sym, ap, ◌∙◌, subst, subst₂, arith, ◌==◌, Some, slice_index, All-contains, Contains-append_left, Contains-append_cases, some, get_elem?}
 use Rattle.segment_invariant.proofs.Prelude.Machine.{Dimensions, Spec, buckets_of, spec_fields, boundaries_of, Actor, Known, Spent, is_of, tally_units, log_of, counted_of, has_buckets, bucket_key, accepted_by, all_counted, is_opener, SawSample, is_untouched, State}
 use Rattle.segment_invariant.proofs.Prelude.Invariant.{Anatomy, IsFirst, IsFirstOf, IsRightlyKnown, IsAlone, HasKey, Invariant}
@@ -32,7 +32,7 @@ IsBucketKey known key =
 module _ (shape : Dimensions) (opened : Anatomy) (state : State) (kept : Invariant shape opened state) (id : ℕ) (a : Actor)
     (mine : get_elem? state.actors id ≡ some a) (records : is_opener a.role ≡ false) (lives : a.hand.place ≢ Spent) (alone : IsAlone state.actors a)
     (known : Known) (has : Contains a.answers.names known) (quiet : All (λ c. (is_of known.name c.entry ≡ false) ⊎ (is_untouched c ≡ true)) a.entries.running) where
-  -- or the value of a sample that it met
+  -- or the value of a sample that it visited
   abbrev pub IsMet : ℤ → Type 0
   IsMet key = (known.spec ≡ spec.Sparse)
       × ((at : ℕ) × IsFirstOf kept.anatomy.records known.reference key at × Contains a.seen.chain at × SawSample a.seen known.reference key at)

@@ -66,7 +66,7 @@ module _ (a : Actor) (name : List ℕ) where
       ap (λ (k : ℕ). take k (a.deltas.taken ++ begun ∷ [])) count ∙ take-append_seam a.deltas.taken (begun ∷ []) in
       same ∙ sym (ended_all rests)
 
-  -- of those behind one of these, the one that begins has taken nothing
+  -- of those after one of these, the one that begins has taken nothing
   later_same : (n : ℕ) → n + 1 ≤ length a.deltas.taken
       → ((of : List ℕ) (key : ℤ) → taken_units (map portion_of (drop (n + 1) (a.deltas.taken ++ begun ∷ []))) of key ≡ taken_units (map portion_of (drop (n + 1) a.deltas.taken)) of key)
       × ((of : List ℕ) → taken_sum (map portion_of (drop (n + 1) (a.deltas.taken ++ begun ∷ []))) of ≡ taken_sum (map portion_of (drop (n + 1) a.deltas.taken)) of)

@@ -23,7 +23,7 @@ log_more a ended =
     ap (λ (list : List Entry). a.entries.first ++ list) (map-append (λ (c : EntryProgress). c.entry) a.entries.log ended)
     ∙ sym (append_assoc a.entries.first (map (λ (c : EntryProgress). c.entry) a.entries.log) (map (λ (c : EntryProgress). c.entry) ended))
 
--- it was quiet where nothing was counted since, neither before nor by the call that ended
+-- it was quiet if nothing was counted since, neither before nor by the call that ended
 quiet_before : (a : Actor) (ended : List EntryProgress) (name : List ℕ) (k : ℕ) → ((c : EntryProgress) → Contains a.entries.running c → Contains ended c ⊎ (is_untouched c ≡ true))
     → k ≤ length (log_of a) → All (λ entry. is_of name entry ≡ false) (drop k (a.entries.first ++ map (λ (c : EntryProgress). c.entry) (a.entries.log ++ ended))) → IsQuiet a name k
 quiet_before a ended name k running low quiet =
@@ -52,7 +52,7 @@ none_ordered = record {
 unbound_lives : (a : Actor) → is_bound a.hand.place ≡ false → a.hand.place ≢ Spent
 unbound_lives a unbound spent = cc (unbound, ap is_bound spent)
 
--- A call that has ended so many of its entries, and spent so much, is gone: what holds is kept.
+-- A call whose entries `ended` have ended, and that has spent `spent`, is gone: what holds is kept.
 module _ (a : Actor) (share : ℕ) (spent : List Cost) (ended : List EntryProgress) where
   abbrev gone : Noting
   gone = record (noting_of a) {

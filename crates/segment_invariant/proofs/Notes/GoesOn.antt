@@ -1,4 +1,4 @@
--- A running call may go on with one more entry: what holds is kept.
+-- A running call may continue with one more entry: what holds is kept.
 use Rattle.segment_invariant.proofs.Prelude.Std.{◌≡◌, ◌≢◌, ◌⊎◌, ℕ, ◌+◌, ◌-◌, ◌≤◌, true, false, true≢false, List, [], ◌∷◌, ◌++◌, map, length, All, Contains, inl, inr, refl, sym, ap, ◌∙◌, subst, arith, append-nil, append_assoc, length-append, pos, if◌then◌else◌, ◌==◌, filter, bytes_eq, map-append, All-push, filter-append, one_in, below_length, all_at}
 use Rattle.segment_invariant.proofs.Prelude.Machine.{Entry, EntryProgress, Spent, Actor, Cost, is_counted, is_summed, has_ended, fresh, is_of, tally_units, tally_sum, tally_noted, counted_among, noted_among, cost_of, cost_total, is_untouched}
 use Rattle.segment_invariant.proofs.Prelude.Invariant.{StandsRight, summed_cost, IsQuiet, NoteKeeps}
@@ -26,7 +26,7 @@ module _ (a : Actor) (entry : Entry) (cost : ℕ) where
   untouched : (c : EntryProgress) → Contains more c → is_untouched c ≡ true
   untouched c has = ap is_untouched (sym (one_in (fresh entry) c has))
 
-  -- its entries are as they were, with one behind them of which nothing has happened
+  -- its entries are unchanged, with one after them of which nothing has happened
   ran : (a.entries.log ++ a.entries.running) ++ more ≡ a.entries.log ++ (a.entries.running ++ more)
   ran = append_assoc a.entries.log a.entries.running more
 

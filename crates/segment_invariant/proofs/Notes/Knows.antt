@@ -1,4 +1,4 @@
--- An actor may note that a `hist` was answered, where that is a histogram of the segment: what holds is kept.
+-- An actor may note what a `hist` returned, if that is a histogram of the segment: what holds is kept.
 use Rattle.segment_invariant.proofs.Prelude.Std.{⊎_elim, ◌≡◌, ◌≢◌, ℕ, ◌==◌, ℤ, Bool, not, List, [], ◌∷◌, ◌++◌, map, length, set, Contains, refl, sym, ap, ◌∙◌, subst, eq-eqb, arith, false, if◌then◌else◌, Option, Some, map-append, All-push, Contains-append_left, dite, some, ℕ_discrete, get_elem?, bytes_eq, filter}
 use Rattle.segment_invariant.proofs.Prelude.Machine.{Dimensions, Place, Spent, Actor, Known, known_at, is_opener, State, noted}
 use Rattle.segment_invariant.proofs.Prelude.Invariant.{Anatomy, moving_at, IsRightlyKnown, StandsRight, Invariant, KeptOn}

@@ -1,4 +1,4 @@
--- Where an actor saw the name and the spec of the first record of a name, that is the histogram of the segment.
+-- If an actor saw the name and the spec of the first record of a name, that record is the histogram of the segment.
 use Rattle.segment_invariant.proofs.Prelude.Std.{◌≡◌, ℕ, zero, suc, ◌<◌, List, [], ◌∷◌, ◌++◌, length, drop, take, replicate, sym, ap, ◌∙◌, arith, length-append, slice_index, take-append_seam, length-replicate}
 use Rattle.segment_invariant.proofs.Prelude.Machine.{AreNameWords}
 use Rattle.segment_image.specs.Words.{bytes_of_words}

@@ -1,5 +1,4 @@
--- An actor may note what a `hist` was answered: the first record that it saw of a name is the histogram of that name, and what holds is
--- kept.
+-- An actor may note what a `hist` returned: the first record that it saw of a name is the histogram of that name, and what holds is kept.
 use Rattle.segment_invariant.proofs.Prelude.Std.{◌≡◌, ◌≢◌, ℕ, zero, suc, ◌+◌, ◌-◌, ◌<◌, List, [], ◌∷◌, ◌++◌, length, map, All, Contains, inl, inr, refl, sym, ap, ◌∙◌, subst, append_assoc, arith, get_or-drop, length-append, not, ◌&&◌, ◌==◌, slice_index, Option, Some, None, get_or_append_left, All-contains, Contains-append_left, Contains-append_right, Contains-permutation, dite, some, none, ℕ_discrete, get_elem?, bytes_eq, filter, split_among, all_of, row_in, contains_map}
 use Rattle.segment_invariant.proofs.Prelude.Machine.{Dimensions, spec_fields, spec_ranges, SameSpec, name_words, Spec, Linear, Boolean, Custom, Sparse, Spent, Actor, Known, Made, Published, word_seen, all_published, State, purse, AreNameWords}
 use Rattle.segment_invariant.proofs.Prelude.Invariant.{Record, Listed, record_words, histogram, sample, other, Anatomy, order_of, listed, Body, words_of, HasRecord, IsRecordNamed, IsRightlyKnown, IsFirst, Stands, StandsAs, StandsRight, Invariant, IsLawfulRecord, NoteKeeps}
@@ -216,7 +215,7 @@ module _ (shape : Dimensions) (opened : Anatomy) (state : State) (kept : Invaria
                 (kind, ap (λ (name : List ℕ). Some (made.Histogram name kind)) named))
           ]
 
-  -- so is a histogram that a `hist` is answered with
+  -- so is a histogram that a `hist` returns
   known_right : (known : Known) → MayNote a (knows known) → IsRightlyKnown kept.anatomy known
   known_right known (named, (letters, are, spec_saw)) =
       let (kind, r, has, name_is, same, first) = first_right known.name known.reference named in
@@ -230,7 +229,7 @@ module _ (shape : Dimensions) (opened : Anatomy) (state : State) (kept : Invaria
             (spec_seen known.spec known.reference r has (subst (λ n. SawSpec a.seen known.spec n known.reference) many spec_saw));
       }
 
-  -- where it saw that the first record of a name has another spec, that has another one
+  -- if it saw that the first record of a name has another spec, that has another one
   pub others_differ : (name letters : List ℕ) (s : Spec) (at : ℕ) → AreNameWords name letters → IsFirstNamed a.seen name at
       → SawOtherSpec a.seen s (length letters) at → (kind : Spec) × IsFirst kept.anatomy.records name kind at × (¬ (SameSpec kind s))
   others_differ name letters s at are named unlike =
@@ -262,7 +261,7 @@ module _ (shape : Dimensions) (opened : Anatomy) (state : State) (kept : Invaria
       other_spec owes.spec owes.reference r has (ap spec_fields same, ap spec_ranges same)
       (subst (SawOtherSpec a.seen owes.spec (length r.letters)) here (subst (λ n. SawOtherSpec a.seen owes.spec n at) many unlike))
 
--- who saw the chain is not spent
+-- an actor that saw the chain is not spent
 saw_lives : (shape : Dimensions) (opened : Anatomy) (state : State) (id : ℕ) (a : Actor) (kept : Invariant shape opened state)
     → get_elem? state.actors id ≡ some a → (name : List ℕ) (at : ℕ) → IsFirstNamed a.seen name at → a.hand.place ≢ Spent
 saw_lives shape opened state id a kept mine name at named is_spent =

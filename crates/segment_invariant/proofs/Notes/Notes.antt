@@ -1,4 +1,4 @@
--- A state is kept where an actor notes something in its own record, and the words stay.
+-- A state is kept when an actor notes something in its own record, and the words stay.
 use Rattle.segment_invariant.proofs.Prelude.Std.{◌≡◌, ◌≢◌, ◌⊎◌, ℕ, ◌+◌, ◌<◌, ◌≤◌, ℤ, Bool, false, ◌||◌, fold, List, [], ◌++◌, set, Contains, inl, inr, refl, sym, ap, ◌∙◌, subst, subst₂, arith, IsPermutation, some, get_elem?, at_set, set_else, ◌+ℤ◌, none_in, rows, row_in, column, sum_same, sum_beside}
 use Rattle.segment_invariant.proofs.Prelude.Machine.{Dimensions, Entry, EntryProgress, Spent, Actor, Portion, Answered, Claim, Cost, Known, Taken, tally_units, tally_sum, tally_noted, counted_of, summed_of, noted_of, units_of, taken_units, taken_sum, all_counted, all_taken, taken_of, is_opener, State}
 use Rattle.segment_invariant.proofs.Prelude.Invariant.{Anatomy, order_of, claims_of, moving_at, summed_cost, StandsRight, Fits, HasKey, Invariant, KeptOn}
@@ -120,7 +120,7 @@ module _ (shape : Dimensions) (opened : Anatomy) (state : State) (kept : Invaria
       not_first : id ≢ 0
       not_first = not_opener shape opened state kept id a mine records
 
-      -- who fitted beside the others fits still
+      -- an actor that fitted among the others still fits
       pub beside : (k : ℕ) (c : Actor) → Fits shape kept.anatomy state.cursors state.actors kept.roles.opener k c
           → Fits shape kept.anatomy state.cursors noters kept.roles.opener k c
       beside k c = fits_beside shape kept.anatomy state.cursors state.actors noters kept.roles.opener kept.roles.opener k c kept.roles.stands

@@ -1,4 +1,4 @@
--- A snapshot may be answered with what its recorder saw: what holds is kept.
+-- A snapshot may return what its recorder saw: what holds is kept.
 use Rattle.segment_invariant.proofs.Prelude.Std.{◌≡◌, ◌≢◌, ◌⊎◌, ℕ, zero, suc, ◌+◌, ◌<◌, ◌≤◌, ℤ, pos, Bool, true, false, List, [], ◌∷◌, ◌++◌, set, Some, All, Contains, inl, inr, ⊎_elim, refl, sym, ap, ◌∙◌, subst, arith, slice_index, if◌then◌else◌, range_with_len, int_eq, Decides-int_eq, All-push, All-contains, Contains-append_cases, Contains-append_right, some, get_elem?, at_map, set_else, one_in, all_at, at_from, from_map, contains_mapped}
 use Rattle.segment_invariant.proofs.Prelude.Machine.{Dimensions, buckets_of, Actor, Answered, Known, Spent, is_of, tally_units, tally_sum, tally_noted, has_buckets, bucket_key, units_listed, cost_of, accepted_by, all_counted, all_summed, all_noted, SawCount, is_opener, Sighting, IsFirstSample, is_untouched, SawBucket, State}
 use Rattle.segment_invariant.proofs.Prelude.Invariant.{IsWithinCounts, Record, histogram, Anatomy, IsRightlyKnown, HasRecord, IsFirstOf, IsAlone, FinalsAreExact, Invariant, NoteKeeps}
@@ -25,7 +25,8 @@ use Rattle.segment_invariant.proofs.Notes.Notes.{Noting, noting, noting_of, Same
 use Rattle.segment_invariant.proofs.Notes.Actors.{noting_fits, calls_by}
 use Rattle.segment_invariant.proofs.Notes.Begins.{takes_nothing}
 
--- what is listed of a key is as much as is there, where nothing listed of it is more, and one that is no less stands there alone
+-- what is listed of a key comes to `n` if nothing listed of it is more, and, unless `n` is 0, one that is no less is the only one of the
+-- key
 listed_exact : (counts : List (ℤ × ℕ)) (key : ℤ) (n : ℕ)
     → ((i : ℕ) (count : ℤ × ℕ) → get_elem? counts i ≡ some count → count.0 ≡ key → count.1 ≤ n)
     → (0 < n → (k : ℕ) × (count : ℤ × ℕ) × (get_elem? counts k ≡ some count) × (count.0 ≡ key) × (n ≤ count.1)
@@ -88,7 +89,7 @@ module _ (shape : Dimensions) (opened : Anatomy) (state : State) (kept : Invaria
   all_within = all_from (λ (count : ℤ × ℕ). count.1 ≤ tally_units (all_counted state.actors) answered.name count.0) answered.counts
       (λ i count there. subst (λ name. count.1 ≤ tally_units (all_counted state.actors) name count.0) named (count_within i count there))
 
-  -- where it is alone, and nothing was counted since, it is exact
+  -- if it is alone, and nothing was counted since, it is exact
   module _ (alone : IsAlone state.actors a) (quiet : All (λ c. (is_of known.name c.entry ≡ false) ⊎ (is_untouched c ≡ true)) a.entries.running) where
     units_exact : (key : ℤ) → units_listed answered.counts key ≡ tally_units (all_counted state.actors) known.name key
     units_exact key = listed_exact answered.counts key (tally_units (all_counted state.actors) known.name key)

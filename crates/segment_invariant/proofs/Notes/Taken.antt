@@ -1,4 +1,4 @@
--- A delta may end where it has taken all that it saw: what holds is kept.
+-- A delta may end when it has taken all that it saw: what holds is kept.
 use Rattle.segment_invariant.proofs.Prelude.Std.{◌≡◌, ◌≢◌, ℕ, zero, suc, ◌+◌, ◌≤◌, ℤ, true, false, true≢false, ◌⊎◌, List, [], ◌∷◌, ◌++◌, length, take, drop, set, All, Contains, inl, ⊎_elim, refl, sym, ap, ◌∙◌, subst, arith, +ℤ_idr, length_push, All-nil, Contains-append_cases, Contains-append_right, some, get_elem?, one_in, contains_at}
 use Rattle.segment_invariant.proofs.Prelude.Machine.{Dimensions, Spent, Entry, Actor, Known, Taken, is_of, tally_units, tally_sum, all_counted, all_summed, all_taken, taken_sum, log_of, accepted_by, is_opener, made_of, is_untouched, State}
 use Rattle.segment_invariant.proofs.Prelude.Invariant.{Anatomy, IsAlone, StandsRight, FinalsAreExact, Invariant, NoteKeeps}
@@ -28,7 +28,7 @@ module _ (shape : Dimensions) (opened : Anatomy) (state : State) (kept : Invaria
   counts : SameCounts a (noting a taker)
   counts = record { counted = λ name key. refl; summed = λ name. refl; noted = λ name. refl; costs = λ name. omega arith; units = refl }
 
-  -- all that is counted was taken, where it is alone
+  -- all that is counted was taken, if it is alone
   module _ (alone : IsAlone state.actors a) where
     abbrev quiet : All (λ c. (is_of known.name c.entry ≡ false) ⊎ (is_untouched c ≡ true)) a.entries.running
     quiet = subst (All (λ c. (is_of known.name c.entry ≡ false) ⊎ (is_untouched c ≡ true))) (sym ((kept.each id a mine lived).calls.taking goes).0)
@@ -65,7 +65,7 @@ module _ (shape : Dimensions) (opened : Anatomy) (state : State) (kept : Invaria
             either)
             (counted_at shape opened state kept id a mine records lived alone known has quiet key (omega (arith, some_units)))
 
-  -- who began one at such a moment is alone
+  -- an actor that began one at such a moment is alone
   alone_at : (before : List Taken) (last : Taken) → a.deltas.taken ≡ before ++ last ∷ [] → last.moment.outstanding ≡ 0
       → last.moment.before + 1 ≡ made_of kept.roles.opener.role → IsAlone state.actors a
   alone_at before last is none youngest =

@@ -52,7 +52,7 @@ module _ (shape : Dimensions) (version cursors share : ℕ) (costs first_noted :
     heirs = each_of_one first_actor (λ k a. is_living a ≡ true → _) (λ lives. absurd (no_recorder lives));
   }
 
-  -- the shared cursors stand at the begin of any list, and have given nothing
+  -- the shared cursors are at the begin of any list, and have given nothing
   pub first_cursors : (chain : List ℕ) → CursorsAreKept chain (replicate cursors 12) actors
   first_cursors chain = record {
     stand = λ k below.
@@ -76,8 +76,8 @@ module _ (shape : Dimensions) (version cursors share : ℕ) (costs first_noted :
     swapped = λ before last e. cc e;
   }
 
-  -- What has to be shown of it: what it has seen lies behind the present, it knows the first records of names, what it has accepted is spent,
-  -- and it met the samples of all that was counted before.
+  -- What has to be shown of it: what it has seen is no later than the present, it knows the first records of names, what it has accepted is
+  -- spent, and it visited the samples of all that was counted before.
   module _ (anatomy : Anatomy) (sees : Sees anatomy (replicate cursors 12) seen) (stop : IsStop (order_of anatomy) anatomy.tail)
       (knows : All (IsRightlyKnown anatomy) names) (covers : (name : List ℕ) → max (tally_noted first name) (cost_of first_noted name) ≤ cost_of costs name)
       (met : (entry : Entry) (of : ℕ) → Contains first entry → 0 < entry.units → IsFirst anatomy.records entry.name spec.Sparse of

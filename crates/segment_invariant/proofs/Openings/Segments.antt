@@ -20,7 +20,7 @@ the_queue = record { at = 12; owner = none; body = queue 12 }
 abbrev only : List Piece
 only = the_queue ∷ []
 
--- a block that stands there is the queue block
+-- a block that is there is the queue block
 stands_queue : (at : ℕ) (owner : Option ℕ) (body : Body) → Stands only at owner body → queue 12 ≡ body
 stands_queue at owner body (k, there) = each_of_one the_queue (λ k piece. queue 12 ≡ piece.body) refl k _ there
 

@@ -21,7 +21,7 @@ module _ (shape : Dimensions) (opened : Anatomy) (state : State) (kept : Invaria
   abbrev with_sight : Place → ℕ → Actor
   with_sight place word = seer a place (sight_more word) a.done.given a.done.lost
 
-  -- the state is kept where it sees the single word as it is, and goes on to a place with the same units in transit
+  -- the state is kept when it sees the single word as it is, and moves on to a place with the same units in transit
   pub now_seen : (place : Place) → place ≢ Spent → ((name : List ℕ) (key : ℤ) → moving_at a name key place ≡ moving_at a name key a.hand.place)
       → ((reference : ℕ) (sum : ℤ) → place ≢ SumLoaded reference sum) → KeepsUp a.hand.place place
       → (word : ℕ) → word_at state.words (h + 9) ≡ word → StandsRight shape kept.anatomy id (with_sight place word) place
@@ -74,7 +74,7 @@ module _ (shape : Dimensions) (opened : Anatomy) (state : State) (kept : Invaria
   abbrev pub sees_single : ℕ → Seen
   sees_single word = record a.seen { singles = a.seen.singles ++ record { at = h + 9; word = word } ∷ [] }
 
-  -- the state is kept where it sees the single word as it is, and goes on to a place
+  -- the state is kept when it sees the single word as it is, and moves on to a place
   pub single_seen : (place : Place) → is_bound place ≡ false → ((reference : ℕ) (sum : ℤ) → place ≢ SumLoaded reference sum)
       → ((word : ℕ) → StandsRight shape kept.anatomy id (seer a place (sees_single word) a.done.given a.done.lost) place)
       → KeptOn shape opened kept (record {

@@ -46,7 +46,7 @@ module _ (version at : ℕ) (r : Record) (d : Disabling version (buckets_of r.sp
   lawful_off page is = lawful_anew version page r r.counts (off_word version r.single) r.mark r.sum r.sum_mark r.noted is
       d.formed (λ none_there. is.unpacked (sym d.names ∙ none_there)) (λ _. mounts) (λ sparse. absurd (mounts (is.sparse sparse).0)) is.narrow
 
-  -- in version 1 nothing was counted behind the word, so the mark is at most 65,535
+  -- in version 1 nothing was counted in the counts before this, so the mark is at most 65,535
   counts_off : (c : Counts) → IsCountsOf version at r c → IsCountsOf version at off c
   counts_off c is = counts_anew version at r (off_word version r.single) r.mark c is
       (λ i packs. is.packed i (sym d.names ∙ packs)) (λ still. absurd (true≢false (sym d.off ∙ still)))
@@ -204,7 +204,7 @@ module _ (shape : Dimensions) (opened : Anatomy) (state : State) (kept : Invaria
           counts = right.counts;
         })))
 
-    -- so the event keeps what holds, where that is the place behind it
+    -- so the event keeps what holds, if this is the place after disabling
     went : turn looked ≡ after_disabling a.segment.version (look_of a.hand.place h) old (form_seen a h old) → Goes shape opened state kept id a mine recorder (packing_event (disable h old))
     went place_is =
         let fits = kept.each id a mine lives in
@@ -284,7 +284,7 @@ module _ (shape : Dimensions) (opened : Anatomy) (state : State) (kept : Invaria
       omega (arith, same))
       (λ b name key. refl) (λ free. refl) (λ right. right) (λ anatomy b was same right. right) (sym (place_is false test))
 
-  -- where units are in transit they are those that the word had
+  -- if units are in transit they are those that the word had
   module _ (test : in_transit ≡ true) where
     one : version ≡ 1
     one = sym versioned ∙ eqb-true a.segment.version 1 (and_parts (a.segment.version == 1) (nat_lt 0 old) test).0

@@ -52,7 +52,8 @@ module _ (version n bucket : ℕ) (below : bucket < n) (few : n ≤ 1048576) whe
       by_tests false true false rest empty is_on is = cc is
       by_tests false true true rest empty is_on is = λ i. Some (Packed (high i) (low i))
 
-  -- What packing makes of a word: the new one is on and names the bucket, with so many units more, 65,535 at most; the old one named it too, or was empty.
+  -- What packing makes of a word: the new one is on and names bucket `k`, with that many units more, 65,535 at most; the old one named it
+  -- too, or was empty.
   pub record Packing (k old new : ℕ) : Type 0 where
     pub on : is_off new ≡ false
     pub names : packed_bucket (single_of version n new) ≡ Some bucket

@@ -11,7 +11,7 @@ use Rattle.segment_invariant.proofs.Frames.Shown.{Goes, loaded}
 use Rattle.segment_invariant.proofs.Counting.Looks.{knows_of, body_word, single_now, looks_single}
 use Rattle.segment_invariant.proofs.Counting.Sights.{word_within, sees_on}
 
--- what an actor goes on with of a histogram is of that histogram, and the counts in it are those that it saw
+-- what an actor has loaded so far of a histogram is of that histogram, and the counts in it are those that it saw
 pub look_right : (shape : Dimensions) (anatomy : Anatomy) (id : ℕ) (a : Actor) (place : Place) (h : ℕ) → StandsRight shape anatomy id a place
     → ((look_of place h).histogram ≡ h)
     × ((look_of place h).counts ≢ 0 → Contains a.seen.words (record { at = (look_of place h).histogram + 8; word = (look_of place h).counts }))

@@ -1,4 +1,4 @@
--- Where a counts block is mounted records stay lawful: the record names the counts, and these name it.
+-- When a counts block is mounted, records stay valid: the record names the counts, and these name it.
 use Rattle.segment_invariant.proofs.Prelude.Std.{◌≡◌, ◌≢◌, ◌⊎◌, ℕ, ◌+◌, ◌*◌, ◌≤◌, List, [], inl, inr, ⊎_elim, refl, sym, ap, ◌∙◌, subst, arith, some, none}
 use Rattle.segment_invariant.proofs.Prelude.Machine.{Dimensions, Spec, Sparse, buckets_of, Own, units_in, State}
 use Rattle.segment_invariant.proofs.Prelude.Invariant.{Record, Counts, Sample, Body, histogram, counts, sample, Piece, Anatomy, form_at, Stands, HasRecord, HasCounts, HasSample, IsFirst, IsLawfulRecord, IsCountsOf, CountsNothing, RecordsAreKept, Invariant}
@@ -53,7 +53,7 @@ module _ (shape : Dimensions) (opened : Anatomy) (state : State) (kept : Invaria
   counts_now : HasCounts pieces own.at c
   counts_now = published.here own.at (counts c) (refl, refl)
 
-  -- no published block stands at 0, nor one of its own
+  -- no published block is at 0, nor one of its own
   some_place : (at : ℕ) (owner : _) (body : Body) → Stands kept.anatomy.pieces at owner body → at ≢ 0
   some_place at owner body there zero = ⊎_elim (λ twelve. omega (arith, twelve, zero)) (λ more. omega (arith, more, zero))
       (piece_from shape state.words kept.anatomy kept.shown there.0 _ there.1)

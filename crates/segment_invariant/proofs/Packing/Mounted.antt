@@ -60,7 +60,7 @@ module _ (shape : Dimensions) (opened : Anatomy) (state : State) (kept : Invaria
   published = one_published shape id half own (counts c) own_half (counts_words_are own h r.name r.spec tag bare room) refl
       (counts_held kept.anatomy.version own c (counts_zeros own h r.name r.spec tag bare room))
 
-  -- published blocks go on, and the counts come beside them
+  -- published blocks continue, and the counts are added to them
   pub onward : Onward kept.anatomy new (Only own.at (counts c))
   onward =
       let on = turned_onward shape opened state kept h (histogram r) (histogram s) 8 own.at stands turns in

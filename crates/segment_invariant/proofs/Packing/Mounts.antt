@@ -1,4 +1,4 @@
--- A counts block is mounted: where another was first, its actor sees the counts that are there.
+-- A counts block is mounted: if another was first, its actor sees the counts that are there.
 use Rattle.segment_invariant.proofs.Prelude.Std.{◌≡◌, ◌≢◌, Bool, false, ◌==◌, if◌then◌else◌, ℕ, ◌+◌, List, [], ◌∷◌, ◌++◌, set, Contains, None, refl, sym, ap, ◌∙◌, subst, arith, eq-eqb, true≢false, All-contains, Contains-push, some, none, get_elem?}
 use Rattle.segment_invariant.proofs.Prelude.Machine.{Dimensions, word_at, Actor, Own, Look, Spent, Sighting, is_bound, is_opener, sight_counts, packing_event, Ready, mount_counts, after_mount, State}
 use Rattle.segment_invariant.proofs.Prelude.Invariant.{Record, histogram, counts, held, Anatomy, HasRecord, HasCounts, HoldsOwn, Invariant, KeptOn}

@@ -7,7 +7,7 @@ use Rattle.bucket_ranges.proofs.Ascent.{is_linear-from_checks}
 use Rattle.bucket_ranges.proofs.Customs.{is_custom-from_checks, length-distinct}
 use Rattle.segment_calls.specs.Form.{off_word}
 
--- a lawful spec has at most 1,000 buckets
+-- a valid spec has at most 1,000 buckets
 pub few_buckets : (spec : Spec) → spec_fault spec ≡ None → buckets_of spec ≤ 1000
 few_buckets (Linear min max n) e = (is_linear-from_checks min max n e).many
 few_buckets Boolean e = omega arith

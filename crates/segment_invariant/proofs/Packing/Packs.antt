@@ -33,7 +33,7 @@ with_single r word = record r { single = word }
 
 module _ (version page : ℕ) (versions : (version ≡ 1) ⊎ (version ≡ 2)) (r : Record) (bucket k new : ℕ) (below : bucket < buckets_of r.spec) (few : buckets_of r.spec ≤ 1048576)
     (on : is_off r.single ≡ false) (packs : Packing version (buckets_of r.spec) bucket below few k r.single new) (lawful : IsLawfulRecord version page r) where
-  -- it is lawful
+  -- it is valid
   pub packed_lawful : IsLawfulRecord version page (with_single r new)
   packed_lawful = lawful_anew version page r r.counts new r.mark r.sum r.sum_mark r.noted lawful
       (λ none_there. cc (sym packs.names ∙ ap packed_bucket none_there)) (λ nothing. absurd (cc (sym packs.names ∙ nothing)))
@@ -67,7 +67,7 @@ module _ (version page : ℕ) (versions : (version ≡ 1) ⊎ (version ≡ 2)) (
   pub packed_mark : r.mark ≤ units_in (form_at version r) → r.mark ≤ units_in (form_at version (with_single r new))
   packed_mark le = let more = packs.more in omega (arith, le, more)
 
-  -- it holds so many units more of the key of the bucket
+  -- it holds that many units more of the key of the bucket
   pub packed_held : (name : List ℕ) (key : ℤ) → units_held version name key (histogram (with_single r new))
       ≡ units_held version name key (histogram r) + of_name r.name name (if int_eq (key_of_bucket r.spec bucket) key then k else 0)
   packed_held name key =
@@ -165,7 +165,7 @@ module _ (shape : Dimensions) (opened : Anatomy) (state : State) (kept : Invaria
   packs = packing version (buckets_of r.spec) bucket below few units r.single new (has_units entry uncounted)
       (subst (λ (w : ℕ). IsPacking bucket units w new) found.2 word_packs)
 
-  -- ---- the record goes on
+  -- ---- the record continues
 
   abbrev s : Record
   s = with_single r new

@@ -48,7 +48,7 @@ module _ (shape : Dimensions) (opened : Anatomy) (state : State) (kept : Invaria
   abbrev block_holds : HoldsOwn shape anatomy.pieces id own
   block_holds = holds shape opened state kept id a mine records tail own given placed i there ended asked ends
 
-  -- an own block stands so with the next stored
+  -- an own block is still there with the next stored
   owned_half : (x : Own) → HasOwn anatomy.pieces id x
       → HasOwn half.pieces id x
   owned_half x stands =
@@ -90,7 +90,7 @@ module _ (shape : Dimensions) (opened : Anatomy) (state : State) (kept : Invaria
     is_nothing : CountsNothing r
     is_nothing = record_nothing own name spec letters payload_is anatomy.version shape.page kept.versions block_holds.room named lettered lawful fits_now
 
-    -- it is listed, and stands as what it was given
+    -- it is listed, and holds what it was given
     record_listed : Contains (anatomy.records ++ record { reference = own.at; made = Some given } ∷ []) (record { reference = own.at; made = Some (made.Histogram name spec) })
     record_listed = subst (λ (g : Made). Contains (anatomy.records ++ record { reference = own.at; made = Some given } ∷ []) (record { reference = own.at; made = Some g })) asks
         (Contains-push anatomy.records (record { reference = own.at; made = Some given }))

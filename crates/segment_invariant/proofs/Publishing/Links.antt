@@ -171,7 +171,7 @@ listed_claimed records at (other size tag next payload) is = is refl
 
 -- ---- shared cursors
 
--- a record of the chain stands where it stood, in a longer chain where none stands twice
+-- a record of the chain is where it was, in a longer chain in which none is twice
 at_before : (words chain more : List ℕ) (k m : ℕ) → IsLinked words (chain ++ more) → get_elem? (chain ++ more) k ≡ some m → Contains chain m
     → get_elem? chain k ≡ some m
 at_before words chain more k m linked there has =

@@ -89,7 +89,7 @@ module _ (shape : Dimensions) (opened : Anatomy) (state : State) (kept : Invaria
       ))
       (λ miss. subst by (sym (ne_eqb found old miss)) (tail_stop, λ seen before. subst (IsNoLater order seen) (sym tail) before))
 
-  -- where its link had come too late, the tail is then at the record that beat it, or behind
+  -- if its link had come too late, the tail is then at the record that beat it, or after it
   goes_behind : (old new : ℕ) → a.hand.place ≢ Spent → AreNeighbours order old new → Contains a.seen.tails old → IsReachedAt order a.done.beaten new
       → IsReachedAt order a.done.beaten (if word_at state.words 8 == old then new else word_at state.words 8)
   goes_behind old new lives (k, lt, is, next_is) saw (m, low, most, new_is) =
@@ -106,7 +106,7 @@ module _ (shape : Dimensions) (opened : Anatomy) (state : State) (kept : Invaria
       let apart : i ≢ j = λ same. miss (tail ∙ (sym j_is ∙ (ap (slice_index (stops order)) (sym same) ∙ i_is))) in
       (j, omega (arith, low, one, two, le, apart), within, j_is ∙ sym tail)))
 
-  -- and it is not behind what came too late before
+  -- and it has reached what came too late before
   moves_ahead : (old new : ℕ) → a.hand.place ≢ Spent → Ready a (publishing_event (move_tail old new))
       → ((seen : ℕ) → IsNoLater order seen kept.anatomy.tail → IsNoLater order seen (if word_at state.words 8 == old then new else word_at state.words 8))
       → IsReachedAt order a.done.beaten (if word_at state.words 8 == old then new else word_at state.words 8)
@@ -144,7 +144,7 @@ module _ (shape : Dimensions) (opened : Anatomy) (state : State) (kept : Invaria
 
   -- ---- a link finds another record
 
-  -- the record behind the tail is reached by one more
+  -- the record after the tail is reached after one record more
   next_reached : (tail found : ℕ) → IsReachedAt order a.done.beaten tail → AreNeighbours order tail found → IsReachedAt order (a.done.beaten + 1) found
   next_reached tail found (k, low, within, is) (m, lt, here, next_is) =
       let same : k ≡ m = one_place state.words order k m kept.list.linked within (omega (arith, lt)) (is ∙ sym here) in

@@ -1,4 +1,4 @@
--- Where a recorder is alone, all that is counted is what it has accepted, with what had been accepted before it was made.
+-- If a recorder is alone, all that is counted is what it has accepted, with what had been accepted before it was made.
 use Rattle.segment_invariant.proofs.Prelude.Std.{◌≡◌, ◌≢◌, ◌⊎◌, ℕ, ◌+◌, Bool, true, false, ◌&&◌, ℤ, List, [], ◌∷◌, ◌++◌, map, length, drop, sum_by, All, Contains, inl, inr, ⊎_elim, refl, sym, ap, ◌∙◌, subst, arith, append-nil, if◌then◌else◌, filter, flat_map, int_eq, and_parts, All-contains, sum_by-cons, some, get_elem?, IsTotal}
 use Rattle.segment_invariant.proofs.Prelude.Machine.{Dimensions, Entry, EntryProgress, Place, Spent, Actor, is_counted, is_summed, is_noted, has_ended, is_of, tally_units, tally_noted, log_of, summed_of, all_counted, all_summed, all_noted, accepted_by, is_opener, made_of, is_untouched, purse, State}
 use Rattle.segment_invariant.proofs.Prelude.Invariant.{Anatomy, IsAlone, StandsRight, Invariant}
@@ -59,7 +59,7 @@ module _ (shape : Dimensions) (opened : Anatomy) (state : State) (kept : Invaria
       let (more, log, nothing) = kept.roles.heirs id a mine (lives_on a records lives) in
       log ∙ (ap (λ list. a.entries.inherited ++ list) (nothing alone.2 last) ∙ append-nil a.entries.inherited)
 
-  -- the entries of a test that all pass are those of a log, where nothing runs
+  -- the entries of a test that all pass are those of a log, if nothing runs
   log_alone : (test : EntryProgress → Bool) → ((c : EntryProgress) → has_ended c ≡ true → test c ≡ true) → (c : Actor) → All (λ c. has_ended c ≡ true) c.entries.log
       → c.entries.running ≡ [] → c.entries.first ++ map (λ c. c.entry) (filter test (c.entries.log ++ c.entries.running)) ≡ log_of c
   log_alone test passes c done none =
@@ -68,7 +68,7 @@ module _ (shape : Dimensions) (opened : Anatomy) (state : State) (kept : Invaria
       ∙ (ap (λ (list : List EntryProgress). map (λ (c : EntryProgress). c.entry) c.entries.log ++ map (λ (c : EntryProgress). c.entry) (filter test list)) none
       ∙ append-nil (map (λ (c : EntryProgress). c.entry) c.entries.log)))
 
-  -- so where it runs nothing, all whose amounts are added are those that were accepted
+  -- so if it runs nothing, all whose amounts are added are those that were accepted
   pub summed_accepted : a.entries.running ≡ [] → all_summed state.actors ≡ accepted_by a
   summed_accepted none =
       let passes : (c : EntryProgress) → has_ended c ≡ true → is_summed c ≡ true = λ c is. (and_parts (is_counted c) _ (and_parts _ _ is).0).1 in
@@ -76,7 +76,7 @@ module _ (shape : Dimensions) (opened : Anatomy) (state : State) (kept : Invaria
       ∙ ap₂ (λ (x y : List Entry). x ++ y) (log_alone is_summed passes opener ended kept.roles.rests.0) (log_alone is_summed passes a (kept.each id a mine lives).calls.ended none)
       ∙ ap (λ (list : List Entry). list ++ log_of a) heir
 
-  -- What all come to is what the logs of these two come to, with what stands in front of them, where nothing of the running entries counts.
+  -- What all come to is what the logs of these two come to, with what precedes them, if nothing of the running entries counts.
   module _ (total : List Entry → ℕ) (sums : IsTotal ◌+◌ total) (none : total [] ≡ 0) (test : EntryProgress → Bool)
       (passes : (c : EntryProgress) → has_ended c ≡ true → test c ≡ true) (front : Actor → List Entry) (nothing : (units : ℕ) → front (purse units) ≡ [])
       (still : (c : EntryProgress) → Contains a.entries.running c → test c ≡ true → total (c.entry ∷ []) ≡ total []) where

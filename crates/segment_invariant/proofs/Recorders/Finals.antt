@@ -13,7 +13,7 @@ use Rattle.segment_invariant.proofs.Frames.Together.{ended_among}
 use Rattle.segment_invariant.proofs.Recorders.PassedBlocks.{handed, stands_given, stands_left}
 use Rattle.segment_invariant.proofs.Recorders.Joined.{Joins}
 
--- a delta, a snapshot of a recorder whose log comes behind another
+-- a delta, a snapshot of a recorder whose log comes after another
 abbrev later_taken : ℕ → Taken → Taken
 later_taken n t = record t { moment = shifted n t.moment }
 
@@ -42,7 +42,7 @@ module _ (actors : List Actor) (opener : Actor) (other : ℕ) (a b : Actor) (may
   long_joined : length (log_of both) ≡ length (log_of a) + length (log_of b)
   long_joined = ap length log_joined ∙ length-append (log_of a) (log_of b)
 
-  -- ---- where nothing was counted since
+  -- ---- if nothing was counted since
 
   quiet_first : (name : List ℕ) (n : ℕ) → IsQuiet both name n → IsQuiet a name n
   quiet_first name n quiet =
@@ -90,7 +90,7 @@ module _ (actors : List Actor) (opener : Actor) (other : ℕ) (a b : Actor) (may
       → ((key : ℤ) → units_listed s.counts key ≡ tally_units (all_counted actors) s.name key)
       × (s.sum ≡ tally_sum (all_summed actors) s.name) × (s.redundant ≡ cost_of opener.entries.first_noted s.name + tally_noted (all_noted actors) s.name)
 
-  -- who takes nothing has ended all that it began
+  -- an actor that takes nothing has ended all that it began
   idle_ended : (c : Actor) → c.deltas.taking ≡ false → ended_deltas c ≡ c.deltas.taken
   idle_ended c idle = ap (λ (taking : Bool). if taking then take (length c.deltas.taken - 1) c.deltas.taken else c.deltas.taken) idle
 
@@ -106,7 +106,7 @@ module _ (actors : List Actor) (opener : Actor) (other : ℕ) (a b : Actor) (may
       (λ nobody youngest quiet. second.deltas was.0 (all_ended b was.0 rests was.1) nobody youngest (quiet_second was.0.name was.0.moment.log quiet)))
       (Contains-append_cases a.deltas.taken (shifted_taken before b.deltas.taken) t there)
 
-  -- what the recorder had accepted at a moment, and inherited, stands at the begin of the log of both
+  -- what the recorder had accepted at a moment, and inherited, is at the front of the log of both
   accepted_both : (m : Moment) → log_of a ≡ b.entries.inherited → accepted_at both (shifted before m) ≡ accepted_at b m
   accepted_both m inherited =
       ap (λ (list : List Entry). list ++ take (before + m.log) (log_of both)) own

@@ -23,7 +23,7 @@ entries test list = map (λ c. c.entry) (filter test list)
 entries_append : (test : EntryProgress → Bool) (log more : List EntryProgress) → entries test (log ++ more) ≡ entries test log ++ entries test more
 entries_append test log more = ap (map (λ (c : EntryProgress). c.entry)) (filter-append test log more) ∙ map-append (λ (c : EntryProgress). c.entry) (filter test log) (filter test more)
 
--- of two who run nothing, the second without first entries, the entries of both logs
+-- of two that run nothing, the second without first entries, the entries of both logs
 entries_joined : (test : EntryProgress → Bool) (first nothing : List Entry) (log more run last : List EntryProgress) → run ≡ [] → last ≡ [] → nothing ≡ []
     → first ++ entries test ((log ++ more) ++ run) ≡ (first ++ entries test (log ++ run)) ++ (nothing ++ entries test (more ++ last))
 entries_joined test first nothing log more run last idle rests without =
@@ -57,7 +57,7 @@ portions_joined n first more nothing xs ys =
     ∙ (sym (append_assoc first (map portion_of xs) (map portion_of ys))
     ∙ ap (λ (list : List Portion). (first ++ map portion_of xs) ++ (list ++ map portion_of ys)) (sym nothing))
 
--- who runs nothing has in a sum what it has spent
+-- an actor that runs nothing has in a sum what it has spent
 rests_cost : (name : List ℕ) (a : Actor) → a.entries.running ≡ [] → summed_cost name a ≡ cost_of a.units.costs name
 rests_cost name a rests =
     let nothing : (if length (filter (λ c. c.summed) a.entries.running) == 0 then 0 else cost_of a.units.held name) ≡ 0 =
@@ -122,7 +122,7 @@ module _ (a b : Actor) (may : Joins a b) where
 
 -- ---- what both have seen
 
--- the later of two free pointers lies behind the present one
+-- the later of two free pointers is no later than the present one
 later_free : (m n free : ℕ) → Behind m free → Behind n free → Behind (max m n) free
 later_free m n free first second = later (dec_le m n)
   where
@@ -160,7 +160,7 @@ module _ (chain xs ys : List ℕ) (first : IsPrefix xs chain) (second : IsPrefix
 
 -- ---- words that were seen
 
--- a word that was seen first is still seen first where more is seen
+-- a word that was seen first is still seen first if more is seen
 seen_before : (xs ys : List Sighting) (at word : ℕ) → word_seen xs at ≡ Some word → word_seen (xs ++ ys) at ≡ Some word
 seen_before [] ys at word e = absurd (cc e)
 seen_before (s ∷ xs) ys at word e = here (s.at == at) (seen_before xs ys at word) e
@@ -184,7 +184,7 @@ seen_there (s ∷ xs) at word e = here (s.at == at) refl (seen_there xs at word)
         let found = behind e in
         (found.0, Contains-append_right (s ∷ []) xs found.0 found.1, found.2, found.3)
 
--- and behind what else was seen there, if that was the same
+-- and also if other sightings come before it, of which those of the same place are of the same word
 seen_behind : (xs ys : List Sighting) (at word : ℕ) → ((s : Sighting) → Contains xs s → s.at ≡ at → s.word ≡ word)
     → word_seen ys at ≡ Some word → word_seen (xs ++ ys) at ≡ Some word
 seen_behind [] ys at word same e = e
@@ -223,7 +223,7 @@ module _ (shape : Dimensions) (words : List ℕ) (anatomy : Anatomy) (shown : Is
       (All-contains (WasFixed anatomy.pieces) b.seen.words there.0 theirs.fixed there.1)
       (here ∙ sym there.2) ∙ there.3) e
 
-  -- both have met what each has
+  -- both have visited what each has
   pub joined_sees : Sees anatomy cursors (both_seen a.seen b.seen)
   joined_sees = record {
     free = later_free a.seen.free b.seen.free (free_of anatomy) mine.free theirs.free;
@@ -243,7 +243,7 @@ module _ (shape : Dimensions) (words : List ℕ) (anatomy : Anatomy) (shown : Is
     shared = All-append (λ (s : Sighting). (s.at < length cursors) × IsNoLater (order_of anatomy) s.word (slice_index cursors s.at)) a.seen.cursors b.seen.cursors mine.shared theirs.shared;
   }
 
-  -- an entry of either has a sample that the opener met then
+  -- an entry of either has a sample that the opener has then visited
   abbrev Met : Actor → Entry → ℕ → Type 0
   Met c entry of = (at : ℕ) × IsFirstOf anatomy.records of entry.key at × Contains c.seen.chain at × SawSample c.seen of entry.key at
 

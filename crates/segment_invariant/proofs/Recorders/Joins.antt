@@ -90,7 +90,7 @@ module _ (shape : Dimensions) (opened : Anatomy) (old : State) (kept : Invariant
       ap (λ (list : List Entry). opener.entries.first ++ list) (map-append (λ (c : EntryProgress). c.entry) opener.entries.log b.entries.log)
       ∙ sym (append_assoc opener.entries.first (map (λ (c : EntryProgress). c.entry) opener.entries.log) (map (λ (c : EntryProgress). c.entry) b.entries.log))
 
-  -- beside the joined recorder no other one that lives was alone
+  -- no recorder that lives, other than the joined one, was alone
   not_alone : (k : ℕ) (c : Actor) → get_elem? old.actors k ≡ some c → is_living c ≡ true → k ≢ other → outstanding_of c.role ≡ 0
       → made_of c.role + 1 ≡ made_of opener.role → ⊥
   not_alone k c at alive past nobody last =
@@ -148,7 +148,7 @@ module _ (shape : Dimensions) (opened : Anatomy) (old : State) (kept : Invariant
   theirs : Fits shape kept.anatomy old.cursors merged later other b
   theirs = beside other b (kept.each other b there live)
 
-  -- the joined recorder was made behind what its opener has, and inherited the opener's log where it was alone and is the youngest
+  -- the joined recorder was made after the moments of its opener, and inherited the opener's log if it was alone and is the youngest
   older : (m : Moment) → IsMomentOf opener m → m.outstanding ≡ 0 → m.before + 1 ≡ made_of later.role → ⊥
   older m of nobody last =
       let below = ((kept.each 0 opener kept.roles.stands opener_lives).finals.moments m of).eldest nobody other b there lives away in

@@ -17,7 +17,7 @@ use Rattle.segment_invariant.proofs.Frames.SumsRise.{sums_rest}
 use Rattle.segment_invariant.proofs.Recorders.Shares.{OffersAnew, sharing, shared_fits}
 use Rattle.segment_invariant.proofs.Frames.Standing.{grounds_itself, stands_on}
 
--- ---- actors that share anew
+-- ---- actors with new shares
 
 -- an actor became another in its share and its offer alone; only an opener offers
 pub record Shares (a b : Actor) : Type 0 where
@@ -35,7 +35,7 @@ offers_itself role = record { opener = refl; made = refl; outstanding = refl; re
 pub shares_itself : (a : Actor) → Shares a a
 shares_itself a = record { same = refl; offers = offers_itself a.role; spent = λ is. refl }
 
--- the first, and those behind it
+-- the first, and those after it
 module _ (a b : Actor) (old new : List Actor) (anew : ShareAnew (a ∷ old) (b ∷ new)) where
   first_shares : Shares a b
   first_shares =
@@ -198,7 +198,7 @@ module _ (shape : Dimensions) (opened : Anatomy) (old : State) (kept : Invariant
   abbrev lent : List Actor
   lent = set (set old.actors 0 lender) other borrower
 
-  -- the one opener and a recorder that lives have other shares, and all have as many units as before
+  -- the one opener and a recorder that lives have other shares, and all together have as many units as before
   pub moved_kept : KeptOn shape opened kept (record old { actors = lent })
   moved_kept =
       let opener : Actor = kept.roles.opener in

@@ -1,4 +1,5 @@
--- An actor comes behind all that there are, while the opener has another share and another role: what both leave of the others.
+-- An actor is added after all that there are, while the opener gets another share and another role: what both leave unchanged of the
+-- others.
 use Rattle.segment_invariant.proofs.Prelude.Std.{◌≡◌, ◌≢◌, ℕ, List, [], ◌∷◌, ◌++◌, length, All, Contains, set, false, true≢false, sym, subst, some, get_elem?, at_longer, set_here, below_length, none_at, All-nil, refl}
 use Rattle.segment_invariant.proofs.Prelude.Machine.{Dimensions, Actor, Given, State, SumLoaded, is_opener}
 use Rattle.segment_invariant.proofs.Prelude.Invariant.{Anatomy, order_of, StandsRight, Invariant}

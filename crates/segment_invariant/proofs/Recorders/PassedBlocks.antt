@@ -1,4 +1,4 @@
--- Blocks that pass from one owner to another: their words and places stay, and so does all that is said of others.
+-- Blocks that pass from one owner to another: their words and places stay, and so does all that holds of others.
 use Rattle.segment_invariant.proofs.Prelude.Std.{◌≡◌, ◌≢◌, ℕ, ◌+◌, ◌≤◌, pos, ◌+ℤ◌, Bool, true, false, cond, List, [], ◌∷◌, ◌++◌, map, replicate, ◌%◌, IsPermutation, inl, inr, ⊎_elim, refl, sym, ap, ◌∙◌, subst, eq-eqb, ne_eqb, All, fold, if◌then◌else◌, ◌==◌, flat_map, some, none, some-ne-none, get_elem?, at_map, from_map}
 use Rattle.segment_invariant.proofs.Prelude.Machine.{Dimensions, Behind, IsShown, Actor, Known, Seen, Claim}
 use Rattle.segment_invariant.proofs.Prelude.Invariant.{Body, words_of, Piece, extent_of, Anatomy, layout_of, free_of, is_claimed, claims_of, Stands, IsRightlyKnown, Sees, StandStill, ClaimedRight, CallsRight, Fits}
@@ -24,7 +24,7 @@ abbrev pub handed : (from to : ℕ) → Anatomy → Anatomy
 handed from to anatomy =
     reshaped anatomy (map (pass from to) anatomy.pieces) anatomy.spare anatomy.corrupt anatomy.full anatomy.tail
 
--- ---- where blocks stand
+-- ---- where blocks are
 
 module _ (from to : ℕ) where
   stands_passed : (pieces : List Piece) (at : ℕ) (owner : Option ℕ) (body : Body) → Stands pieces at owner body

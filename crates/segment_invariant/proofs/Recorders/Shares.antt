@@ -15,14 +15,14 @@ turned a share offered made outstanding = record a { units = record a.units { sh
 abbrev pub sharing : Actor → ℕ → Role → Actor
 sharing a share role = record a { units = record a.units { share = share }; role = role }
 
--- a role that differs in its offer alone, where it is an opener's
+-- a role that differs in its offer alone, if it is an opener's
 pub record OffersAnew (was now : Role) : Type 0 where
   pub opener : is_opener now ≡ is_opener was
   pub made : made_of now ≡ made_of was
   pub outstanding : outstanding_of now ≡ outstanding_of was
   pub recorder : is_opener was ≡ false → offered_of now ≡ offered_of was
 
--- so an actor fits as before
+-- so an actor still fits
 module _ (shape : Dimensions) (anatomy : Anatomy) (cursors : List ℕ) (actors : List Actor) (opener : Actor) (id : ℕ) (a : Actor) (share : ℕ) (role : Role) (anew : OffersAnew a.role role) where
   alone : IsAlone actors (sharing a share role) → IsAlone actors a
   alone (first, stands, nobody, last) = (first, stands, sym anew.outstanding ∙ nobody, ap (λ (n : ℕ). n + 1) (sym anew.made) ∙ last)
@@ -62,7 +62,7 @@ module _ (shape : Dimensions) (anatomy : Anatomy) (cursors : List ℕ) (actors :
   shared_fits fit = fits_anew shape anatomy cursors actors actors opener opener id a share role fit
       (λ records. shared_looks (fit.looks (sym anew.opener ∙ records))) (shared_finals fit.finals) fit.snapshots
 
--- with other recorders, an opener that takes nothing fits as before
+-- with other recorders, an opener that takes nothing still fits
 module _ (shape : Dimensions) (anatomy : Anatomy) (cursors : List ℕ) (actors : List Actor) (opener : Actor) (id : ℕ) (a : Actor)
     (share offered made outstanding : ℕ) (rests : a.deltas.taking ≡ false) where
   opener_finals : FinalsAreExact actors opener id a → FinalsAreExact actors opener id (turned a share offered made outstanding)

@@ -43,7 +43,7 @@ split_deeds a enough = record {
 
 -- ---- the newcomer
 
--- what stands in an opener's log has been counted
+-- what is in an opener's log has been counted
 pub logged_counted : (a : Actor) (entry : Entry) → All (λ c. has_ended c ≡ true) a.entries.log → Contains (log_of a) entry
     → Contains (a.entries.inherited ++ counted_of a) entry
 logged_counted a entry ended there = Contains-append_right a.entries.inherited (counted_of a) entry (⊎_elim
@@ -147,7 +147,7 @@ module _ (shape : Dimensions) (opened : Anatomy) (old : State) (kept : Invariant
   came : Comes shape kept.anatomy old later made
   came = comes shape opened old kept (opener.units.share - offered_of opener.role) (made_of opener.role + 1) (outstanding_of opener.role + 1) made (refl, refl, refl, refl, refl) refl tt (λ at sum is. cc is)
 
-  -- who was made before was made earlier
+  -- an actor that was there before was made earlier
   earlier : (k : ℕ) (c : Actor) → get_elem? old.actors k ≡ some c → is_living c ≡ true → made_of c.role < made_of made.role
   earlier k c at lives = kept.roles.younger k c at lives
 
@@ -166,7 +166,7 @@ module _ (shape : Dimensions) (opened : Anatomy) (old : State) (kept : Invariant
       (λ lives alive ne same. let below = earlier i a here lives in omega (arith, below, same))
       (λ j b inside away at. kept.roles.apart i j a b here at))
 
-  -- none lives where none is outstanding
+  -- none lives if none is outstanding
   nobody : outstanding_of opener.role ≡ 0 → (k : ℕ) (c : Actor) → get_elem? old.actors k ≡ some c → is_living c ≡ true → ⊥
   nobody none k c at lives =
       let one : Actor → ℕ = λ c. if is_living c then 1 else 0 in

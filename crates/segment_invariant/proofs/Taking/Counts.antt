@@ -1,4 +1,4 @@
--- A count is loaded: of a bucket, or of a sample that was met.
+-- A count is loaded: of a bucket, or of a sample that was visited.
 use Rattle.segment_invariant.proofs.Prelude.Std.{◌≡◌, ◌≢◌, ℕ, ◌+◌, ◌-◌, ◌<◌, ℤ, true, false, [], ◌∷◌, ◌++◌, set, Contains, inl, inr, refl, sym, ap, ◌∙◌, subst, arith, All-contains, Contains-push, some, get_elem?}
 use Rattle.segment_invariant.proofs.Prelude.Machine.{Dimensions, word_at, buckets_of, Actor, Known, Look, Place, Spent, Looking, Moving, CountLoaded, Sighting, is_bound, Buckets, is_opener, is_off, SawSample, State, load_count, taking_event, Ready, next}
 use Rattle.segment_invariant.proofs.Prelude.Invariant.{sample, Anatomy, WasSingle, StandsRight, Invariant, KeptOn}

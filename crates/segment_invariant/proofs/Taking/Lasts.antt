@@ -1,4 +1,4 @@
--- A delta goes on, which is the last of its actor: what was taken, and that final deltas and snapshots are as exact as they were.
+-- A delta continues, which is the last of its actor: what was taken, and that final deltas and snapshots are as exact as they were.
 use Rattle.segment_invariant.proofs.Prelude.Std.{◌≡◌, ◌⊎◌, ℕ, ◌+◌, ◌-◌, ◌<◌, ◌≤◌, ℤ, pos, ◌+ℤ◌, Bool, true, false, List, [], ◌∷◌, ◌++◌, length, take, drop, Contains, inl, inr, ⊎_elim, refl, sym, ap, ◌∙◌, subst, arith, map, if◌then◌else◌, bytes_eq, +ℤ_idl, +ℤ_idr, take-append_seam, length_push, drop-append-le, Contains-append_cases, Contains-append_left, Contains-append_right, some, get_elem?, one_in, below_length}
 use Rattle.segment_invariant.proofs.Prelude.Machine.{Actor, Portion, Moment, Taken, Entry, Place, Sighting, SawSample, change_last, tally_units, tally_sum, tally_noted, counted_of, units_listed, taken_units, taken_sum, all_counted, all_summed, all_noted, all_taken, portion_of, is_opener, made_of}
 use Rattle.segment_invariant.proofs.Prelude.Invariant.{Listed, Anatomy, IsFirst, IsFirstOf, of_name, IsAlone, CallsRight, RolesAreKept, FinalsAreExact}
@@ -15,7 +15,7 @@ use Rattle.segment_invariant.proofs.Frames.Together.{moment, ended_began}
 use Rattle.segment_invariant.proofs.Changes.Others.{Deed, deed_of, changed, is_later, alone_was}
 use Rattle.segment_invariant.proofs.Lists.Portions.{taken_sum_total, portions_push}
 
--- the last of a list of what was taken goes on, and keeps its name and its moment
+-- the last of a list of what was taken continues, and keeps its name and its moment
 module _ (taken before : List Taken) (last : Taken) (is : taken ≡ before ++ last ∷ []) (f : Taken → Taken) (named : (f last).name ≡ last.name)
     (began : (f last).moment ≡ last.moment) where
   abbrev pub further : List Taken
@@ -44,7 +44,7 @@ module _ (taken before : List Taken) (last : Taken) (is : taken ≡ before ++ la
   pub front_same : take (length further - 1) further ≡ take (length taken - 1) taken
   front_same = front_of further (f last) further_is ∙ sym (front_of taken last is)
 
-  -- units that were taken, beside those that had been taken before
+  -- units that were taken, on top of those that had been taken before
   pub units_further : (first : List Portion) (name : List ℕ) (key : ℤ)
       → taken_units (first ++ map portion_of further) name key + of_name last.name name (units_listed last.counts key)
       ≡ taken_units (first ++ map portion_of taken) name key + of_name last.name name (units_listed (f last).counts key)
@@ -86,7 +86,7 @@ module _ (taken before : List Taken) (last : Taken) (is : taken ≡ before ++ la
       grown : amount (f last) ≡ amount last +ℤ amount_of_name last.name name d
       grown = ap (λ (n : List ℕ). if bytes_eq n name then (f last).sum else pos 0) named ∙ by_test (bytes_eq last.name name)
 
--- what deltas took that stand behind one that has ended: the last is among them
+-- what was taken by the deltas after one that has ended: the last is among them
 module _ (taken before : List Taken) (last : Taken) (is : taken ≡ before ++ last ∷ []) (f : Taken → Taken) (named : (f last).name ≡ last.name)
     (began : (f last).moment ≡ last.moment) (n : ℕ) (low : n + 1 ≤ length before) where
   abbrev later : List Taken
@@ -114,13 +114,13 @@ module _ (taken before : List Taken) (last : Taken) (is : taken ≡ before ++ la
       ap (λ (l : List Taken). taken_sum (map portion_of l) name) later_further
       ∙ sum_further later (drop (n + 1) before) last later_is f named began [] d more name
 
--- while a delta goes on, one that has ended is one before it
+-- while a delta is in progress, one that has ended is one before it
 pub ended_before : (a : Actor) (before : List Taken) (last : Taken) → a.deltas.taken ≡ before ++ last ∷ [] → a.deltas.taking ≡ true → ended_deltas a ≡ before
 ended_before a before last is taking =
     ap (λ (b : Bool). if b then take (length a.deltas.taken - 1) a.deltas.taken else a.deltas.taken) taking
     ∙ front_of a.deltas.taken before last is (λ (t : Taken). t) refl refl a.deltas.taken last is
 
--- the actor whose delta goes on
+-- the actor whose delta continues
 module _ (a : Actor) (before : List Taken) (last : Taken) (is : a.deltas.taken ≡ before ++ last ∷ []) (f : Taken → Taken) (named : (f last).name ≡ last.name)
     (began : (f last).moment ≡ last.moment) (taking : a.deltas.taking ≡ true) (place : Place) (counts : List Sighting) where
   abbrev pub takes_on : Deed
@@ -159,8 +159,8 @@ module _ (a : Actor) (before : List Taken) (last : Taken) (is : a.deltas.taken �
       (further_from a.deltas.taken before last is f named began t has)
   moment_was m (inr answered) = inr answered
 
-  -- Nothing is counted, added or noted; no less is taken of a key, and no more than was counted. Then final deltas and snapshots are as exact,
-  -- where one that is alone leaves what was taken of a sum exact
+  -- Nothing is counted, added or noted; no less is taken of a key, and no more than was counted. Then final deltas and snapshots are as
+  -- exact, if one that is alone leaves what was taken of a sum exact
   module _ (old new : List Actor) (roles : RolesAreKept old) (beside : SameRoles old new) (id : ℕ) (recorder : is_opener a.role ≡ false)
       (counted : all_counted new ≡ all_counted old) (summed : all_summed new ≡ all_summed old) (noted : all_noted new ≡ all_noted old)
       (more : (name : List ℕ) (key : ℤ) → taken_units (all_taken new) name key + of_name last.name name (units_listed last.counts key)
@@ -171,7 +171,7 @@ module _ (a : Actor) (before : List Taken) (last : Taken) (is : a.deltas.taken �
       (exact_sum : IsAlone old a → (name : List ℕ) → taken_sum (all_taken old) name ≡ tally_sum (all_summed old) name
       → taken_sum (all_taken new) name ≡ tally_sum (all_summed old) name)
       (swapped : IsAlone old a → (f last).swapped ≡ true → taken_sum (all_taken new) (f last).name ≡ tally_sum (all_summed old) (f last).name) where
-    -- who has a final moment is alone
+    -- an actor that has a final moment is alone
     alone_at : (m : Moment) → IsMoment old roles.opener id a m → m.outstanding ≡ 0 → m.before + 1 ≡ made_of roles.opener.role → IsAlone old a
     alone_at m is none youngest =
         let (made, outstanding) = is.mine recorder in

@@ -15,7 +15,7 @@ use Rattle.segment_invariant.proofs.Counting.Sights.{word_within, counter_is, no
 use Rattle.segment_invariant.proofs.Counting.Whole.{whole_noted}
 use Rattle.segment_invariant.proofs.Frames.Anew.{looks_anew_at}
 
--- where an actor stands that is free to go on, it stands on where it sees more counts
+-- if an actor is at a place where it is free to move on, the place stays right when it sees more counts
 pub stands_counted : (shape : Dimensions) (anatomy : Anatomy) (id : ℕ) (a : Actor) (more : List Sighting) (place p : Place) → is_bound p ≡ false
     → StandsRight shape anatomy id a p
     → StandsRight shape anatomy id (seer a place (record a.seen { counts = a.seen.counts ++ more }) a.done.given a.done.lost) p
@@ -53,7 +53,7 @@ module _ (shape : Dimensions) (opened : Anatomy) (state : State) (kept : Invaria
 
   -- ---- a counter of a record
 
-  -- it goes on to a place where it might stand, and sees a counter of a record
+  -- it moves on to a place where it might be, and sees a counter of a record
   module _ (h i : ℕ) (r : Record) (stands : HasRecord kept.anatomy.pieces h r) (counter : IsCounterIn (histogram r) i) (unbound : is_bound a.hand.place ≡ false)
       (place : Place) (free : is_bound place ≡ false) (placed : StandsRight shape kept.anatomy id a place)
       (sums : (reference : ℕ) (sum : ℤ) → place ≡ SumLoaded reference sum → a.hand.place ≡ SumLoaded reference sum) where

@@ -1,4 +1,4 @@
--- A mark of a counts block rises: the block goes on. What a recorder knows of a mark that has loaded a count, and that it sees the mark.
+-- A mark of a counts block rises: the block continues. What a recorder that has loaded a count knows of a mark, and that it sees the mark.
 use Rattle.segment_invariant.proofs.Prelude.Std.{◌≡◌, ◌≢◌, true, false, ℕ, suc, ◌+◌, ◌-◌, ◌<◌, ◌≤◌, List, [], ◌∷◌, ◌++◌, length, set, Some, ⊎_elim, refl, sym, ap, ◌∙◌, subst, arith, length-append, length-set, slice_index, get_or-set_same, All-contains, All-push, dite, some, ℕ_discrete, get_elem?}
 use Rattle.segment_invariant.proofs.Prelude.Machine.{Dimensions, word_at, buckets_of, packed_bucket, Actor, Look, Spent, Looking, Moving, Seen, Sighting, is_bound, is_opener, is_off, State}
 use Rattle.segment_invariant.proofs.Prelude.Invariant.{Record, Counts, Sample, counts, sample, Anatomy, form_at, HasRecord, HasCounts, HasSample, WasCounter, WasInUse, WasSingle, WasMet, IsCountsOf, Invariant, KeptOn}
@@ -18,7 +18,7 @@ use Rattle.segment_invariant.proofs.Counting.Sights.{counter_is, sees_on}
 -- ---- the block
 
 module _ (c : Counts) (i u : ℕ) (below : i < length c.marks) where
-  -- with so many units more in a mark
+  -- with `u` units more in a mark
   abbrev pub marked : Counts
   marked = record c { marks = set c.marks i (slice_index c.marks i + u) }
 
@@ -56,7 +56,7 @@ module _ (c : Counts) (i u : ℕ) (below : i < length c.marks) where
       omega (arith, words, now, was))
       (λ ne. let now = get_or-set_other (counts_words c) spot k v 0 ne in omega (arith, words, now))
 
-  -- it goes on so
+  -- the block continues in this way
   pub marked_turns : (version : ℕ) → Turns version (counts c) (counts marked) spot v
   marked_turns version = word_turns version (counts c) (counts marked) spot v refl refl marked_words within (omega arith)
       (marked, refl, record { is = refl; long = (refl, length-set c.marks i v); rise = rises })
@@ -136,7 +136,7 @@ module _ (shape : Dimensions) (opened : Anatomy) (state : State) (kept : Invaria
         (counter_within (counts c) i (omega arith, omega (arith, low))) (omega (arith, few)) (sym spot ∙ same) in
         absurd (cc bodies)
 
-    -- so the state is kept where it sees that mark and looks on
+    -- so the state is kept when it sees that mark and looks on
     pub mark_seen : KeptOn shape opened kept (record {
       words = state.words;
       cursors = state.cursors;

@@ -67,7 +67,7 @@ module _ (shape : Dimensions) (opened : Anatomy) (state : State) (kept : Invaria
   abbrev stood : StandsRight shape kept.anatomy id a (SampleLoaded at least)
   stood = subst (StandsRight shape kept.anatomy id a) placed (kept.standing id a mine)
 
-  -- it met the sample
+  -- it visited the sample
   abbrev value : ℤ
   value = stood.0.2
 

@@ -37,7 +37,7 @@ module _ (version page at : ℕ) (r : Record) (bucket mark : ℕ) (packs : packe
       is.formed (λ nothing. absurd (cc (sym packs ∙ nothing))) is.off
       (λ sparse. absurd (not_sparse r.spec bucket (packed_within version (buckets_of r.spec) r.single bucket packs) sparse)) is.narrow
 
-  -- its counts are those of the record, where the mark is at most the greater of the total of the packed bucket and 65,535
+  -- its counts are those of the record, if the mark is at most the greater of the total of the packed bucket and 65,535
   marked_counts : (c : Counts) → (version ≡ 1 → mark ≤ max (slice_index c.units bucket + units_packed (form_at version r) bucket) 65535)
       → IsCountsOf version at r c → IsCountsOf version at (with_mark r mark) c
   marked_counts c low is = counts_anew version at r r.single mark c is is.packed is.unused

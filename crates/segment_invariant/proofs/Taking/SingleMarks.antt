@@ -117,7 +117,7 @@ module _ (shape : Dimensions) (opened : Anatomy) (state : State) (kept : Invaria
         at_most : (x n : ℕ) → n ≤ 65535 → n ≤ max x 65535
         at_most x n le = omega (arith, le)
 
-  -- ---- the count of the packed bucket, where the word is off
+  -- ---- the count of the packed bucket, once the word is off
 
   module _ (bucket count : ℕ) (placed : a.hand.place ≡ CountLoaded look bucket count) (packs : packed_bucket (form_seen a h word) ≡ Some bucket)
       (least_is : least ≡ count + units_in (form_seen a h word)) where

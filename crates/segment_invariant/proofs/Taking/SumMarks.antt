@@ -212,7 +212,7 @@ module _ (shape : Dimensions) (opened : Anatomy) (state : State) (kept : Invaria
 
   -- ---- the sum
 
-  -- who is alone has taken the sum then
+  -- a recorder that is alone has taken the sum then
   taken_now : IsAlone state.actors a → taken_sum (all_taken actors) known.name ≡ tally_sum (all_summed actors) known.name
   taken_now alone =
       let amount : amount_of_name r.name known.name (sum -ℤ mark) ≡ sum -ℤ mark = ap (λ (t : Bool). if t then sum -ℤ mark else pos 0) ((bytes_eq-Decides r.name known.name).1 called) in

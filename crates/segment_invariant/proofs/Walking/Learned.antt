@@ -1,5 +1,5 @@
--- What an actor learns of a next that it loads: it is what the actor found there before, the list fits in the segment, and at its end
--- are all records that the actor met.
+-- What an actor learns of a next that it loads: it is what the actor found there before, the list fits in the segment, and at its end the
+-- actor has visited all records that it knows of.
 use Rattle.segment_invariant.proofs.Prelude.Std.{◌≡◌, ◌≢◌, ℕ, zero, suc, ◌+◌, ◌<◌, ◌≤◌, ◌==◌, not, List, [], ◌∷◌, ◌++◌, map, length, filter, All, Contains, sym, ap, ◌∙◌, subst, arith, length-append, append-nil, eq-eqb, slice_index, get_or_append_left, All-weaker, All-append, Contains-append_right, Contains-permutation, some, get_elem?, row_in, contains_map}
 use Rattle.segment_invariant.proofs.Prelude.Machine.{Dimensions, word_at, stops, IsStop, IsPrefix, Actor, Given, Published, Spent, Sighting, all_published, State}
 use Rattle.segment_invariant.proofs.Prelude.Invariant.{Listed, listed, Anatomy, order_of, IsNoLater, Invariant}
@@ -47,7 +47,7 @@ module _ (shape : Dimensions) (opened : Anatomy) (state : State) (kept : Invaria
       (subst (λ (records : List Listed). Contains records (listed p)) (sym is)
       (Contains-append_right opened.records front (listed p) (Contains-permutation _ _ (listed p) (IsPermutation-sym _ _ permuted) among)))
 
-  -- so are all that it met
+  -- so are all that it published, was given, or saw as tail or cursor
   pub met_listed : All (Contains order) (records_met a)
   met_listed =
       let sees = (kept.each id a mine lives).sees in
@@ -69,7 +69,7 @@ module _ (shape : Dimensions) (opened : Anatomy) (state : State) (kept : Invaria
     abbrev found : ℕ
     found = word_at state.words (at + 3)
 
-    -- a stop behind which the list ends is the last
+    -- a stop after which the list ends is the last
     ends_last : (k : ℕ) → k ≤ length order → slice_index (stops order) k ≡ at → found ≡ 12 → k ≡ length order
     ends_last k le is ends = last_stop state.words order k kept.list.linked le (ap (λ (n : ℕ). word_at state.words (n + 3)) is ∙ ends)
 

@@ -21,7 +21,7 @@ use Rattle.segment_invariant.proofs.Walking.Walks.{stop_within, walking, referen
 
 -- ---- fronts of the list
 
--- what stands on a list stands on the chain that it is a front of
+-- what is on a list is on the chain that it is a front of
 pub front_stop : (front chain : List ℕ) (at : ℕ) → IsPrefix front chain → Contains front at → IsStop chain at
 front_stop front chain at (rest, is) has =
     let (i, here) = at_from front at has in
@@ -61,7 +61,7 @@ extended_has : (b : Bool) (front : List ℕ) (found x : ℕ) → Contains front 
 extended_has true front found x has = Contains-append_left front (found ∷ []) x has
 extended_has false front found x has = has
 
--- ---- places behind a load
+-- ---- places after a load
 
 plain_behind : (b c : Bool) (cursor at found : ℕ) → is_plain (if b then (if c then Idle else BehindCursor cursor at found) else CursorLoaded cursor at) ≡ true
 plain_behind true true cursor at found = refl
@@ -90,7 +90,7 @@ module _ (shape : Dimensions) (opened : Anatomy) (state : State) (kept : Invaria
   follows_stop at lives (inr (inr (cursor, placed))) =
       reached_stop order (slice_index a.done.lost cursor) at (subst (StandsRight shape kept.anatomy id a) placed (kept.standing id a mine)).0
 
-  -- what a load finds behind a stop
+  -- what a load finds after a stop
   found_stop : (at : ℕ) → IsStop order at → IsStop order (word_at state.words (at + 3))
   found_stop at stop = dite (ℕ_discrete (word_at state.words (at + 3)) 12)
       (λ ends. (0, omega arith, sym ends))

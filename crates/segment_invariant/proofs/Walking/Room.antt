@@ -1,4 +1,4 @@
--- A list has room in its segment: five words for each of its records, behind the queue block.
+-- A list has room in its segment: five words for each of its records, after the queue block.
 use Rattle.segment_invariant.proofs.Prelude.Std.{◌≡◌, ◌≢◌, ℕ, suc, ◌+◌, ◌*◌, ◌<◌, ◌≤◌, List, map, length, All, Contains, ◌∙◌, subst, arith, slice_index, length-map, some, none, get_elem?, at_from, from_map, all_at, contains_map}
 use Rattle.segment_invariant.proofs.Prelude.Machine.{Dimensions, IsShown, IsLinked, Claim}
 use Rattle.segment_invariant.proofs.Prelude.Invariant.{Piece, Listed, Anatomy, layout_of, order_of, claims_of, StandsAs, ClaimedRight}

@@ -21,7 +21,7 @@ use Rattle.segment_invariant.proofs.Frames.Standing.{met_more}
 
 -- ---- the stops of a kept list
 
--- a listed record stands as a claimed block without owner, whose fourth word is its next
+-- a listed record is there as a claimed block without owner, whose fourth word is its next
 pub listed_stands : (pieces : List Piece) (l : Listed) (given : std.Option Made) → StandsAs pieces l given
     → (body : Body) × Stands pieces l.reference none body × (is_claimed body ≡ true)
     × ((n : ℕ) → words_of (with_next body n) ≡ set (words_of body) 3 n)
@@ -36,7 +36,7 @@ module _ (shape : Dimensions) (opened : Anatomy) (state : State) (kept : Invaria
   abbrev order : List ℕ
   order = order_of kept.anatomy
 
-  -- a stop is the queue block, or stands so
+  -- a stop is the queue block, or such a block
   pub stop_stands : (at : ℕ) → IsStop order at → (at ≡ 12) ⊎ ((body : Body) × Stands anatomy.pieces at none body × (is_claimed body ≡ true)
       × ((n : ℕ) → words_of (with_next body n) ≡ set (words_of body) 3 n))
   stop_stands at (zero, le, is) = inl (sym is)
@@ -86,7 +86,7 @@ module _ (shape : Dimensions) (opened : Anatomy) (state : State) (kept : Invaria
   -- ---- an actor that sees more of the list
 
   module _ (id : ℕ) (a : Actor) (mine : get_elem? state.actors id ≡ some a) (records : is_opener a.role ≡ false) where
-    -- where it stands, how often its link came too late, its blocks, the tail, the chain, the ends and the words that it saw
+    -- its place, how often its link came too late, its blocks, the tail, the chain, the ends and the words that it saw
     abbrev pub walking : Place → ℕ → List Own → List ℕ → List ℕ → List ℕ → List Sighting → Doing
     walking place beaten own tails chain ends words =
         record (doing_of a) { place = place; beaten = beaten; own = own; seen_tails = tails; seen_chain = chain; seen_ends = ends; seen_words = words }
@@ -96,7 +96,7 @@ module _ (shape : Dimensions) (opened : Anatomy) (state : State) (kept : Invaria
     reference_is at lives stop =
         subst (λ (s : Dimensions). is_reference s.size at ≡ true) (sym (kept.each id a mine lives).shaped) (stop_reference at stop)
 
-    -- it goes on so, where the words of the header but the tail, and all but its own blocks, stay
+    -- the actor moves on like this, if the words of the header but the tail stay, and all blocks but its own
     pub walks_on : (place : Place) (beaten : ℕ) (own : List Own) (tails chain ends : List ℕ) (words : List Sighting) → TurnsTo a place
         → SawMore a (walking place beaten own tails chain ends words)
         → (pieces : List Piece) (present : ℕ) (words' : List ℕ)
@@ -166,7 +166,7 @@ module _ (shape : Dimensions) (opened : Anatomy) (state : State) (kept : Invaria
           looks = on.looks records;
         })
 
-    -- where no block changes
+    -- if no block changes
     pub looks_on : (place : Place) (beaten : ℕ) (tails chain ends : List ℕ) (words : List Sighting) → TurnsTo a place
         → SawMore a (walking place beaten a.hand.own tails chain ends words)
         → (present : ℕ) (words' : List ℕ)

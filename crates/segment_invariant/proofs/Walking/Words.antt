@@ -23,7 +23,7 @@ use Rattle.segment_invariant.proofs.Frames.PassedOver.{none_given}
 
 -- ---- the words of a record
 
--- a record has its header and its fields, its name, its ranges and what stands behind them
+-- a record has its header and its fields, its name, its ranges and what follows them
 pub record_long : (r : Record) → length (record_words r) ≡ 15 + (length r.letters + (length (spec_ranges r.spec) + length r.rest))
 record_long r =
     let e = length-append (r.letters ++ spec_ranges r.spec) r.rest in
@@ -191,7 +191,7 @@ module _ (shape : Dimensions) (opened : Anatomy) (state : State) (kept : Invaria
         inr (inr (inr (omega (arith, from), omega (arith, range, long, many, n_is, ranges))))
     fixed_in (inr (inr (tag, least, most))) = let one : 1 ≡ 3 = says 2 3 (omega arith) tag in absurd (omega (arith, one))
 
-    -- where they are fixed in the block they are read, all but the counts reference
+    -- if they are fixed in the block they are read, all but the counts reference
     record_read : ((i : ℕ) → i ≢ 8 → IsFixedIn (histogram r) i → IsFixedIn body i) → IsFixed a at index
         → Goes shape opened state kept id a mine records (walking_event (load_published at index))
     record_read to fixed =

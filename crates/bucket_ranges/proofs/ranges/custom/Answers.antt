@@ -3,7 +3,7 @@ use Rattle.bucket_ranges.specs.Ranges.{AreBoundaries}
 use Rattle.bucket_ranges.proofs.Customs.{sorted_once, custom_boundaries-are}
 use Rattle.bucket_ranges.proofs.ranges.custom.Goals as goal
 
--- The values stand between both ends before they are sorted.
+-- The values lie between both ends before they are sorted.
 pub returns : goal.returns
 returns c = record {
   boundaries = sorted_once c.args.values.now c.in_ok-boundaries.boundaries.items c.sort_unstable.new.self.items

@@ -5,7 +5,7 @@ use Rattle.bucket_ranges.proofs.Boundaries.{values-push, so_far-push, so_far-las
 use Rattle.bucket_ranges.proofs.Ascent.{linear_boundaries-ascending, linear_boundaries-ends}
 use Rattle.bucket_ranges.proofs.ranges.linear.Goals as goal
 
--- The boundary of this turn goes behind those so far.
+-- The boundary of this turn goes after those so far.
 pub loop-i-preserved : goal.loop-i-preserved
 loop-i-preserved c =
     let pushed = c.in_ok-push-2.ensures.items in

@@ -1,4 +1,4 @@
--- Two lists have the same values above 0 exactly where each has the other's.
+-- Two lists have the same values above 0 exactly if each has the other's.
 use Rattle.std.proofs.Common.{sym, ◌∙◌}
 use Rattle.std.proofs.lemmas.Bool.{both_ways}
 use Rattle.bucket_ranges.proofs.SameSpecs.{same-distinct, distinct-has_values}

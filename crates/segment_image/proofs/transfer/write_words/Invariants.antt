@@ -5,7 +5,7 @@ use Rattle.segment_image.specs.Words.{bytes_of_words}
 use Rattle.segment_image.specs.Watched.{has_failed, is_flushed, watched_inner}
 use Rattle.segment_image.proofs.transfer.write_words.Given as goal
 
--- whoever appends what is left has appended the whole
+-- a writer that appends what is left has appended the whole
 abbrev pub invariant-loop-chunk : goal.invariant-loop-chunk
 invariant-loop-chunk g l = record {
   size : chunks_size l.chunk-iterator ≡ 1024;

@@ -3,7 +3,7 @@ use Rattle.segment_invariant.proofs.Prelude.Machine.{buckets_of, Known}
 use Rattle.segment_machine.specs.Examples.{known_a}
 use Rattle.segment_invariant.proofs.laws.counts_loaded.Goals as goal
 
--- no record stands at 57
+-- no record is at 57
 not_met : Contains {X = ℕ} (16 ∷ 40 ∷ 56 ∷ []) 57 → ⊥
 not_met (zero, below, is) = omega (arith, is)
 not_met (suc zero, below, is) = omega (arith, is)

@@ -2,7 +2,7 @@ use Rattle.std.proofs.Common.{◌≡◌, ℕ, zero, suc, ◌<◌, true, false, [
 use Rattle.std.specs.Prelude.{slice_index_or}
 use Rattle.segment_invariant.proofs.laws.flags_break.Goals as goal
 
--- nobody is among one who has not
+-- the only actor has not set it, so nobody has
 nobody : (k : ℕ) → k < 1 → slice_index_or (false ∷ []) k true ≡ true → ⊥
 nobody zero below e = true≢false (sym e)
 nobody (suc k) below e = absurd (omega (arith, below))

@@ -12,7 +12,7 @@ use Rattle.segment_sizes.proofs.needed.needed_size.Goals as goal
 narrow : (page : ℕ) → is_page page ≡ true → page ≤ 65536
 narrow page e = leb-true page 65536 (second_so (nat_le 64 page) _ (first_so (nat_le 64 page && nat_le page 65536) _ e))
 
--- so few pages are a word
+-- the words of that few pages fit in 64 bits
 small : (pages page count : ℕ) → pages ≤ 18 + 131072 * count → 5 * count ≤ 1048576 → page ≤ 65536 → pages * page < 2 ^ 64
 small pages page count most few narrow =
     let m : pages * page ≤ 27488000000 * 65536 = mul-le pages page 27488000000 65536 (omega arith) narrow in

@@ -1,4 +1,4 @@
--- What an allocation becomes is lawful again.
+-- What an allocation becomes is valid again.
 use Rattle.std.proofs.Common.{◌≡◌, ◌∙◌, ℕ, ap, sym, subst}
 use Rattle.alloc_core.specs.declared.alloc.AllocStage.{AllocStage}
 use Rattle.alloc_core.specs.Alloc.{Allocation, seen_after, stage_after, IsLawful}

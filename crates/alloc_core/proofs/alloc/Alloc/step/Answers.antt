@@ -1,10 +1,10 @@
--- What a step answers has its cause, and it keeps what holds of all allocations.
+-- What a step returns has its cause, and it keeps what holds of all allocations.
 use Rattle.std.proofs.Common.{◌∙◌, ap, subst}
 use Rattle.alloc_core.specs.Alloc.{Allocation, answer, IsStep, IsLawful}
 use Rattle.alloc_core.proofs.Steps.{stepped, goes_on, full_cause, corrupt_cause, steps_keep, done_block}
 use Rattle.alloc_core.proofs.alloc.Alloc.step.Goals as goal
 
--- what is known behind the last call
+-- what is known after the last call
 is_step : (c : goal.After-answer) → IsStep c.args.self.now c.args.words.now c.go_on.new.self c.act-found.new.words c.answer.result
 is_step c =
     stepped c.args.self.now c.go_on.new.self c.args.words.now c.act-found.new.words c.answer.result c.act-found.result c.requires.running

@@ -1,4 +1,4 @@
--- A step keeps where its cursor and others stand.
+-- A step keeps the places of its cursor and of others.
 use Rattle.std.proofs.Common.{rules}
 use Rattle.list_core.specs.Cursor.{IsStep}
 use Rattle.list_core.proofs.Cursors.{step_goes, stands_on}

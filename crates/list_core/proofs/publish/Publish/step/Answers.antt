@@ -1,10 +1,10 @@
--- What a step answers has its cause, and it keeps what holds of the list.
+-- What a step returns has its cause, and it keeps what holds of the list.
 use Rattle.std.proofs.Common.{List, ℕ, ◌∙◌, ap}
 use Rattle.list_core.specs.Publish.{Publishing, answer, IsStep, chain_after, StandsOn}
 use Rattle.list_core.proofs.Steps.{is_step, goes_on, stray_cause, step_keeps, step_stands, other_stands, done_stop, no_stray}
 use Rattle.list_core.proofs.publish.Publish.step.Goals as goal
 
--- what is known behind the last call
+-- what is known after the last call
 stepped : (c : goal.After-answer) → IsStep c.args.self.now c.args.words.now c.go_on.new.self c.act-found.new.words c.answer.result
 stepped c =
     is_step c.args.self.now c.go_on.new.self c.args.words.now c.act-found.new.words c.answer.result c.act-found.result c.requires.running
@@ -21,7 +21,7 @@ pub returns-clause-stray : goal.returns-clause-stray
 returns-clause-stray c stray =
     stray_cause c.args.self.now c.go_on.new.self c.args.words.now c.act-found.new.words c.answer.result (stepped c) stray
 
--- where the publish then stands on a list
+-- where the publish then is on a list
 stands : (c : goal.After-answer) (chain : List ℕ) → StandsOn c.args.words.now chain c.args.self.now
     → StandsOn c.act-found.new.words (chain_after c.args.words.now chain c.args.self.now) c.go_on.new.self
 stands c chain on =

@@ -65,7 +65,7 @@ counts_block words head at none named =
 
 -- ---- all on a list
 
--- where nothing is made of a list, nothing is made of any of its elements
+-- if nothing is made from a list, nothing is made from any of its elements
 none_made : {X Y : Type 0} (f : X → Option Y) (l : List X) → filter_map f l ≡ [] → All (λ x. f x ≡ None) l
 none_made f [] none = All-nil (λ x. f x ≡ None)
 none_made {X} {Y} f (x ∷ rest) none = by_first (none_made f rest) (f x) refl none
@@ -75,7 +75,7 @@ none_made {X} {Y} f (x ∷ rest) none = by_first (none_made f rest) (f x) refl n
     by_first later (Some y) is none = cc none
     by_first later None is none = All-cons (λ x. f x ≡ None) x rest is (later none)
 
--- of a list on which no record is bad
+-- for a list on which no record is bad
 module _ (words : List ℕ) (head : SegmentHead) (references : List ℕ) (none : HasNoBad words head references) (k : ℕ) (below : k < length references) where
   abbrev at : ℕ
   at = get_or references k 0
@@ -121,7 +121,7 @@ module _ (words : List ℕ) (head : SegmentHead) (references : List ℕ) (none :
   pub read_sample : field_at words at 2 ≡ 3 → is_sample words head (take k references, at) ≡ true
   read_sample three = λ i. eq-eqb _ 3 three i && not (good_sample three i)
 
--- none of them has a fault where no record is bad
+-- none of them has a fault if no record is bad
 pub faultless_of : (words : List ℕ) (head : SegmentHead) (references : List ℕ)
     → ((i : ℕ) → i < length references → is_block words head (get_or references i 0) ≡ true)
     → HasNoBad words head references → AreFaultless words head references

@@ -1,4 +1,4 @@
--- What a check answers, from what it found.
+-- What a check returns, from what it found.
 use Rattle.std.proofs.Common.{◌≡◌, Bool, true, false, ℕ, ◌≤◌, List, Ok, refl, sym, ap, subst, ◌∙◌}
 use Rattle.std.specs.Prelude.{Decides}
 use Rattle.std.proofs.lemmas.Bool.Decides.{Decides-like}
@@ -42,7 +42,7 @@ module _ (words : List ℕ) (head : SegmentHead) (header : header_of words ≡ O
     along = subst (λ (h : SegmentHead). reading ≡ reading_along words h references) (sym same) along;
   }
 
-  -- words that are damaged, and want of memory, are what they are
+  -- damaged words, and memory that ran out, give their own faults
   pub damage_is : (cursors : ℕ) (fault : AdoptFault) → head.version ≡ 2 → head.corrupt ≡ false → IsDamageOf words head fault → IsFaultOf words cursors fault
   damage_is cursors (Image fault) two clear why = absurd why
   damage_is cursors OldVersion two clear why = absurd why
@@ -71,7 +71,7 @@ module _ (words : List ℕ) (head : SegmentHead) (header : header_of words ≡ O
         few = few;
       }
 
-  -- where no record is bad, the rest settles whether an image is damaged
+  -- if no record is bad, the rest decides whether an image is damaged
   pub undamaged_decides : (references : List ℕ) (reading : Reading) (whole : Bool) → HasNoFault reading
       → Decides whole (IsWholeImage words head references) → Decides whole (IsUndamaged words references reading)
   undamaged_decides references reading whole good test =

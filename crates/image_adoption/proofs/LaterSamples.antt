@@ -49,7 +49,7 @@ like_decides words at other =
 
 -- ---- later samples
 
--- P holds of each of so many records that is a sample, and not the first of its histogram and value
+-- P holds of each of the first `n` records that is a sample, and not the first of its histogram and value
 abbrev pub EachLater : (ℕ → Type 0) → List ℕ → List ℕ → ℕ → Type 0
 EachLater P words references n =
     (k : ℕ) → k < n → field_at words (get_or references k 0) 2 ≡ 3
@@ -61,11 +61,11 @@ module _ (words references : List ℕ) where
   front_found test k f first below passes =
       list_any_at test (take k references) f 0 (omega (arith, length-take k references, first, below)) (ap test (get_or-take k references f 0 first) ∙ passes)
 
-  -- where each counts nothing, each later sample is empty
+  -- if each of them counts nothing, each later sample is empty
   pub later_empty : EachLater (IsEmptySample words) words references (length references) → AreLaterEmpty words references
   later_empty nothing at first (k, below, is) three (front, behind, split, before, its) other = by_order (cases_order (length front) k)
     where
-      -- at its place stands the first one
+      -- the first one is at its place
       place : get_or references (length front) 0 ≡ first
       place = ap (λ (l : List ℕ). get_or l (length front) 0) split ∙ get_or-append_seam front first behind 0
 
@@ -86,7 +86,7 @@ module _ (words references : List ℕ) where
           let there : get_or front k 0 ≡ at = sym (ap (λ (l : List ℕ). get_or l k 0) split ∙ get_or_append_left front (first ∷ behind) 0 k later) ∙ here in
           absurd (All-contains (λ x. ¬ (IsSampleLike words at x)) front at before (k, later, get_or_default front k at 0 later ∙ there) (three, refl, refl))
 
-  -- where each later sample is empty, each counts nothing
+  -- if each later sample is empty, each of them counts nothing
   pub later_nothing : ((i j : ℕ) → i < j → j < length references → get_or references i 0 ≢ get_or references j 0)
       → AreLaterEmpty words references → EachLater (IsEmptySample words) words references (length references)
   later_nothing distinct empty k below three found =
@@ -105,7 +105,7 @@ module _ (words references : List ℕ) where
       by_test x (inl passes) = inl ((like_decides words at x).0 passes)
       by_test x (inr fails) = inr (not_from_Decides (is_sample_like words at x) (like_decides words at x) fails)
 
-      -- the first one stands no later than x
+      -- the first one is at x or before it
       apart : (f x : ℕ) → f < k → f < length references → get_or references f x ≡ x → IsSampleLike words at x
           → (y : ℕ) → IsSample words references (sample_histogram words at) (sample_value words at) y → y ≢ at
       apart f x first inside here holds y (front, behind, split, before, its) same = by_order (cases_order (length front) k)
@@ -123,7 +123,7 @@ module _ (words references : List ℕ) where
           by_order (inr (inr later)) = in_front (omega (arith, first, later))
           by_order (inl equal) = in_front (omega (arith, first, equal))
 
--- ---- those that the reader tells
+-- ---- those that the reader finds
 
 -- what holds of a list holds of its front, and of its last
 all_front : (P : ℕ → Type 0) (xs : List ℕ) (y : ℕ) → All P (xs ++ y ∷ []) → All P xs
@@ -178,7 +178,7 @@ module _ (words : List ℕ) (head : SegmentHead) (references : List ℕ) (none :
       ∙ (later-push words head (take n references) (at n) (read_sample words head references none n below (eqb-true (field_at words (at n) 2) 3 three))
       ∙ ap (λ b. later_samples words head (take n references) ++ cond b (at n ∷ []) []) (known (at n) n (omega arith) ∙ is))
 
-  -- what holds of each later sample holds of those that are told
+  -- what holds of each later sample holds of those that the reader finds
   pub all_told : (P : ℕ → Type 0) (n : ℕ) → n ≤ length references → EachLater P words references n → All P (later_samples words head (take n references))
   all_told P zero below each = All-nil P
   all_told P (suc n) below each =

@@ -1,4 +1,4 @@
--- The blocks of an image, one record more.
+-- The blocks of an image, with one more record.
 use Rattle.std.proofs.Common.{◌≡◌, Bool, false, not, ◌&&◌, [], ◌∷◌, refl, subst, true, ℕ, ◌+◌, ◌<◌, ◌≤◌, List, ◌++◌, length, get_or, take, flat_map, All, Ok, arith, sym, ap, ◌∙◌}
 use Rattle.std.specs.Prelude.{is_ok}
 use Rattle.std.proofs.lemmas.List.{flat_map_more, get_or_default, take_more}
@@ -43,7 +43,7 @@ tested false claimed found = refl
 tested true false found = refl
 tested true true found = refl
 
--- whether a block stands at a reference is whether its header can be read
+-- there is a block at a reference exactly if its header can be read
 pub is_ok-block : (words : List ℕ) (head : SegmentHead) (reference : ℕ) → is_ok (block_of words head reference) ≡ is_block words head reference
 is_ok-block words head reference = tested (is_placed head reference) (is_claimed words head reference) (block_head_of words reference)
 

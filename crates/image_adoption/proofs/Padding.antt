@@ -1,4 +1,4 @@
--- The zeros behind a name.
+-- The zeros after a name.
 use Rattle.std.proofs.Common.{◌≡◌, true, ℕ, ◌+◌, ◌-◌, ◌/◌, ◌<◌, ◌≤◌, List, [], ◌∷◌, ◌++◌, length, take, drop, get_or, replicate, refl, sym, ap, subst, ◌∙◌, arith, length-drop, length-take}
 use Rattle.std.specs.Prelude.{◌==◌, ◌%◌, Decides}
 use Rattle.std.specs.List.{list_all, slice_range}
@@ -63,7 +63,7 @@ module _ (words : List ℕ) (at len : ℕ) (has : field_at words at 14 ≡ len) 
       ap (λ (n : ℕ). take n behind) many
       ∙ (take_more behind (last / 8) 0 below ∙ ap (λ (word : ℕ). take (last / 8) behind ++ word ∷ []) (get_or-drop (at + 15) words (last / 8) 0))
 
-  -- what stands behind it is in that word
+  -- what comes after it is in that word
   rest_is : drop len (bytes_of_words letters) ≡ drop (last % 8 + 1) (little_bytes 8 (get_or words (at + 15 + last / 8) 0))
   rest_is =
       let front : List ℕ = take (last / 8) behind in
@@ -93,7 +93,7 @@ module _ (words : List ℕ) (at len : ℕ) (has : field_at words at 14 ≡ len) 
   same_letters : slice_range words (at + 15) (at + 15 + name_words (length (name_of words at))) ≡ letters
   same_letters = ap (λ (n : ℕ). slice_range words (at + 15) (at + 15 + name_words n)) name_long
 
-  -- so the name is padded where these bytes are 0
+  -- so the name is padded if these bytes are 0
   pub padded_decides : Decides (list_all (λ byte. byte == 0) (drop (last % 8 + 1) (little_bytes 8 (get_or words (at + 15 + last / 8) 0)))) (HasPaddedName words at)
   padded_decides =
       Decides-at _ (list_all (λ byte. byte == 0) rest) (ap (list_all (λ byte. byte == 0)) (sym rest_is))

@@ -47,7 +47,7 @@ apart_of a s b t long wide none = elim (cases_lt b (a + s)) [
   ]
 ]
 
--- one block more, of which no word is covered
+-- one more block, of which no word is covered
 pub apart_push : (words blocks : List ℕ) (b : ℕ) → ((i a : ℕ) → get_elem? blocks i ≡ some a → 1 ≤ field_at words a 0) → 1 ≤ field_at words b 0
     → AreApart words blocks → ((word : ℕ) → is_in b (field_at words b 0) word ≡ true → covered words blocks word ≡ false)
     → AreApart words (blocks ++ b ∷ [])
@@ -66,7 +66,7 @@ apart_push words blocks b long wide apart free i j x y before here there =
     by_places (inr (place, is)) (inl two) = let below = below_length blocks j y two in absurd (omega (arith, before, place, below))
     by_places (inr (place, is)) (inr (other, also)) = absurd (omega (arith, before, place, other))
 
--- of the next one of blocks that are apart no word is covered by those before
+-- if blocks are apart, no word of the next one is covered by those before it
 pub apart_clear : (words blocks : List ℕ) (n : ℕ) → n < length blocks → AreApart words blocks
     → (word : ℕ) → is_in (get_or blocks n 0) (field_at words (get_or blocks n 0) 0) word ≡ true → covered words (take n blocks) word ≡ false
 apart_clear words blocks n below apart word inside = elim (cases_Bool (covered words (take n blocks) word)) [

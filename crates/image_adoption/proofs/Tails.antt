@@ -7,7 +7,7 @@ use Rattle.std.proofs.lemmas.List.{get_or_default}
 use Rattle.std.proofs.lemmas.List.Folds.{Any-from_list_any, list_any_at}
 use Rattle.list_core.specs.Chain.{IsStop}
 
--- where it is not the queue block, it is one of the records
+-- if it is not the queue block, it is one of the records
 pub tail_decides : (references : List ℕ) (tail : ℕ) → (tail ≡ 12 → ⊥) → Decides (list_any (λ at. at == tail) references) (IsStop references tail)
 tail_decides references tail other = (found, there)
   where

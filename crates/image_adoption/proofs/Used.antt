@@ -1,11 +1,11 @@
--- The units of one histogram more.
+-- The units of one more histogram.
 use Rattle.std.proofs.Common.{◌≡◌, ℕ, ◌+◌, ◌<◌, List, length, map, min, sum_by, get_or, take, sym, ap, ◌∙◌, arith}
 use Rattle.std.proofs.lemmas.List.{map_more}
 use Rattle.std.proofs.lemmas.List.Sums.{sum_by_push}
 use Rattle.bucket_ranges.specs.Reading.{Histogram}
 use Rattle.image_rules.specs.Adoption.{used_by}
 
--- where each of these records reads as what a view gives
+-- if each of these records reads as what a view gives
 module _ (view : ℕ → Histogram) (read : List ℕ) (k : ℕ) (below : k < length read) (hist : Histogram) (is : hist ≡ view (get_or read k 0)) where
   pub used_more : (used now : ℕ) → used ≡ min (sum_by used_by (map view (take k read))) 18446744073709551615
       → now ≡ min (used + used_by hist) 18446744073709551615

@@ -24,7 +24,7 @@ zeros_from words free within =
     (λ zeros k below. get_or-drop free words k 0 ∙ zeros (free + k) (omega arith) (omega (arith, length-drop free words, below, within)))
     (zeros_of (drop free words))
 
--- so many from a word on
+-- `n` words from a word on
 pub zeros_in : (words : List ℕ) (first n : ℕ) → first + n ≤ length words
     → Decides (list_all (λ word. word == 0) (slice_range words first (first + n))) ((i : ℕ) → i < n → get_or words (first + i) 0 ≡ 0)
 zeros_in words first n within =

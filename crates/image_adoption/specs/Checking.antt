@@ -13,13 +13,13 @@ pub record Reads (words references : List ℕ) (reading : Reading) : Type 0 wher
   pub listed : IsListed words (head_of words) references
   pub along : reading ≡ reading_along words (head_of words) references
 
--- what holds of words that are looked at further than at their header: it is lawful, of version 2 and not corrupt
+-- what holds of words when more than their header is looked at: the header is valid, of version 2 and not corrupt
 pub record IsIntact (words : List ℕ) : Type 0 where
   pub header : header_of words ≡ Ok (head_of words)
   pub version : (head_of words).version ≡ VERSION_FROZEN
   pub intact : (head_of words).corrupt ≡ false
 
--- The cause of a fault holds, and those of all faults before it do not. Want of memory has none in the words.
+-- The cause of a fault holds, and those of all faults before it do not. Running out of memory has no cause in the words.
 abbrev pub IsFaultOf : List ℕ → ℕ → AdoptFault → Type 0
 IsFaultOf words cursors (Image fault) = header_of words ≡ Err fault
 IsFaultOf words cursors OldVersion = (header_of words ≡ Ok (head_of words)) × ((head_of words).version ≢ VERSION_FROZEN)
@@ -34,7 +34,7 @@ IsFaultOf words cursors BadCursors =
     (references : List ℕ) × (reading : Reading) × Reads words references reading × IsAdoptable words references reading × (8 < cursors)
 IsFaultOf words cursors NoMemory = ⊤
 
--- the image may be adopted with so many cursors, and this is its list, and what it has used as it reads
+-- the image may be adopted with this many cursors; this is its list, and these are the units that it has used by its reading
 pub record IsAdoption (words : List ℕ) (cursors : ℕ) (adoptable : Adoptable) : Type 0 where
   pub listed : IsListed words (head_of words) adoptable.references.items
   pub lawful : IsAdoptable words adoptable.references.items (reading_along words (head_of words) adoptable.references.items)

@@ -1,4 +1,4 @@
--- What is found of the words of an image of version 2 with a lawful header.
+-- What is found in the words of an image of version 2 with a valid header.
 use Rattle.std.specs.Prelude.{ℕ, List, ⊤}
 use Rattle.segment_image.specs.declared.head.SegmentHead.{SegmentHead}
 use Rattle.bucket_ranges.specs.Reading.{IsListed, reading_along}
@@ -13,7 +13,7 @@ pub record IsUndamagedSurvey (words : List ℕ) (head : SegmentHead) (survey : S
   pub survey_is : IsSurvey words head survey
   pub undamaged : IsUndamaged words survey.references.items (reading_along words head survey.references.items)
 
--- they are damaged, or there was no memory to look further
+-- they are damaged, or memory ran out before all of them were checked
 abbrev pub IsDamageOf : List ℕ → SegmentHead → AdoptFault → Type 0
 IsDamageOf words head (Image fault) = ⊥
 IsDamageOf words head OldVersion = ⊥

@@ -1,4 +1,4 @@
--- What is known of the records on a list where none has a fault.
+-- What is known of the records on a list if none has a fault.
 use Rattle.std.specs.Prelude.{◌≡◌, ◌≢◌, true, false, ℕ, ◌+◌, ◌<◌, ◌≤◌, List, length, [], All, None}
 use Rattle.std.specs.List.{filter_map}
 use Rattle.segment_image.specs.declared.head.SegmentHead.{SegmentHead}
@@ -29,14 +29,14 @@ pub record LiesInWords (words : List ℕ) (at : ℕ) : Type 0 where
   pub counts : is_sparse words at ≡ false → 0 < field_at words at HISTOGRAM_COUNTS
       → field_at words at HISTOGRAM_COUNTS + counts_words (field_at words at HISTOGRAM_BUCKETS) ≤ length words
 
--- a record of a histogram has its fields, and the counts that it names, if it names some, are a block
+-- a record of a histogram has its fields, and if it names counts, these are a block
 pub record NamesBlock (words : List ℕ) (head : SegmentHead) (at : ℕ) : Type 0 where
   pub block : is_block words head at ≡ true
   pub fields : field_at words at BLOCK_TYPE ≡ TYPE_HISTOGRAM → HISTOGRAM_LEAST ≤ field_at words at BLOCK_SIZE
   pub counts : field_at words at BLOCK_TYPE ≡ TYPE_HISTOGRAM → field_at words at HISTOGRAM_COUNTS ≢ 0
       → is_block words head (field_at words at HISTOGRAM_COUNTS) ≡ true
 
--- each record on a list does, and no two blocks overlap
+-- each record on a list does so, and no two blocks overlap
 pub record HasApartBlocks (words : List ℕ) (head : SegmentHead) (references : List ℕ) : Type 0 where
   pub named : All (NamesBlock words head) references
   pub apart : AreApart words (blocks_of words references)

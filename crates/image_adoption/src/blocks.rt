@@ -15,9 +15,9 @@ use segment_image::layout::{
 use segment_image::{SegmentHead, block};
 use std::alloc::{AllocError, Global};
 
-/// Whether each record of a histogram on a list has its fields and, where it names counts, names a block, and no two blocks
-/// overlap, of the records and of these counts. It takes a byte for each word and 8 bytes for each block, whatever the records
-/// say beside.
+/// Whether each record of a histogram on a list has its fields and, if it names counts, names a block as such, and no
+/// two of the blocks of records and counts overlap. It takes one byte for each word and 8 bytes for each block,
+/// whatever else the records say.
 pub(crate) fn has_apart_blocks(
     alloc: Global,
     words: &[u64],
@@ -49,7 +49,7 @@ fn name_blocks(words: &[u64], head: &SegmentHead, references: &[u64]) -> bool
     true
 }
 
-// Whether one does: it is no histogram's, or has the fields of one, and its counts are a block or none.
+// Whether one record does: it is not a histogram's, or it has the fields of one, and its counts are a block or none.
 fn names_block(words: &[u64], head: &SegmentHead, at: usize) -> bool
     requires header { header_of words.now ≡ Ok head.now }
     requires block { is_block words.now head.now at ≡ true }
@@ -94,7 +94,7 @@ fn blocks_of(
     Ok(blocks)
 }
 
-// The block that a record names as counts, where it is a histogram's and names one.
+// The block that a record names as counts, if it is a histogram's record and names one.
 fn named_counts(words: &[u64], head: &SegmentHead, at: usize) -> Option<u64>
     requires header { header_of words.now ≡ Ok head.now }
     requires names { NamesBlock words.now head.now at }
@@ -108,7 +108,7 @@ fn named_counts(words: &[u64], head: &SegmentHead, at: usize) -> Option<u64>
     if counts == 0 { None } else { Some(counts) }
 }
 
-// Whether no two of these blocks overlap. Each word that one has is marked.
+// Whether no two of these blocks overlap. Each word that a block has is marked.
 fn are_apart(
     alloc: Global,
     words: &[u64],
@@ -123,7 +123,7 @@ fn are_apart(
     Ok(take_all(&mut taken, words, head, blocks))
 }
 
-// Takes the words of these blocks, of which none is taken yet, and says whether each was taken once at most.
+// Takes the words of these blocks, of which none is taken yet, and returns whether each word was taken once at most.
 fn take_all(taken: &mut [bool], words: &[u64], head: &SegmentHead, blocks: &[u64]) -> bool
     requires header { header_of words.now ≡ Ok head.now }
     requires lawful { All (λ at. is_block words.now head.now at ≡ true) blocks.now }
@@ -140,7 +140,7 @@ fn take_all(taken: &mut [bool], words: &[u64], head: &SegmentHead, blocks: &[u64
     true
 }
 
-// Takes a run of words, and says whether none of them was taken before.
+// Takes a run of words, and returns whether none of them was taken before.
 fn take(taken: &mut [bool], at: usize, size: usize) -> bool
     requires { at + size ≤ length taken.old }
     ensures free { Decides result ((word : ℕ) → is_in at size word ≡ true → get_or taken.old word false ≡ false) }

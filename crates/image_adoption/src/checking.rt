@@ -15,24 +15,25 @@ use std::alloc::Global;
 /// The most shared cursors of a segment.
 pub const MAX_CURSORS: usize = 8;
 
-/// What is known of an image that may be adopted: no record of it is bad, and its list goes on to its end.
+/// What is known of an image that may be adopted. No record of it is bad, and its list is complete.
 #[derive(Debug, Drop)]
 pub struct Adoptable {
-    /// The references of all records on its list, in its order: also of those that are passed over.
+    /// The references of all records on its list, in its order, including those that are passed over.
     pub references: Vec<u64>,
     /// The units that its histograms have used, of the 4,294,967,295 of a segment.
     pub used: u64,
 }
 
-/// Returns what is known of an image that may be adopted with so many shared cursors, or why it may not be.
+/// Returns what is known of an image that may be adopted with `cursors` shared cursors, or why it may not be.
 ///
-/// On `Ok` the image may be adopted with so many cursors; this is its list, and it has used so many units by what it
-/// reads as. Else the first fault that holds is returned, and none before it does: `Image` with the header's first
-/// fault; `OldVersion`; `Corrupt`; `Damaged`; `NoUnits`; `BadCursors` where there are to be more than
-/// [`MAX_CURSORS`]. `NoMemory` comes where memory runs out, and has no cause in the words [answer].
+/// On `Ok` the image may be adopted with this many cursors, and the answer has its list and the units that it has used
+/// by its reading. Otherwise the first fault that holds is returned, in this order: `Image` with the header's first
+/// fault; `OldVersion`; `Corrupt`; `Damaged`; `NoUnits`; `BadCursors` if `cursors` is more than [`MAX_CURSORS`].
+/// `NoMemory` means that memory ran out, and has no cause in the words [answer].
 ///
-/// Any words may be given, and they are only read. Whether blocks overlap is looked at before anything of the
-/// records, and histogram by histogram is read and given back again. So no image takes more than ten times its bytes.
+/// Any words may be given, and they are only read. Overlapping blocks are looked for before anything that the records
+/// say, and the histograms are read one at a time, each freed before the next. So the check of an image takes at most
+/// ten times the bytes of the image.
 pub fn check(alloc: Global, words: &[u64], cursors: usize) -> Result<Adoptable, AdoptFault>
     ensures answer { AdoptionOf words.now cursors result }
 {
@@ -42,7 +43,7 @@ pub fn check(alloc: Global, words: &[u64], cursors: usize) -> Result<Adoptable, 
     }
 }
 
-// The check of words whose header is `head`.
+// The check of words with the header `head`.
 fn check_behind_header(
     alloc: Global,
     words: &[u64],

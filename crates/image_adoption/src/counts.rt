@@ -22,7 +22,7 @@ fn has_block(words: &[u64], at: usize) -> bool
     words[at + HISTOGRAM_KIND] != KIND_SPARSE && words[at + HISTOGRAM_COUNTS] != 0
 }
 
-/// Whether the counts and marks of the record of a histogram are 0 until its single word is frozen.
+/// Whether the counts and marks of the record of a histogram are 0, unless its single word is frozen.
 pub(crate) fn has_unused_counts(words: &[u64], at: usize) -> bool
     requires { LiesInWords words.now at }
     ensures { Decides result (HasUnusedCounts words.now at) }
@@ -49,7 +49,7 @@ fn packed_bucket(words: &[u64], at: usize) -> Option<usize>
     }
 }
 
-/// Whether the mark of the packed bucket, if there is one, stands in the record alone.
+/// Whether the mark of the packed bucket, if there is one, is in the record alone.
 pub(crate) fn has_packed_mark(words: &[u64], at: usize) -> bool
     requires { LiesInWords words.now at }
     ensures { Decides result (HasPackedMark words.now at) }

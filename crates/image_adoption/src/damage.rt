@@ -21,8 +21,8 @@ use segment_image::SegmentHead;
 use segment_image::layout::{BLOCK_TYPE, TYPE_HISTOGRAM};
 use std::alloc::Global;
 
-/// What the list of an image has, with a lawful header, of version 2; `Damaged` where the words are none that a segment can have.
-/// Overlaps are looked for first: behind that, all records together name no more counts than there are words.
+/// What the list of an image of version 2 with a valid header has, or `Damaged` if no segment can have these words.
+/// Overlaps are looked for first: without any, all records together name no more counts than there are words.
 pub(crate) fn undamaged(
     alloc: Global,
     words: &[u64],
@@ -56,7 +56,7 @@ fn is_undamaged(words: &[u64], head: &SegmentHead, survey: &Survey) -> bool
     is_whole(words, head, survey)
 }
 
-// Whether all but the reading is as it has to be.
+// Whether the image is in order apart from its records, of which none is bad.
 fn is_whole(words: &[u64], head: &SegmentHead, survey: &Survey) -> bool
     requires header { header_of words.now ≡ Ok head.now }
     requires survey { IsSurvey words.now head.now survey.now }
@@ -80,14 +80,15 @@ fn is_whole(words: &[u64], head: &SegmentHead, survey: &Survey) -> bool
     are_later_empty(words, head, survey)
 }
 
-// Whether a list goes on to its end, and no record on it is bad.
+// Whether a list is complete, and no record on it is bad.
 fn is_faultless(survey: &Survey) -> bool
     ensures { Decides result ((survey.now.bad.items ≡ []) × (survey.now.stopped ≡ None)) }
 {
     survey.bad.is_empty() && survey.stopped.is_none()
 }
 
-// Whether each record of a histogram on a list has a padded name, and nothing in counts and marks that are not in use.
+// Whether each record of a histogram on a list has a padded name, and only zeros in counts and marks that are not in
+// use.
 fn are_settled(words: &[u64], head: &SegmentHead, references: &[u64]) -> bool
     requires header { header_of words.now ≡ Ok head.now }
     requires faultless { AreFaultless words.now head.now references.now }
@@ -105,7 +106,7 @@ fn are_settled(words: &[u64], head: &SegmentHead, references: &[u64]) -> bool
     true
 }
 
-// Whether one has.
+// Whether one record of a histogram has.
 fn is_settled(words: &[u64], head: &SegmentHead, at: usize) -> bool
     requires header { header_of words.now ≡ Ok head.now }
     requires block { is_block words.now head.now at ≡ true }

@@ -1,4 +1,4 @@
-//! The ends of what was claimed: the free pointer, the words behind it, and the tail of the list.
+//! The ends of what was claimed: the free pointer, the words after it, and the tail of the list.
 
 ghost use Rattle.std.specs.Prelude.{◌≡◌, ◌==◌, ◌≤◌, length, Decides};
 ghost use Rattle.std.specs.List.{list_all};
@@ -24,7 +24,8 @@ pub(crate) fn has_zeros(words: &[u64], free: usize) -> bool
     are_zeros(&words[free..])
 }
 
-/// Whether a free pointer lies behind the header, within the segment, and has room for the smallest block in its page.
+/// Whether a free pointer lies after the header and within the segment, and has room for the smallest block in its
+/// page.
 pub(crate) fn has_room(shape: &Shape, free: u64) -> bool
     ensures { result ≡ is_pointer shape.now free }
 {

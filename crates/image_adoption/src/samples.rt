@@ -10,8 +10,8 @@ use image_reader::Survey;
 use segment_image::SegmentHead;
 use segment_image::layout::{SAMPLE_COUNT, SAMPLE_LEAST, SAMPLE_MARK};
 
-/// Whether each sample on a list that is not the first of its histogram and value counts nothing. Which these are was found as
-/// the list was read.
+/// Whether each sample on a list that is not the first of its histogram and value counts nothing. The survey has found
+/// which ones these are.
 pub(crate) fn are_later_empty(words: &[u64], head: &SegmentHead, survey: &Survey) -> bool
     requires header { header_of words.now ≡ Ok head.now }
     requires survey { IsSurvey words.now head.now survey.now }
@@ -34,7 +34,7 @@ fn count_nothing(words: &[u64], samples: &[u64]) -> bool
     true
 }
 
-// Whether a sample has no units, and deltas took none of it.
+// Whether a sample has no units, and deltas have taken none.
 fn counts_nothing(words: &[u64], at: usize) -> bool
     requires { at + SAMPLE_LEAST ≤ length words.now }
     ensures { Decides result (IsEmptySample words.now at) }

@@ -11,10 +11,10 @@ use image_reader::{HistReading, Survey};
 use segment_image::SegmentHead;
 use std::alloc::{AllocError, Global};
 
-// How much of a sum's size a unit stands for.
+// How much of the absolute value of a sum one unit pays for.
 const UNIT_AMOUNT: u128 = 1 << 31;
 
-// The units that an amount of this size stands for.
+// The units that an amount with this absolute value costs.
 fn units_for(size: u128) -> u128
     ensures { result ≡ (size + 2147483647) / 2147483648 }
 {
@@ -29,8 +29,8 @@ fn units(counts: &[(i32, u64)]) -> u64
     counts.iter().map(|count| count.1).sum()
 }
 
-// The units that a histogram has used: the greatest of its units, its redundant count, and what its sum, its sum mark and the
-// difference of these stand for.
+// The units that a histogram has used: the greatest of its units, its redundant count, and the costs of its sum, its
+// sum mark and the difference of these two.
 fn used_by(hist: &HistReading) -> u128
     requires { sum_by (λ count. count.1) hist.now.counts.items < 2 ^ 64 }
     ensures { result ≡ used_by_of (histogram_view hist.now) }
@@ -42,7 +42,7 @@ fn used_by(hist: &HistReading) -> u128
     counted.max(u128::from(hist.redundant).max(sum.max(mark.max(rest))))
 }
 
-// So many units and those that come to them; more than 2^64 - 1 are answered as that.
+// The units used so far and some more, or 2^64 - 1 if there are more than that.
 fn used_with(used: u64, more: u128) -> u64
     ensures { result ≡ min (used + more) 18446744073709551615 }
 {
@@ -52,8 +52,8 @@ fn used_with(used: u64, more: u128) -> u64
     }
 }
 
-/// The units that the histograms of an image have used; more than 2^64 - 1 are answered as that. Of one histogram after the other
-/// the counts are made, added up and given back.
+/// The units that the histograms of an image have used, or 2^64 - 1 if there are more. The counts are read and added up
+/// one histogram at a time.
 pub(crate) fn used_of(
     alloc: Global,
     words: &[u64],

@@ -27,7 +27,7 @@ pub mark-found : (version : ℕ) (words : List ℕ) (at : ℕ) (b : Buckets) →
     → is_bad_mark_at b.version words b.counts b.number b.single b.single_mark ≡ is_bad_mark version words at
 mark-found version words at b are = λ i. is_bad_mark_at (are.version_is i) words (are.counts i) (are.number i) (are.single i) (are.single_mark i)
 
--- three checks of which the first, the second, the third or none fails
+-- three checks: the first, the second, the third or none fails
 pub three-first : (counts single mark : Bool) → counts ≡ true
     → first_fault ((counts, BadCounts) ∷ (single, BadSingle) ∷ (mark, BadMark) ∷ []) ≡ Some BadCounts
 three-first counts single mark c = rw c refl
@@ -47,7 +47,7 @@ three-none counts single mark c s m = rw (c, s, m) refl
 no_counts : (none block typed long : Bool) → none ≡ false → block ≡ false → (none || (block && typed && long)) ≡ false
 no_counts none block typed long n b = rw (n, b) refl
 
--- where no block stands at a counts reference, there are no counts
+-- if there is no block at a counts reference, there are no counts
 pub has_counts-none : (words : List ℕ) (head : SegmentHead) (at : ℕ) → (field_at words at 8 ≡ 0 → ⊥)
     → is_block words head (field_at words at 8) ≡ false → has_counts words head at ≡ false
 has_counts-none words head at some block =
@@ -57,7 +57,7 @@ has_counts-none words head at some block =
 some_counts : (none block typed long : Bool) → none ≡ false → block ≡ true → (none || (block && typed && long)) ≡ (typed && long)
 some_counts none block typed long n b = rw (n, b) refl
 
--- where one stands there, its header tells whether there are
+-- if there is one, its header says whether there are counts
 pub has_counts-found : (words : List ℕ) (head : SegmentHead) (at counts n : ℕ) (found : BlockHead) → counts ≡ field_at words at 8
     → n ≡ record_buckets words at → (counts ≡ 0 → ⊥) → block_of words head counts ≡ Ok found
     → has_counts words head at ≡ ((found.tag == 2) && nat_le (4 + 2 * n) found.size)

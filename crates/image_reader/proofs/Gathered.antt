@@ -1,4 +1,4 @@
--- What a reader has gathered of one more record.
+-- What a reader has gathered, with one more record.
 use Rattle.std.proofs.Common.{◌≡◌, Bool, true, false, cond, not, ◌||◌, ◌&&◌, ◌==◌, if◌then◌else◌, ℕ, ◌<◌, List, [], ◌∷◌, ◌++◌, map, length, get_or, set, Option, Some, None, inl, inr, refl, ap, sym, ◌∙◌, get_or-set_other, get_or-set_same}
 use Rattle.std.specs.Prelude.{is_none, option_map}
 use Rattle.std.specs.List.{filter, filter_map, list_any, cons_option, fold}
@@ -35,14 +35,14 @@ filter-push_dropped : {X : Type 0} (p : X → Bool) (xs : List X) (y : X) → p 
 filter-push_dropped p xs y fails =
     filter-append p xs (y ∷ []) ∙ (ap (λ b. filter p xs ++ cond b (y ∷ []) []) fails ∙ append-nil (filter p xs))
 
--- one more element of which h gives something, or nothing
+-- one more element, for which h gives something, or nothing
 filter_map-push : {X Y : Type 0} (h : X → Option Y) (xs : List X) (y : X) (o : Option Y) → h y ≡ o
     → filter_map h (xs ++ y ∷ []) ≡ filter_map h xs ++ cons_option o []
 filter_map-push h xs y o e = filter_map-append h xs (y ∷ []) ∙ ap (λ p. filter_map h xs ++ cons_option p []) e
 
--- ---- the histograms of one more record
+-- ---- the histograms, with one more record
 
--- one without a fault is among the lawful ones
+-- a record without a fault is among the valid ones
 pub lawful-push : (words : List ℕ) (head : SegmentHead) (references : List ℕ) (reference : ℕ)
     → (field_at words reference 2 == 1) ≡ true → record_fault words head reference ≡ None
     → lawful_records words head (references ++ reference ∷ []) ≡ lawful_records words head references ++ reference ∷ []
@@ -50,7 +50,7 @@ lawful-push words head references reference typed none =
     ap (filter (λ r. is_none (record_fault words head r))) (filter-push_kept (λ r. field_at words r 2 == 1) references reference typed)
     ∙ filter-push_kept (λ r. is_none (record_fault words head r)) (histogram_records words references) reference (ap is_none none)
 
--- one with a fault is not
+-- a record with a fault is not
 pub unlawful-push : (words : List ℕ) (head : SegmentHead) (references : List ℕ) (reference : ℕ) (fault : RecordFault)
     → (field_at words reference 2 == 1) ≡ true → record_fault words head reference ≡ Some fault
     → lawful_records words head (references ++ reference ∷ []) ≡ lawful_records words head references
@@ -58,19 +58,19 @@ unlawful-push words head references reference fault typed found =
     ap (filter (λ r. is_none (record_fault words head r))) (filter-push_kept (λ r. field_at words r 2 == 1) references reference typed)
     ∙ filter-push_dropped (λ r. is_none (record_fault words head r)) (histogram_records words references) reference (ap is_none found)
 
--- nor is one of another type
+-- nor is a record of another type
 pub other-push : (words : List ℕ) (head : SegmentHead) (references : List ℕ) (reference : ℕ)
     → (field_at words reference 2 == 1) ≡ false
     → lawful_records words head (references ++ reference ∷ []) ≡ lawful_records words head references
 other-push words head references reference other =
     ap (filter (λ r. is_none (record_fault words head r))) (filter-push_dropped (λ r. field_at words r 2 == 1) references reference other)
 
--- where the lawful ones stay, those that are read stay
+-- if the valid records are unchanged, those that are read are unchanged
 pub read-same : (words : List ℕ) (head : SegmentHead) (old new : List ℕ)
     → lawful_records words head new ≡ lawful_records words head old → read_records words head new ≡ read_records words head old
 read-same words head old new same = ap (first_of_each (same_name words)) same
 
--- a lawful one is read where none before has its name
+-- a valid record is read if none before it has its name
 pub read-push : (words : List ℕ) (head : SegmentHead) (references : List ℕ) (reference : ℕ)
     → (field_at words reference 2 == 1) ≡ true → record_fault words head reference ≡ None
     → read_records words head (references ++ reference ∷ [])
@@ -80,7 +80,7 @@ read-push words head references reference typed none =
     ap (first_of_each (same_name words)) (lawful-push words head references reference typed none)
     ∙ first_of_each-push (same_name words) (lawful_records words head references) reference
 
--- the names of the lawful ones
+-- the names of the valid records
 pub names-push : (words : List ℕ) (head : SegmentHead) (references : List ℕ) (reference : ℕ) (name : List ℕ)
     → (field_at words reference 2 == 1) ≡ true → record_fault words head reference ≡ None
     → list_any (λ r. bytes_eq name (name_of words r)) (lawful_records words head (references ++ reference ∷ []))
@@ -117,12 +117,12 @@ and-false : (b : Bool) → (b && false) ≡ false
 and-false true = refl
 and-false false = refl
 
--- without one
+-- and without one more
 pub unmarked-sparse : (reference h : ℕ) (old sparse : Bool) → sparse ≡ false → old ≡ (old || ((reference == h) && sparse))
 unmarked-sparse reference h old sparse e =
     sym (ap (λ b. old || ((reference == h) && b)) e ∙ (ap (λ b. old || b) (and-false (reference == h)) ∙ or-false old))
 
--- ---- the faults and the samples of one more record
+-- ---- the faults and the samples, with one more record
 
 pub bad-push : (words : List ℕ) (head : SegmentHead) (references : List ℕ) (reference : ℕ) (o : Option (ℕ × RecordFault))
     → bad_record words head (references, reference) ≡ o
@@ -171,7 +171,7 @@ sample-by true sample bad found e f = absurd (cc)
 sample-by false true bad found e f = refl
 sample-by false false bad found e f = absurd (cc)
 
--- that of a sample's record
+-- the fault of a sample's record
 pub fault_behind-sample : (words : List ℕ) (head : SegmentHead) (earlier : List ℕ) (reference : ℕ) (bad : Bool)
     → (field_at words reference 2 == 1) ≡ false → (field_at words reference 2 == 3) ≡ true
     → is_bad_sample words head earlier reference ≡ bad
@@ -187,7 +187,7 @@ other-by true sample bad found e f = absurd (cc)
 other-by false true bad found e f = absurd (cc)
 other-by false false bad found e f = refl
 
--- that of one of another type
+-- the fault of a record of another type
 pub fault_behind-other : (words : List ℕ) (head : SegmentHead) (earlier : List ℕ) (reference : ℕ)
     → (field_at words reference 2 == 1) ≡ false → (field_at words reference 2 == 3) ≡ false
     → fault_behind words head earlier reference ≡ None
@@ -195,7 +195,7 @@ fault_behind-other words head earlier reference a b =
     other-by (field_at words reference 2 == 1) (field_at words reference 2 == 3) (is_bad_sample words head earlier reference)
     (record_fault words head reference) a b
 
--- the samples with one more record that is none
+-- the samples with one more record that is no sample
 pub samples-same : (words : List ℕ) (head : SegmentHead) (references : List ℕ) (reference : ℕ)
     → is_sample words head (references, reference) ≡ false
     → lawful_samples words head (references ++ reference ∷ []) ≡ lawful_samples words head references
@@ -203,7 +203,7 @@ samples-same words head references reference none =
     ap (λ ps. map (λ placed. placed.1) (filter (is_sample words head) ps)) (with_earlier-push references reference)
     ∙ ap (map (λ placed. placed.1)) (filter-push_dropped (is_sample words head) (with_earlier references) (references, reference) none)
 
--- and with one
+-- and with one more sample
 pub samples-push : (words : List ℕ) (head : SegmentHead) (references : List ℕ) (reference : ℕ)
     → is_sample words head (references, reference) ≡ true
     → lawful_samples words head (references ++ reference ∷ []) ≡ lawful_samples words head references ++ reference ∷ []
@@ -222,13 +222,13 @@ pub is_sample-other : (words : List ℕ) (head : SegmentHead) (earlier : List �
 is_sample-other words head earlier reference other =
     not-typed (field_at words reference 2 == 3) (is_bad_sample words head earlier reference) other
 
--- a sample's record is one where it is not bad
+-- a sample's record is a sample if it is not bad
 pub is_sample-from : (words : List ℕ) (head : SegmentHead) (earlier : List ℕ) (reference : ℕ) (bad : Bool)
     → (field_at words reference 2 == 3) ≡ true → is_bad_sample words head earlier reference ≡ bad
     → is_sample words head (earlier, reference) ≡ not bad
 is_sample-from words head earlier reference bad typed is = λ i. typed i && not (is i)
 
--- the entries of samples are put in order as the samples are
+-- the entries of samples are put in the same order as the samples
 entries-step : (f : ℕ → Entry) (o : Ordering) (y x : ℕ) (rest put : List ℕ) (entries : List Entry) → map f put ≡ entries
     → map f (match_ordering o (y ∷ x ∷ rest) (x ∷ rest) (x ∷ put))
     ≡ match_ordering o (f y ∷ f x ∷ map f rest) (f x ∷ map f rest) (f x ∷ entries)

@@ -28,7 +28,7 @@ one-three words r e = ap (λ t. t == 3) e
 three-one : (words : List ℕ) (r : ℕ) → field_at words r 2 ≡ 3 → (field_at words r 2 == 1) ≡ false
 three-one words r e = ap (λ t. t == 1) e
 
--- whether a name is known is whether a lawful record before has it
+-- a name is known exactly if an earlier valid record has it
 known-is : (words : List ℕ) (head : SegmentHead) (earlier : List ℕ) (g : Gathering) (r : ℕ) (name : List ℕ) (known : Bool)
     → IsGathered words head earlier g → name ≡ name_of words r → holds g.names name ≡ known
     → list_any (λ x. same_name words x r) (lawful_records words head earlier) ≡ known
@@ -46,7 +46,7 @@ names-more words head earlier g new r name so_far typed none named names other =
     ∙ ((λ i. so_far.names_are other i || bytes_eq other (named i))
     ∙ sym (names-push words head earlier r other (eq-eqb _ 1 typed) none))
 
--- the samples stay with a record of another type
+-- a record of another type leaves the samples unchanged
 samples-stay : (words : List ℕ) (head : SegmentHead) (earlier : List ℕ) (r : ℕ) (samples : Samples)
     → (field_at words r 2 == 3) ≡ false
     → ((h : ℕ) → held samples h ≡ map (sample_entry words) (first_samples words (lawful_samples words head earlier) h))
@@ -56,13 +56,13 @@ samples-stay words head earlier r samples other so_far h =
     ∙ ap (λ ss. map (sample_entry words) (first_samples words ss h))
     (sym (samples-same words head earlier r (is_sample-other words head earlier r other)))
 
--- and so do the later ones
+-- and the later samples too
 later-stay : (words : List ℕ) (head : SegmentHead) (earlier : List ℕ) (r : ℕ) (later : List ℕ) → (field_at words r 2 == 3) ≡ false
     → later ≡ later_samples words head earlier → later ≡ later_samples words head (earlier ++ r ∷ [])
 later-stay words head earlier r later other so_far =
     so_far ∙ sym (later-same words head earlier r (samples-same words head earlier r (is_sample-other words head earlier r other)))
 
--- a lawful record whose name is known
+-- a valid record whose name is known
 pub IsGathered-known : (words : List ℕ) (head : SegmentHead) (earlier : List ℕ) (g new : Gathering) (r : ℕ) (name : List ℕ)
     → IsGathered words head earlier g → field_at words r 2 ≡ 1 → record_fault words head r ≡ None → name ≡ name_of words r
     → ((other : List ℕ) → holds new.names other ≡ (holds g.names other || bytes_eq other name))

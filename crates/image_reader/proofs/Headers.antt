@@ -1,4 +1,4 @@
--- What a lawful header and a lawful block say of the words.
+-- What a valid header and a valid block say of the words.
 use Rattle.std.proofs.Common.{◌≡◌, Bool, true, false, not, ◌&&◌, ◌==◌, if◌then◌else◌, ℕ, ◌+◌, ◌%◌, ◌≤◌, List, [], ◌∷◌, length, Option, Some, None, Ok, Err, refl, arith, ap, sym, ◌∙◌}
 use Rattle.std.specs.Prelude.{nat_lt, nat_le}
 use Rattle.std.specs.List.{AllByRecursion, list_any}
@@ -15,14 +15,14 @@ use Rattle.segment_image.specs.declared.fault.ImageFault.TheVariants.{BadRef, Ba
 use Rattle.bucket_ranges.specs.Reading.{before, is_block, next_of, stop_of}
 use Rattle.bucket_ranges.proofs.Walks.{is_block-within}
 
--- where checks give a value, none of them fails, and the value is the one that they were given
+-- if checks give a value, none of them fails, and it is the value that they were given
 pub checked_ok : {F X : Type 0} (checks : List (Bool × F)) (x y : X) → checked checks x ≡ Ok y
     → AllByRecursion (λ check. check.0 ≡ false) checks × (x ≡ y)
 checked_ok [] x y e = (tt, cc)
 checked_ok ((true, fault) ∷ rest) x y e = absurd (cc)
 checked_ok ((false, fault) ∷ rest) x y e = let more = checked_ok rest x y e in ((refl, more.0), more.1)
 
--- what a lawful header says of its words
+-- what a valid header says of its words
 pub record IsHeaded (words : List ℕ) (head : SegmentHead) : Type 0 where
   pub long : 16 ≤ length words
   pub free_within : head.free ≤ length words
@@ -48,7 +48,7 @@ IsHeaded-from_header words head e =
     (and_parts (nat_le (word_at words 3) (word_at words 2)) (nat_le (word_at words 2) 1048576) paged).1 in
     record { long = long; free_within = omega (arith, size, free, same); few = omega (arith, size, most) }
 
--- what the head of a lawful block is
+-- what the head of a valid block is
 pub record IsBlockHead (words : List ℕ) (head : SegmentHead) (reference : ℕ) (found : BlockHead) : Type 0 where
   pub lawful : is_block words head reference ≡ true
   pub found_is : block_head_of words reference ≡ found
@@ -63,7 +63,7 @@ IsBlockHead-from_block words head reference found e =
       found_is = passed.1;
     }
 
--- a lawful block lies in the words
+-- a valid block lies in the words
 pub block_in_words : (words : List ℕ) (head : SegmentHead) (reference : ℕ) → header_of words ≡ Ok head
     → is_block words head reference ≡ true
     → (5 ≤ field_at words reference 0) × (reference + field_at words reference 0 ≤ length words)
@@ -96,7 +96,7 @@ stop_at-fault false true true again found fault p q = absurd (cc)
 going_on : (next last : ℕ) → next ≡ last → (next ≡ 12 → ⊥) → (last == 12) ≡ false
 going_on next last is going = ne_eqb last 12 (λ e. going (is ∙ e))
 
--- a fault of the block at the last next is why the list stops
+-- if the block at the last next has a fault, this is why the list stops
 pub stop_of-bad_block : (words : List ℕ) (head : SegmentHead) (references : List ℕ) (next : ℕ) (fault : ImageFault)
     → next ≡ next_of words (before references (length references)) → (next ≡ 12 → ⊥)
     → block_of words head next ≡ Err fault
@@ -114,7 +114,7 @@ stop_at-loop false true false again p q r = absurd (cc)
 stop_at-loop false true true true p q r = refl
 stop_at-loop false true true false p q r = absurd (cc)
 
--- a lawful block that was met before is why the list stops
+-- if the next block is valid but was visited before, this is why the list stops
 pub stop_of-loop : (words : List ℕ) (head : SegmentHead) (references : List ℕ) (next : ℕ)
     → next ≡ next_of words (before references (length references)) → (next ≡ 12 → ⊥)
     → is_block words head next ≡ true
@@ -150,7 +150,7 @@ no_block false claimed found fault e = refl
 no_block true false found fault e = refl
 no_block true true found fault e = absurd (cc)
 
--- where a block has a fault, there is no lawful one
+-- if a block has a fault, there is no valid block
 pub is_block-from_fault : (words : List ℕ) (head : SegmentHead) (reference : ℕ) (fault : ImageFault)
     → block_of words head reference ≡ Err fault → is_block words head reference ≡ false
 is_block-from_fault words head reference fault e =

@@ -26,7 +26,7 @@ use Rattle.image_reader.proofs.SampleMaps.{of}
 
 -- ---- a test of what is put in order
 
--- a test that does not tell equals apart
+-- a test that has the same result for equals
 any-step : {X : Type 0} (p : X → Bool) (o : Ordering) (y x : X) (rest put : List X) → (o ≡ Equal → p y ≡ p x)
     → list_any p put ≡ (list_any p rest || p y)
     → list_any p (match_ordering o (y ∷ x ∷ rest) (x ∷ rest) (x ∷ put)) ≡ ((p x || list_any p rest) || p y)
@@ -82,14 +82,14 @@ any-keys : (h : ℕ) (v : ℤ) (es : List Entry)
 any-keys h v [] = refl
 any-keys h v (e ∷ es) = λ i. key-step h v e.0 i || any-keys h v es i
 
--- whether the map has a key is whether a sample of it is held
+-- the map has a key exactly if a sample with that key is held
 pub known-is : (h : ℕ) (v : ℤ) (es : List Entry)
     → is_some (lookup (is_at (by_key (h, v))) es) ≡ list_any (λ (e : Entry). is_eq (int_cmp v e.0.1)) (filter (of h) es)
 known-is h v es =
     is_some-lookup (is_at (by_key (h, v))) es
     ∙ (any-keys h v es ∙ sym (any-filter (λ (e : Entry). is_eq (int_cmp v e.0.1)) (of h) es))
 
--- and so whether the sample stands behind another one of its histogram and value
+-- and so exactly if the sample comes after another one of its histogram and value
 pub holds-later : (words samples : List ℕ) (reader : Samples) (r : ℕ) → HoldsSamples words samples reader
     → holds_sample reader (sample_entry words r) ≡ is_later words (samples, r)
 holds-later words samples reader r holds =
@@ -104,7 +104,7 @@ holds-later words samples reader r holds =
     same : (a b : ℕ) → by_value words a b ≡ Equal → tied a ≡ tied b
     same a b equal = ap (λ (v : ℤ). is_eq (int_cmp (sample_value words r) v)) (int_ranked (sample_value words a) (sample_value words b) Equal (sym equal))
 
--- ---- the later samples of one more record
+-- ---- the later samples, with one more record
 
 -- a record that is no sample without a fault adds none
 pub later-same : (words : List ℕ) (head : SegmentHead) (earlier : List ℕ) (r : ℕ)
@@ -112,7 +112,7 @@ pub later-same : (words : List ℕ) (head : SegmentHead) (earlier : List ℕ) (r
     → later_samples words head (earlier ++ r ∷ []) ≡ later_samples words head earlier
 later-same words head earlier r same = ap (λ samples. map (λ placed. placed.1) (filter (is_later words) (with_earlier samples))) same
 
--- such a sample adds itself where it is a later one
+-- a sample without a fault adds itself if it is a later one
 pub later-push : (words : List ℕ) (head : SegmentHead) (earlier : List ℕ) (r : ℕ) → is_sample words head (earlier, r) ≡ true
     → later_samples words head (earlier ++ r ∷ [])
     ≡ later_samples words head earlier ++ cond (is_later words (lawful_samples words head earlier, r)) (r ∷ []) []

@@ -1,4 +1,4 @@
--- The histograms of a reading have no fault: their counts are small, and of sparse ones no more than records on the list.
+-- The histograms of a reading have no fault: their counts are small, and a sparse one has at most as many counts as the list has records.
 use Rattle.std.proofs.Common.{◌≡◌, refl, ℕ, suc, ◌+◌, ◌≤◌, Bool, true, false, not, ◌==◌, List, [], ◌∷◌, length, take, Option, Some, None, is_none, All, pos, slice_index, ℤ, get_or, map, filter, arith, if◌then◌else◌}
 use Rattle.std.specs.Prelude.{nat_lt}
 use Rattle.std.specs.List.{range_with_len, list_any, fold}
@@ -18,12 +18,12 @@ use Rattle.segment_image.specs.declared.head.SegmentHead.{SegmentHead}
 use Rattle.bucket_ranges.specs.Ranges.{boundaries_of}
 use Rattle.bucket_ranges.specs.Reading.{read_records, lawful_records, histogram_records, lawful_samples, with_earlier, is_sample, is_bad_sample, first_of_each, same_name, first_samples, by_value, bucket_counts, sample_counts, sample_value, has_large, record_fault, spec_of, total_of, totals_of, record_buckets}
 
--- a check that comes first, where none fails
+-- a check that comes first, if none fails
 no_first_fault : {F : Type 0} (failed : Bool) (fault : F) (rest : Option F) → (if failed then Some fault else rest) ≡ None → (failed ≡ false) × (rest ≡ None)
 no_first_fault false fault rest e = (refl, e)
 no_first_fault true fault rest e = absurd (cc e)
 
--- where none fails, each check passes
+-- if none fails, each check passes
 pub all_pass : {F : Type 0} (checks : List (Bool × F)) → first_fault checks ≡ None → All (λ check. check.0 ≡ false) checks
 all_pass [] e = λ k d h. absurd (omega (arith, h))
 all_pass (check ∷ rest) e =
@@ -65,7 +65,7 @@ abbrev pub bucket_at : ℕ → List ℕ → ℕ → ℕ → ℤ × ℕ
 bucket_at version words reference i =
     (pos (slice_index (boundaries_of (spec_of words reference)) i), total_of version words reference i)
 
--- those of all buckets are small where none is too large
+-- the counts of all buckets are small if none is too large
 pub bucket_counts-small : (version : ℕ) (words : List ℕ) (reference : ℕ) → has_large (totals_of version words reference) ≡ false
     → All (λ count. count.1 ≤ 4294967295) (bucket_counts version words reference)
 bucket_counts-small version words reference small =
@@ -105,7 +105,7 @@ sample_small words head placed e =
     let good : is_bad_sample words head placed.0 placed.1 ≡ false = not-true _ (and_parts (field_at words placed.1 2 == 3) _ e).1 in
     ltb-false 4294967295 (field_at words placed.1 6) (or_parts _ _ (or_parts _ _ (or_parts _ _ good).0).0).1
 
--- those of the samples of a list are, and there are no more of these than records
+-- the counts of the samples of a list are small, and there are no more samples than records
 pub lawful_samples-small : (words : List ℕ) (head : SegmentHead) (references : List ℕ) → All (IsSmallSample words) (lawful_samples words head references)
 lawful_samples-small words head references =
     All-map (IsSmallSample words) (λ (placed : List ℕ × ℕ). placed.1) (filter (is_sample words head) (with_earlier references))
@@ -123,7 +123,7 @@ lawful_samples-few words head references =
       length-map-range_with_len {X = List ℕ × ℕ} (λ i. (take i references, slice_index references i)) 0 (length references),
     )
 
--- the counts of the samples of a histogram: no more of them than of samples, and each is small where all samples are
+-- the counts of the samples of a histogram: no more of them than samples, and each is small if all samples are
 pub sample_counts-few : (words samples : List ℕ) (reference : ℕ) → length (sample_counts words (first_samples words samples reference)) ≤ length samples
 sample_counts-few words samples reference =
     let of_it : ℕ → Bool = λ sample. field_at words sample 4 == reference in

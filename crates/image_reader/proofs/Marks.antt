@@ -1,4 +1,4 @@
--- The marks of what a walk has met.
+-- The marks of what a walk has visited.
 use Rattle.std.proofs.Common.{◌≡◌, Bool, true, false, ◌||◌, ◌==◌, if◌then◌else◌, ℕ, zero, suc, ◌<◌, List, [], ◌∷◌, ◌++◌, length, get_or, set, replicate, add-one, refl, arith, ap, inl, inr, sym, ◌∙◌, get_or-set_other, get_or-set_same}
 use Rattle.std.specs.List.{list_any, sum_by}
 use Rattle.std.proofs.lemmas.Bool.{cases_eq, eq-eqb, ne_eqb}
@@ -8,11 +8,11 @@ use Rattle.std.proofs.lemmas.List.Folds.{list_any-append}
 use Rattle.std.proofs.lemmas.List.Sums.{sum_by-set}
 use Rattle.bucket_ranges.specs.Reading.{before}
 
--- what is not met yet
+-- how many words are not visited yet
 abbrev pub unmet : List Bool → ℕ
 unmet met = sum_by (λ is_met. if is_met then 0 else 1) met
 
--- one more mark leaves less that is not met
+-- one more mark leaves fewer words that are not visited
 pub unmet-set : (met : List Bool) (reference : ℕ) → reference < length met → get_or met reference false ≡ false
     → unmet (set met reference true) < unmet met
 unmet-set met reference within new =
@@ -52,7 +52,7 @@ pub read_mark : (met : List Bool) (reference : ℕ) (mark : Bool) → reference 
     → mark ≡ get_or met reference false
 read_mark met reference mark within e = e ∙ get_or_default met reference mark false within
 
--- the block before the place behind a list is its last
+-- the block before the end of a list is its last
 pub before-last : (references : List ℕ) (reference : ℕ)
     → before (references ++ reference ∷ []) (length (references ++ reference ∷ [])) ≡ reference
 before-last references reference =

@@ -20,7 +20,7 @@ digits_more n d below some =
     digits_of_step 256 (n * 256 + d) (omega arith) some
     ∙ λ i. digits_of 256 (div-mul-add n 256 d below i) ++ mod-mul-add n 256 d below i ∷ []
 
--- digits behind a number that is not 0
+-- digits after a number that is not 0
 digits_behind : (n : ℕ) (digits : List ℕ) → 0 < n → AllBelowBase 256 digits
     → digits_of 256 (number_from_digits_after 256 n digits) ≡ digits_of 256 n ++ digits
 digits_behind n [] some below = sym (append-nil (digits_of 256 n))
@@ -51,7 +51,7 @@ digits_of_prefix (x ∷ xs) lawful =
     digits_behind (0 * 256 + x) (take 7 xs) (omega arith) below
     ∙ ap (λ front. front ++ take 7 xs) (digits_more 0 x first.1 (omega arith))
 
--- the name of a key is the one that it was made of
+-- the name of a key is the one that it was made from
 pub name_of_key-is : (prefix : ℕ) (rest : Vec ℕ Global) (name : List ℕ) → is_name name ≡ true
     → prefix ≡ prefix_of name → rest.items ≡ drop 8 name → name_of_key (prefix, rest) ≡ name
 unfolding name_of_key
@@ -61,7 +61,7 @@ name_of_key-is prefix rest name lawful p q =
     (λ i. digits_of 256 (p i) ++ q i)
     ∙ (ap (λ front. front ++ drop 8 name) (digits_of_prefix name bytes) ∙ take-append-drop 8 name)
 
--- digits behind a number are read as bytes behind it
+-- digits after a number are read as bytes after it
 digits_as_bytes : (n : ℕ) (bytes : List ℕ)
     → number_from_digits_after 256 n bytes ≡ n * 256 ^ length bytes + big_number (length bytes) bytes
 digits_as_bytes n [] = omega arith

@@ -18,11 +18,11 @@ use Rattle.std.proofs.lemmas.Slice.Eq.{bytes_eq-Decides}
 use Rattle.std.proofs.Math.Bool.{or_comm, or_assoc}
 use Rattle.image_reader.specs.Names.{prefix_of, name_of_key, IsKey}
 
--- the number of a name's first eight bytes, and the bytes behind them
+-- the number of a name's first eight bytes, and the bytes after them
 abbrev pub Key : Type 0
 Key = ℕ × Vec ℕ Global
 
--- the order of keys: their numbers, then the bytes behind them
+-- the order of keys: by their numbers, then by their bytes
 abbrev pub by_key : Key → Key → Ordering
 by_key a b = ordering_then (nat_cmp a.0 b.0) (slice_cmp nat_cmp a.1.items b.1.items)
 

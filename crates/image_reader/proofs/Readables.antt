@@ -23,7 +23,7 @@ use Rattle.image_reader.specs.Readable.{IsOnePerBucket, IsReadable}
 use Rattle.image_reader.specs.Survey.{hist_at}
 use Rattle.image_reader.proofs.Lawful.{IsSmallSample, all_pass, bucket_at, bucket_counts-small, lawful_samples-few, lawful_samples-small, sample_counts-few, sample_counts-small}
 
--- a lawful spec has at most 1,000 buckets
+-- a valid spec has at most 1,000 buckets
 few_buckets : (spec : Spec) → spec_fault spec ≡ None → buckets_of spec ≤ 1000
 few_buckets (Linear min max n) e = (is_linear-from_checks min max n e).many
 few_buckets Boolean e = omega arith
@@ -39,13 +39,13 @@ record_lawful words head reference e =
     let counts : is_bad_counts words head reference ≡ false = passes 3 (false, BadSpec) (lit< tt) in
     (not-false (has_spec words reference) (or_parts _ _ spec).0, counts)
 
--- the spec of a lawful record is lawful
+-- the spec of a valid record is valid
 spec_lawful : (words : List ℕ) (reference : ℕ) → has_spec words reference ≡ true → spec_fault (spec_of words reference) ≡ None
 spec_lawful words reference e =
     named-lawful (field_at words reference 4) (field_at words reference 5) (field_at words reference 6) (field_at words reference 7)
     (inner_ranges words reference) (and_parts _ _ e).1
 
--- so many counts as there are buckets
+-- as many counts as there are buckets
 counted-from : (spec : Spec) (n : ℕ) → n ≡ buckets_of spec → IsOnePerBucket spec n
 counted-from (Linear min max m) n e = e
 counted-from Boolean n e = e
@@ -78,7 +78,7 @@ sampled-small words samples reference few small =
     let fewer = sample_counts-few words samples reference in
     record { few = omega (arith, few, fewer); below = sample_counts-small words samples reference small }
 
--- the histogram of a lawful record, where the samples are small and not too many
+-- the histogram of a valid record, if the samples are small and not too many
 record_readable : (words : List ℕ) (head : SegmentHead) (samples : List ℕ) (reference : ℕ) → length samples ≤ 1048576
     → All (IsSmallSample words) samples → record_fault words head reference ≡ None → IsReadable (histogram_of head.version words samples reference)
 record_readable words head samples reference few small e =
@@ -101,7 +101,7 @@ listed_few : (words : List ℕ) (head : SegmentHead) (references : List ℕ) →
 listed_few words head references within listed =
     omega (arith, within, IsWalk-length words head references listed.walk, lawful_samples-few words head references)
 
--- a histogram that is read of a list is readable
+-- a histogram that is read from a list is readable
 pub hist_readable : (words : List ℕ) (head : SegmentHead) (references : List ℕ) (at : ℕ) → head.free ≤ 1048576 → IsListed words head references
     → record_fault words head at ≡ None → IsReadable (hist_at words head references at)
 hist_readable words head references at within listed none =
@@ -114,7 +114,7 @@ pub values_few : (words : List ℕ) (head : SegmentHead) (references : List ℕ)
 values_few words head references at within listed =
     omega (arith, listed_few words head references within listed, sample_counts-few words (lawful_samples words head references) at)
 
--- the free pointer of a lawful header is that of no larger a segment than there are
+-- the free pointer of a valid header is at most the size of the largest segment
 pub head_within : (words : List ℕ) (head : SegmentHead) → header_of words ≡ Ok head → head.free ≤ 1048576
 head_within words head e =
     let passed = checked_ok (header_checks words) (head_of words) head e in

@@ -70,14 +70,14 @@ pub has_large-more : (f : ℕ → ℕ) (i : ℕ) → has_large (map f (range_wit
 has_large-more f i none small =
     rw (map-range_with_len_more f 0 i i (omega arith), list_any-push) (or_from _ _ none (le-ltb 4294967295 (f i) small))
 
--- where none is too large, none is
+-- if there is no total that is too large, each total is small
 pub small-at : (f : ℕ → ℕ) (n i : ℕ) → has_large (map f (range_with_len 0 n)) ≡ false → i < n → f i ≤ 4294967295
 small-at f n i none within = elim (cases_lt 4294967295 (f i)) [
   | inl large ↦ absurd (both_ways _ none (has_large-at f n i within large))
   | inr small ↦ small
 ]
 
--- two histograms are the same where their fields are
+-- two histograms are the same if their fields are
 pub same_histogram : (a b : Histogram) → a.reference ≡ b.reference → a.name ≡ b.name → a.spec ≡ b.spec
     → a.counts ≡ b.counts → a.marks ≡ b.marks → a.sum ≡ b.sum → a.sum_mark ≡ b.sum_mark → a.redundant ≡ b.redundant → a ≡ b
 same_histogram a b r n s c m t u d = λ i. record {
@@ -91,14 +91,14 @@ same_histogram a b r n s c m t u d = λ i. record {
   redundant = d i;
 }
 
--- a loop that puts the values of a function of the index one behind the other
+-- a loop that appends the values of a function of the index, one after the other
 pub map-range-push : {X : Type 0} (f : ℕ → X) (i : ℕ) (old new : List X) (x : X) → old ≡ map f (range_with_len 0 i)
     → new ≡ old ++ x ∷ [] → x ≡ f i → new ≡ map f (range_with_len 0 (i + 1))
 map-range-push f i old new x before pushed value =
     pushed ∙ (ap (λ xs. xs ++ x ∷ []) before ∙ (ap (λ y. map f (range_with_len 0 i) ++ y ∷ []) value
     ∙ sym (map-range_with_len_more f 0 i i (omega arith))))
 
--- two readings are the same where their fields are
+-- two readings are the same if their fields are
 pub same_reading : (a b : Reading) → a.id ≡ b.id → a.full ≡ b.full → a.corrupt ≡ b.corrupt → a.hists ≡ b.hists → a.bad ≡ b.bad
     → a.stopped ≡ b.stopped → a ≡ b
 same_reading a b d f c h w s = λ i. record { id = d i; full = f i; corrupt = c i; hists = h i; bad = w i; stopped = s i }

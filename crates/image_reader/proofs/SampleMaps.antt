@@ -1,4 +1,4 @@
--- Samples in an ordered map: of each histogram and value the first.
+-- Samples in an ordered map: for each histogram and value the first.
 use Rattle.std.proofs.Common.{◌≡◌, Bool, true, false, cond, not, ◌&&◌, ◌==◌, if◌then◌else◌, ℕ, ◌<◌, ◌≤◌, ℤ, pos, negsuc, List, [], ◌∷◌, Option, Some, None, inl, inr, refl, ap, sym, ◌∙◌, arith}
 use Rattle.std.specs.Prelude.{All, is_some, int_lt, unwrap_or}
 use Rattle.std.proofs.lemmas.List.Elements.{recursion_from_All, All-weaker}
@@ -54,7 +54,7 @@ insert_entry-absent {K} {X} cmp (e ∷ es) k v none =
     absent-step (cmp k e.0) k v e es (insert_entry cmp es k v) (insert_key (λ (a b : K × X). cmp a.0 b.0) es (k, v))
     (lookup (is_at (cmp k)) es) (insert_entry-absent cmp es k v rest) none
 
--- where all keys are above another, a look-up of that one finds nothing
+-- if all keys are above another key, a look-up of that one finds nothing
 above-none : {K X : Type 0} (cmp : K → K → Ordering) → IsTotalOrder cmp → (k x : K) (es : List (K × X))
     → cmp k x ≡ Less → AllByRecursion (λ y. cmp x y ≡ Less) (keys_of es) → lookup (is_at (cmp k)) es ≡ None
 above-none cmp total k x [] below above = refl
@@ -126,7 +126,7 @@ filter-insert_other p cmp (x ∷ xs) y fails =
 abbrev pub of : ℕ → Entry → Bool
 of histogram entry = entry.0.0 == histogram
 
--- a key behind another has no lower histogram
+-- a key after another one has no lower histogram
 then-less : (a b : ℕ) (o : Ordering) → ordering_then (nat_cmp a b) o ≡ Less → a ≤ b
 then-less a b o e = elim (cases_order a b) [
   | inl same ↦ omega arith
@@ -138,7 +138,7 @@ then-less a b o e = elim (cases_order a b) [
   ]
 ]
 
--- behind an entry of a higher histogram none is of a lower one
+-- after an entry of a higher histogram there is none of a lower one
 none-behind : (h : ℕ) (x : ℕ × ℤ) (es : List Entry) → h < x.0 → AllByRecursion (λ y. by_key x y ≡ Less) (keys_of es)
     → filter (of h) es ≡ []
 none-behind h x [] above sorted = refl

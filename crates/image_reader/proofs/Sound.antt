@@ -41,7 +41,7 @@ linear-few false false true d e n = absurd (cc)
 linear-few false false false true e n = absurd (cc)
 linear-few false false false false e n = refl
 
--- and so has each spec that is named lawfully
+-- and so has each spec whose words are valid
 named-few : (min max n : ℕ) (inner : List ℕ) (sparse custom boolean : Bool)
     → (if sparse then (min == 0) && (max == 0) && (n == 0)
     else (if custom then is_custom_named min max n inner
@@ -111,7 +111,7 @@ HasBuckets-from_none words head at h none kind =
     (has_large (totals_of head.version words at)) (ne_eqb (field_at words at 4) 4 kind) readable.counts in
     record { room = room-from words head at h parts.0; small = parts.1 }
 
--- where there is no fault, what a match says
+-- if there is no fault, what a match says
 pub match-none : (P : Type 0) (Q : SpecFault → Type 0) (o : Option SpecFault) → o ≡ None → MatchOption o P Q → P
 match-none P Q None e m = m
 match-none P Q (Some fault) e m = absurd (cc)

@@ -6,7 +6,7 @@ use Rattle.segment_image.specs.Blocks.{field_at}
 use Rattle.bucket_ranges.specs.Reading.{name_words, record_words, record_buckets, inner_ranges, has_spec, is_bad_spec, is_spec_named, is_custom_named, ascends_above}
 use Rattle.bucket_ranges.proofs.Named.{named-buckets, IsInner-from_named, inner-last}
 
--- what is known of a lawful spec
+-- what is known of a valid spec
 pub has_spec-parts : (words : List ℕ) (at : ℕ) → has_spec words at ≡ true
     → (record_words words at ≤ field_at words at 0)
     × (is_spec_named (field_at words at 4) (field_at words at 5) (field_at words at 6) (field_at words at 7) (inner_ranges words at) ≡ true)
@@ -20,7 +20,7 @@ has_spec-buckets words at e =
     named-buckets (field_at words at 4) (field_at words at 5) (field_at words at 6) (field_at words at 7)
     (inner_ranges words at) (has_spec-parts words at e).1
 
--- or where its counts do not fit
+-- a valid spec is bad exactly if its counts do not fit in a page
 pub is_bad_spec-lawful : (words : List ℕ) (page at : ℕ) → has_spec words at ≡ true
     → is_bad_spec words page at ≡ nat_lt page (4 + 2 * field_at words at 7)
 is_bad_spec-lawful words page at e =
@@ -39,7 +39,7 @@ custom-named : (kind min max n : ℕ) (inner : List ℕ) → (kind == 4) ≡ fal
     → is_spec_named kind min max n inner ≡ is_custom_named min max n inner
 custom-named kind min max n inner a b = rw (a, b) refl
 
--- what is known of the inner ranges of a custom record with a lawful spec
+-- what is known of the inner ranges of a custom record with a valid spec
 pub record IsCustomAt (words : List ℕ) (at : ℕ) : Type 0 where
   pub few : 2 ≤ field_at words at 7
   pub fits : 15 + name_words (field_at words at 14) + (field_at words at 7 - 1) ≤ field_at words at 0

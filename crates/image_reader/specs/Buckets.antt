@@ -1,4 +1,4 @@
--- The buckets of a record, as the reader holds where they stand.
+-- The buckets of a record, as the reader holds them: where they are.
 use Rattle.std.specs.Prelude.{◌≡◌, ◌<◌, ◌≤◌, ◌+◌, ℕ, List, length}
 use Rattle.bucket_ranges.specs.declared.limits.TheConstants.{MAX_BUCKETS}
 use Rattle.bucket_ranges.specs.Reading.{record_buckets, record_single, record_counts, record_single_mark, counts_words}
@@ -13,6 +13,6 @@ pub record AreBucketsAt (version : ℕ) (words : List ℕ) (at : ℕ) (buckets :
   pub single : buckets.single ≡ record_single version words at
   pub single_mark : buckets.single_mark ≡ record_single_mark words at
 
--- where there is a block of counts, the counts and the marks lie in the words
+-- if there is a block of counts, the counts and the marks lie in the words
 abbrev pub IsRoomFor : List ℕ → Buckets → Type 0
 IsRoomFor words buckets = 0 < buckets.counts → buckets.counts + counts_words buckets.number ≤ length words

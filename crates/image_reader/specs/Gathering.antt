@@ -10,8 +10,8 @@ use Rattle.image_reader.specs.Names.{holds, AreKeys}
 use Rattle.image_reader.specs.Samples.{AreSamples, HoldsSamples}
 use Rattle.image_reader.specs.Later.{later_samples}
 
--- what is gathered of these references: which histograms are read, the bad records, which
--- names the lawful ones have, where a sparse histogram is read, the samples, and those that are not the first of their value
+-- what is gathered from these references: which histograms are read, the bad records, the names of the valid histograms,
+-- where a sparse histogram is read, the samples, and those samples that are not the first of their histogram and value
 pub record IsGathered (words : List ℕ) (head : SegmentHead) (references : List ℕ) (gathering : Gathering) : Type 0 where
   pub hists_are : gathering.hists.items ≡ read_records words head references
   pub bad_are : map bad_view gathering.bad.items ≡ filter_map (bad_record words head) (with_earlier references)
@@ -21,7 +21,7 @@ pub record IsGathered (words : List ℕ) (head : SegmentHead) (references : List
   pub samples_are : HoldsSamples words (lawful_samples words head references) gathering.samples
   pub later_are : gathering.later.items ≡ later_samples words head references
 
--- what holds of it all along
+-- what holds of a gathering at every step
 pub record IsGatheringOf (words : List ℕ) (gathering : Gathering) : Type 0 where
   pub keys : AreKeys gathering.names
   pub samples : AreSamples gathering.samples

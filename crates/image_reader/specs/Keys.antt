@@ -7,6 +7,6 @@ use Rattle.bucket_ranges.specs.Reading.{IsReading, Reading}
 abbrev pub keys_of : Reading → ℕ
 keys_of reading = sum_by (λ hist. length hist.counts) reading.hists
 
--- whether what the words read as has more keys than so many
+-- whether what the words read as has more keys than a number
 abbrev pub HasMoreKeys : List ℕ → SegmentHead → ℕ → Bool → Type 0
 HasMoreKeys words head most more = (reading : Reading) × IsReading words head reading × (more ≡ nat_lt most (keys_of reading))

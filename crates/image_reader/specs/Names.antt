@@ -11,15 +11,15 @@ use Rattle.image_reader.specs.declared.names.Names.{Names}
 unfoldable pub prefix_of : List ℕ → ℕ
 prefix_of name = number_from_digits 256 (take 8 name)
 
--- the name of a key: the digits of its number, and the bytes behind them
+-- the name of a key: the digits of its number, and then its bytes
 unfoldable pub name_of_key : ℕ × Vec ℕ Global → List ℕ
 name_of_key key = digits_of 256 key.0 ++ key.1.items
 
--- whether a name is among them
+-- whether a name is among those that are held
 abbrev pub holds : Names → List ℕ → Bool
 holds names name = list_any (λ key. bytes_eq name (name_of_key key)) names.set.keys
 
--- a key is that of its name
+-- a key is the one of its name
 abbrev pub IsKey : ℕ × Vec ℕ Global → Type 0
 IsKey key = (key.0 ≡ prefix_of (name_of_key key)) × (key.1.items ≡ drop 8 (name_of_key key))
 

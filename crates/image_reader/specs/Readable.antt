@@ -5,12 +5,12 @@ use Rattle.bucket_ranges.specs.declared.spec.Spec.TheVariants.{Sparse}
 use Rattle.bucket_ranges.specs.Spec.{spec_fault, buckets_of}
 use Rattle.bucket_ranges.specs.Reading.{Histogram}
 
--- so many counts: one for each bucket, where there are buckets
+-- as many counts as buckets, unless the spec is sparse
 abbrev pub IsOnePerBucket : Spec → ℕ → Type 0
 IsOnePerBucket Sparse counts = ⊤
 IsOnePerBucket spec counts = counts ≡ buckets_of spec
 
--- its spec is lawful, each bucket has its count, and the units fit a word
+-- its spec is valid, each bucket has its count, and the units fit a word
 pub record IsReadable (hist : Histogram) : Type 0 where
   pub lawful : spec_fault hist.spec ≡ None
   pub counted : IsOnePerBucket hist.spec (length hist.counts)

@@ -13,12 +13,12 @@ pub record IsNamedAt (words : List ℕ) (head : SegmentHead) (at : ℕ) (name : 
   pub lawful : record_fault words head at ≡ None
   pub name_is : name.items ≡ name_of words at
 
--- there was no memory, or this is the record's first fault
+-- memory ran out, or this is the record's first fault
 abbrev pub IsRecordRefusal : List ℕ → SegmentHead → ℕ → Refusal → Type 0
 IsRecordRefusal words head at Memory = ⊤
 IsRecordRefusal words head at (Fault fault) = record_fault words head at ≡ Some fault
 
--- where a call is refused, there was no memory, or it is this fault, for this cause
+-- if a call is refused, either memory ran out, or the fault is this one and it has this cause
 abbrev pub RefusedOnly : {X : Type 0} → RecordFault → Type 0 → Result X Refusal → Type 0
 RefusedOnly fault cause (Ok x) = ⊤
 RefusedOnly fault cause (Err Memory) = ⊤

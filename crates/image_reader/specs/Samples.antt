@@ -1,4 +1,4 @@
--- The samples that a reader has met.
+-- The samples that a reader has visited.
 use Rattle.std.specs.Prelude.{◌≡◌, Bool, true, ◌==◌, ℕ, ℤ, List, All, map}
 use Rattle.std.specs.List.{filter, list_any}
 use Rattle.std.specs.declared.cmp.Ordering.{Ordering}
@@ -13,11 +13,11 @@ use Rattle.image_reader.specs.declared.sample.Samples.{Samples}
 abbrev pub Entry : Type 0
 Entry = (ℕ × ℤ) × (ℕ × ℕ)
 
--- those of the sample's record at a reference
+-- the histogram, value, count and mark in the sample's record at a reference
 abbrev pub sample_entry : List ℕ → ℕ → Entry
 sample_entry words at = ((sample_histogram words at, sample_value words at), (sample_count words at, sample_mark words at))
 
--- those that the reader holds of a sample
+-- the same four numbers of a sample, as the reader holds them
 abbrev pub entry_of : Sample → Entry
 entry_of sample = ((sample.histogram, sample.value), (sample.count, sample.mark))
 
@@ -50,7 +50,7 @@ pub record AreSamples (samples : Samples) : Type 0 where
   pub ordered : IsStrictlySortedBy by_key (keys_of samples.map.entries)
   pub small : All (λ entry. is_i32 entry.0.1 ≡ true) samples.map.entries
 
--- of each histogram is held what its first samples say, where the samples of the list are these
+-- for each histogram the reader holds what its first samples say, if these are the samples of the list
 abbrev pub HoldsSamples : List ℕ → List ℕ → Samples → Type 0
 HoldsSamples words samples reader =
     (histogram : ℕ) → held reader histogram ≡ map (sample_entry words) (first_samples words samples histogram)

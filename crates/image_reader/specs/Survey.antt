@@ -1,4 +1,4 @@
--- What is known of a list without the counts of its histograms.
+-- What is known of a list, without the counts of its histograms.
 use Rattle.std.specs.Prelude.{◌≡◌, ℕ, List, map, length}
 use Rattle.std.specs.List.{filter_map}
 use Rattle.segment_image.specs.declared.head.SegmentHead.{SegmentHead}

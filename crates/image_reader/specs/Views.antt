@@ -1,4 +1,4 @@
--- What the values of this crate are as values of the definition of a reading.
+-- The values of this crate, as values of the definition of a reading.
 use Rattle.std.specs.Prelude.{ℕ, map}
 use Rattle.bucket_ranges.specs.Reading as definition
 use Rattle.bucket_ranges.specs.declared.reading.RecordFault.{RecordFault}

@@ -1,7 +1,7 @@
 //! The units of a record's buckets: their counts, the single word, and the marks of what deltas have taken.
 //!
-//! The counts stand first in their block, and the marks behind them. The packed bucket, which is the one that
-//! the single word names, has its mark in the record.
+//! The counts come first in their block, then the marks. The mark of the packed bucket, which is the bucket that the
+//! single word names, is in the record.
 
 ghost use Rattle.std.specs.Prelude.{◌≡◌, ◌≤◌, ◌<◌, ◌+◌, ◌-◌, true, false, min, Ok, length, IfOk};
 ghost use Rattle.segment_image.specs.Checks.{first_fault};
@@ -21,23 +21,23 @@ use segment_image::layout::{
 use segment_image::{SegmentHead, block};
 use std::alloc::{AllocError, Global};
 
-/// Where the units of a record's buckets stand, and their marks.
+/// Where the units of a record's buckets are, and their marks.
 #[derive(Clone, Copy, Debug)]
 pub(crate) struct Buckets {
     /// The version of the format.
     version: u64,
     /// How many buckets there are.
     number: usize,
-    /// The reference of the block of counts, 0 where there is none.
+    /// The reference of the block of counts, 0 if there is none.
     counts: usize,
-    /// What the single word says, where it has a lawful form.
+    /// What the single word says, if its form is valid.
     single: Option<SingleWord>,
     /// The mark of the packed bucket.
     single_mark: u64,
 }
 
 impl Buckets {
-    /// Those of the record at `at`, which names a lawful spec with buckets, in a version of the format.
+    /// The buckets of the record at `at`, whose spec is valid and has buckets, in a version of the format.
     pub(crate) fn at(version: u64, words: &[u64], at: usize) -> Buckets
         requires within { at + HISTOGRAM_LEAST ≤ length words.now }
         requires buckets { record_buckets words.now at ≡ field_at words.now at HISTOGRAM_BUCKETS }
@@ -78,7 +78,7 @@ pub(crate) fn buckets_fault(
     None
 }
 
-// Whether the counts reference is 0 or names a block of counts for so many buckets.
+// Whether the counts reference is 0, or names a block of counts that has room for these buckets.
 fn has_counts(words: &[u64], head: &SegmentHead, at: usize, buckets: &Buckets) -> bool
     requires header { header_of words.now ≡ Ok head.now }
     requires buckets { AreBucketsAt head.now.version words.now at buckets.now }
@@ -95,7 +95,7 @@ fn has_counts(words: &[u64], head: &SegmentHead, at: usize, buckets: &Buckets) -
     }
 }
 
-// The count of a bucket, 0 where there is no block of counts.
+// The count of a bucket, 0 if there is no block of counts.
 fn count(words: &[u64], buckets: &Buckets, bucket: usize) -> u64
     requires room { IsRoomFor words.now buckets.now }
     requires bucket { bucket < buckets.now.number }
@@ -127,7 +127,7 @@ fn units_packed(single: &Option<SingleWord>, bucket: usize) -> u64
     }
 }
 
-// The total of a bucket; one that passes 2^64 - 1 is answered as that.
+// The total of a bucket, or 2^64 - 1 if it is more than that.
 fn total(words: &[u64], buckets: &Buckets, bucket: usize) -> u64
     requires room { IsRoomFor words.now buckets.now }
     requires bucket { bucket < buckets.now.number }
@@ -149,7 +149,7 @@ fn has_large(words: &[u64], buckets: &Buckets) -> bool
     false
 }
 
-// Whether the single word has no form, or says that the counts are in use while there are none.
+// Whether the form of the single word is not valid, or it says that the counts are in use and there are none.
 fn is_bad_single(buckets: &Buckets) -> bool
     ensures { result ≡ is_bad_single_of buckets.now.single buckets.now.counts }
 {
@@ -197,7 +197,7 @@ fn mark(words: &[u64], buckets: &Buckets, bucket: usize) -> u64
     }
 }
 
-// Whether the mark of a bucket is above its total, in a packed bucket whose units move also above 65,535.
+// Whether the mark of a bucket is above its total; and, if it is a packed bucket whose units move, also above 65,535.
 fn is_large_mark(words: &[u64], buckets: &Buckets, bucket: usize) -> bool
     requires room { IsRoomFor words.now buckets.now }
     requires bucket { bucket < buckets.now.number }
@@ -208,7 +208,7 @@ fn is_large_mark(words: &[u64], buckets: &Buckets, bucket: usize) -> bool
     mark > total(words, buckets, bucket) && (!may_move || mark > MAX_PACKED)
 }
 
-// Whether there is a single mark while no bucket is or was packed, or a bucket's mark is too large.
+// Whether there is a single mark although no bucket is or was packed, or a bucket's mark is too large.
 fn is_bad_mark(words: &[u64], buckets: &Buckets) -> bool
     requires { IsRoomFor words.now buckets.now }
     ensures { result ≡ is_bad_mark_at buckets.now.version words.now buckets.now.counts buckets.now.number buckets.now.single buckets.now.single_mark }
@@ -224,7 +224,7 @@ fn is_bad_mark(words: &[u64], buckets: &Buckets) -> bool
     false
 }
 
-/// The totals of all buckets, each under its least value, where none is above 2^32 - 1.
+/// The totals of all buckets, each with its least value. None of them is above 2^32 - 1.
 pub(crate) fn counts_of(
     alloc: Global,
     words: &[u64],

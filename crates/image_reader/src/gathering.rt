@@ -17,25 +17,25 @@ use segment_image::layout::{
 };
 use std::alloc::{AllocError, Global};
 
-/// What the records of a list say, as far as they were gathered.
+/// What the records of a list say, as far as they have been gathered.
 #[derive(Drop)]
 pub(crate) struct Gathering {
-    /// The references of the histograms that are read: of each name the first without a fault.
+    /// The references of the histograms that are read: for each name the first one without a fault.
     pub(crate) hists: Vec<u64>,
-    /// The samples of those that are sparse.
+    /// The samples of the sparse ones.
     pub(crate) samples: Samples,
     /// The references of the samples that are not the first of their histogram and value.
     pub(crate) later: Vec<u64>,
     /// The records that have a fault.
     pub(crate) bad: Vec<BadRecord>,
-    /// The names of these histograms.
+    /// The names of the histograms that are read.
     names: Names,
-    /// Of each word, whether a sparse histogram is read there.
+    /// For each word, whether a sparse histogram is read there.
     sparse: Vec<bool>,
 }
 
 impl Gathering {
-    /// Nothing gathered yet of a list in so many words.
+    /// An empty gathering for a list in these words.
     pub(crate) fn new(
         alloc: Global,
         words: &[u64],
@@ -54,7 +54,7 @@ impl Gathering {
         })
     }
 
-    /// Gathers what the record at a reference says, which stands behind those so far.
+    /// Gathers what the record at a reference says. It comes after those that were gathered so far.
     pub(crate) fn add(
         &mut self,
         alloc: Global,
@@ -101,7 +101,7 @@ impl Gathering {
         }
     }
 
-    // Keeps the reference of a record without a fault, unless one of its name is kept.
+    // Keeps the reference of a record without a fault, unless one with the same name is kept already.
     fn keep(
         &mut self,
         alloc: Global,

@@ -22,7 +22,8 @@ use segment_image::layout::{
 };
 use std::alloc::{AllocError, Global};
 
-/// The histogram of the record in a block at `at`, which has no fault. Of a sparse one these are the samples of its list.
+/// The histogram of the record in a block at `at`, which has no fault. `samples` are those of its list; a sparse
+/// histogram reads its counts from them.
 pub(crate) fn histogram(
     alloc: Global,
     words: &[u64],
@@ -55,7 +56,7 @@ pub(crate) fn histogram(
     })
 }
 
-// The ranges of a lawful spec, which can only want memory.
+// The ranges of a valid spec. The only error is that memory runs out.
 fn ranges_of(alloc: Global, spec: &Spec) -> Result<Ranges, AllocError>
     requires { spec_fault spec.now ≡ None }
     ensures value { IfOk result (λ ranges. ranges ≡ boundaries_of spec.now) }

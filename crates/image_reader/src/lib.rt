@@ -1,12 +1,12 @@
 //! Reads the words of a segment, whatever they are.
 //!
-//! A reading is exactly what the definition in `bucket_ranges`, `specs/Reading.antt`, gives of the words: of each
-//! name the first lawful histogram of the list, with the samples of those that are sparse, each record that has a
-//! fault, and why the list goes no further. The reader takes time that is linear in the words and in the buckets that
-//! it reads, up to a logarithm for names and samples: a reference that was met and a sparse histogram that is read are
-//! marked in one truth value a word each, names are kept in an ordered set, and samples in an ordered map. A list of
-//! buckets is made only of a record without a fault, and only of the first of its name; a [`Survey`] of the list makes none
-//! until it is asked for one histogram. Memory is wanted only where a growth was refused.
+//! A reading is exactly what the definition in `bucket_ranges`, `specs/Reading.antt`, gives for the words: for each
+//! name the first valid histogram of the list, with its samples if it is sparse; each record that has a fault; and why
+//! the list stops. The time is linear in the words and in the buckets that are read, up to a logarithm for names and
+//! samples: two arrays of truth values, one for each word, mark the references that were visited and the sparse
+//! histograms that are read; names are kept in an ordered set, and samples in an ordered map. A list of buckets is made
+//! only for a record without a fault, and only for the first of its name; a [`Survey`] of the list makes none until it
+//! is asked for one histogram. A call runs out of memory only if the allocator refused to let one of these grow.
 #![tactic(auto)]
 
 mod buckets;

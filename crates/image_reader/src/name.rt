@@ -36,7 +36,7 @@ pub(crate) fn name_at(alloc: Global, words: &[u64], at: usize) -> Result<Vec<u8>
     Ok(name)
 }
 
-/// The bytes of the name of a record, so many as `len` says, whose words lie in the image.
+/// The `len` bytes of the name of a record, whose words lie in the image.
 pub(crate) fn read_name(
     alloc: Global,
     words: &[u64],
@@ -54,7 +54,7 @@ pub(crate) fn read_name(
     Ok(name)
 }
 
-// The bytes of words, eight for each, the least first.
+// The bytes of words, eight for each, the least significant first.
 fn bytes_of(alloc: Global, words: &[u64]) -> Result<Vec<u8>, AllocError>
     ensures { IfOk result (λ bytes. bytes.items ≡ bytes_of_words words.now) }
 {

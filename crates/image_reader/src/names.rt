@@ -9,7 +9,7 @@ use byteorder::{BigEndian, ByteOrder};
 use std::alloc::{AllocError, Global};
 use std::collections::BTreeSet;
 
-// The first eight bytes of a name as a number, or all of a shorter one.
+// The first eight bytes of a name as a number, or all bytes of a shorter name.
 fn prefix(name: &[u8]) -> u64
     requires { 0 < length name.now }
     ensures { result ≡ prefix_of name.now }
@@ -17,8 +17,9 @@ fn prefix(name: &[u8]) -> u64
     BigEndian::read_uint(name, name.len().min(8))
 }
 
-/// Names in an ordered set. A name is kept as the number of its first eight bytes and the bytes behind them: the number
-/// tells these eight, of which none is 0, so one of up to eight bytes wants no memory of its own.
+/// Names in an ordered set. A name is kept as a number made from its first eight bytes, and the bytes after them. No
+/// byte of a name is 0, so the number determines these bytes, and a name of up to eight bytes needs no memory of its
+/// own.
 #[derive(Drop)]
 pub(crate) struct Names {
     set: BTreeSet<(u64, Vec<u8>)>,
@@ -37,7 +38,7 @@ impl Names {
         }
     }
 
-    /// Adds a name, and says whether it is new.
+    /// Adds a name, and returns whether it is new.
     pub(crate) fn insert(&mut self, alloc: Global, name: &[u8]) -> Result<bool, AllocError>
         requires keys { AreKeys self.old }
         requires lawful { is_name name.now ≡ true }

@@ -16,10 +16,10 @@ use std::alloc::{AllocError, Global};
 
 /// Returns what the words of a segment read as.
 ///
-/// The header's first fault is returned, `TooShort` to `BadQueue`; `NoMemory` where memory runs out; else exactly the
-/// reading of the words. It has of each name on the list the first valid histogram, with its totals and marks; each
-/// record that has a fault, with its first one; and why the list stops [answer]. Of each histogram the spec is valid,
-/// each bucket has its count, and the units fit a word [readable].
+/// It returns the header's first fault, `TooShort` to `BadQueue`; `NoMemory` if memory runs out; otherwise exactly the
+/// reading of the words. The reading has for each name on the list the first valid histogram, with its totals and
+/// marks; each record that has a fault, with its first fault; and why the list stops [answer]. The spec of each
+/// histogram is valid, each bucket has its count, and the units fit a word [readable].
 ///
 /// Any words may be given: records with faults, and why the list stops, are part of the reading.
 pub fn read(alloc: Global, words: &[u64]) -> Result<Reading, ImageFault>
@@ -30,8 +30,8 @@ pub fn read(alloc: Global, words: &[u64]) -> Result<Reading, ImageFault>
     read_list(alloc, words, &head).map_err(|_| ImageFault::NoMemory)
 }
 
-/// Returns whether what the words of a segment read as has more keys than `most`: buckets of its histograms, and
-/// values of the sparse ones. Or the header's first fault, or `NoMemory`, as of [`read`] [answer].
+/// Returns whether what the words of a segment read as has more than `most` keys: buckets of its histograms, and
+/// values of the sparse ones. Like [`read`], it can also return the header's first fault, or `NoMemory` [answer].
 ///
 /// No counts are made, so this takes much less memory than [`read`].
 pub fn has_more_keys(alloc: Global, words: &[u64], most: u64) -> Result<bool, ImageFault>
@@ -44,7 +44,7 @@ pub fn has_more_keys(alloc: Global, words: &[u64], most: u64) -> Result<bool, Im
     }
 }
 
-// What the list of a segment has whose header is `head`.
+// What the list of the segment has whose header is `head`.
 fn survey_of(alloc: Global, words: &[u64], head: &SegmentHead) -> Result<Survey, AllocError>
     requires { header_of words.now ≡ Ok head.now }
     ensures { IfOk result (IsSurvey words.now head.now) }
@@ -53,7 +53,7 @@ fn survey_of(alloc: Global, words: &[u64], head: &SegmentHead) -> Result<Survey,
     Survey::of(alloc, words, head, list)
 }
 
-// What the words read as whose header is `head`.
+// What the words with the header `head` read as.
 fn read_list(alloc: Global, words: &[u64], head: &SegmentHead) -> Result<Reading, AllocError>
     requires { header_of words.now ≡ Ok head.now }
     ensures reading { IfOk result (λ reading. IsReading words.now head.now (reading_view reading)) }

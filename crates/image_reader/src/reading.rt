@@ -13,12 +13,12 @@ pub struct HistReading {
     pub name: Vec<u8>,
     /// How it splits the values into buckets.
     pub spec: Spec,
-    /// The least value of each bucket and its units, all buckets in order; or of a sparse histogram each value that
-    /// has a record and its units, ascending.
+    /// The least value of each bucket and its units, all buckets in order; or, if the histogram is sparse, each value
+    /// that has a record and its units, ascending.
     pub counts: Vec<(i32, u64)>,
-    /// Beside each of these the units that deltas have taken.
+    /// For each of these, the units that deltas have taken.
     pub marks: Vec<u64>,
-    /// The sum of the samples. That of a record fits 64 bits.
+    /// The sum of the samples. In a record it fits 64 bits.
     pub sum: i128,
     /// The part of the sum that deltas have taken.
     pub sum_mark: i128,
@@ -44,10 +44,10 @@ pub struct Reading {
     pub full: bool,
     /// Whether some thread found the segment corrupt.
     pub corrupt: bool,
-    /// Of each name the first lawful histogram, in the order of the list.
+    /// For each name the first valid histogram, in the order of the list.
     pub hists: Vec<HistReading>,
-    /// Each record of a histogram or of a sample that has a fault, in the order of the list.
+    /// Each record, of a histogram or of a sample, that has a fault, in the order of the list.
     pub bad: Vec<BadRecord>,
-    /// Why the list goes no further before its end: `BadRef`, `BadBlock` or `Loop`. What was read before stays.
+    /// Why the list stops before its end: `BadRef`, `BadBlock` or `Loop`. What was read before that stays.
     pub stopped: Option<ImageFault>,
 }

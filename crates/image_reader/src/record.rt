@@ -1,7 +1,7 @@
 //! The checks of one record of a histogram.
 //!
-//! The checks stand in the order of the faults that they give: the kind, the name, the spec, the units of the buckets,
-//! the sums.
+//! The checks are made in the order of the faults that they give: the kind, the name, the spec, the units of the
+//! buckets, the sums.
 
 ghost use Rattle.std.specs.Prelude.{◌≡◌, ◌≤◌, ◌+◌, true, false, Ok, length, IfOk, MatchResult};
 ghost use Rattle.segment_image.specs.Checks.{first_fault};
@@ -26,7 +26,7 @@ use std::alloc::{AllocError, AllocFailed, Global};
 /// Why a record gives no histogram.
 #[derive(Debug, Drop)]
 pub(crate) enum Refusal {
-    /// There was no memory.
+    /// Memory ran out.
     Memory,
     /// The record's first fault.
     Fault(RecordFault),
@@ -52,8 +52,8 @@ impl<T: Drop> From<AllocFailed<T>> for Refusal {
     }
 }
 
-/// The name of the record in a block at `at`, where the record has no fault, or its first fault. No list of the buckets
-/// is made.
+/// The name of the record in a block at `at` if the record has no fault, or its first fault. No list of the buckets is
+/// made.
 pub(crate) fn check_record(
     alloc: Global,
     words: &[u64],
@@ -76,7 +76,7 @@ pub(crate) fn check_record(
     }
 }
 
-// Whether the block is shorter than a record's fields, or the kind is none that there is.
+// Whether the block is shorter than a record's fields, or its kind does not exist.
 fn is_bad_kind(words: &[u64], at: usize) -> bool
     requires { at + BLOCK_LEAST ≤ length words.now }
     ensures value { result ≡ is_bad_kind_of words.now at }
@@ -86,7 +86,7 @@ fn is_bad_kind(words: &[u64], at: usize) -> bool
     words[at + BLOCK_SIZE] < HISTOGRAM_LEAST as u64 || kind < KIND_LINEAR || kind > KIND_SPARSE
 }
 
-// The first fault of a record whose kind and name are lawful.
+// The first fault of a record whose kind and name are valid.
 fn fault_behind_name(words: &[u64], head: &SegmentHead, at: usize) -> Option<RecordFault>
     requires header { header_of words.now ≡ Ok head.now }
     requires kind { is_bad_kind_of words.now at ≡ false }
@@ -108,7 +108,7 @@ fn fault_behind_name(words: &[u64], head: &SegmentHead, at: usize) -> Option<Rec
     None
 }
 
-// The first fault of the units of a record whose spec is lawful: `BadCounts`, `BadSingle` or `BadMark`.
+// The first fault of the units of a record whose spec is valid: `BadCounts`, `BadSingle` or `BadMark`.
 fn units_fault(words: &[u64], head: &SegmentHead, at: usize) -> Option<RecordFault>
     requires header { header_of words.now ≡ Ok head.now }
     requires within { at + HISTOGRAM_LEAST ≤ length words.now }
@@ -128,7 +128,7 @@ fn units_fault(words: &[u64], head: &SegmentHead, at: usize) -> Option<RecordFau
     None
 }
 
-// Whether a sum, its mark or their difference is beyond 2^31 * (2^32 - 1) in size.
+// Whether a sum, its mark or their difference is larger than 2^31 * (2^32 - 1) in absolute value.
 fn is_bad_sum(sum: i64, mark: i64) -> bool
     ensures { result ≡ is_bad_sum_of sum mark }
 {

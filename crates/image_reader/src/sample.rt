@@ -23,8 +23,8 @@ pub(crate) struct Sample {
     mark: u32,
 }
 
-/// The sample of the record in a block at `at`, or nothing where the record is bad. Of each word `sparse` says whether
-/// a sparse histogram is read there.
+/// The sample of the record in a block at `at`, or nothing if the record is bad. `sparse` says for each word whether a
+/// sparse histogram is read there.
 pub(crate) fn sample_at(words: &[u64], at: usize, sparse: &[bool]) -> Option<Sample>
     requires least { BLOCK_LEAST ≤ field_at words.now at BLOCK_SIZE }
     requires within { at + field_at words.now at BLOCK_SIZE ≤ length words.now }
@@ -59,7 +59,7 @@ fn is_marked(marks: &[bool], reference: u64) -> bool
     at < marks.len() && marks[at]
 }
 
-/// The samples that a reader has met, in an ordered map: the count and the mark of each value of each histogram.
+/// The samples that a reader has visited, in an ordered map: the count and the mark of each value of each histogram.
 #[derive(Drop)]
 pub(crate) struct Samples {
     map: BTreeMap<(u32, i32), (u32, u32)>,
@@ -76,7 +76,7 @@ impl Samples {
         }
     }
 
-    /// Adds a sample, unless one of its histogram and value is there, and says whether it was added.
+    /// Adds a sample, unless there is one with its histogram and value, and returns whether it was added.
     pub(crate) fn insert(&mut self, sample: &Sample) -> Result<bool, AllocError>
         requires are { AreSamples self.old }
         requires small { is_i32 sample.now.value ≡ true }
@@ -93,7 +93,7 @@ impl Samples {
         Ok(true)
     }
 
-    /// The values of a histogram, ascending, and their counts; and their marks.
+    /// The values of a histogram, ascending, with their counts; and their marks.
     pub(crate) fn of(
         &self,
         alloc: Global,
@@ -114,7 +114,7 @@ impl Samples {
         Ok((counts, marks))
     }
 
-    /// How many values of a histogram there are; more than 2^64 - 1 are answered as that.
+    /// How many values of a histogram there are, or 2^64 - 1 if there are more.
     pub(crate) fn number_of(&self, histogram: u32) -> u64
         requires { AreSamples self.now }
         ensures { result ≡ min (length (held self.now histogram)) 18446744073709551615 }

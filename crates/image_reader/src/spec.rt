@@ -12,7 +12,7 @@ use segment_image::layout::{
 };
 use std::alloc::{AllocError, Global};
 
-/// Whether the words of a record's spec are unlawful, or its counts do not fit in a page.
+/// Whether the words of a record's spec are not valid, or its counts do not fit in a page.
 pub(crate) fn is_bad_spec(words: &[u64], page: u64, at: usize) -> bool
     requires long { HISTOGRAM_LEAST ≤ field_at words.now at BLOCK_SIZE }
     requires within { at + field_at words.now at BLOCK_SIZE ≤ length words.now }
@@ -27,7 +27,7 @@ pub(crate) fn is_bad_spec(words: &[u64], page: u64, at: usize) -> bool
     BLOCK_HEADER as u64 + 2 * words[at + HISTOGRAM_BUCKETS] > page
 }
 
-// Whether the words of a record's spec are lawful and lie in its block.
+// Whether the words of a record's spec are valid and lie in its block.
 fn has_spec(words: &[u64], at: usize) -> bool
     requires long { HISTOGRAM_LEAST ≤ field_at words.now at BLOCK_SIZE }
     requires within { at + field_at words.now at BLOCK_SIZE ≤ length words.now }
@@ -51,7 +51,7 @@ fn has_spec(words: &[u64], at: usize) -> bool
     is_linear(min, max, n)
 }
 
-// Whether a minimum, a maximum and a number of buckets are those of a lawful linear spec.
+// Whether a minimum, a maximum and a number of buckets are those of a valid linear spec.
 fn is_linear(min: u64, max: u64, n: u64) -> bool
     ensures value { result ≡ is_linear_named min max n }
     ensures few { result ≡ true → n ≤ MAX_BUCKETS }
@@ -64,7 +64,7 @@ fn is_linear(min: u64, max: u64, n: u64) -> bool
         && n <= max - min + 2
 }
 
-// Where the ranges of a custom record stand: behind its name.
+// Where the ranges of a custom record begin: after its name.
 fn inner_from(words: &[u64], at: usize) -> usize
     requires long { HISTOGRAM_LEAST ≤ field_at words.now at BLOCK_SIZE }
     requires within { at + field_at words.now at BLOCK_SIZE ≤ length words.now }
@@ -74,7 +74,7 @@ fn inner_from(words: &[u64], at: usize) -> usize
     at + HISTOGRAM_NAME + (words[at + HISTOGRAM_NAME_LENGTH] as usize).div_ceil(8)
 }
 
-// Whether the words of the spec of a custom record are lawful and lie in its block.
+// Whether the words of the spec of a custom record are valid and lie in its block.
 fn has_custom(words: &[u64], at: usize) -> bool
     requires kind { field_at words.now at HISTOGRAM_KIND ≡ KIND_CUSTOM }
     requires long { HISTOGRAM_LEAST ≤ field_at words.now at BLOCK_SIZE }
@@ -98,7 +98,7 @@ fn has_custom(words: &[u64], at: usize) -> bool
         && inner[count - 1] == words[at + HISTOGRAM_MAX]
 }
 
-// Whether numbers ascend between 0 and the boundary behind the last bucket.
+// Whether numbers ascend, all above 0 and below the end of the last bucket.
 fn ascends(numbers: &[u64]) -> bool
     ensures { result ≡ ascends_inside numbers.now }
 {
@@ -112,7 +112,7 @@ fn ascends(numbers: &[u64]) -> bool
     low < u64::from(LAST_BOUNDARY)
 }
 
-/// The spec of a record whose words of it are lawful.
+/// The spec of a record, whose spec words are valid.
 pub(crate) fn spec_at(alloc: Global, words: &[u64], at: usize) -> Result<Spec, AllocError>
     requires long { HISTOGRAM_LEAST ≤ field_at words.now at BLOCK_SIZE }
     requires within { at + field_at words.now at BLOCK_SIZE ≤ length words.now }

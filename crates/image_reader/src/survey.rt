@@ -17,20 +17,20 @@ use segment_image::layout::{HISTOGRAM_BUCKETS, HISTOGRAM_KIND, KIND_SPARSE};
 use segment_image::{ImageFault, SegmentHead};
 use std::alloc::{AllocError, Global};
 
-/// What the list of a segment has: its records, which of them have a fault, and which histograms are read. Their counts are
-/// made of the words one histogram at a time, by [`Survey::hist`].
+/// What the list of a segment has: its records, which of them have a fault, and which histograms are read. Their counts
+/// are read from the words one histogram at a time, by [`Survey::hist`].
 #[derive(Drop)]
 pub struct Survey {
-    /// The references of all records on the list, in its order: also of those that are not read.
+    /// The references of all records on the list, in its order, including those that are not read.
     pub references: Vec<u64>,
-    /// Why the list goes no further before its end: `BadRef`, `BadBlock` or `Loop`.
+    /// Why the list stops before its end: `BadRef`, `BadBlock` or `Loop`.
     pub stopped: Option<ImageFault>,
-    /// The references of the histograms that are read, in the order of the list: of each name the first lawful one.
+    /// The references of the histograms that are read, in the order of the list: for each name the first valid one.
     pub hists: Vec<u64>,
     /// The references of the samples without a fault that are not the first of their histogram and value, in the order
     /// of the list.
     pub later: Vec<u64>,
-    /// Each record of a histogram or of a sample that has a fault, in the order of the list.
+    /// Each record, of a histogram or of a sample, that has a fault, in the order of the list.
     pub bad: Vec<BadRecord>,
     // The samples of sparse histograms.
     samples: Samples,
@@ -56,11 +56,11 @@ fn gather(
 }
 
 impl Survey {
-    /// Surveys a list, which is that of the segment whose header, read from the same words, is `head`: which of its
-    /// histograms are read, which of its records are bad, and its samples [survey]. It keeps the list [list].
+    /// Surveys the list of the segment whose header, read from the same words, is `head`: finds which of its histograms
+    /// are read, which of its records are bad, and its samples [survey]. It keeps the list [list].
     ///
-    /// The one error is that memory runs out: it takes up to some 100 bytes for each record on the list and one for
-    /// each word, however many buckets there are.
+    /// The only error is that memory runs out. It takes up to about 100 bytes for each record on the list and one byte
+    /// for each word, however many buckets there are.
     pub fn of(
         alloc: Global,
         words: &[u64],
@@ -84,10 +84,10 @@ impl Survey {
         })
     }
 
-    /// Returns what the histogram at one of the references in `hists` reads as, where the survey is of these words
+    /// Returns what the histogram at one of the references in `hists` reads as; the survey has to be of these words
     /// [hist]. Its spec is valid, each bucket has its count, and the units fit a word [readable].
     ///
-    /// The one error is that memory runs out, for its name, its spec, and 24 bytes for each of its keys.
+    /// The only error is that memory runs out. It takes memory for the name, the spec, and 24 bytes for each key.
     pub fn hist(
         &self,
         alloc: Global,
@@ -104,7 +104,7 @@ impl Survey {
         histogram(alloc, words, head, reference as usize, &self.samples)
     }
 
-    // How many keys the histogram at one of the references in `hists` has: buckets, or values of a sparse one.
+    // How many keys the histogram at one of the references in `hists` has: buckets, or values if it is sparse.
     fn keys(&self, words: &[u64], head: &SegmentHead, reference: u64) -> u64
         requires header { header_of words.now ≡ Ok head.now }
         requires survey { IsSurvey words.now head.now self.now }
@@ -119,7 +119,7 @@ impl Survey {
         }
     }
 
-    /// Returns whether the histograms that are read have more keys than `most`, all together: buckets, and values of
+    /// Returns whether the histograms that are read have more than `most` keys, all together: buckets, and values of
     /// sparse ones. It takes no memory.
     pub fn has_more_keys(&self, words: &[u64], head: &SegmentHead, most: u64) -> bool
         requires header { header_of words.now ≡ Ok head.now }

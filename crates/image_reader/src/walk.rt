@@ -13,12 +13,12 @@ use std::alloc::{AllocError, Global};
 pub struct Listed {
     /// The references of all records on the list, in its order.
     pub references: Vec<u64>,
-    /// Why the list goes no further before its end: `BadRef`, `BadBlock` or `Loop`.
+    /// Why the list stops before its end: `BadRef`, `BadBlock` or `Loop`.
     pub stopped: Option<ImageFault>,
 }
 
 /// Returns the list of the segment whose header, read from the same words, is `head`: the references of its records
-/// in order [listed], and why it stops [stopped]. The one error is that memory runs out. Each block is marked when it
+/// in order [listed], and why it stops [stopped]. The only error is that memory runs out. Each block is marked when it
 /// is visited, so the walk ends.
 pub fn list_of(alloc: Global, words: &[u64], head: &SegmentHead) -> Result<Listed, AllocError>
     requires { header_of words.now ≡ Ok head.now }

@@ -1,4 +1,4 @@
--- A sum of one element more that does not pass 2^64 - 1.
+-- A sum with one more element, held to at most 2^64 - 1.
 use Rattle.std.proofs.Common.{◌≡◌, ◌∙◌, ℕ, ◌+◌, ◌<◌, List, length, map, min, sum_by, get_or, take, ap, arith}
 use Rattle.std.proofs.lemmas.List.{map_more}
 use Rattle.std.proofs.lemmas.List.Sums.{sum_by_push}

@@ -47,7 +47,7 @@ kinds_line is_human hists =
     codes "histograms   " ∷ kind_text is_human hists (codes "linear") ∷ codes ", " ∷ kind_text is_human hists (codes "boolean")
     ∷ codes ", " ∷ kind_text is_human hists (codes "custom") ∷ codes ", " ∷ kind_text is_human hists (codes "sparse") ∷ codes "\n" ∷ [])
 
--- how far the list of records can be read
+-- whether the list of records is whole, or why it stops
 abbrev pub list_text : Option ImageFault → List ℕ
 list_text None = codes "whole"
 list_text (Some fault) = codes "stopped: " ++ image_fault_word fault

@@ -15,10 +15,10 @@ is_frozen head = head.version == VERSION_FROZEN
 abbrev pub spent_by : Bool → Histogram → ℕ
 spent_by frozen hist = if frozen then used_by hist else units_of hist
 
--- those of all histograms; more than 2^64 - 1 count as that
+-- the units that all histograms have used, or 2^64 - 1 if there are more
 abbrev pub spent_of : Bool → List Histogram → ℕ
 spent_of frozen hists = min (sum_by (spent_by frozen) hists) 18446744073709551615
 
--- the units that a segment has left when so many are used
+-- the units that a segment has left when this many are used
 abbrev pub units_left : ℕ → ℕ
 units_left spent = MAX_UNITS - spent

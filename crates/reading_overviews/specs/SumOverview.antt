@@ -1,4 +1,4 @@
--- The overview of a sum of images: what its inputs say beside their histograms, and what it has of these.
+-- The overview of a sum of images: what its inputs say apart from their histograms, and the histograms that it has.
 use Rattle.std.specs.Prelude.{Bool, false, ◌==◌, if◌then◌else◌, ℕ, List, [], ◌∷◌, ◌++◌, codes}
 use Rattle.bucket_ranges.specs.Reading.{Histogram}
 use Rattle.reading_texts.specs.Exporting.{joined}
@@ -11,12 +11,12 @@ use Rattle.reading_overviews.specs.Spent.{spent_of}
 abbrev pub number_line : Bool → List ℕ → ℕ → List ℕ
 number_line is_human label n = joined (label ∷ number is_human n ∷ codes "\n" ∷ [])
 
--- the same, where it is not 0
+-- the same, if it is not 0
 abbrev pub some_line : Bool → List ℕ → ℕ → List ℕ
 some_line is_human label n = if n == 0 then [] else number_line is_human label n
 
--- the lines of the inputs: how many images there are, and, each where it is not 0, how many inputs are left out, and how many
--- images are full, or corrupt
+-- the lines of the inputs: how many images there are, and, each if it is not 0, how many inputs are left out, and how many images are full,
+-- or corrupt
 abbrev pub input_lines : Bool → SumHead → List ℕ
 input_lines is_human head =
     number_line is_human (codes "images       ") head.images
@@ -24,15 +24,15 @@ input_lines is_human head =
     ++ some_line is_human (codes "full         ") head.full
     ++ some_line is_human (codes "corrupt      ") head.corrupt
 
--- the lines of what of them is in no number: of how many images the list stops, how many records are bad, and how many
--- specs are others than those that are shown of their names
+-- the lines of what the numbers of the sum leave out: in how many images the list stops, how many records are bad, and how many specs are
+-- not shown because another one with the same name is
 abbrev pub lacking_lines : Bool → SumHead → List ℕ
 lacking_lines is_human head =
     some_line is_human (codes "stopped      ") head.stopped
     ++ some_line is_human (codes "bad records  ") head.bad
     ++ some_line is_human (codes "other specs  ") head.others
 
--- all lines; the last is that of the units of all histograms, of which more than 2^64 - 1 count as that
+-- all lines; the last gives the units of all histograms, or 2^64 - 1 if there are more
 abbrev pub sum_overview : Bool → SumHead → List Histogram → List ℕ
 sum_overview is_human head hists =
     input_lines is_human head

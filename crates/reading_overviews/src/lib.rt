@@ -1,8 +1,9 @@
-//! The overview of an image: its header, its room, its units, and what of it can be read; and how numbers are written, for it and for all
-//! texts for people.
+//! The overview of an image: its header, its room, its units, and what of it can be read; and how numbers are written,
+//! in the overview and in all texts for people.
 //!
-//! The overview is defined in `specs/Overview.antt`, over the header of an image and its reading. What an image has used is counted
-//! as adoption counts it. That of a sum of images, which has no header, is defined in `specs/SumOverview.antt`.
+//! The overview is defined in `specs/Overview.antt`, over the header of an image and its reading. The units that an
+//! image of version 2 has used are those that adoption counts; in version 1 they are the units of its histograms. The
+//! overview of a sum of images, which has no header, is defined in `specs/SumOverview.antt`.
 #![tactic(auto)]
 
 mod numbers;

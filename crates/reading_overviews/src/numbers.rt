@@ -6,14 +6,14 @@ ghost use Rattle.reading_overviews.specs.Numbers.{has_comma as has_comma_of, com
 use itoa::Buffer;
 use std::alloc::AllocError;
 
-// Whether a comma comes before so many digits, which are the last ones of a number.
+// Whether a comma comes before the last `left` digits of a number.
 fn has_comma(left: usize) -> bool
     ensures { result ≡ has_comma_of left }
 {
     left != 0 && left % 3 == 0
 }
 
-// Puts the comma before so many digits.
+// Puts the comma before the last `left` digits, if there is one.
 fn put_comma(text: &mut Vec<u8>, left: usize) -> Result<(), AllocError>
     ensures { OnOk result (text.new.items ≡ text.old.items ++ comma_text left) }
 {
@@ -23,7 +23,7 @@ fn put_comma(text: &mut Vec<u8>, left: usize) -> Result<(), AllocError>
     Ok(())
 }
 
-// Puts digit `i`, and the comma after it.
+// Puts digit `i`, and the comma after it, if there is one.
 fn put_digit(text: &mut Vec<u8>, digits: &[u8], i: usize) -> Result<(), AllocError>
     requires { i < length digits.now }
     ensures { OnOk result (text.new.items ≡ text.old.items ++ digit_at digits.now i) }
@@ -43,7 +43,7 @@ fn put_grouped(text: &mut Vec<u8>, digits: &[u8]) -> Result<(), AllocError>
     Ok(())
 }
 
-/// Appends the digits of a number to a text, with a comma between thousands if it is for people. The one error is that
+/// Appends the digits of a number to a text, with a comma between thousands if it is for people. The only error is that
 /// memory runs out.
 pub fn put_digits(text: &mut Vec<u8>, is_human: bool, digits: &[u8]) -> Result<(), AllocError>
     ensures { OnOk result (text.new.items ≡ text.old.items ++ written is_human digits.now) }
@@ -54,7 +54,7 @@ pub fn put_digits(text: &mut Vec<u8>, is_human: bool, digits: &[u8]) -> Result<(
     text.extend_from_slice(digits)
 }
 
-/// Appends a number to a text, with a comma between thousands if it is for people. The one error is that memory runs
+/// Appends a number to a text, with a comma between thousands if it is for people. The only error is that memory runs
 /// out.
 pub fn put_number(text: &mut Vec<u8>, is_human: bool, n: u64) -> Result<(), AllocError>
     ensures { OnOk result (text.new.items ≡ text.old.items ++ number is_human n) }
@@ -63,7 +63,7 @@ pub fn put_number(text: &mut Vec<u8>, is_human: bool, n: u64) -> Result<(), Allo
     put_digits(text, is_human, digits.format(n).as_bytes())
 }
 
-/// Appends the sign of a number that is below 0 to a text. The one error is that memory runs out.
+/// Appends the sign of a number to a text, if it is below 0. The only error is that memory runs out.
 pub fn put_sign(text: &mut Vec<u8>, n: i128) -> Result<(), AllocError>
     ensures { OnOk result (text.new.items ≡ text.old.items ++ sign n) }
 {
@@ -73,7 +73,7 @@ pub fn put_sign(text: &mut Vec<u8>, n: i128) -> Result<(), AllocError>
     Ok(())
 }
 
-/// Appends a number with its sign to a text, with a comma between thousands if it is for people. The one error is that
+/// Appends a number with its sign to a text, with a comma between thousands if it is for people. The only error is that
 /// memory runs out.
 pub fn put_signed(text: &mut Vec<u8>, is_human: bool, n: i128) -> Result<(), AllocError>
     ensures { OnOk result (text.new.items ≡ text.old.items ++ signed is_human n) }
@@ -84,7 +84,7 @@ pub fn put_signed(text: &mut Vec<u8>, is_human: bool, n: i128) -> Result<(), All
     Ok(())
 }
 
-// Puts the sign of the difference of two numbers.
+// Puts the sign of the difference of two numbers, if it is below 0.
 fn put_sign_of_difference(text: &mut Vec<u8>, left: i128, right: i128) -> Result<(), AllocError>
     ensures { OnOk result (text.new.items ≡ text.old.items ++ sign (left -ℤ right)) }
 {
@@ -95,7 +95,7 @@ fn put_sign_of_difference(text: &mut Vec<u8>, left: i128, right: i128) -> Result
 }
 
 /// Appends the first number less the second to a text, with its sign, and with a comma between thousands if it is for
-/// people. The difference may be one that no `i128` has. The one error is that memory runs out.
+/// people. The difference may be too large for an `i128`. The only error is that memory runs out.
 pub fn put_difference(
     text: &mut Vec<u8>,
     is_human: bool,

@@ -37,7 +37,7 @@ fn put_head(text: &mut Vec<u8>, is_human: bool, head: &SegmentHead) -> Result<()
     Ok(())
 }
 
-// Puts the lines of the units that are used, and of those that are left.
+// Puts the lines of the units that are used and of those that are left.
 fn put_units(text: &mut Vec<u8>, is_human: bool, spent: u64) -> Result<(), AllocError>
     ensures { OnOk result (text.new.items ≡ text.old.items ++ unit_lines is_human spent) }
 {
@@ -114,7 +114,7 @@ pub(crate) fn put_kinds(
     Ok(())
 }
 
-// Puts how far the list of records can be read.
+// Puts whether the list of records is whole, or why it stops.
 fn put_list(text: &mut Vec<u8>, stopped: Option<ImageFault>) -> Result<(), AllocError>
     ensures { OnOk result (text.new.items ≡ text.old.items ++ list_text stopped) }
 {
@@ -138,9 +138,9 @@ fn put_state(text: &mut Vec<u8>, is_human: bool, reading: &Reading) -> Result<()
     Ok(())
 }
 
-/// Appends the overview of an image to a text, byte for byte: what its header says, and of its reading the units that
+/// Appends the overview of an image to a text, byte for byte: what its header says, and from its reading the units that
 /// it has used and has left, the histograms by kind, the flags, the bad records and whether the list is whole. Numbers
-/// have commas if they are for people. The one error is that memory runs out.
+/// have commas if they are for people. The only error is that memory runs out.
 pub fn put_overview(
     text: &mut Vec<u8>,
     is_human: bool,
@@ -158,7 +158,8 @@ pub fn put_overview(
     Ok(())
 }
 
-/// Returns the overview of an image, byte for byte, as [`put_overview`] appends it. The one error is that memory runs out.
+/// Returns the overview of an image, byte for byte, as [`put_overview`] appends it. The only error is that memory runs
+/// out.
 pub fn overview_text(
     alloc: Global,
     is_human: bool,

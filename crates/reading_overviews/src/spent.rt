@@ -12,7 +12,7 @@ use reading_texts::units;
 use segment_image::SegmentHead;
 use segment_image::layout::VERSION_FROZEN;
 
-// How much of a sum's size a unit stands for.
+// How much of the absolute value of a sum one unit pays for.
 const UNIT_AMOUNT: u128 = 1 << 31;
 
 // Whether an image is of version 2.
@@ -22,7 +22,7 @@ pub(crate) fn is_frozen(head: &SegmentHead) -> bool
     head.version == VERSION_FROZEN
 }
 
-// The units that an amount of this size stands for.
+// The units that an amount with this absolute value costs.
 fn units_for(size: u128) -> u128
     ensures { result ≡ (size + 2147483647) / 2147483648 }
 {
@@ -53,7 +53,7 @@ fn spent_by(frozen: bool, hist: &HistReading) -> u128
     }
 }
 
-// So many units and those that come to them; more than 2^64 - 1 count as that.
+// The units used so far and some more, or 2^64 - 1 if there are more than that.
 fn spent_with(spent: u64, more: u128) -> u64
     ensures { result ≡ min (spent + more) 18446744073709551615 }
 {
@@ -63,7 +63,7 @@ fn spent_with(spent: u64, more: u128) -> u64
     }
 }
 
-// Those of all histograms; more than 2^64 - 1 count as that.
+// The units that all histograms have used, or 2^64 - 1 if there are more.
 pub(crate) fn spent(frozen: bool, hists: &[HistReading]) -> u64
     requires { All IsReadable (map histogram_view hists.now) }
     ensures { result ≡ spent_of frozen (map histogram_view hists.now) }
@@ -75,7 +75,7 @@ pub(crate) fn spent(frozen: bool, hists: &[HistReading]) -> u64
     spent
 }
 
-// The units that a segment has left when so many are used.
+// The units that a segment has left when `spent` are used.
 pub(crate) fn units_left(spent: u64) -> u64
     ensures { result ≡ units_left_of spent }
 {

@@ -11,22 +11,22 @@ use crate::spent::spent;
 use image_reader::{HistReading, Reading};
 use std::alloc::{AllocError, Global};
 
-/// What a sum says of its inputs, where an image has its header.
+/// What a sum says of its inputs, in place of the header of an image.
 #[derive(Clone, Copy, Debug)]
 pub struct SumHead {
-    /// How many images it is of.
+    /// How many images it adds up.
     pub images: u64,
-    /// How many inputs were left out, since they could not be read.
+    /// How many inputs were left out because they could not be read.
     pub left: u64,
     /// How many images had an allocation that did not fit.
     pub full: u64,
     /// How many images some thread found corrupt.
     pub corrupt: u64,
-    /// Of how many images the list of records stops before its end.
+    /// In how many images the list of records stops before its end.
     pub stopped: u64,
     /// How many bad records the images have together.
     pub bad: u64,
-    /// How many specs its reading leaves out, since it shows another one of the same name.
+    /// How many specs its reading leaves out because it shows another one with the same name.
     pub others: u64,
 }
 
@@ -45,7 +45,7 @@ fn put_number_line(
     Ok(())
 }
 
-// Puts the line of a number that is not 0.
+// Puts the line of a number, if it is not 0.
 fn put_some_line(text: &mut Vec<u8>, is_human: bool, label: &[u8], n: u64) -> Result<(), AllocError>
     ensures { OnOk result (text.new.items ≡ text.old.items ++ some_line is_human label.now n) }
 {
@@ -66,7 +66,7 @@ fn put_inputs(text: &mut Vec<u8>, is_human: bool, head: &SumHead) -> Result<(), 
     Ok(())
 }
 
-// Puts the lines of what of them is in no number.
+// Puts the lines of what the numbers of the sum leave out.
 fn put_lacking(text: &mut Vec<u8>, is_human: bool, head: &SumHead) -> Result<(), AllocError>
     ensures { OnOk result (text.new.items ≡ text.old.items ++ lacking_lines is_human head.now) }
 {
@@ -93,10 +93,10 @@ fn put_sum_overview(
     Ok(())
 }
 
-/// Returns the overview of a sum, byte for byte: how many images it is of, and, each where it is not 0, how many inputs are
-/// left out, how many images are full, corrupt or stop, how many records are bad and how many specs are not shown; then
-/// how many histograms its reading has, by kind, and their units, of which more than 2^64 - 1 count as that. Numbers have
-/// commas if they are for people. The one error is that memory runs out.
+/// Returns the overview of a sum, byte for byte: how many images it adds up, and, each if it is not 0, how many inputs
+/// are left out, how many images are full, are corrupt or have a list that stops, how many records are bad and how many
+/// specs are not shown; then how many histograms its reading has, by kind, and their units, or 2^64 - 1 if these are
+/// more. Numbers have commas if they are for people. The only error is that memory runs out.
 pub fn sum_overview_text(
     alloc: Global,
     is_human: bool,

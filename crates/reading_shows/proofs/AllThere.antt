@@ -24,7 +24,7 @@ none-fails q [] all = refl
 none-fails q (x ∷ xs) all =
     first-skipped (q x) x (find (λ y. not (q y)) xs) (All-head (λ y. q y ≡ true) x xs all) (none-fails q xs (All-tail (λ y. q y ≡ true) x xs all))
 
--- no element fails a test exactly where all pass it
+-- no element fails a test exactly if all pass it
 pub none-exactly : {X : Type 0} (q : X → Bool) (xs : List X) → (is_some (find (λ x. not (q x)) xs) ≡ false) ↔ All (λ x. q x ≡ true) xs
 none-exactly q xs = (all-pass q xs, none-fails q xs)
 

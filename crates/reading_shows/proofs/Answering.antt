@@ -1,9 +1,9 @@
--- What is shown of the bytes of words.
+-- What is shown for the bytes of words.
 use Rattle.std.proofs.Common.{◌≡◌, List, ℕ, Option, Some, None, IfSome, subst}
 use Rattle.std.specs.Io.KnownBytes.{Appends}
 use Rattle.segment_image.specs.Words.{bytes_of_words}
 
--- where a text of words was written, it is that of the bytes from which they were read
+-- if a text of words was written, it is that of the bytes from which they were read
 pub shown_of_bytes : (words : List ℕ) (IsOf : List ℕ → List ℕ → Type 0) (text : List ℕ) (old new : Option (List ℕ)) → IsOf (bytes_of_words words) text
     → (remaining : Option (List ℕ)) → IfSome remaining (λ bytes. bytes_of_words words ≡ bytes) → Appends old new text
     → IfSome remaining (λ bytes. (x : List ℕ) × IsOf bytes x × Appends old new x)

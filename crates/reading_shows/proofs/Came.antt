@@ -25,14 +25,14 @@ pub find-map : {X Y : Type 0} (p : Y → Bool) (f : X → Y) (xs : List X) → f
 find-map p f [] = refl
 find-map p f (x ∷ xs) = find-step f (p (f x)) x (find p (map f xs)) (find (λ y. p (f y)) xs) (find-map p f xs)
 
--- the units of a value in one count more
+-- the units of a value with one more count
 pub units_at-more : (counts : List (ℤ × ℕ)) (i : ℕ) (d : ℤ × ℕ) (value : ℤ) → i < length counts
     → units_at (take (i + 1) counts) value ≡ cond (int_eq (get_or counts i d).0 value) (get_or counts i d).1 (units_at (take i counts) value)
 units_at-more counts i d value within =
     ap (λ (some : List (ℤ × ℕ)). units_at some value) (take_more counts i d within)
     ∙ fold-append (λ units count. cond (int_eq count.0 value) count.1 units) 0 (take i counts) (get_or counts i d ∷ [])
 
--- so a map of the units of values has them too, when one count more is put in
+-- so a map of the units of values has them too, when one more count is put in
 unwrap-cond : (b : Bool) (x : ℕ) (o : Option ℕ) → unwrap_or (cond b (Some x) o) 0 ≡ cond b x (unwrap_or o 0)
 unwrap-cond true x o = refl
 unwrap-cond false x o = refl
@@ -54,7 +54,7 @@ came-within true before rows =
     omega (arith, all, each)
 came-within false before rows = omega arith
 
--- so it fits where the units of the histogram do
+-- so it fits if the units of the histogram do
 pub came-fits : (is_told : Bool) (before : List (ℤ × ℕ)) (hist : Histogram) (bound : ℕ) → units_of hist < bound → came_to_all is_told before (rows_of hist) < bound
 came-fits is_told before hist bound h = omega (arith, came-within is_told before (rows_of hist), units-all hist, h)
 

@@ -1,4 +1,4 @@
--- Pieces so many times, and texts at the right end of columns.
+-- Repeated pieces, and texts at the right end of columns.
 use Rattle.std.proofs.Common.{◌≡◌, ◌∙◌, ℕ, zero, suc, ◌+◌, ◌-◌, ◌*◌, ◌/◌, ◌%◌, ◌≤◌, List, [], ◌∷◌, ◌++◌, length, take, ap, sym, refl, subst, replicate, append_assoc, arith}
 use Rattle.std.specs.Prelude.{codes}
 use Rattle.std.specs.List.{flat_map}
@@ -10,7 +10,7 @@ use Rattle.reading_texts.proofs.Adding.{joined-more, written-both}
 use Rattle.reading_shows.specs.Columns.{at_right, times}
 use Rattle.reading_shows.proofs.Steps.{times-more}
 
--- a byte so many times
+-- a repeated byte
 pub times-byte : (n : ℕ) (byte : ℕ) → times n (byte ∷ []) ≡ replicate n byte
 times-byte zero byte = refl
 times-byte (suc n) byte =
@@ -18,12 +18,12 @@ times-byte (suc n) byte =
     subst (λ k. times k (byte ∷ []) ≡ replicate k byte) next
     (times-more n (byte ∷ []) ∙ (ap (λ s. s ++ byte ∷ []) (times-byte n byte) ∙ sym (replicate_next n byte)))
 
--- a piece so many times, and then some more
+-- a piece repeated `m` times, and then `n` more
 pub times-add : (m n : ℕ) (piece : List ℕ) → times (m + n) piece ≡ times m piece ++ times n piece
 times-add m n piece =
     ap (flat_map (λ one. one)) (sym (replicate-append-replicate m n piece)) ∙ flat_map-append (λ one. one) (replicate m piece) (replicate n piece)
 
--- so many times what is a piece so many times
+-- a piece repeated `n` times, repeated `m` times
 pub times-times : (m n : ℕ) (piece : List ℕ) → times m (times n piece) ≡ times (n * m) piece
 times-times zero n piece = ap (λ k. times k piece) (sym (mul-zero n))
 times-times (suc m) n piece =
@@ -33,29 +33,29 @@ times-times (suc m) n piece =
     ∙ (ap (λ s. s ++ times n piece) (times-times m n piece)
     ∙ (sym (times-add (n * m) n piece) ∙ ap (λ k. times k piece) (sym (mul-suc n m)))))
 
--- a piece so many times, taken from many at a time
+-- a repeated piece, written `many` at a time
 pub times-by : (many count : ℕ) (piece : List ℕ) → times (count / many) (times many piece) ++ times (count % many) piece ≡ times count piece
 times-by many count piece =
     ap (λ s. s ++ times (count % many) piece) (times-times (count / many) many piece)
     ∙ (sym (times-add (many * (count / many)) (count % many) piece) ∙ ap (λ k. times k piece) (div-add-mod count many))
 
--- the first of many are so many times the piece
+-- the first `count` of many pieces are the piece repeated `count` times
 pub times-first : (many count : ℕ) (piece : List ℕ) → count ≤ many → flat_map (λ one. one) (take count (replicate many piece)) ≡ times count piece
 times-first many count piece h = ap (flat_map (λ one. one)) (take-replicate count many piece h)
 
--- a piece behind its blanks stands at the right end of a column
+-- a piece after its blanks is at the right end of a column
 pub at-right-written : (first : List ℕ) (width len : ℕ) (piece : List ℕ) {second third : List ℕ} → len ≡ length piece → second ≡ first ++ times (width - len) (codes " ")
     → third ≡ second ++ piece → third ≡ first ++ at_right width piece
 at-right-written first width len piece is before after =
     written-both first (times (width - len) (codes " ")) piece before after ∙ ap (λ n. first ++ (times (width - n) (codes " ") ++ piece)) is
 
--- in a column without a width it stands alone
+-- in a column without a width it is alone
 pub at-right-none : (piece : List ℕ) → at_right 0 piece ≡ piece
 at-right-none piece =
     let none : 0 - length piece ≡ 0 = omega arith in
     ap (λ n. times n (codes " ") ++ piece) none
 
--- the first of parts that are written one behind the other
+-- the first of parts that are written one after the other
 pub joined-begun : (first part : List ℕ) {second : List ℕ} → second ≡ first ++ part → second ≡ first ++ joined (part ∷ [])
 joined-begun first part written = written ∙ ap (λ s. first ++ s) (sym (append-nil part))
 

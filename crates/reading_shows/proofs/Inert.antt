@@ -5,7 +5,7 @@ use Rattle.std.proofs.Common.{◌∙◌, ap, refl}
 use Rattle.std.proofs.lemmas.List.Folds.{list_all-append}
 use Rattle.reading_shows.specs.Escapes.{escaped, escaped_byte, is_inert}
 
--- what stands for a byte, by the answers of the tests on it
+-- how a byte is written, by the results of the tests on it
 by-tests : (byte : ℕ) (ampersand less greater double single plain : Bool) → (byte == 60) ≡ less → (byte == 62) ≡ greater → (byte == 34) ≡ double → (byte == 39) ≡ single
     → list_all is_inert
     (if ampersand then codes "&amp;"

@@ -1,4 +1,4 @@
--- Texts of elements with their numbers, one behind the other.
+-- Texts of elements with their numbers, one after the other.
 use Rattle.std.proofs.Common.{◌≡◌, ◌∙◌, ℕ, ◌+◌, ◌<◌, ◌≤◌, List, ◌++◌, length, take, get_or, map, ap, sym, arith}
 use Rattle.std.specs.List.{flat_map, enumerate_from}
 use Rattle.std.proofs.lemmas.List.{get_or-map, length-map}

@@ -1,4 +1,4 @@
--- One step more of what is written, counted or looked for.
+-- One more step of what is written, counted or looked for.
 use Rattle.std.proofs.Common.{◌≡◌, ◌∙◌, ℕ, zero, suc, ◌+◌, ◌<◌, Bool, true, false, ◌||◌, cond, List, [], ◌∷◌, ◌++◌, length, take, get_or, Option, Some, None, ap, refl, replicate, arith}
 use Rattle.std.specs.List.{flat_map, find, list_any, range_with_len, sum_by}
 use Rattle.std.proofs.lemmas.Grind.{replicate_next}
@@ -13,11 +13,11 @@ use Rattle.reading_shows.specs.Columns.{times}
 pub times-more : (n : ℕ) (piece : List ℕ) → times (n + 1) piece ≡ times n piece ++ piece
 times-more n piece = ap (flat_map (λ one. one)) (replicate_next n piece) ∙ flat_map-push (λ one. one) (replicate n piece) piece
 
--- the sum of one number more
+-- the sum with one more number
 pub sum-more : (f : ℕ → ℕ) (n : ℕ) → sum_by f (range_with_len 0 (n + 1)) ≡ sum_by f (range_with_len 0 n) + f n
 sum-more f n = ap (sum_by f) (range-more n) ∙ (sum_by-append f (range_with_len 0 n) (n ∷ []) ∙ ap (λ k. sum_by f (range_with_len 0 n) + k) (omega arith))
 
--- a test of one number more
+-- a test with one more number
 pub none-more : (p : ℕ → Bool) (n : ℕ) → list_any p (range_with_len 0 n) ≡ false → p n ≡ false → list_any p (range_with_len 0 (n + 1)) ≡ false
 none-more p n before here =
     ap (list_any p) (range-more n) ∙ (list_any-append p (range_with_len 0 n) (n ∷ []) ∙ (ap (λ b. b || (p n || false)) before ∙ ap (λ b. b || false) here))
@@ -51,6 +51,6 @@ found_at p (x ∷ xs) zero d h none passes = found-here (p x) x (find p xs) pass
 found_at p (x ∷ xs) (suc i) d h none passes =
     found-later (p x) x (find p (take i xs)) (find p xs) (get_or xs i d) none (λ before. found_at p xs i d (omega (arith, h)) before passes)
 
--- what is not found goes on so, past an element that fails
+-- what is not found is still not found after one more element that fails
 pub unfound-more : {X : Type 0} (p : X → Bool) (xs : List X) (i : ℕ) (d : X) → i < length xs → find p (take i xs) ≡ None → p (get_or xs i d) ≡ false → find p (take (i + 1) xs) ≡ None
 unfound-more p xs i d h none fails = cc (take_more xs i d h, find-append p (take i xs) (get_or xs i d ∷ []), none, fails)

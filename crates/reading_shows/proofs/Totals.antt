@@ -34,6 +34,6 @@ left-out-within false rows =
     let both = sum_by-filter_both (is_among_first rows) (λ row. not (is_among_first rows row)) (λ row. refl) (λ row. row.units) rows in
     omega (arith, both)
 
--- so they fit where those of the histogram do
+-- so they fit if those of the histogram do
 pub left-out-fits : (all : Bool) (hist : Histogram) (bound : ℕ) → units_of hist < bound → sum_by (λ row. row.units) (left_out_rows all (rows_of hist)) < bound
 left-out-fits all hist bound h = omega (arith, left-out-within all (rows_of hist), units-all hist, h)

@@ -1,18 +1,18 @@
--- The bar of a bucket, whose length is in proportion to that of the bucket that has the most units.
+-- The bar of a bucket. Its length is proportional to the units, and the bucket with the most units has the longest bar.
 use Rattle.std.specs.Prelude.{Bool, ℕ, ◌+◌, ◌-◌, ◌*◌, ◌/◌, ◌%◌, if◌then◌else◌, ◌==◌, min, List, [], ◌∷◌, ◌++◌, codes}
 use Rattle.reading_shows.specs.Columns.{times}
 use Rattle.reading_shows.specs.Shares.{share_of}
 
--- how many of `marks` marks the bar of so many units has, rounded up: one at least where there are units, and all of
--- them where no bucket has more
+-- how many of `marks` marks the bar of a number of units has, rounded up: at least one if there are units, and all of them if no bucket
+-- has more units
 abbrev pub marks_of : ℕ → ℕ → ℕ → ℕ
 marks_of units most marks = min (share_of units most marks (most - 1)) marks
 
--- a cell of which so many eighths are filled, from 1 to 8, in UTF-8
+-- a cell of which 1 to 8 eighths are filled, in UTF-8
 abbrev pub block : ℕ → List ℕ
 block eighths = 226 ∷ (150 ∷ ((144 - eighths) ∷ []))
 
--- what is left of a cell behind whole ones
+-- the part of a cell that comes after the whole ones
 abbrev pub part_of_cell : ℕ → List ℕ
 part_of_cell eighths = if eighths == 0 then [] else block eighths
 
@@ -25,7 +25,7 @@ block_bar width eighths =
 abbrev pub sign_bar : ℕ → ℕ → List ℕ
 sign_bar width signs = times signs (codes "#") ++ times (width - signs) (codes " ")
 
--- the bar of so many units where the most are these, of plain signs or of blocks, in so many cells
+-- the bar of a number of units, of plain signs or of blocks, given its width in cells and the most units that a bar shows
 abbrev pub bar : Bool → ℕ → ℕ → ℕ → List ℕ
 bar is_ascii width units most =
     if is_ascii then sign_bar width (marks_of units most width)

@@ -6,7 +6,7 @@ use Rattle.bucket_ranges.specs.Reading.{Histogram}
 use Rattle.reading_shows.specs.declared.choice.Choice.{Choice}
 use Rattle.reading_shows.specs.declared.choice.Choice.TheVariants.{All, Named, Part}
 
--- whether a part stands somewhere in a name
+-- whether a part is anywhere in a name
 abbrev pub has_part : List ℕ → List ℕ → Bool
 has_part part name = list_any (λ i. starts_with nat_eq (drop i name) part) (range_with_len 0 (length name))
 

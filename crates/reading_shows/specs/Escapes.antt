@@ -2,8 +2,8 @@
 use Rattle.std.specs.Prelude.{Bool, not, ◌==◌, ◌&&◌, ◌||◌, nat_lt, if◌then◌else◌, ℕ, List, [], ◌∷◌, codes}
 use Rattle.std.specs.List.{flat_map}
 
--- what stands for a byte of a name: the five signs that HTML gives a meaning are escaped, and for a byte that is no sign of
--- ASCII stands U+FFFD, in UTF-8
+-- how a page writes a byte of a name: the five characters with a meaning in HTML are escaped, and a byte that is no printable ASCII
+-- character is replaced by U+FFFD, in UTF-8
 abbrev pub escaped_byte : ℕ → List ℕ
 escaped_byte byte =
     if byte == 38 then codes "&amp;"
@@ -14,7 +14,7 @@ escaped_byte byte =
     else (if nat_lt 31 byte && nat_lt byte 127 then byte ∷ []
     else 239 ∷ 191 ∷ 189 ∷ [])))))
 
--- a name as it stands in a page, also one of a forged image
+-- a name as a page writes it, also one of a forged image
 abbrev pub escaped : List ℕ → List ℕ
 escaped name = flat_map escaped_byte name
 

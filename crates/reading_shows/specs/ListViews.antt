@@ -1,4 +1,4 @@
--- What the lines of a list are as values of their definition.
+-- The lines of a list, as values of their definition.
 use Rattle.reading_shows.specs.declared.listing.ListEntry.{ListEntry}
 use Rattle.reading_shows.specs.Listing.{ListLine}
 

@@ -31,7 +31,7 @@ pub record ListLine : Type 0 where
 abbrev pub quantile_text : Histogram → ℕ → List ℕ
 quantile_text hist thousandths = range_of_found (naming_of hist.spec) (quantile (units_of hist) (rows_of hist) thousandths)
 
--- by which lines are sorted by units: how far the units are below 2^64 - 1, and then the bytes of the name
+-- the key by which lines are sorted by units: 2^64 - 1 less the units, and then the bytes of the name
 abbrev pub rank_of : Histogram → List ℕ
 rank_of hist = (18446744073709551615 - units_of hist) ∷ hist.name
 
@@ -61,7 +61,7 @@ heads = record {
   rank = [];
 }
 
--- columns in which a line fits too
+-- columns widened so that a line fits too
 abbrev pub widened_by : ListColumns → ListLine → ListColumns
 widened_by columns line = record {
   name = max columns.name (length line.name);
@@ -77,12 +77,13 @@ widened_by columns line = record {
 abbrev pub no_columns : ListColumns
 no_columns = record { name = 0; kind = 0; units = 0; mean = 0; median = 0; high = 0; greatest = 0 }
 
--- how much the other columns leave for the names, of which two blanks come before each column
+-- how much the other columns leave for the names; before each of them there are two blanks
 abbrev pub room_for_names : ℕ → ListColumns → ℕ
 room_for_names width columns =
     width - columns.kind - columns.units - columns.mean - columns.median - columns.high - columns.greatest - 12
 
--- the columns of a list: each as wide as its widest text, but names no wider than the line leaves, and at least as their head
+-- the columns of a list: each as wide as its widest text, but names only as wide as the line has room for, and at least as wide as their
+-- head
 abbrev pub fitted : ℕ → ListColumns → ListColumns
 fitted width columns = record {
   name = min columns.name (max 4 (room_for_names width columns));
@@ -94,7 +95,7 @@ fitted width columns = record {
   greatest = columns.greatest;
 }
 
--- a name in its column; one that is wider has a line of its own
+-- a name in its column; a longer one gets a line of its own
 abbrev pub name_text : ℕ → List ℕ → List ℕ
 name_text width name = if nat_lt width (length name) then name ++ codes "\n" ++ times width (codes " ") else at_left width name
 
@@ -110,16 +111,16 @@ list_line columns line =
 abbrev pub list_lines : ℕ → List ListLine → List ℕ
 list_lines width lines = flat_map (list_line (fitted width (fold widened_by no_columns lines))) lines
 
--- the heads and the lines of histograms; nothing of none
+-- the heads and the lines of histograms, or nothing if there are none
 abbrev pub list_of_some : ℕ → List ListLine → List ℕ
 list_of_some width lines = if length lines == 0 then [] else list_lines width (heads ∷ lines)
 
--- these lines, by units: those with the most come first, and among those with as many the names ascend
+-- these lines, by units: those with the most come first, and among those with equal units the names ascend
 pub record AreRanked (found lines : List ListLine) : Type 0 where
   pub same : IsPermutation found lines
   pub ascending : IsSortedByKey (λ line. line.rank) (slice_cmp nat_cmp) lines
 
--- the lines in the order that is asked for; they are given by name
+-- the lines in the order that is asked for; they are given sorted by name
 abbrev pub AreOrdered : Bool → List ListLine → List ListLine → Type 0
 AreOrdered true found lines = AreRanked found lines
 AreOrdered false found lines = lines ≡ found

@@ -7,7 +7,7 @@ use Rattle.bucket_ranges.specs.Reading.{Reading}
 use Rattle.reading_shows.specs.declared.choice.Choice.{Choice}
 use Rattle.reading_shows.specs.declared.choice.Choice.TheVariants.{All as Everything, Named, Part}
 
--- the names that a choice asks for: a part of a name is none
+-- the names that a choice asks for; a part of a name is not one of these
 abbrev pub names_of : Choice → List (Bor (List ℕ))
 names_of Everything = []
 names_of (Named names) = names.now

@@ -17,7 +17,7 @@ naming_of Boolean = Truth
 naming_of (Custom values) = Range
 naming_of Sparse = Value
 
--- whether they are named false and true
+-- whether the rows are named false and true
 abbrev pub is_truth : Naming → Bool
 is_truth Value = false
 is_truth Truth = true
@@ -29,7 +29,7 @@ bucket_text row =
     if int_eq row.high (pos LAST_BOUNDARY) then codes ">= " ++ signed_decimal row.low
     else joined (codes "[" ∷ signed_decimal row.low ∷ codes ", " ∷ signed_decimal row.high ∷ codes ")" ∷ [])
 
--- those of a bucket of a boolean histogram: 0 is false, and 1 is true
+-- the values of a bucket of a boolean histogram: 0 is false, and 1 is true
 abbrev pub truth_text : HistRow → List ℕ
 truth_text row =
     if int_eq row.low (pos 0) then codes "false"

@@ -1,5 +1,5 @@
--- The web page of an image, or of a sum of images: its overview, and the list, the numbers and the sentences of its texts for
--- people, as HTML that needs nothing else.
+-- The web page of an image, or of a sum of images: its overview, and the list, the numbers and the sentences of its texts for people, as
+-- one self-contained HTML document.
 use Rattle.std.specs.Prelude.{◌≡◌, Bool, true, ℕ, List, [], ◌∷◌, ◌++◌, codes}
 use Rattle.std.specs.Fmt.{decimal}
 use Rattle.std.specs.List.{flat_map, enumerate_from}
@@ -19,7 +19,7 @@ use Rattle.reading_shows.specs.PageRows.{rows_in_page}
 use Rattle.reading_shows.specs.Sheet.{page_head}
 use Rattle.reading_shows.specs.Showing.{AreShown, number_lines, frame_of, shows_all_of, left_out_line, ending}
 
--- the beginning of a table: what its columns are
+-- the beginning of a table: the heads of its columns
 abbrev pub columns : List ℕ
 columns = codes "<table>\n<tr><th>values</th><th></th><th>units</th><th>percent</th><th>up to here</th></tr>\n"
 
@@ -32,7 +32,7 @@ table all hist =
     ++ left_out_line true (left_out_rows (shows_all_of all hist) (rows_of hist))
     ++ codes "</p>\n</section>\n"
 
--- the name of a numbered histogram, to which the list leads
+-- the name of a numbered histogram, to which the list has a link
 abbrev pub title : ℕ × Histogram → List ℕ
 title numbered =
     joined (codes "<section id=\"h" ∷ decimal numbered.0 ∷ codes "\">\n<h2>" ∷ escaped numbered.1.name ∷ codes "</h2>\n<p>" ∷ [])
@@ -45,8 +45,8 @@ section all numbered =
     ++ codes "</p>\n"
     ++ table all numbered.1
 
--- the page of a reading from such a source, with an overview of these lines, of which these histograms are shown in this order;
--- they are numbered from 0
+-- the page of a reading from this source, whose overview has these lines, and of which these histograms are shown in this order, numbered
+-- from 0
 abbrev pub page_in_order : Source → Bool → List Histogram → List ℕ → Reading → List ℕ
 page_in_order source all hists lines reading =
     page_head (source_text source)
@@ -58,7 +58,7 @@ page_in_order source all hists lines reading =
     ++ ending hists reading
     ++ codes "</footer>\n</body>\n</html>\n"
 
--- the page of a reading with an overview of these lines; with all values of sparse histograms, or those that rank first
+-- the page of a reading whose overview has these lines; with all values of sparse histograms, or those that rank first
 abbrev pub IsPageWith : Source → Bool → Choice → List ℕ → Reading → List ℕ → Type 0
 IsPageWith source all choice lines reading page =
     (hists : List Histogram) × AreShown choice hists reading × (page ≡ page_in_order source all hists lines reading)

@@ -11,7 +11,7 @@ use Rattle.reading_shows.specs.Bars.{marks_of}
 use Rattle.reading_shows.specs.Naming.{range_text, has_line}
 use Rattle.reading_shows.specs.Showing.{row_or_none, begins_gap}
 
--- the bar of so many units where the most are these: a rectangle, in thousandths of the width of the longest one
+-- the bar of a number of units, given the most that a bar shows: a rectangle, in thousandths of the width of the longest one
 abbrev pub drawn_bar : ℕ → ℕ → List ℕ
 drawn_bar units most =
     joined (
@@ -26,7 +26,7 @@ unit_row frame row =
     ∷ number true row.units ∷ codes "</td><td>" ∷ percent (codes "&lt;0.1%") row.units frame.total ∷ codes "</td><td>" ∷ percent (codes "&lt;0.1%") row.up_to frame.total
     ∷ codes "</td></tr>\n" ∷ [])
 
--- row `i`; rows without one that stand side by side have the row of a gap together
+-- row `i`; neighbouring rows that have no row in the page share the row of a gap
 abbrev pub row_in_page : Frame → List HistRow → ℕ → List ℕ
 row_in_page frame rows i =
     if has_line frame.naming (row_or_none rows i) then unit_row frame (row_or_none rows i)

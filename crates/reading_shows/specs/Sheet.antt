@@ -1,8 +1,8 @@
--- What stands before all else in a page: its title, and how it looks on a screen, light or dark, wide or narrow, and in print.
+-- What a page begins with: its title, and its style for a screen, light or dark, wide or narrow, and for print.
 use Rattle.std.specs.Prelude.{ℕ, List, [], ◌∷◌, ◌++◌, codes}
 use Rattle.reading_texts.specs.Exporting.{joined}
 
--- the colours: light ones, dark ones where the reader wants them, and those for print
+-- the colours: light ones, dark ones for a browser that prefers them, and those for print
 abbrev pub colours : List ℕ
 colours =
     joined (
@@ -13,7 +13,7 @@ colours =
     ∷ codes ":root { color-scheme: light; --page: #fff; --text: #000; --quiet: #333; --line: #999; --bar: #444; --track: #fff }\n"
     ∷ codes "svg, tr { break-inside: avoid; print-color-adjust: exact } h2, p { break-after: avoid } }\n" ∷ [])
 
--- the places and sizes
+-- the positions and sizes
 abbrev pub shapes : List ℕ
 shapes =
     joined (
@@ -28,7 +28,7 @@ shapes =
     ∷ codes "nav td { white-space: normal } nav th:nth-child(-n+2), nav td:nth-child(-n+2) { text-align: left }\n"
     ∷ codes "svg { display: block; width: 100%; height: .9rem; background: var(--track) } rect { fill: var(--bar) }\n" ∷ [])
 
--- those of a narrow screen, where a row of a table is as many lines as it needs
+-- those for a narrow screen, where a row of a table takes as many lines as it needs
 abbrev pub narrow_shapes : List ℕ
 narrow_shapes =
     joined (
@@ -41,7 +41,7 @@ narrow_shapes =
     ∷ codes "nav td:nth-child(3)::before { content: \"units \" } nav td:nth-child(4)::before { content: \"mean \" } nav td:nth-child(5)::before { content: \"50% \" }\n"
     ∷ codes "nav td:nth-child(6)::before { content: \"99% \" } nav td:nth-child(7)::before { content: \"greatest \" } nav td::before { color: var(--quiet) } }\n" ∷ [])
 
--- what stands before the style; the title is where the image comes from
+-- what comes before the style; the title is where the image comes from
 abbrev pub opening : List ℕ → List ℕ
 opening title =
     joined (
@@ -52,6 +52,6 @@ opening title =
 abbrev pub top : List ℕ → List ℕ
 top title = joined (codes "</style>\n</head>\n<body>\n<h1>" ∷ title ∷ codes "</h1>\n" ∷ [])
 
--- all that stands before the overview
+-- all that comes before the overview
 abbrev pub page_head : List ℕ → List ℕ
 page_head title = opening title ++ colours ++ shapes ++ narrow_shapes ++ top title

@@ -35,11 +35,11 @@ number_line is_human kind sum units came =
     codes "  " ∷ kind ∷ codes ", units " ∷ number is_human units ∷ came_text is_human came ∷ codes ", sum "
     ∷ signed is_human sum ∷ codes ", mean " ∷ mean is_human sum units ∷ codes "\n" ∷ [])
 
--- whether the units up to a row are so many thousandths of all, or more
+-- whether the units up to a row are at least this many thousandths of all
 abbrev pub reaches : ℕ → ℕ → HistRow → Bool
 reaches total thousandths row = nat_le (thousandths * total) (1000 * row.up_to)
 
--- the row that holds a quantile: the first up to which there are so many thousandths of the units; none of no units
+-- the row that holds a quantile: the first up to which there are at least this many thousandths of the units; none if there are no units
 abbrev pub quantile : ℕ → List HistRow → ℕ → Option HistRow
 quantile total rows thousandths = if total == 0 then None else find (reaches total thousandths) rows
 
@@ -47,7 +47,7 @@ quantile total rows thousandths = if total == 0 then None else find (reaches tot
 abbrev pub has_units : HistRow → Bool
 has_units row = not (row.units == 0)
 
--- the values of a row, or none
+-- the values of a row, or the word none
 abbrev pub range_of_found : Naming → Option HistRow → List ℕ
 range_of_found naming None = codes "none"
 range_of_found naming (Some row) = range_text naming row
@@ -61,7 +61,7 @@ quantile_line naming total rows =
     ∷ codes ", 99%: " ∷ range_of_found naming (quantile total rows 990)
     ∷ codes ", 99.9%: " ∷ range_of_found naming (quantile total rows 999) ∷ codes "\n" ∷ [])
 
--- the line of the first row that has units, and of the last, up to which there are all
+-- the line of the first row that has units, and of the last, up to which there are all units
 abbrev pub ends_line : Naming → ℕ → List HistRow → List ℕ
 ends_line naming total rows =
     joined (
@@ -81,7 +81,7 @@ left_of hist = sum_by (λ i. (get_or hist.counts i (pos 0, 0)).1 - get_or hist.m
 abbrev pub was_taken : Histogram → Bool
 was_taken hist = list_any (λ mark. not (mark == 0)) hist.marks || not (int_eq hist.sum_mark (pos 0))
 
--- the line of these units and this sum, which no delta has taken
+-- the line that says that no delta has taken these units and this sum
 abbrev pub left_text : Bool → ℕ → ℤ → List ℕ
 left_text is_human units sum =
     joined (
@@ -91,11 +91,11 @@ left_text is_human units sum =
 abbrev pub left_line : Bool → Histogram → List ℕ
 left_line is_human hist = left_text is_human (left_of hist) (hist.sum -ℤ hist.sum_mark)
 
--- the same line, where a delta has taken something
+-- the same line, if a delta has taken something
 abbrev pub taken_line : Bool → Histogram → List ℕ
 taken_line is_human hist = if was_taken hist then left_line is_human hist else []
 
--- the lines of all these numbers, where so many units came
+-- the lines of all these numbers, given how many units came
 abbrev pub number_lines : Bool → ℕ → Histogram → List ℕ
 number_lines is_human came hist =
     number_line is_human (kind_word hist.spec) hist.sum (units_of hist) came
@@ -108,7 +108,7 @@ number_lines is_human came hist =
 abbrev pub most_of : List HistRow → ℕ
 most_of rows = fold (λ most row. max most row.units) 0 rows
 
--- row `i`
+-- row `i`, or an empty row if there is none
 abbrev pub row_or_none : List HistRow → ℕ → HistRow
 row_or_none rows i = get_or rows i (record { low = pos 0; high = pos 0; units = 0; up_to = 0 })
 
@@ -117,12 +117,11 @@ row_or_none rows i = get_or rows i (record { low = pos 0; high = pos 0; units = 
 abbrev pub begins_gap : Naming → List HistRow → ℕ → Bool
 begins_gap naming rows i = not (is_truth naming) && ((i == 0) || has_units (row_or_none rows (i - 1)))
 
--- a width at which the values of a row fit too, where it has a line
+-- a width at which the values of a row fit too, if it has a line
 abbrev pub widened : Naming → ℕ → HistRow → ℕ
 widened naming width row = if has_line naming row then max width (length (range_text naming row)) else width
 
--- how wide the column of the units that came is, a blank before them included: as wide as they or their head need; 0 where
--- nothing is told of them
+-- how wide the column of the units that came is, with a blank before them: as wide as they or their head need; 0 if they are not shown
 abbrev pub came_width : Bool → Bool → List ℕ → ℕ
 came_width is_human is_told cames = if is_told then max 4 (length (came_text is_human (fold max 0 cames))) else 0
 
@@ -134,7 +133,7 @@ columns_of style frame is_told cames rows =
     let came = came_width style.is_human is_told cames in
     record { values = values; bars = style.width - values - units - came - 20; units = units; came = came }
 
--- the head of the column of the units that came, where there is one
+-- the head of the column of the units that came, if there is this column
 abbrev pub came_head : ℕ → List ℕ
 came_head width = if width == 0 then [] else at_right width (codes " new")
 
@@ -145,7 +144,7 @@ head_line columns =
     codes "  " ∷ at_right columns.values (codes "values") ∷ codes "  " ∷ times columns.bars (codes " ")
     ∷ at_right columns.units (codes "units") ∷ came_head columns.came ∷ codes " percent   up to\n" ∷ [])
 
--- the line of a row: its values, its bar, its units and those of them that came, their percent, and the percent up to it
+-- the line of a row: its values, its bar, its units, how many of them came, their percent, and the percent up to it
 abbrev pub unit_line : Style → LineColumns → Frame → HistRow → ℕ → List ℕ
 unit_line style columns frame row came =
     joined (
@@ -159,7 +158,7 @@ unit_line style columns frame row came =
 abbrev pub gap_line : LineColumns → List ℕ
 gap_line columns = joined (codes "  " ∷ at_right columns.values (codes "...") ∷ codes "\n" ∷ [])
 
--- the line of row `i`; rows without lines that stand side by side have the line of a gap together
+-- the line of row `i`; neighbouring rows without lines share the line of a gap
 abbrev pub line_at : Style → LineColumns → Frame → List ℕ → List HistRow → ℕ → List ℕ
 line_at style columns frame cames rows i =
     if has_line frame.naming (row_or_none rows i) then unit_line style columns frame (row_or_none rows i) (get_or cames i 0)
@@ -170,38 +169,37 @@ abbrev pub lines_in : Style → LineColumns → Frame → List ℕ → List Hist
 lines_in style columns frame cames rows =
     head_line columns ++ flat_map (line_at style columns frame cames rows) (range_with_len 0 (length rows))
 
--- the lines of rows, to each of which so many units came, where this is told; where there are no rows, there are no heads either
+-- the lines of rows, with the units that came to each if the text says them; if there are no rows, there are no heads either
 abbrev pub row_lines : Style → Frame → Bool → List ℕ → List HistRow → List ℕ
 row_lines style frame is_told cames rows =
     if length rows == 0 then [] else lines_in style (columns_of style frame is_told cames rows) frame cames rows
 
--- what a word for so many has at its end
+-- the plural ending of a word for `n` things
 abbrev pub plural : ℕ → List ℕ
 plural n = if n == 1 then codes "" else codes "s"
 
--- the line of these rows and units, which are left out
+-- the line that says how many rows are left out, and how many units they have
 abbrev pub left_out_text : Bool → ℕ → ℕ → List ℕ
 left_out_text is_human rows units =
     joined (
     codes "  " ∷ number is_human rows ∷ codes " more value" ∷ plural rows ∷ codes ", with " ∷ number is_human units ∷ codes " unit"
     ∷ plural units ∷ codes " in all (--all shows them)\n" ∷ [])
 
--- the line of the rows that are left out: how many they are, and their units together
+-- the line of the rows that are left out, if there are any: how many there are, and their units together
 abbrev pub left_out_line : Bool → List HistRow → List ℕ
 left_out_line is_human rows =
     if length rows == 0 then [] else left_out_text is_human (length rows) (sum_by (λ row. row.units) rows)
 
--- the line of these units, which are counted once more
+-- the line of these units, which were counted a second time
 abbrev pub redundant_text : Bool → ℕ → List ℕ
 redundant_text is_human units = joined (codes "  counted once more: " ∷ number is_human units ∷ codes "\n" ∷ [])
 
--- the line of the redundant count, where it is asked for and differs from the units
+-- the line of the redundant count, if it is asked for and differs from the units
 abbrev pub redundant_line : Style → Histogram → List ℕ
 redundant_line style hist =
     if style.shows_redundant && not (hist.redundant == units_of hist) then redundant_text style.is_human hist.redundant else []
 
--- the line that marks a histogram as counted in while it was looked at, where that is asked for: its redundant count is not its
--- units
+-- the line that marks a histogram as counted in while it was looked at, if that is asked for and its redundant count differs from its units
 abbrev pub meanwhile_line : Style → Histogram → List ℕ
 meanwhile_line style hist =
     if style.marks_meanwhile && not (hist.redundant == units_of hist) then codes "  counted meanwhile\n" else []
@@ -214,15 +212,15 @@ frame_of hist = record {
   most = most_of (rows_of hist);
 }
 
--- whether all rows of a histogram may have lines: those of a sparse one only where all values are to
+-- whether all rows of a histogram may have lines: not if it is sparse, unless all values are asked for
 abbrev pub shows_all_of : Bool → Histogram → Bool
 shows_all_of all hist = all || not (is_sparse hist.spec)
 
--- the lines of the rows of a histogram that have some, where it had these counts before
+-- the lines of those rows of a histogram that have lines, given the counts that it had before
 abbrev pub shown_lines : Style → Bool → List (ℤ × ℕ) → Histogram → List HistRow → List ℕ
 shown_lines style is_told before hist rows = row_lines style (frame_of hist) is_told (came_to_rows is_told before rows) rows
 
--- a histogram that had these counts before, where it is told what came since
+-- the text of a histogram that had these counts before, with what came since if the text says that
 abbrev pub text_behind : Style → Bool → List (ℤ × ℕ) → Histogram → List ℕ
 text_behind style is_told before hist =
     hist.name
@@ -234,13 +232,13 @@ text_behind style is_told before hist =
     ++ redundant_line style hist
     ++ codes "\n"
 
--- a histogram, and what came to it since an earlier reading, where that is told
+-- the text of a histogram, with what came to it since an earlier reading if the text says that
 abbrev pub histogram_text : Style → Since → Histogram → List ℕ
 histogram_text style since hist = text_behind style since.is_told (counts_before since.hists hist) hist
 
 -- ---- the end
 
--- the sentence of a flag that is set
+-- the sentence of a flag, if it is set
 abbrev pub flag_sentence : Bool → List ℕ → List ℕ
 flag_sentence flag sentence = if flag then sentence else []
 
@@ -248,17 +246,17 @@ flag_sentence flag sentence = if flag then sentence else []
 abbrev pub bad_sentence : ℕ × RecordFault → List ℕ
 bad_sentence bad = joined (codes "The record at word " ∷ decimal bad.0 ∷ codes " cannot be read: " ∷ record_fault_word bad.1 ∷ codes ".\n" ∷ [])
 
--- the sentence of why the list stopped
+-- the sentence that says why the list stopped, if it did
 abbrev pub stopped_sentence : Option ImageFault → List ℕ
 stopped_sentence None = []
 stopped_sentence (Some fault) = joined (codes "The list of records stops before its end: " ∷ image_fault_word fault ∷ codes ".\n" ∷ [])
 
--- the sentence of a choice that no histogram meets
+-- the sentence that says that no histogram is shown, if none is
 abbrev pub none_sentence : List Histogram → List ℕ
 none_sentence [] = codes "No histogram is shown.\n"
 none_sentence (hist ∷ hists) = []
 
--- all sentences behind these histograms of a reading
+-- all sentences that follow these histograms of a reading
 abbrev pub ending : List Histogram → Reading → List ℕ
 ending hists reading =
     none_sentence hists
@@ -278,7 +276,7 @@ pub record AreShown (choice : Choice) (hists : List Histogram) (reading : Readin
 abbrev pub text_in_order : Style → Since → List Histogram → Reading → List ℕ
 text_in_order style since hists reading = flat_map (histogram_text style since) hists ++ ending hists reading
 
--- the text of a reading, and of what came since an earlier one, where that is told
+-- the text of a reading, with what came since an earlier one if the text says that
 abbrev pub IsShowTold : Style → Choice → Since → Reading → List ℕ → Type 0
 IsShowTold style choice since reading text =
     (hists : List Histogram) × AreShown choice hists reading × (text ≡ text_in_order style since hists reading)
@@ -287,6 +285,6 @@ IsShowTold style choice since reading text =
 abbrev pub IsShowOf : Style → Choice → Reading → List ℕ → Type 0
 IsShowOf style choice reading text = IsShowTold style choice untold reading text
 
--- the text of a reading, and of what came to its histograms since an earlier one
+-- the text of a reading, with what came to its histograms since an earlier one
 abbrev pub IsShowSince : Style → Choice → Reading → Reading → List ℕ → Type 0
 IsShowSince style choice earlier reading text = IsShowTold style choice (told_since earlier) reading text

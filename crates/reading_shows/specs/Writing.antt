@@ -1,4 +1,4 @@
--- What is written of the bytes of an image, in each form.
+-- What is written for the bytes of an image, in each form.
 use Rattle.std.specs.Prelude.{◌≡◌, ℕ, List, Ok, map}
 use Rattle.segment_image.specs.Head.{header_of}
 use Rattle.segment_image.specs.declared.head.SegmentHead.{SegmentHead}
@@ -18,7 +18,7 @@ use Rattle.reading_shows.specs.Listing.{IsListOf}
 use Rattle.reading_shows.specs.Showing.{IsShowOf, IsShowSince}
 use Rattle.reading_shows.specs.Page.{IsPageOf}
 
--- which histograms a form has: all, where none is chosen
+-- which histograms a form shows: all, if it has no choice
 abbrev pub choice_in : Form → Choice
 choice_in Report = All
 choice_in Rows = All
@@ -29,8 +29,8 @@ choice_in (ShowSince style choice earlier) = choice
 choice_in (Listing style choice) = choice
 choice_in (Page source all choice) = choice
 
--- the text of an image in a form: the report, its rows, the metrics, the overview, the text for people, the same with what came
--- since an earlier reading, the list or the web page
+-- the text of an image in a form: the report, its rows, the metrics, the overview, the text for people, the same text with what came since
+-- an earlier reading, the list or the web page
 abbrev pub IsTextIn : Form → SegmentHead → Reading → List ℕ → Type 0
 IsTextIn Report head reading text = IsTextOf reading text
 IsTextIn Rows head reading text = IsTableOf reading text

@@ -8,10 +8,10 @@ use crate::columns::{put_bytes, put_times};
 use crate::shares::share;
 use std::alloc::AllocError;
 
-// Full cells, as many as the longest bar of a terminal has.
+// As many full cells as the longest bar on a terminal has.
 static FULL_CELLS: [[u8; 3]; 200] = [[226, 150, 136]; 200];
 
-// How many of `marks` marks the bar of so many units has.
+// How many of `marks` marks the bar of `units` units has.
 pub(crate) fn marks(units: u64, most: u64, marks: u32) -> u32
     ensures { result ≡ marks_of units most marks }
 {
@@ -19,7 +19,7 @@ pub(crate) fn marks(units: u64, most: u64, marks: u32) -> u32
     share(units, most, marks, most.saturating_sub(1)).min(all) as u32
 }
 
-// Puts what is left of a cell behind whole ones.
+// Appends the part of a cell that comes after the whole ones.
 fn put_part_of_cell(text: &mut Vec<u8>, eighths: u8) -> Result<(), AllocError>
     requires { eighths < 8 }
     ensures { OnOk result (text.new.items ≡ text.old.items ++ part_of_cell eighths) }
@@ -30,7 +30,7 @@ fn put_part_of_cell(text: &mut Vec<u8>, eighths: u8) -> Result<(), AllocError>
     Ok(())
 }
 
-// Puts so many full cells behind a text.
+// Appends `count` full cells to a text.
 fn put_full_cells(text: &mut Vec<u8>, count: usize) -> Result<(), AllocError>
     ensures { OnOk result (text.new.items ≡ text.old.items ++ times count (block 8)) }
 {
@@ -39,7 +39,7 @@ fn put_full_cells(text: &mut Vec<u8>, count: usize) -> Result<(), AllocError>
     Ok(())
 }
 
-// Puts a bar of blocks, and blanks up to its width.
+// Appends a bar of blocks, and blanks up to its width.
 fn put_block_bar(text: &mut Vec<u8>, width: u32, eighths: u32) -> Result<(), AllocError>
     requires { eighths ≤ 4294967288 }
     ensures { OnOk result (text.new.items ≡ text.old.items ++ block_bar width eighths) }
@@ -49,7 +49,7 @@ fn put_block_bar(text: &mut Vec<u8>, width: u32, eighths: u32) -> Result<(), All
     put_bytes(text, width.saturating_sub((eighths + 7) / 8) as usize, b' ')
 }
 
-// Puts a bar of plain signs, and blanks up to its width.
+// Appends a bar of plain signs, and blanks up to its width.
 fn put_sign_bar(text: &mut Vec<u8>, width: u32, signs: u32) -> Result<(), AllocError>
     ensures { OnOk result (text.new.items ≡ text.old.items ++ sign_bar width signs) }
 {
@@ -57,7 +57,7 @@ fn put_sign_bar(text: &mut Vec<u8>, width: u32, signs: u32) -> Result<(), AllocE
     put_bytes(text, width.saturating_sub(signs) as usize, b' ')
 }
 
-// Puts the bar of so many units where the most are these, in so many cells.
+// Appends the bar of `units` units, `width` cells wide, where `most` is the most units that a bar shows.
 pub(crate) fn put_bar(
     text: &mut Vec<u8>,
     is_ascii: bool,

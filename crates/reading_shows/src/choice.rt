@@ -15,11 +15,11 @@ pub enum Choice<'a> {
     All,
     /// Those with one of these names.
     Named(&'a [&'a str]),
-    /// Those whose name has this part.
+    /// Those whose name contains this part.
     Part(&'a str),
 }
 
-// Whether a part stands somewhere in a name.
+// Whether a part is anywhere in a name.
 fn has_part(part: &[u8], name: &[u8]) -> bool
     ensures { result ≡ has_part_of part.now name.now }
 {

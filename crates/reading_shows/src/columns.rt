@@ -1,11 +1,11 @@
-//! Texts that stand in columns.
+//! Texts in columns.
 
 ghost use Rattle.std.specs.Prelude.{◌≡◌, [], ◌∷◌, ◌++◌, OnOk};
 ghost use Rattle.reading_shows.specs.Columns.{times, at_left, at_right};
 
 use std::alloc::AllocError;
 
-// Puts a piece behind a text so many times.
+// Appends a piece to a text `count` times.
 pub(crate) fn put_times(text: &mut Vec<u8>, count: usize, piece: &[u8]) -> Result<(), AllocError>
     ensures { OnOk result (text.new.items ≡ text.old.items ++ times count piece.now) }
 {
@@ -15,7 +15,7 @@ pub(crate) fn put_times(text: &mut Vec<u8>, count: usize, piece: &[u8]) -> Resul
     Ok(())
 }
 
-// Puts a byte behind a text so many times.
+// Appends a byte to a text `count` times.
 pub(crate) fn put_bytes(text: &mut Vec<u8>, count: usize, byte: u8) -> Result<(), AllocError>
     ensures { OnOk result (text.new.items ≡ text.old.items ++ times count (byte ∷ [])) }
 {
@@ -26,7 +26,7 @@ pub(crate) fn put_bytes(text: &mut Vec<u8>, count: usize, byte: u8) -> Result<()
     Ok(())
 }
 
-// Puts a piece at the left end of a column behind a text.
+// Appends a column to a text, with a piece at its left end.
 pub(crate) fn put_at_left(text: &mut Vec<u8>, width: usize, piece: &[u8]) -> Result<(), AllocError>
     ensures { OnOk result (text.new.items ≡ text.old.items ++ at_left width piece.now) }
 {
@@ -34,7 +34,7 @@ pub(crate) fn put_at_left(text: &mut Vec<u8>, width: usize, piece: &[u8]) -> Res
     put_bytes(text, width.saturating_sub(piece.len()), b' ')
 }
 
-// Puts a piece at the right end of a column behind a text.
+// Appends a column to a text, with a piece at its right end.
 pub(crate) fn put_at_right(text: &mut Vec<u8>, width: usize, piece: &[u8]) -> Result<(), AllocError>
     ensures { OnOk result (text.new.items ≡ text.old.items ++ at_right width piece.now) }
 {

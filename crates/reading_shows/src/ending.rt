@@ -1,4 +1,4 @@
-//! The sentences behind the histograms.
+//! The sentences after the histograms.
 
 ghost use Rattle.std.specs.Prelude.{◌≡◌, ◌++◌, map, OnOk};
 ghost use Rattle.std.specs.List.{flat_map};
@@ -10,7 +10,7 @@ use reading_texts::{image_fault_word, put_parts, record_fault_word};
 use segment_image::ImageFault;
 use std::alloc::{AllocError, Global};
 
-// Puts the sentence of a choice that no histogram meets.
+// Puts the sentence that says that no histogram is shown, if none is.
 fn put_none(text: &mut Vec<u8>, hists: &[&HistReading]) -> Result<(), AllocError>
     ensures { OnOk result (text.new.items ≡ text.old.items ++ none_sentence (map (λ hist. histogram_view hist.now) hists.now)) }
 {
@@ -20,7 +20,7 @@ fn put_none(text: &mut Vec<u8>, hists: &[&HistReading]) -> Result<(), AllocError
     Ok(())
 }
 
-// Puts the sentence of a flag that is set.
+// Puts the sentence of a flag, if it is set.
 fn put_flag(text: &mut Vec<u8>, flag: bool, sentence: &[u8]) -> Result<(), AllocError>
     ensures { OnOk result (text.new.items ≡ text.old.items ++ flag_sentence flag sentence.now) }
 {
@@ -57,7 +57,7 @@ fn put_all_bad(alloc: Global, text: &mut Vec<u8>, all: &[BadRecord]) -> Result<(
     Ok(())
 }
 
-// Puts the sentence of why the list stopped.
+// Puts the sentence that says why the list stopped, if it did.
 fn put_stopped(text: &mut Vec<u8>, stopped: Option<ImageFault>) -> Result<(), AllocError>
     ensures { OnOk result (text.new.items ≡ text.old.items ++ stopped_sentence stopped) }
 {
@@ -74,7 +74,7 @@ fn put_stopped(text: &mut Vec<u8>, stopped: Option<ImageFault>) -> Result<(), Al
     Ok(())
 }
 
-// Puts all sentences behind these histograms of a reading.
+// Puts all sentences that follow these histograms of a reading.
 pub(crate) fn put_ending(
     alloc: Global,
     text: &mut Vec<u8>,

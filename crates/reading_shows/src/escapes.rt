@@ -6,7 +6,7 @@ ghost use Rattle.reading_shows.specs.Escapes.{escaped_byte, escaped as escaped_o
 
 use std::alloc::{AllocError, Global};
 
-// Puts what stands for a byte of a name.
+// Puts a byte of a name, escaped if it has to be.
 pub(crate) fn put_byte(text: &mut Vec<u8>, byte: u8) -> Result<(), AllocError>
     ensures { OnOk result (text.new.items ≡ text.old.items ++ escaped_byte byte) }
 {
@@ -22,7 +22,7 @@ pub(crate) fn put_byte(text: &mut Vec<u8>, byte: u8) -> Result<(), AllocError>
     Ok(())
 }
 
-// A name as it stands in a page, also one of a forged image: nothing in it opens or ends a tag or a value in quotes.
+// A name as a page writes it, also one of a forged image: nothing in it opens or ends a tag or a value in quotes.
 pub(crate) fn escaped(alloc: Global, name: &[u8]) -> Result<Vec<u8>, AllocError>
     ensures text { IfOk result (λ text. text.items ≡ escaped_of name.now) }
     ensures inert { IfOk result (λ text. list_all is_inert text.items ≡ true) }

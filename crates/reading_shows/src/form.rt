@@ -24,8 +24,8 @@ pub enum Form<'a> {
     Report,
     /// The rows of its report alone, as CSV with a head line.
     Rows,
-    /// Its metrics in the Prometheus text format: their names begin with `prefix`, one where `reading_texts::is_prefix` says so, and
-    /// all lines have these labels, those where `reading_texts::are_line_labels` says so.
+    /// Its metrics in the Prometheus text format. Their names begin with `prefix`, for which `reading_texts::is_prefix`
+    /// has to hold, and all lines have these labels, for which `reading_texts::are_line_labels` has to hold.
     Export {
         prefix: &'a str,
         labels: &'a [Label<'a>],
@@ -39,7 +39,7 @@ pub enum Form<'a> {
         style: Style,
         choice: Choice<'a>,
     },
-    /// The same, and what came to them since an earlier reading.
+    /// The same, with what came to them since an earlier reading.
     ShowSince {
         style: Style,
         choice: Choice<'a>,
@@ -50,8 +50,8 @@ pub enum Form<'a> {
         style: ListStyle,
         choice: Choice<'a>,
     },
-    /// The overview and the chosen histograms as a web page, which names where the image comes from, with all values of sparse
-    /// ones or those that have the most units.
+    /// The overview and the chosen histograms as a web page, which names where the image comes from. It has all values
+    /// of sparse histograms, or those with the most units.
     Page {
         source: Source<'a>,
         shows_all: bool,
@@ -60,7 +60,7 @@ pub enum Form<'a> {
 }
 
 impl<'a> Form<'a> {
-    /// Returns which histograms it has: all, where none is chosen.
+    /// Returns which histograms it shows: all, if the form has no choice.
     pub fn choice(self) -> Choice<'a>
         ensures { result ≡ choice_in self.entry }
     {
@@ -73,8 +73,8 @@ impl<'a> Form<'a> {
         }
     }
 
-    /// Returns the text of an image in this form, byte for byte: of what its header says and of its reading. The one error
-    /// is that memory runs out.
+    /// Returns the text of an image in this form, byte for byte, from what its header says and from its reading. The
+    /// only error is that memory runs out.
     pub fn text_of(
         self,
         alloc: Global,

@@ -1,4 +1,4 @@
-//! What stands above the rows of a histogram: its numbers and its quantiles.
+//! What comes before the rows of a histogram: its numbers and its quantiles.
 
 ghost use Rattle.std.specs.Prelude.{◌≡◌, ◌++◌, ◌-◌, ◌-ℤ◌, ◌==◌, not, get_or, OnOk};
 ghost use Rattle.std.specs.List.{find, list_any};
@@ -17,7 +17,7 @@ use reading_overviews::{put_difference, put_number, put_signed};
 use reading_texts::{HistRow, kind_word, units};
 use std::alloc::AllocError;
 
-// Whether the units up to a row are so many thousandths of all, or more.
+// Whether the units up to a row are at least `thousandths` thousandths of all units.
 fn reaches(total: u64, thousandths: u32, row: &HistRow) -> bool
     ensures { result ≡ reaches_of total thousandths row.now }
 {
@@ -25,7 +25,7 @@ fn reaches(total: u64, thousandths: u32, row: &HistRow) -> bool
     u128::from(thousandths) * u128::from(total) <= 1000 * u128::from(up_to)
 }
 
-// The first row up to which there are so many thousandths of all units.
+// The first row up to which there are at least `thousandths` thousandths of all units.
 fn first_reaching(total: u64, rows: &[HistRow], thousandths: u32) -> Option<HistRow>
     ensures { result ≡ find (reaches_of total thousandths) rows.now }
 {
@@ -37,7 +37,7 @@ fn first_reaching(total: u64, rows: &[HistRow], thousandths: u32) -> Option<Hist
     None
 }
 
-// The row that holds a quantile; none of no units.
+// The row that holds a quantile; none if there are no units.
 pub(crate) fn quantile(total: u64, rows: &[HistRow], thousandths: u32) -> Option<HistRow>
     ensures { result ≡ quantile_of total rows.now thousandths }
 {
@@ -66,7 +66,7 @@ fn least(rows: &[HistRow]) -> Option<HistRow>
     None
 }
 
-// Puts the values of a row, or none.
+// Puts the values of a row, or the word none.
 pub(crate) fn put_found(
     text: &mut Vec<u8>,
     naming: Naming,
@@ -118,7 +118,7 @@ fn put_ends(
     Ok(())
 }
 
-// Puts both lines, but of a boolean histogram.
+// Puts both lines, unless the histogram is boolean.
 fn put_ranks(
     text: &mut Vec<u8>,
     naming: Naming,
@@ -158,7 +158,7 @@ fn put_number_line(
     Ok(())
 }
 
-// The units that no delta has taken of a bucket with this mark, where it has one.
+// The units of a bucket that no delta has taken: those above its mark, if it has one.
 fn left_at(count: u64, marks: &[u64], i: usize) -> u64
     ensures { result ≡ count - get_or marks.now i 0 }
 {
@@ -180,7 +180,7 @@ fn left(hist: &HistReading) -> u64
     left
 }
 
-// Puts the line of these units and of a sum less its mark, which no delta has taken.
+// Puts the line of what no delta has taken: these units, and a sum less its mark.
 fn put_left_text(
     text: &mut Vec<u8>,
     is_human: bool,
@@ -225,7 +225,7 @@ fn put_left(text: &mut Vec<u8>, is_human: bool, hist: &HistReading) -> Result<()
     put_left_text(text, is_human, left(hist), hist.sum, hist.sum_mark)
 }
 
-// Puts the same line, where a delta has taken something.
+// Puts the same line, if a delta has taken something.
 fn put_taken(text: &mut Vec<u8>, is_human: bool, hist: &HistReading) -> Result<(), AllocError>
     requires { IsReadable (histogram_view hist.now) }
     ensures { OnOk result (text.new.items ≡ text.old.items ++ taken_line is_human (histogram_view hist.now)) }
@@ -236,7 +236,8 @@ fn put_taken(text: &mut Vec<u8>, is_human: bool, hist: &HistReading) -> Result<(
     Ok(())
 }
 
-// Puts the line of the kind, the units, the sum and the mean of a histogram, which has so many units, of which so many came.
+// Puts the line of the kind, the units, the sum and the mean of a histogram that has `total` units, of which `came`
+// came.
 fn put_summary(
     text: &mut Vec<u8>,
     is_human: bool,
@@ -249,7 +250,7 @@ fn put_summary(
     put_number_line(text, is_human, kind_word(&hist.spec), hist.sum, total, came)
 }
 
-// Puts the lines of all numbers of a histogram, which has these rows, and to which so many units came.
+// Puts the lines of all numbers of a histogram that has these rows, and to which `came` units came.
 pub(crate) fn put_numbers(
     text: &mut Vec<u8>,
     is_human: bool,

@@ -1,9 +1,9 @@
-//! To what the length of a bar is in proportion.
+//! What the length of a bar is proportional to.
 
 ghost use Rattle.std.specs.Prelude.{◌≡◌, ◌<◌};
 ghost use Rattle.reading_shows.specs.Heights.{halvings as halvings_of, log_of as log_of_units, height_of as height_of_units};
 
-// How often units can be halved before one is left.
+// How many times units can be halved until one is left.
 fn halvings(units: u64) -> u32
     ensures { result ≡ halvings_of units }
 {
@@ -22,7 +22,7 @@ fn log_of(units: u64) -> u64
     256 * u64::from(halvings) + part as u64
 }
 
-// What a bar of so many units shows.
+// What the length of a bar is proportional to: `units` or their logarithm.
 pub(crate) fn height_of(is_log: bool, units: u64) -> u64
     ensures { result ≡ height_of_units is_log units }
 {

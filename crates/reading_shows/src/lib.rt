@@ -1,11 +1,12 @@
 //! The histograms of a reading for people, as a text, a list or a web page: numbers, quantiles and bars.
 //!
-//! The text is defined in `specs/Showing.antt`, the list in `specs/Listing.antt`, and the page in `specs/Page.antt`, over the rows that every text of a reading is
-//! made of. All numbers in them come from whole-number arithmetic, which `specs/Shares.antt` defines with its rounding. Each is
-//! composed whole and only then written, so that nothing is written but for a writer that fails.
+//! The text is defined in `specs/Showing.antt`, the list in `specs/Listing.antt`, and the page in `specs/Page.antt`,
+//! over the rows that every text of a reading is made of. All numbers in them come from whole-number arithmetic, which
+//! `specs/Shares.antt` defines with its rounding. Each text is composed in memory and only then written, so a part of a
+//! text is written only if the writer fails.
 //!
-//! [`write_text`] reads an image and writes it in one of eight [`Form`]s: these three, the text with what came since an earlier
-//! reading, the report, its rows, the metrics and the overview.
+//! [`write_text`] reads an image and writes it in one of eight [`Form`]s: these three, the text with what came since an
+//! earlier reading, the report, its rows, the metrics and the overview.
 #![tactic(auto)]
 
 mod bars;

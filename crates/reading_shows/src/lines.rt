@@ -38,7 +38,7 @@ pub(crate) fn begins_gap(naming: Naming, rows: &[HistRow], i: usize) -> bool
     !is_truth(naming) && (i == 0 || rows[i - 1].units != 0)
 }
 
-// How wide the values of rows are that have lines, and their head. They are written to `room`, to see how long they are.
+// How wide the values of the rows with lines are, or their head. They are written to `room` to see how long they are.
 fn values_width(room: &mut Vec<u8>, naming: Naming, rows: &[HistRow]) -> Result<usize, AllocError>
     ensures { IfOk result (λ width. width ≡ fold (widened naming) 6 rows.now) }
 {
@@ -53,7 +53,7 @@ fn values_width(room: &mut Vec<u8>, naming: Naming, rows: &[HistRow]) -> Result<
     Ok(width)
 }
 
-// How wide the units of rows are, of which these are the most, and their head.
+// How wide the units of rows are, or their head, where `most` is the most units of a row.
 fn units_width(room: &mut Vec<u8>, is_human: bool, most: u64) -> Result<usize, AllocError>
     ensures { IfOk result (λ width. width ≡ max 5 (length (number is_human most))) }
 {
@@ -62,7 +62,7 @@ fn units_width(room: &mut Vec<u8>, is_human: bool, most: u64) -> Result<usize, A
     Ok(room.len().max(5))
 }
 
-// How wide the units are that came, and their head, with a blank before them; 0 where nothing is told of them.
+// How wide the units that came are, or their head, with a blank before them; 0 if these units are not shown.
 fn came_width(
     room: &mut Vec<u8>,
     is_human: bool,
@@ -107,7 +107,7 @@ fn columns_of(
     })
 }
 
-// Puts the head of the column of the units that came, where there is one.
+// Puts the head of the column of the units that came, if there is this column.
 fn put_came_head(text: &mut Vec<u8>, width: usize) -> Result<(), AllocError>
     ensures { OnOk result (text.new.items ≡ text.old.items ++ came_head width) }
 {
@@ -131,7 +131,7 @@ fn put_head_line(text: &mut Vec<u8>, columns: LineColumns) -> Result<(), AllocEr
     Ok(())
 }
 
-// Puts the values of a row at the right end of a column. They are written to `room` first, to see how long they are.
+// Puts the values of a row at the right end of a column. They are written to `room` first to see how long they are.
 fn put_values(
     text: &mut Vec<u8>,
     room: &mut Vec<u8>,
@@ -146,7 +146,7 @@ fn put_values(
     put_at_right(text, width, room.as_slice())
 }
 
-// Puts units at the right end of a column. They are written to `room` first, to see how long they are.
+// Puts units at the right end of a column. They are written to `room` first to see how long they are.
 fn put_units_of(
     text: &mut Vec<u8>,
     room: &mut Vec<u8>,
@@ -161,7 +161,7 @@ fn put_units_of(
     put_at_right(text, width, room.as_slice())
 }
 
-// Puts units that came at the right end of a column. They are written to `room` first, to see how long they are.
+// Puts units that came at the right end of a column. They are written to `room` first to see how long they are.
 fn put_came_of(
     text: &mut Vec<u8>,
     room: &mut Vec<u8>,
@@ -176,7 +176,7 @@ fn put_came_of(
     put_at_right(text, width, room.as_slice())
 }
 
-// Puts the line of a row, to which so many units came.
+// Puts the line of a row, to which `came` units came.
 fn put_units(
     text: &mut Vec<u8>,
     room: &mut Vec<u8>,
@@ -213,7 +213,7 @@ fn put_gap(text: &mut Vec<u8>, columns: LineColumns) -> Result<(), AllocError>
     Ok(())
 }
 
-// Puts the line of row `i`; of those without lines only the first of a gap has one.
+// Puts the line of row `i`. Of the rows without lines, the first of each gap puts the line of the gap.
 fn put_row(
     text: &mut Vec<u8>,
     room: &mut Vec<u8>,
@@ -256,7 +256,7 @@ fn put_lines(
     Ok(())
 }
 
-// Puts the lines of rows, to each of which so many units came, where this is told.
+// Puts the lines of rows, each with the units that came to it, if these are shown.
 pub(crate) fn put_rows(
     alloc: Global,
     text: &mut Vec<u8>,
@@ -284,14 +284,14 @@ fn units_together(rows: &[HistRow]) -> u64
     rows.iter().map(|row| row.units).sum()
 }
 
-// What a word for so many has at its end.
+// The plural ending of a word for `n` things.
 fn plural(n: u64) -> &'static [u8]
     ensures { result.now ≡ plural_of n }
 {
     if n == 1 { b"" } else { b"s" }
 }
 
-// Puts the line of these rows and units, which are left out.
+// Puts the line that says how many rows are left out, and how many units they have.
 fn put_left_out_text(
     text: &mut Vec<u8>,
     is_human: bool,

@@ -24,15 +24,15 @@ use std::alloc::{AllocError, Global};
 /// How a list of histograms is written.
 #[derive(Clone, Copy, Debug, PartialEq, Eq)]
 pub struct ListStyle {
-    /// The cells of a line, where the numbers leave room for the names.
+    /// The cells of a line, if the numbers leave room for the names.
     pub width: u16,
     /// Whether numbers have a comma between thousands.
     pub is_human: bool,
-    /// Whether those with the most units come first, and not those whose names do.
+    /// Whether the lines are sorted by units, the most first, and not by name.
     pub is_by_units: bool,
 }
 
-// A line of a list, each of its texts apart.
+// A line of a list, as its separate texts.
 #[derive(Drop)]
 pub(crate) struct ListEntry {
     pub(crate) name: Vec<u8>,
@@ -42,7 +42,7 @@ pub(crate) struct ListEntry {
     pub(crate) median: Vec<u8>,
     pub(crate) high: Vec<u8>,
     pub(crate) greatest: Vec<u8>,
-    // By which lines are sorted by units.
+    // The key by which lines are sorted by units.
     pub(crate) rank: Vec<u64>,
 }
 
@@ -67,7 +67,7 @@ fn number_text(alloc: Global, is_human: bool, n: u64) -> Result<Vec<u8>, AllocEr
     Ok(text)
 }
 
-// A sum over so many units as a text of its own.
+// The mean of `units` units with a sum, as a text of its own.
 fn mean_text(alloc: Global, is_human: bool, sum: i128, units: u64) -> Result<Vec<u8>, AllocError>
     ensures { IfOk result (λ text. text.items ≡ mean is_human sum units) }
 {
@@ -91,7 +91,7 @@ fn quantile_text(
     Ok(text)
 }
 
-// By which the line of a histogram with so many units is sorted by units.
+// The key by which the line of a histogram with `units` units is sorted by units.
 fn rank_of(alloc: Global, units: u64, name: &[u8]) -> Result<Vec<u64>, AllocError>
     ensures { IfOk result (λ rank. rank.items ≡ (18446744073709551615 - units) ∷ name.now) }
 {
@@ -160,7 +160,7 @@ fn entries_of(
     Ok(entries)
 }
 
-// Columns in which a line fits too.
+// Columns widened so that a line fits too.
 fn widened_by(columns: ListColumns, entry: &ListEntry) -> ListColumns
     ensures { result ≡ widened_by_of columns (entry_view entry.now) }
 {
@@ -263,7 +263,7 @@ fn put_entries(text: &mut Vec<u8>, width: u16, entries: &[ListEntry]) -> Result<
     Ok(())
 }
 
-// Puts lines in order by units; they are given by name.
+// Sorts lines by units; they are given sorted by name.
 fn sort_by_rank(entries: &mut Vec<ListEntry>) -> Result<(), AllocError>
     ensures { OnOk result (AreRanked (map entry_view entries.old.items) (map entry_view entries.new.items)) }
 {
@@ -271,7 +271,7 @@ fn sort_by_rank(entries: &mut Vec<ListEntry>) -> Result<(), AllocError>
     Ok(())
 }
 
-// Puts lines in the order that is asked for; they are given by name.
+// Sorts lines in the order that is asked for; they are given sorted by name.
 fn order(entries: &mut Vec<ListEntry>, is_by_units: bool) -> Result<(), AllocError>
     ensures { OnOk result (AreOrdered is_by_units (map entry_view entries.old.items) (map entry_view entries.new.items)) }
 {
@@ -281,7 +281,7 @@ fn order(entries: &mut Vec<ListEntry>, is_by_units: bool) -> Result<(), AllocErr
     Ok(())
 }
 
-// Puts the heads and these lines; nothing of none.
+// Puts the heads and these lines, or nothing if there are no lines.
 fn put_list(
     alloc: Global,
     text: &mut Vec<u8>,
@@ -298,10 +298,10 @@ fn put_list(
     put_entries(text, width, entries.as_slice())
 }
 
-/// Returns the list of the histograms of a reading, byte for byte: of each chosen one, by name, a line with its name,
-/// its kind, its units and their mean, two quantiles and the greatest bucket that has units; or by units, the most
-/// first, and among as many by name; then the flags that are set and the bad records. The one error is that memory runs
-/// out.
+/// Returns the list of the histograms of a reading, byte for byte: for each chosen histogram a line with its name, its
+/// kind, its units and their mean, two quantiles and the greatest bucket that has units; then the flags that are set,
+/// the bad records and why the list of records stops, if it does. The lines are sorted by name; or by units, the most
+/// first, and those with equal units by name. The only error is that memory runs out.
 pub fn list_text(
     alloc: Global,
     reading: &Reading,

@@ -29,8 +29,8 @@ fn names_of<'a>(choice: Choice<'a>) -> &'a [&'a str]
     }
 }
 
-/// Returns the first name that a choice asks for and that no histogram of a reading has [first]. None exactly where a
-/// histogram has each of them; a choice of all, or by a part of a name, asks for no name [none].
+/// Returns the first name that a choice asks for and that no histogram of a reading has [first]. None exactly if each
+/// name that is asked for is that of a histogram; a choice of all, or by a part of a name, asks for no names [none].
 pub fn first_missing<'a>(choice: Choice<'a>, reading: &Reading) -> Option<&'a str>
     ensures first { result ≡ first_missing_of choice.entry (reading_view reading.now) }
     ensures none { IsNone result ↔ AreAllThere choice.entry (reading_view reading.now) }

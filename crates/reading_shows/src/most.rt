@@ -1,4 +1,4 @@
-//! Which rows of a histogram have lines: of a sparse one those with the most units.
+//! Which rows of a histogram have lines: if it is sparse, those with the most units.
 
 ghost use Rattle.std.specs.Prelude.{◌≡◌, not, IfOk, IsPermutation};
 ghost use Rattle.std.specs.List.{filter};
@@ -23,7 +23,7 @@ fn is_ahead(row: &HistRow, other: &HistRow) -> bool
     other.units > row.units || (other.units == row.units && other.low < row.low)
 }
 
-// Whether fewer than 20 of these rows rank before a row. It is told at the twentieth that does.
+// Whether fewer than 20 of these rows rank before a row. The search stops at the twentieth that does.
 fn is_among_first(rows: &[HistRow], row: &HistRow) -> bool
     ensures { result ≡ is_among_first_of rows.now row.now }
 {
@@ -37,7 +37,7 @@ fn is_among_first(rows: &[HistRow], row: &HistRow) -> bool
     true
 }
 
-// The same rows, those with the most units first, so that those that rank before a row are soon found.
+// The same rows, those with the most units first, so that the rows that rank before a row are found early.
 fn by_units(alloc: Global, rows: &[HistRow]) -> Result<Vec<HistRow>, AllocError>
     ensures { IfOk result (λ sorted. IsPermutation rows.now sorted.items) }
 {
@@ -46,7 +46,7 @@ fn by_units(alloc: Global, rows: &[HistRow]) -> Result<Vec<HistRow>, AllocError>
     Ok(sorted)
 }
 
-// Some rows in two parts: those that are among the first of others, and those that are not.
+// Rows in two parts: those that are among the first 20 of `others` by rank, and those that are not.
 fn parted(alloc: Global, rows: &[HistRow], others: &[HistRow]) -> Result<Picked, AllocError>
     ensures shown { IfOk result (λ picked. picked.shown.items ≡ filter (is_among_first_of others.now) rows.now) }
     ensures left_out { IfOk result (λ picked. picked.left_out.items ≡ filter (λ row. not (is_among_first_of others.now row)) rows.now) }

@@ -12,7 +12,7 @@ use std::alloc::AllocError;
 // How the values of a row are written.
 #[derive(Clone, Copy, Debug, PartialEq, Eq)]
 pub(crate) enum Naming {
-    // As the one value of a sparse histogram.
+    // As one value, in a sparse histogram.
     Value,
     // As false or true.
     Truth,

@@ -24,7 +24,7 @@ use reading_texts::{HistRow, put_parts, rows_of};
 use segment_image::SegmentHead;
 use std::alloc::{AllocError, Global};
 
-// Puts the table of a histogram, which has these rows, and how many others there are.
+// Puts the table of a histogram with these rows, and how many others there are.
 fn put_table(
     alloc: Global,
     text: &mut Vec<u8>,
@@ -47,7 +47,7 @@ fn put_table(
     Ok(())
 }
 
-// Puts the name of a numbered histogram, to which the list leads.
+// Puts the name of a numbered histogram, to which the list has a link.
 fn put_title(
     alloc: Global,
     text: &mut Vec<u8>,
@@ -106,7 +106,7 @@ fn put_sections(
     Ok(())
 }
 
-// Composes the page of a reading, with an overview of these lines.
+// Composes the page of a reading, whose overview has these lines.
 fn page_with(
     alloc: Global,
     lines: &[u8],
@@ -133,11 +133,11 @@ fn page_with(
     Ok(text)
 }
 
-/// Returns the web page of an image, byte for byte: HTML that needs nothing else. It names where the image comes from, and
-/// begins with the overview of `reading_overviews` and the list of [`list_text`](crate::list_text), whose names lead to
-/// the histograms. Then come the numbers and sentences of [`show_text`](crate::show_text), of the same histograms in the
-/// same order. Numbers have commas, bars are SVG, and names are escaped. All values of sparse histograms have rows, or the
-/// 20 with the most units. The one error is that memory runs out.
+/// Returns the web page of an image, byte for byte: one self-contained HTML document. It names where the image comes
+/// from, and begins with the overview of `reading_overviews` and the list of [`list_text`](crate::list_text), whose
+/// names are links to the histograms. Then come the numbers and sentences of [`show_text`](crate::show_text), for the
+/// same histograms in the same order. Numbers have commas, bars are SVG, and names are escaped. All values of a sparse
+/// histogram have rows, or only the 20 with the most units. The only error is that memory runs out.
 pub fn page_text(
     alloc: Global,
     head: &SegmentHead,
@@ -153,9 +153,9 @@ pub fn page_text(
     page_with(alloc, lines.as_slice(), reading, source, shows_all, choice)
 }
 
-/// Returns the web page of a sum of images, byte for byte: that of [`page_text`], of the reading of the sum, with the overview
-/// of a sum (`reading_overviews::sum_overview_text`) in the place of that of an image. It names where the sum comes from: its
-/// input, or the first of several and how many more there are. The one error is that memory runs out.
+/// Returns the web page of a sum of images, byte for byte: the page of [`page_text`] for the reading of the sum, with
+/// the overview of a sum (`reading_overviews::sum_overview_text`) instead of that of an image. It names where the sum
+/// comes from: its input, or the first of several and how many more there are. The only error is that memory runs out.
 pub fn page_of_sum(
     alloc: Global,
     head: &SumHead,

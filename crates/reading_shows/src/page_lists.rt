@@ -13,7 +13,7 @@ use image_reader::HistReading;
 use reading_texts::put_parts;
 use std::alloc::{AllocError, Global};
 
-// Puts an overview with such lines.
+// Puts an overview with these lines.
 pub(crate) fn put_page_overview(text: &mut Vec<u8>, lines: &[u8]) -> Result<(), AllocError>
     ensures { OnOk result (text.new.items ≡ text.old.items ++ page_overview lines.now) }
 {

@@ -13,7 +13,7 @@ use reading_overviews::put_number;
 use reading_texts::{HistRow, put_parts};
 use std::alloc::AllocError;
 
-// Puts the bar of so many units where the most are these, in thousandths of the width of the longest one.
+// Puts the bar of `units` units, in thousandths of the width of the longest bar, which has `most` units.
 fn put_drawn_bar(text: &mut Vec<u8>, units: u64, most: u64) -> Result<(), AllocError>
     ensures { OnOk result (text.new.items ≡ text.old.items ++ drawn_bar units most) }
 {
@@ -46,7 +46,7 @@ fn put_units(text: &mut Vec<u8>, frame: Frame, row: &HistRow) -> Result<(), Allo
     Ok(())
 }
 
-// Puts row `i`; of those without one only the first of a gap is there.
+// Puts row `i`. Of the rows that are not shown, the first of each gap puts the row of the gap.
 fn put_row(text: &mut Vec<u8>, frame: Frame, rows: &[HistRow], i: usize) -> Result<(), AllocError>
     requires { i < length rows.now }
     ensures { OnOk result (text.new.items ≡ text.old.items ++ row_in_page frame rows.now i) }

@@ -1,4 +1,4 @@
-//! The lines of a histogram whose redundant count is not its units.
+//! The lines of a histogram whose redundant count differs from its units.
 
 ghost use Rattle.std.specs.Prelude.{◌≡◌, ◌++◌, OnOk};
 ghost use Rattle.image_reader.specs.Readable.{IsReadable};
@@ -11,7 +11,7 @@ use reading_overviews::put_number;
 use reading_texts::units;
 use std::alloc::AllocError;
 
-// Puts the line of these units, which are counted once more.
+// Puts the line of these units, which were counted a second time.
 fn put_redundant_text(text: &mut Vec<u8>, is_human: bool, units: u64) -> Result<(), AllocError>
     ensures { OnOk result (text.new.items ≡ text.old.items ++ redundant_text is_human units) }
 {
@@ -21,7 +21,7 @@ fn put_redundant_text(text: &mut Vec<u8>, is_human: bool, units: u64) -> Result<
     Ok(())
 }
 
-// Puts that of a histogram, where it is asked for and the redundant count differs from the units.
+// Puts this line for a histogram, if it is asked for and the redundant count differs from the units.
 pub(crate) fn put_redundant(
     text: &mut Vec<u8>,
     style: Style,
@@ -36,8 +36,8 @@ pub(crate) fn put_redundant(
     Ok(())
 }
 
-// Puts the line that marks a histogram as counted in meanwhile, where it is asked for and the redundant count differs from the
-// units.
+// Puts the line that says that a histogram was counted in meanwhile, if it is asked for and the redundant count differs
+// from the units.
 pub(crate) fn put_meanwhile(
     text: &mut Vec<u8>,
     style: Style,

@@ -11,14 +11,14 @@ use reading_overviews::{put_digits, put_sign};
 use reading_texts::put_parts;
 use std::alloc::AllocError;
 
-// A part times so many shares and what is added, where that fits in a word.
+// A part times `shares`, and `added`, if that fits in a word.
 fn small_sum(part: u64, shares: u32, added: u64) -> Option<u64>
     ensures { IfSome result (λ sum. sum ≡ part * shares + added) }
 {
     part.checked_mul(u64::from(shares))?.checked_add(added)
 }
 
-// How many of `shares` equal shares of a whole a part is, where `added` says how it is rounded; 0 of nothing.
+// How many of `shares` equal shares of a whole a part is; `added` says how it is rounded. 0 if the whole is 0.
 pub(crate) fn share(part: u64, whole: u64, shares: u32, added: u64) -> u128
     ensures { result ≡ share_of part whole shares added }
 {
@@ -31,7 +31,7 @@ pub(crate) fn share(part: u64, whole: u64, shares: u32, added: u64) -> u128
     }
 }
 
-// Puts so many tenths of a percent at the right end of a column behind a text.
+// Appends a column to a text, with a number of tenths of a percent at its right end.
 fn put_tenths(text: &mut Vec<u8>, width: usize, tenths: u128) -> Result<(), AllocError>
     ensures { OnOk result (text.new.items ≡ text.old.items ++ at_right width (tenths_of tenths ++ codes "%")) }
 {
@@ -44,8 +44,8 @@ fn put_tenths(text: &mut Vec<u8>, width: usize, tenths: u128) -> Result<(), Allo
     put_parts(text, &[before, b".", behind, b"%"])
 }
 
-// Puts a part in percent, to the nearest tenth, at the right end of a column behind a text. `tiny` is how the text writes that a
-// part is below 0.1%.
+// Appends a column to a text, with a part in percent at its right end, to the nearest tenth. `tiny` is how the text
+// writes that a part is below 0.1%.
 pub(crate) fn put_percent(
     text: &mut Vec<u8>,
     tiny: &[u8],
@@ -65,7 +65,7 @@ pub(crate) fn put_percent(
     }
 }
 
-// A size with a point before so many of its last digits: so many digits, ten to the power of their number, and the size times that.
+// A size with a point before its last digits: the number of these digits, ten to that power, and the size times it.
 #[derive(Clone, Copy, Debug, PartialEq, Eq)]
 struct Scaled {
     digits: usize,
@@ -73,7 +73,7 @@ struct Scaled {
     size: u128,
 }
 
-// A size with as many digits after its point as a mean over so many units has.
+// A size with as many digits after its point as its mean over `units` units has.
 fn scale(size: u128, units: u64) -> Scaled
     requires { 0 < size }
     ensures digits { result.digits ≡ digits_of_mean size units }
@@ -101,7 +101,7 @@ fn scale(size: u128, units: u64) -> Scaled
     }
 }
 
-// Puts digits, of which so many stand after the point; `power` is ten to the power of that number.
+// Puts the digits of `n`, the last `digits` of them after the point; `power` is ten to the power of `digits`.
 fn put_with_point(
     text: &mut Vec<u8>,
     is_human: bool,
@@ -123,7 +123,7 @@ fn put_with_point(
     text.extend_from_slice(behind)
 }
 
-// Puts the size of a sum over so many units, with three digits that count.
+// Puts the size of a sum over `units` units, with three significant digits.
 fn put_size_of_mean(
     text: &mut Vec<u8>,
     is_human: bool,
@@ -146,7 +146,7 @@ fn put_size_of_mean(
     )
 }
 
-// Puts a sum over so many units.
+// Puts the mean of `units` units with a sum.
 fn put_mean_of_some(
     text: &mut Vec<u8>,
     is_human: bool,
@@ -161,7 +161,7 @@ fn put_mean_of_some(
     Ok(())
 }
 
-// Puts a sum over so many units; none of no units.
+// Puts the mean of `units` units with a sum; the word none if there are no units.
 pub(crate) fn put_mean(
     text: &mut Vec<u8>,
     is_human: bool,

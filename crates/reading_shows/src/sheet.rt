@@ -1,4 +1,4 @@
-//! What stands before all else in a page: its title, and how it looks.
+//! What a page begins with: its title, and its style.
 
 ghost use Rattle.std.specs.Prelude.{◌≡◌, ◌++◌, OnOk};
 ghost use Rattle.reading_shows.specs.Sheet.{colours, narrow_shapes, opening, page_head, shapes, top};
@@ -6,7 +6,7 @@ ghost use Rattle.reading_shows.specs.Sheet.{colours, narrow_shapes, opening, pag
 use reading_texts::put_parts;
 use std::alloc::AllocError;
 
-// Puts the colours: light ones, dark ones where the reader wants them, and those for print.
+// Puts the colours: light ones, dark ones for a browser that prefers them, and those for print.
 fn put_colours(text: &mut Vec<u8>) -> Result<(), AllocError>
     ensures { OnOk result (text.new.items ≡ text.old.items ++ colours) }
 {
@@ -23,7 +23,7 @@ fn put_colours(text: &mut Vec<u8>) -> Result<(), AllocError>
     )
 }
 
-// Puts the places and sizes.
+// Puts the positions and sizes.
 fn put_shapes(text: &mut Vec<u8>) -> Result<(), AllocError>
     ensures { OnOk result (text.new.items ≡ text.old.items ++ shapes) }
 {
@@ -44,7 +44,7 @@ fn put_shapes(text: &mut Vec<u8>) -> Result<(), AllocError>
     )
 }
 
-// Puts those of a narrow screen.
+// Puts those for a narrow screen.
 fn put_narrow_shapes(text: &mut Vec<u8>) -> Result<(), AllocError>
     ensures { OnOk result (text.new.items ≡ text.old.items ++ narrow_shapes) }
 {
@@ -63,7 +63,7 @@ fn put_narrow_shapes(text: &mut Vec<u8>) -> Result<(), AllocError>
     )
 }
 
-// Puts what stands before the style.
+// Puts what comes before the style.
 fn put_opening(text: &mut Vec<u8>, title: &[u8]) -> Result<(), AllocError>
     ensures { OnOk result (text.new.items ≡ text.old.items ++ opening title.now) }
 {

@@ -21,7 +21,7 @@ use image_reader::{HistReading, Reading};
 use reading_texts::{HistRow, rows_of};
 use std::alloc::{AllocError, Global};
 
-// The units that came to a histogram, which has these rows, since it had these counts, where that is told.
+// The units that came to a histogram with these rows since it had these counts, or 0 if the text does not say them.
 fn came_to_histogram(
     alloc: Global,
     is_told: bool,
@@ -37,7 +37,7 @@ fn came_to_histogram(
     Ok(came_in_all(cames.as_slice()))
 }
 
-// Puts the lines of those rows of a histogram that have some.
+// Puts the lines of those rows of a histogram that have lines.
 fn put_shown(
     alloc: Global,
     text: &mut Vec<u8>,
@@ -120,12 +120,13 @@ fn put_histograms(
     Ok(())
 }
 
-/// Returns the text of a reading for people, byte for byte: of each chosen histogram, by name, its numbers, its
-/// quantiles and a bar for each bucket that has units, or for each of the 20 values of a sparse one with the most
-/// units, unless the style shows all; then the flags that are set and the bad records. Of the values of a sparse
-/// histogram that are left out one line says how many they are, and what units they have together. Where the style shows
-/// redundant counts, one more line says that of a histogram whose units it is not; where it marks these, a line behind the name
-/// does so. The one error is that memory runs out.
+/// Returns the text of a reading for people, byte for byte: for each chosen histogram, by name, its numbers, its
+/// quantiles and a bar for each bucket that has units, or for each of the 20 values of a sparse histogram with the most
+/// units, unless the style shows all; then the flags that are set, the bad records and why the list of records stops,
+/// if it does. If values of a sparse histogram are left out, one line says how many there are, and how many units they
+/// have together. If the redundant count of a histogram differs from its units, a style that shows redundant counts
+/// adds a line with it, and a style that marks such histograms adds a line after the name. The only error is that
+/// memory runs out.
 pub fn show_text(
     alloc: Global,
     reading: &Reading,
@@ -142,13 +143,13 @@ pub fn show_text(
     told_text(alloc, reading, nothing, style, choice)
 }
 
-/// Returns the same text, which tells too what came since an earlier reading, byte for byte. Behind the units of each bucket,
-/// and of each value of a sparse histogram, stands how many units it has beyond those that it had in the histogram of the same
-/// name and the same spec, after a plus sign and in a column of its own; and behind all units of a histogram what came to all
-/// of its buckets. Nothing stands there where nothing came. A histogram that is new, or has another spec than before, counts
-/// from 0. Of two looks at one segment, of which the second is taken when the first has ended, no bucket of the second has fewer units:
-/// this is `look_promises::readings_rise`. Where one has, as in readings of two segments, nothing came to it. The one error is
-/// that memory runs out.
+/// Returns the same text, byte for byte, with what came since an earlier reading. After the units of each bucket, and
+/// of each value of a sparse histogram, there is a column with a plus sign and how many more units these are than in
+/// the earlier histogram of the same name and spec; and after all units of a histogram, what came to all of its
+/// buckets. If nothing came, nothing is written there. A histogram that is new, or has another spec than before, counts
+/// from 0. Of two looks at one segment, the second taken after the first has ended, no bucket of the second has fewer
+/// units: this is `look_promises::readings_rise`. If one has fewer, as it may in readings of two segments, nothing came
+/// to it. The only error is that memory runs out.
 pub fn show_since_text(
     alloc: Global,
     reading: &Reading,
@@ -166,7 +167,7 @@ pub fn show_since_text(
     told_text(alloc, reading, since, style, choice)
 }
 
-// The text of a reading, and of what came since an earlier one, where that is told.
+// The text of a reading, with what came since an earlier one if `since` has that.
 fn told_text(
     alloc: Global,
     reading: &Reading,

@@ -16,7 +16,7 @@ use reading_texts::HistRow;
 use std::alloc::{AllocError, Global};
 use std::collections::BTreeMap;
 
-// Whether a text tells what came since an earlier reading, and the histograms of that.
+// Whether a text says what came since an earlier reading, and the histograms of that reading.
 #[derive(Clone, Copy, Debug)]
 pub(crate) struct Since<'a> {
     pub(crate) is_told: bool,
@@ -60,7 +60,7 @@ fn units_by_value(alloc: Global, counts: &[(i32, u64)]) -> Result<BTreeMap<i32, 
     Ok(units)
 }
 
-// The units that came to a value, which has so many, since there were these.
+// The units that came to a value, which has `units` now, since it had those in `before`.
 fn came_to(before: &BTreeMap<i32, u64>, value: i32, units: u64) -> u64
     ensures { result ≡ units - count_at (get int_cmp before.now) value }
 {
@@ -68,7 +68,7 @@ fn came_to(before: &BTreeMap<i32, u64>, value: i32, units: u64) -> u64
     units.saturating_sub(had)
 }
 
-// The units that came to each of these rows, where that is told.
+// The units that came to each of these rows; none if the text does not say them.
 pub(crate) fn cames_of(
     alloc: Global,
     is_told: bool,
@@ -88,7 +88,7 @@ pub(crate) fn cames_of(
     Ok(cames)
 }
 
-// What came to one of several rows; 0 where it is not told.
+// What came to one of several rows; 0 if the text does not say it.
 pub(crate) fn came_at(cames: &[u64], i: usize) -> u64
     ensures { result ≡ get_or cames.now i 0 }
 {
@@ -114,7 +114,7 @@ pub(crate) fn most_that_came(cames: &[u64]) -> u64
     most
 }
 
-// Puts units that came behind others.
+// Puts units that came, after all units.
 pub(crate) fn put_came(text: &mut Vec<u8>, is_human: bool, came: u64) -> Result<(), AllocError>
     ensures { OnOk result (text.new.items ≡ text.old.items ++ came_text is_human came) }
 {

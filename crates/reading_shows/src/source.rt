@@ -8,7 +8,7 @@ use crate::escapes::put_byte;
 use reading_overviews::put_number;
 use std::alloc::{AllocError, Global};
 
-/// Where an image, or a sum of images, comes from, which its page names.
+/// Where an image, or a sum of images, comes from. Its page names it.
 #[derive(Clone, Copy, Debug)]
 pub enum Source<'a> {
     /// Standard input.
@@ -19,7 +19,7 @@ pub enum Source<'a> {
     Several(&'a str, u64),
 }
 
-// Puts what stands for a byte of a path.
+// Puts a byte of a path, escaped if it has to be.
 fn put_path_byte(text: &mut Vec<u8>, byte: u8) -> Result<(), AllocError>
     ensures { OnOk result (text.new.items ≡ text.old.items ++ path_byte byte) }
 {
@@ -30,7 +30,7 @@ fn put_path_byte(text: &mut Vec<u8>, byte: u8) -> Result<(), AllocError>
     put_byte(text, byte)
 }
 
-// A path as it stands in a page.
+// A path as a page writes it.
 fn escaped_path(alloc: Global, path: &[u8]) -> Result<Vec<u8>, AllocError>
     ensures { IfOk result (λ text. text.items ≡ path_text path.now) }
 {
@@ -52,7 +52,7 @@ fn several_text(alloc: Global, first: &[u8], more: u64) -> Result<Vec<u8>, Alloc
     Ok(text)
 }
 
-// Where an image, or a sum, comes from, as it stands in a page.
+// Where an image, or a sum, comes from, as a page writes it.
 pub(crate) fn source_text(alloc: Global, source: Source<'_>) -> Result<Vec<u8>, AllocError>
     ensures { IfOk result (λ text. text.items ≡ source_text_of source.entry) }
 {

@@ -14,20 +14,20 @@ use reading_texts::{HistRow, is_sparse, units};
 /// How a histogram is drawn.
 #[derive(Clone, Copy, Debug, PartialEq, Eq)]
 pub struct Style {
-    /// The cells of a line, where its values and numbers leave room for a bar.
+    /// The cells of a line, if its values and numbers leave room for a bar.
     pub width: u16,
     /// Whether bars are made of `#`, and not of blocks in eighths of a cell.
     pub is_ascii: bool,
     /// Whether numbers have a comma between thousands.
     pub is_human: bool,
-    /// Whether bars are in proportion to the logarithms of units, and not to the units.
+    /// Whether bars are proportional to the logarithms of units, and not to the units.
     pub is_log: bool,
-    /// Whether a line may stand for each value of a sparse histogram, and not only for the 20 with the most units.
+    /// Whether each value of a sparse histogram may have a line, and not only the 20 with the most units.
     pub shows_all: bool,
-    /// Whether a line says how many units are counted once more, where these are not all.
+    /// Whether a line gives the redundant count of a histogram, if it differs from its units.
     pub shows_redundant: bool,
-    /// Whether a line marks each histogram whose units are not its redundant count: in a look at a running segment its counts
-    /// may not be of one moment.
+    /// Whether a line marks each histogram whose redundant count differs from its units: in a look at a running segment
+    /// its counts may be from different moments.
     pub marks_meanwhile: bool,
 }
 
@@ -38,7 +38,7 @@ pub(crate) struct Frame {
     pub(crate) naming: Naming,
     // The units of all rows.
     pub(crate) total: u64,
-    // Those of the row that has the most.
+    // The units of the row that has the most.
     pub(crate) most: u64,
 }
 
@@ -51,11 +51,11 @@ pub(crate) struct LineColumns {
     pub(crate) bars: u16,
     // The column of the units.
     pub(crate) units: usize,
-    // That of the units that came, a blank before them included; 0 where nothing is told of them.
+    // The column of the units that came, with a blank before them; 0 if these units are not shown.
     pub(crate) came: usize,
 }
 
-// What the rows of a histogram have in common, which are these.
+// What these rows of a histogram have in common.
 pub(crate) fn frame_of(hist: &HistReading, rows: &[HistRow]) -> Frame
     requires readable { IsReadable (histogram_view hist.now) }
     requires rows { rows.now ≡ rows_of_histogram (histogram_view hist.now) }

@@ -1,4 +1,4 @@
-//! An image that is read from a reader, and written in a form.
+//! Reads an image from a reader, and writes it in a form.
 
 ghost use Rattle.std.specs.Prelude.{◌≡◌, ◌≢◌, ◌↔◌, ℕ, List, All, map, true, false, OnOk, IfOk, IfErr, IfSome, IsErrOf};
 ghost use Rattle.std.specs.Io.KnownBytes.{Appends};
@@ -24,7 +24,7 @@ struct WholeImage {
     reading: Reading,
 }
 
-// What the image in the words says; the fault is as of `read_image`.
+// What the image in the words says, or the fault that `read_image` returns.
 fn read_both(alloc: Global, words: &[u64]) -> Result<WholeImage, CliFault>
     ensures words { IfOk result (λ image. AreWordsOf (bytes_of_words words.now) (image_in words.now)) }
     ensures image { IfOk result (λ image. IsHeadAndReading (image_in words.now) image.head (reading_view image.reading)) }
@@ -40,17 +40,17 @@ fn read_both(alloc: Global, words: &[u64]) -> Result<WholeImage, CliFault>
     }
 }
 
-/// Writes the text of the image in what the reader has left, a closed image or a mapped file, in a form, and returns the
-/// reading of which it is. The reader and the writer have not failed before.
+/// Writes the text of an image in a form, and returns the reading that it shows. The image is what the reader has left,
+/// a closed image or a mapped file. The reader and the writer must not have failed before.
 ///
-/// On `Ok` exactly this text of the input was written [text], and then flushed [flushed]; the value is what the input
-/// reads as [reading]. Records that are no valid histograms, a list of records that is broken and names that no histogram
-/// has are no faults here: `damage_of` and `first_missing` report them.
+/// On `Ok` exactly the text of the input was written [text], and then flushed [flushed]; the value is what the input
+/// reads as [reading]. Records that are no valid histograms, a broken list of records, and names that no histogram has
+/// are not faults here: `damage_of` and `first_missing` report them.
 ///
-/// `TooLong` comes only where there are more than 8,388,608 bytes, or in a mapped file 80 more, `NotWords` only where
-/// their number is no multiple of eight, and `Image` only with the first fault of the image's header [cause]. `Read`
-/// comes exactly where a read failed [read], and `Write` exactly where the write or the flush failed [write].
-/// `NoMemory` comes where memory runs out. After every fault but `Write` nothing was written [untouched].
+/// The fault is `TooLong` only if there are more than 8,388,608 bytes, or in a mapped file 80 more, `NotWords` only if
+/// their number is not a multiple of eight, and `Image` only with the first fault of the image's header [cause]. It is
+/// `Read` exactly if a read failed [read], and `Write` exactly if the write or the flush failed [write]. It is
+/// `NoMemory` if memory runs out. After every fault but `Write` nothing was written [untouched].
 pub fn write_text<R: Read, W: Write>(
     alloc: Global,
     form: Form<'_>,

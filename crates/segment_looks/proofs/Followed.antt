@@ -1,4 +1,4 @@
--- How the records that are followed go on.
+-- How the records that are followed continue.
 use Rattle.std.proofs.Common.{◌≡◌, true, false, ℕ, zero, suc, ◌+◌, ◌-◌, ◌<◌, ◌≤◌, List, [], ◌∷◌, ◌++◌, length, arith, refl, sym, ap, ◌∙◌}
 use Rattle.std.proofs.lemmas.List.{append-nil, append_assoc, length-append}
 use Rattle.segment_image.specs.Blocks.{is_placed}
@@ -11,13 +11,13 @@ pub records_from-none : (head : SegmentHead) (two : List ℕ) (most reference : 
 records_from-none head two zero reference e = refl
 records_from-none head two (suc most) reference e = absurd (omega (arith, e))
 
--- no block can stand at the reference
+-- there is no room for a block at the reference
 pub records_from-end : (head : SegmentHead) (two : List ℕ) (most reference : ℕ) → is_placed head reference ≡ false
     → records_from head two most reference ≡ []
 records_from-end head two zero reference e = refl
 records_from-end head two (suc most) reference e = rw e refl
 
--- a block can stand there
+-- there is room for a block there
 pub records_from-more : (head : SegmentHead) (two : List ℕ) (most reference : ℕ) → 0 < most → is_placed head reference ≡ true
     → records_from head two most reference ≡ reference ∷ records_from head two (most - 1) (next_of two reference)
 records_from-more head two zero reference some e = absurd (omega (arith, some))

@@ -1,4 +1,4 @@
--- The header of a look: what it says of its words, and that it stays lawful.
+-- The header of a look: what it says of its words, and that it stays valid.
 use Rattle.std.proofs.Common.{◌≡◌, Bool, true, false, not, ◌&&◌, ◌||◌, ◌==◌, if◌then◌else◌, ℕ, suc, ◌+◌, ◌<◌, ◌≤◌, List, [], ◌∷◌, ◌++◌, length, All, Ok, refl, arith, ap, ◌∙◌}
 use Rattle.std.specs.Prelude.{nat_lt, nat_le, is_ok}
 use Rattle.std.specs.List.{AllByRecursion}
@@ -13,9 +13,9 @@ use Rattle.segment_image.specs.declared.fault.ImageFault.{ImageFault}
 use Rattle.segment_looks.specs.Patches.{Patch, IsPatched, has_word, patched_word}
 use Rattle.segment_looks.specs.Looks.{AreCopies, counts_patches, counts_reference, has_room, histogram_patches, list_patches, record_patches, records_patches}
 
--- ---- what a lawful header says
+-- ---- what a valid header says
 
--- where checks give a value, none of them fails, and the value is the one that they were given
+-- if checks give a value, none of them fails, and it is the value that they were given
 checked_ok : {F X : Type 0} (checks : List (Bool × F)) (x y : X) → checked checks x ≡ Ok y
     → AllByRecursion (λ check. check.0 ≡ false) checks × (x ≡ y)
 checked_ok [] x y e = (tt, cc)
@@ -44,7 +44,7 @@ AreCopies-from_header head one two three e same_one same_two =
       free_most = omega (arith, most, same, size);
     }
 
--- ---- patches behind the header
+-- ---- patches after the header
 
 abbrev IsBehind : List Patch → Type 0
 IsBehind patches = AllByRecursion (λ patch. 16 ≤ patch.from) patches
@@ -114,7 +114,7 @@ IsBehind-records head one two three (at ∷ rest) placed =
 none-beside : (from k : ℕ) → (k ≡ from → ⊥) → (nat_le from k && nat_lt k (from + 1)) ≡ false
 none-beside from k other = grind arith
 
--- each word of it but the tail and the start of the list
+-- each of its words except the tail and the start of the list
 stays : (head : SegmentHead) (one two three records words : List ℕ) → 16 ≤ head.free → All (λ at. is_placed head at ≡ true) records
     → IsPatched (list_patches head one two three records) three words → (k : ℕ) → k < 16 → (k ≡ 15 → ⊥) → (k ≡ 8 → ⊥)
     → word_at words k ≡ word_at three k

@@ -14,12 +14,12 @@ use segment_image::layout::{BLOCK_NEXT, QUEUE, TAIL_WORD, VERSION_FROZEN};
 use segment_image::{Image, ImageFault, SegmentHead, header};
 use std::alloc::{AllocError, Global};
 
-/// Returns the look that three copies of the words of a segment give, which were taken one after the other: for each
-/// word the one that the definition takes, from one of the copies. Any words may be given.
+/// Returns the look that three copies of the words of a segment give, which were taken one after the other: exactly the
+/// words that `specs/Looks.antt` defines. Any words may be given.
 ///
 /// The first fault that holds is returned: `Image` with the first fault of the third copy's header; `Image` with
-/// `BadSize` where the copies have different lengths; `OldVersion` where the segment is of version 1. Else `NoMemory`
-/// comes where memory runs out.
+/// `BadSize` if the copies have different lengths; `OldVersion` if the segment is of version 1. If none holds and
+/// memory runs out, the fault is `NoMemory`.
 pub fn compose(alloc: Global, one: &[u64], two: &[u64], three: &[u64]) -> Result<Image, LookFault>
     ensures { MatchResult (head_of_copies one.now two.now three.now)
         (λ head. MatchResult result (λ image. IsLook head one.now two.now three.now image) (λ fault. fault ≡ LookFault.NoMemory))
@@ -31,7 +31,7 @@ pub fn compose(alloc: Global, one: &[u64], two: &[u64], three: &[u64]) -> Result
     Ok(Image::of(words))
 }
 
-// The header of the third copy, or the first fault of the copies [value]; what holds where there is none [copies].
+// The header of the third copy, or the first fault of the copies [value]. If there is none, `AreCopies` holds [copies].
 fn head_of(one: &[u64], two: &[u64], three: &[u64]) -> Result<SegmentHead, LookFault>
     ensures value { result ≡ head_of_copies one.now two.now three.now }
     ensures copies { IfOk result (λ head. AreCopies head one.now two.now three.now) }
@@ -49,7 +49,7 @@ fn head_of(one: &[u64], two: &[u64], three: &[u64]) -> Result<SegmentHead, LookF
     Ok(head)
 }
 
-// The words of the look with a list of records.
+// The words of the look that has this list of records.
 fn words_of(
     alloc: Global,
     one: &[u64],
@@ -88,15 +88,15 @@ fn put_list(
     put(words, QUEUE as usize + BLOCK_NEXT, &[first]);
 }
 
-// The last of the records, or the queue block, which is the tail where there is none.
+// The last of the records, or the queue block, which is the tail if there are no records.
 fn last_of(records: &[u64]) -> u64
     ensures { result ≡ before records.now (length records.now) }
 {
     records.last().copied().unwrap_or(QUEUE)
 }
 
-// Puts the patches of records on the words of a look, from the last record to the first, and returns the first of them
-// [first]. So where patches overlap, the first one stays [patched].
+// Puts the patches of records on the words of a look, from the last record to the first, and returns the first record
+// [first]. So if patches overlap, the first one stays [patched].
 fn put_records(
     words: &mut [u64],
     one: &[u64],

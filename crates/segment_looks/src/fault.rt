@@ -13,7 +13,7 @@ pub enum LookFault {
     /// It is a segment of version 1, in which a unit that moves between two loads would be seen twice or not at all.
     #[error("OldVersion")]
     OldVersion,
-    /// There was no memory for the look.
+    /// Memory ran out for the look.
     #[error("NoMemory")]
     NoMemory,
 }

@@ -8,8 +8,8 @@ use segment_image::SegmentHead;
 use segment_image::layout::{BLOCK_LEAST, BLOCK_NEXT, HEADER_WORDS, QUEUE};
 use std::alloc::{AllocError, Global};
 
-/// The records that the nexts of the second copy give from the queue block on, at most as many as blocks fit behind
-/// the header [records]. A block can stand at each of them [placed].
+/// The records that the nexts of the second copy give from the queue block on, at most as many as there can be blocks
+/// after the header [records]. There is room for a block at each of them [placed].
 pub(crate) fn followed_records(
     alloc: Global,
     two: &[u64],
@@ -30,7 +30,7 @@ pub(crate) fn followed_records(
     Ok(records)
 }
 
-// Whether the smallest block lies at a reference, behind the header and below the free pointer.
+// Whether the smallest block, if it is at a reference, lies after the header and below the free pointer.
 fn is_placed(head: &SegmentHead, reference: u64) -> bool
     ensures { result ≡ is_placed_in head.now reference }
 {

@@ -65,7 +65,7 @@ fn put_histogram(
     }
 }
 
-// Puts the counts and the marks of so many buckets, where there is a block of them.
+// Puts the counts and the marks of `n` buckets, if there is a block of them.
 fn put_counts(words: &mut [u64], one: &[u64], two: &[u64], at: usize, counts: usize, n: usize)
     requires long_one { length one.now ≡ length words.old }
     requires long_two { length two.now ≡ length words.old }
@@ -140,8 +140,8 @@ fn histogram_words(one: &[u64], two: &[u64], three: &[u64], at: usize) -> [u64; 
     ]
 }
 
-// Whether so many buckets are not too many, and there is room for their counts and marks below the free pointer, where
-// there is a reference.
+// Whether there are not too many buckets, and, if there is a counts reference, their counts and marks lie after the
+// header and below the free pointer.
 fn has_room(head: &SegmentHead, counts: u64, buckets: u64) -> bool
     ensures { result ≡ has_room_for head.now counts buckets }
 {

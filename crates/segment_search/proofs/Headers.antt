@@ -1,4 +1,4 @@
--- What a lawful header says of the words, and where none stands.
+-- What a valid header says of the words, and when there is none.
 use Rattle.std.proofs.Common.{◌≡◌, ◌≢◌, ◌⊎◌, inl, inr, Bool, true, false, not, ◌&&◌, ◌==◌, is_ok, ℕ, ◌<◌, ◌≤◌, ◌%◌, List, [], ◌∷◌, ◌++◌, length, take, Option, None, Some, IfSome, append-nil, subst, refl, sym, ap, ◌∙◌, arith}
 use Rattle.std.specs.Prelude.{nat_le}
 use Rattle.std.specs.List.{AllByRecursion}
@@ -11,13 +11,13 @@ use Rattle.segment_image.specs.Shape.{is_size}
 use Rattle.segment_image.specs.Head.{header_of, header_checks, head_of}
 use Rattle.segment_search.specs.Places.{said_words, words_in, ahead}
 
--- where checks give a value, none of them fails
+-- if checks give a value, none of them fails
 passed : {F X : Type 0} (checks : List (Bool × F)) (x : X) → is_ok (checked checks x) ≡ true → AllByRecursion (λ check. check.0 ≡ false) checks
 passed [] x e = tt
 passed ((true, fault) ∷ rest) x e = absurd (cc)
 passed ((false, fault) ∷ rest) x e = (refl, passed rest x e)
 
--- what a lawful header says of its words
+-- what a valid header says of its words
 pub record IsLawful (words : List ℕ) : Type 0 where
   pub long : 16 ≤ length words
   pub cookie : word_at words 0 ≡ 1082328540
@@ -40,7 +40,7 @@ IsLawful-from_header words e =
       few = omega (arith, size, most);
     }
 
--- what words say that a segment begins
+-- what words say at the beginning of a segment
 pub record Begins (words : List ℕ) : Type 0 where
   pub long : 16 ≤ length words
   pub cookie : word_at words 0 ≡ 1082328540
@@ -64,7 +64,7 @@ Begins-from_header words e =
       there = omega (arith, third, size, cut);
     }
 
--- no segment stands where the first words say so
+-- there is no segment if the first words say so
 pub none-from_first : (front more : List ℕ) → 16 ≤ length front → (word_at front 0 ≢ 1082328540) ⊎ (1048576 < word_at front 2)
     → is_ok (header_of (said_words (front ++ more))) ≡ false
 none-from_first front more long (inl other) = false_from_ne_true _ (λ e. other
@@ -73,12 +73,12 @@ none-from_first front more long (inr many) = false_from_ne_true _ (λ e. let few
     let same : word_at (front ++ more) 2 ≡ word_at front 2 = get_or_append_left front more 0 2 (omega (arith, long)) in
     omega (arith, few, same, many))
 
--- none stands where words are missing
+-- there is none if words are missing
 pub none-from_short : (words : List ℕ) → (length words < 16) ⊎ (length words < word_at words 2) → is_ok (header_of (said_words words)) ≡ false
 none-from_short words (inl short) = false_from_ne_true _ (λ e. let long = (Begins-from_header words e).long in omega (arith, long, short))
 none-from_short words (inr short) = false_from_ne_true _ (λ e. let there = (Begins-from_header words e).there in omega (arith, there, short))
 
--- the words that a segment has are those that its lawful header says
+-- the words that a segment has are those that its valid header says
 pub said_words-from_header : (front more : List ℕ) (n : ℕ) → n ≤ length front → is_ok (header_of (take n front)) ≡ true → said_words (front ++ more) ≡ take n front
 said_words-from_header front more n there e =
     let lawful = IsLawful-from_header (take n front) e in
@@ -90,7 +90,7 @@ said_words-from_header front more n there e =
     let said : word_at (front ++ more) 2 ≡ n = omega (arith, third, same, size, cut, there) in
     ap (λ k. take k (front ++ more)) said ∙ take-append-le n front more there
 
--- the same of the words ahead, of which some are left to a reader
+-- the same for the words ahead, some of which a reader still has
 pub none-ahead_first : (front : List ℕ) (left : Option (List ℕ)) → 16 ≤ length front → (word_at front 0 ≢ 1082328540) ⊎ (1048576 < word_at front 2)
     → IfSome (ahead front left) (λ words. is_ok (header_of (said_words words)) ≡ false)
 none-ahead_first front None long other = tt

@@ -1,4 +1,4 @@
--- Where a search stands among the bytes that a reader had at its start.
+-- Where a search is among the bytes that a reader had at its start.
 use Rattle.std.proofs.Common.{◌≡◌, Bool, true, false, cond, is_ok, ℕ, zero, suc, ◌+◌, ◌-◌, ◌^◌, ◌<◌, ◌≤◌, Option, None, Some, IfSome, List, [], ◌∷◌, ◌++◌, length, take, drop, refl, sym, ap, ◌∙◌, append-nil, arith, subst, inl}
 use Rattle.std.specs.Bool.{⊤}
 use Rattle.std.specs.List.{filter, range_with_len}
@@ -11,7 +11,8 @@ use Rattle.segment_search.specs.Places.{words_in, said_words, is_segment_at, seg
 use Rattle.segment_image.proofs.WordsOfBytes.{length-words_in}
 use Rattle.segment_search.proofs.Headers.{none-from_short, said_words-from_header}
 
--- The words ahead are those from a word on, of the bytes at the start. So many segments more are wanted than stood before it.
+-- The words ahead are those from a word on, of the bytes at the start. `more` segments are still to be found: `nth`, less those before the
+-- word.
 abbrev pub Here : Option (List ℕ) → ℕ → ℕ → ℕ → Option (List ℕ) → Type 0
 Here None word nth more now = ⊤
 Here (Some bytes) word nth more None = ⊥
@@ -32,7 +33,7 @@ numbers_more : (n : ℕ) → range_with_len 0 (n + 1) ≡ range_with_len 0 n ++ 
 numbers_more n = sym (map-id (range_with_len 0 (n + 1))) ∙ map-range_with_len_more (λ x. x) 0 n n (omega arith)
     ∙ ap (λ l. l ++ n ∷ []) (map-id (range_with_len 0 n))
 
--- one word more: what is counted
+-- what is counted with one more word
 counted_more : (words : List ℕ) (at : ℕ) → length (segments_before words (at + 1)) ≡ length (segments_before words at) + cond (is_segment_at words at) 1 0
 counted_more words at =
     let split : segments_before words (at + 1) ≡ segments_before words at ++ filter (is_segment_at words) (at ∷ []) =
@@ -44,11 +45,11 @@ counted_more words at =
     one true = refl
     one false = refl
 
--- what stands here, in the words ahead
+-- whether there is a segment here, from the words ahead
 stands : (words ahead_words : List ℕ) (at : ℕ) (b : Bool) → ahead_words ≡ drop at words → is_ok (header_of (said_words ahead_words)) ≡ b → is_segment_at words at ≡ b
 stands words ahead_words at b e h = ap (λ l. is_ok (header_of (said_words l))) (sym e) ∙ h
 
--- the words ahead behind the first of them
+-- the words ahead, without the first of them
 behind : (words front left : List ℕ) (at : ℕ) → front ++ left ≡ drop at words → 1 ≤ length front → drop 1 front ++ left ≡ drop (at + 1) words
 behind words front left at e some = sym (drop-append-le 1 front left some) ∙ ap (drop 1) e ∙ drop-drop 1 at words
 
@@ -56,7 +57,7 @@ further : (words front left : List ℕ) (at : ℕ) → front ++ left ≡ drop at
 further words front left at e some = let same : length (front ++ left) ≡ length (drop at words) = ap length e in
     omega (arith, same, some, length-append front left, length-drop at words)
 
--- no segment stands here
+-- there is no segment here
 pub Here-passed : (a : Option (List ℕ)) (word nth more same : ℕ) (front now behind_it : List ℕ) (left after : Option (List ℕ))
     → Here a word nth more (ahead front left) → Keeps (ahead front left) (ahead now after) → 1 ≤ length now
     → IfSome (ahead front left) (λ words. is_ok (header_of (said_words words)) ≡ false) → behind_it ≡ drop 1 now → same ≡ more
@@ -73,7 +74,7 @@ Here-passed (Some bytes) word nth more same front now behind_it (Some rest) (Som
     let at : now ++ words_in last ≡ drop word w = kept ∙ here.0 in
     (ap (λ l. l ++ words_in last) e ∙ behind w now (words_in last) word at some, further w now (words_in last) word at some, omega (arith, count, was, f))
 
--- a segment stands here, and is not the one that is wanted
+-- there is a segment here, and it is not the one that is searched for
 pub Here-counted : (a : Option (List ℕ)) (word nth more fewer size : ℕ) (front behind_it : List ℕ) (left : Option (List ℕ)) → Here a word nth more (ahead front left)
     → 1 ≤ length front → size ≤ length front → is_ok (header_of (take size front)) ≡ true → 1 ≤ more → behind_it ≡ drop 1 front → fewer + 1 ≡ more
     → Here a (word + 1) nth fewer (ahead behind_it left)
@@ -88,7 +89,7 @@ Here-counted (Some bytes) word nth more fewer size front behind_it (Some rest) h
     let was = here.2 in
     (ap (λ l. l ++ words_in rest) e ∙ behind w front (words_in rest) word here.0 some, further w front (words_in rest) word here.0 some, omega (arith, count, was, wanted, f))
 
--- the one that is wanted stands here
+-- the segment that is searched for is here
 pub Here-found : (a : Option (List ℕ)) (word nth more size : ℕ) (front segment : List ℕ) (left : Option (List ℕ)) → Here a word nth more (ahead front left)
     → size ≤ length front → is_ok (header_of (take size front)) ≡ true → more ≡ 1 → segment ≡ take size front
     → IfSome a (λ bytes. IsNth (words_in bytes) nth word segment)

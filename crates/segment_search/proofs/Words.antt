@@ -18,7 +18,7 @@ ahead-block (Some x) (Some y) words new block gave (inr end) e =
     ap (λ l. new ++ words_in l) end ∙ append-nil new ∙ e
     ∙ ap (λ l. words ++ words_in l) (sym (gave ∙ ap (λ l. block ++ l) end ∙ append-nil block))
 
--- fewer words are missing where one came
+-- once a block with a word has come, fewer words are missing
 pub fewer_missing : (count : ℕ) (words new block : List ℕ) → length words < count → new ≡ words ++ words_in block → 8 ≤ length block
     → count - length new < count - length words
 fewer_missing count words new block missing e one =

@@ -1,4 +1,4 @@
-//! A segment that is found is written as an image.
+//! Writes a segment that was found as an image.
 
 ghost use Rattle.std.specs.Prelude.{◌≡◌, ◌≢◌, ◌≤◌, ◌↔◌, false, true, IfSome, IfErr, OnOk, MatchResult, IsErrOf};
 ghost use Rattle.segment_image.specs.Watched.{has_failed, is_flushed, watched_inner};
@@ -10,13 +10,13 @@ use segment_image::{Watched, write_words};
 use std::alloc::Global;
 use std::io::{Read, Write};
 
-/// Writes the words of the segment with the number `nth`, from 1, of those that stand among the bytes that a reader
-/// has left, and flushes. Returns how many bytes stand before it.
+/// Writes the words of the segment with the number `nth`, counted from 1, among the bytes that a reader has left, and
+/// flushes. Returns the number of bytes before the segment.
 ///
-/// The reader and the writer have not failed before. On `Ok` the segment stands at that place, and what the writer
-/// holds grew by exactly the bytes of its words; `NoSegment` and `TooLong` have their cause in the bytes, as of
-/// [`find_segment`] [answer]. On `Ok` the writer is flushed [flushed]. `Device` comes exactly where a read failed
-/// [device], and `Write` exactly where the write or the flush failed [write]. After any other fault the writer is
+/// The reader and the writer must not have failed before. On `Ok` the segment is at that place, and exactly the bytes
+/// of its words were appended to what the writer holds; `NoSegment` and `TooLong` have their cause in the bytes, as for
+/// [`find_segment`] [answer]. On `Ok` the writer is flushed [flushed]. The fault is `Device` exactly if a read failed
+/// [device], and `Write` exactly if the write or the flush failed [write]. After any other fault the writer is
 /// unchanged [untouched].
 pub fn extract<R: Read, W: Write>(
     alloc: Global,

@@ -14,13 +14,14 @@ const BLOCK_WORDS: usize = 8192;
 
 const BLOCK_BYTES: usize = 65_536;
 
-/// Reads words until there are `count` of them, or the reader is at its end. There are fewer before, and they stay in front.
+/// Reads words until there are `count` of them, or the reader is at its end. There are fewer before the call, and these
+/// stay in front.
 ///
-/// The words and what the reader has left are together what they were [kept], and there are no fewer words than before
-/// [longer]. Where there are fewer than `count` then, the reader is at its end [end].
+/// The words, followed by what the reader has left, do not change [kept], and there are no fewer words than before
+/// [longer]. If there are fewer than `count` after the call, the reader is at its end [end].
 ///
-/// The reader has not failed before. `Device` comes exactly where a read failed in this call [device]; else
-/// `NoMemory`, where memory runs out for the words: for `count` and a block more at most [other].
+/// The reader must not have failed before. The fault is `Device` exactly if a read failed in this call [device];
+/// otherwise it is `NoMemory`: memory ran out for the words, which are at most `count` and one block [other].
 pub fn read_on<R: Read>(
     words: &mut Vec<u64>,
     reader: &mut Watched<R>,

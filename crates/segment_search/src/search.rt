@@ -11,27 +11,28 @@ use segment_image::{Image, Watched};
 use std::alloc::Global;
 use std::io::Read;
 
-// So many words are 2^64 bytes.
+// The number of words that are 2^64 bytes.
 const MOST_WORDS: u64 = 2_305_843_009_213_693_952;
 
 /// A segment that was found.
 #[derive(Debug, Drop)]
 pub struct Found {
-    /// How many words stand before it.
+    /// The number of words before it.
     pub word: u64,
     /// Its words.
     pub image: Image,
 }
 
-/// Returns the segment with the number `nth`, from 1, of those that stand among the bytes that a reader has left: one
-/// stands at each whole word at which a valid header stands, with all the words that it says before the end, also
+/// Returns the segment with the number `nth`, counted from 1, among the bytes that a reader has left. There is a
+/// segment at each whole word at which there is a valid header, followed by all the words that it says; it also counts
 /// inside another segment's words.
 ///
-/// The reader has not failed before. On `Ok` the segment stands at the word that is returned, has exactly these
-/// words, and one fewer stand before it. `NoSegment` comes only where fewer stand there, `TooLong` only where there
-/// are 2^64 bytes or more, and it is not among the first of them [answer]. `Device` comes exactly where a read
-/// failed, of whatever sort the failure is [device]; `Write` never [no_write]. `NoMemory` comes where memory runs out
-/// for the words of a segment, or of what seems one, and a block. The word is below 2^61 [within].
+/// The reader must not have failed before. On `Ok` the segment is at the word that is returned, has exactly these
+/// words, and `nth` - 1 segments begin before it. `NoSegment` is returned only if there are fewer than `nth`, `TooLong`
+/// only if there are 2^64 bytes or more and the segment is not in the first 2^64 of them [answer]. The fault is
+/// `Device` exactly if a read failed, whatever the failure is [device], and never `Write` [no_write]. It is `NoMemory`
+/// if memory runs out for the words of a segment, or of what looks like one, and a block. The word is below 2^61
+/// [within].
 pub fn find_segment<R: Read>(
     alloc: Global,
     reader: &mut Watched<R>,

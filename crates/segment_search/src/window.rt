@@ -1,4 +1,4 @@
-//! The words ahead of a place among the bytes of a reader, as many as were looked at.
+//! The words from a place on among the bytes of a reader, as far as they were read.
 
 use crate::fault::SearchFault;
 use crate::reading::read_on;
@@ -8,7 +8,7 @@ use std::alloc::Global;
 use std::io::Read;
 use std::marker::Model;
 
-/// The words that stand ahead of a place, as many as were read. A clause sees the list of them.
+/// The words ahead: those from a place on, as far as they were read. A clause sees the list of them.
 #[derive(Drop)]
 pub struct Window {
     words: Vec<u64>,
@@ -49,12 +49,12 @@ impl Window {
         &self.words[self.at..]
     }
 
-    /// Returns whether there are `count` words ahead [answer]. They are read as far as there are: the words ahead and
-    /// what the reader has left are together what they were [kept], there are no fewer words ahead than before
-    /// [longer], and where there are fewer than `count`, the reader is at its end [end].
+    /// Returns whether there are `count` words ahead [answer]. It reads what is missing: the words ahead, followed by
+    /// what the reader has left, do not change [kept], there are no fewer words ahead than before [longer], and if
+    /// there are fewer than `count`, the reader is at its end [end].
     ///
-    /// `Device` comes exactly where a read failed in this call [device]; else `NoMemory`, where memory runs out for
-    /// the words [other].
+    /// The fault is `Device` exactly if a read failed in this call [device]; otherwise it is `NoMemory`: memory ran
+    /// out for the words [other].
     pub fn has_words<R: Read>(
         &mut self,
         reader: &mut Watched<R>,
@@ -78,12 +78,12 @@ impl Window {
     }
 
     /// Returns how many words the segment has that begins here: that many are ahead, and have a valid header [size].
-    /// None where no segment begins here: the words that it would have by its own size word have no valid header
-    /// [none]. The words ahead and what the reader has left are together what they were [kept], and there are still
-    /// 16 of them ahead [still].
+    /// None if no segment begins here: the words that it would have by its own size word have no valid header [none].
+    /// The words ahead, followed by what the reader has left, do not change [kept], and there are still 16 words ahead
+    /// [still].
     ///
-    /// `Device` comes exactly where a read failed in this call [device]; else `NoMemory`, where memory runs out for
-    /// its words [other].
+    /// The fault is `Device` exactly if a read failed in this call [device]; otherwise it is `NoMemory`: memory ran
+    /// out for its words [other].
     pub fn segment_size<R: Read>(
         &mut self,
         reader: &mut Watched<R>,
@@ -113,7 +113,7 @@ impl Window {
         }
     }
 
-    /// Passes over the word here.
+    /// Moves past the word here.
     pub fn pass(&mut self)
         requires { 1 ≤ length self.old }
         ensures { self.new ≡ drop 1 self.old }

@@ -1,4 +1,4 @@
--- One record more.
+-- One more record.
 use Rattle.std.proofs.Common.{◌≡◌, true, ℕ, List, ◌++◌, All, sym, ap, subst, ◌∙◌}
 use Rattle.std.proofs.lemmas.List.Elements.{All-push}
 use Rattle.segment_image.specs.Blocks.{is_block}

@@ -2,7 +2,7 @@ use Rattle.std.proofs.Common.{◌≡◌, ◌||◌, false, ℕ, ◌-◌, ◌<◌,
 use Rattle.image_adoption.specs.Runs.{is_in}
 use Rattle.image_adoption.proofs.blocks.take.Given as goal
 
--- The words of the run so far were not taken before, and are now; the others are as they were.
+-- The words of the run so far were not taken before, and are now; the others are unchanged.
 abbrev pub invariant-loop-word : goal.invariant-loop-word
 invariant-loop-word l = record {
   long : length l.taken ≡ length l.fn.taken;

@@ -1,4 +1,4 @@
--- The marks stand behind the counts of the block.
+-- The marks follow the counts in the block.
 use Rattle.std.proofs.Common.{◌≡◌, false, ℕ, ◌+◌, Some, arith, refl, sym, ap, ◌∙◌, get_or}
 use Rattle.std.proofs.lemmas.Bool.{and_parts, eq-eqb, not-true}
 use Rattle.std.proofs.lemmas.Bool.Decides.{Decides-eqb, Decides-like}

@@ -1,4 +1,4 @@
--- The counts and marks stand behind the header of the block.
+-- The counts and marks follow the header of the block.
 use Rattle.std.proofs.Common.{◌≡◌, false, ℕ, ◌+◌, ◌*◌, ◌≤◌, arith, sym, ap, ◌∙◌, get_or, length}
 use Rattle.std.proofs.lemmas.Bool.{and_parts, lt-leb, not-true, eq-eqb}
 use Rattle.std.proofs.lemmas.Bool.Decides.{Decides-at, Decides-like}

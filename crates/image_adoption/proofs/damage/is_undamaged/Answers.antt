@@ -7,7 +7,7 @@ use Rattle.image_rules.specs.Adoption.{IsUndamaged}
 use Rattle.image_adoption.proofs.Heads.{undamaged_decides}
 use Rattle.image_adoption.proofs.damage.is_undamaged.Goals as goal
 
--- where nothing is made of a list, it is empty
+-- if nothing is made from a list, it is empty
 none_made : (bad : List BadRecord) → map bad_view bad ≡ [] → bad ≡ []
 none_made [] none = refl
 none_made (one ∷ rest) none = absurd (cc none)

@@ -1,4 +1,4 @@
--- The later samples that the reader tells are the later samples of the list.
+-- The later samples that the reader finds are the later samples of the list.
 use Rattle.std.proofs.Common.{◌≡◌, ℕ, ◌+◌, ◌≤◌, List, All, length, take, sym, ap, subst, ◌∙◌, arith}
 use Rattle.std.proofs.lemmas.Bool.Decides.{Decides-like}
 use Rattle.std.proofs.lemmas.List.{take_all}

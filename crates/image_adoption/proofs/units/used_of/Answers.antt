@@ -1,4 +1,4 @@
--- One histogram more.
+-- One more histogram.
 use Rattle.std.proofs.Common.{◌≡◌, ℕ, ◌+◌, ◌<◌, ◌≤◌, List, get_or, length, map, min, sum_by, ap, subst, ◌∙◌}
 use Rattle.std.proofs.lemmas.List.{take_all}
 use Rattle.bucket_ranges.specs.Reading.{Histogram}

@@ -1,4 +1,4 @@
--- The totals go one behind the other.
+-- The totals are appended one after the other.
 use Rattle.std.proofs.Common.{◌≡◌, arith, ℕ}
 use Rattle.std.specs.Prelude.{pos, slice_index}
 use mir.Syntax.{w32}

@@ -19,7 +19,7 @@ returns-in-Err-clause-value c =
     (ap (is_block c.args.words.now c.args.head.now) (sym c.requires.buckets.counts)
     ∙ is_block-from_fault c.args.words.now c.args.head.now c.args.buckets.now.counts c.in-Err.field-0 (sym c.block.ensures ∙ c.in-Err.is)))
 
--- where a block stands there, its type and its size are looked at
+-- if there is a block, its type and its size are looked at
 pub returns-then-found-eq-TYPE_COUNTS-clause-value : goal.returns-then-found-eq-TYPE_COUNTS-clause-value
 returns-then-found-eq-TYPE_COUNTS-clause-value c =
     sym (has_counts-found c.args.words.now c.args.head.now c.args.at c.args.buckets.now.counts c.args.buckets.now.number c.in-Ok.found

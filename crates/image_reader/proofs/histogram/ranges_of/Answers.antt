@@ -1,4 +1,4 @@
--- Where a spec has no fault, only memory can be wanted.
+-- If a spec has no fault, the only error is that memory runs out.
 use Rattle.bucket_ranges.specs.Spec.{spec_fault}
 use Rattle.image_reader.proofs.Sound.{match-none}
 use Rattle.image_reader.proofs.histogram.ranges_of.Goals as goal

@@ -1,4 +1,4 @@
--- The keys of what the words read as are those of the histograms that are read of the list.
+-- The keys of what the words read as are those of the histograms that are read from the list.
 use Rattle.std.proofs.Common.{◌≡◌, ℕ, List, length, MatchResult, Result, Ok, Err, refl, subst, sym, ap, ◌∙◌}
 use Rattle.std.specs.Prelude.{nat_lt, sum_by}
 use Rattle.segment_image.specs.declared.fault.ImageFault.{ImageFault}

@@ -1,4 +1,4 @@
--- The checks behind the name in their order: the first that fails gives the fault.
+-- The checks after that of the name, in their order: the first that fails gives the fault.
 use Rattle.std.proofs.Common.{◌≡◌, true, false, ap, sym, ◌∙◌, arith}
 use mir.Syntax.{w64}
 use mir.Val.{to_z, of_z}

@@ -1,4 +1,4 @@
--- Each record is gathered behind those so far.
+-- Each record is gathered after those so far.
 use Rattle.std.proofs.Common.{ℕ, List, take, sym, subst}
 use Rattle.std.proofs.lemmas.List.{take_more}
 use Rattle.image_reader.specs.Gathering.{IsGathered}

@@ -5,8 +5,7 @@ use Rattle.bucket_ranges.specs.Reading.{IsWalk, next_of, before}
 use Rattle.image_reader.proofs.Marks.{unmet}
 use Rattle.image_reader.proofs.walk.list_of.Given as goal
 
--- What was met is a walk of distinct blocks, the next reference follows from it, and each word's mark says
--- whether it was met.
+-- What was visited is a walk of distinct blocks, the next reference follows from it, and each word's mark says whether it was visited.
 abbrev pub invariant-loop-next : goal.invariant-loop-next
 invariant-loop-next l = record {
   walk : IsWalk l.words l.head l.references.items;

@@ -7,7 +7,7 @@ use Rattle.reading_shows.specs.Listing.{line_of}
 use Rattle.reading_shows.specs.ListViews.{entry_view}
 use Rattle.reading_shows.proofs.listing.entries_of.Goals as goal
 
--- one line more
+-- one more line
 lined-more : {E H Y Z : Type 0} (see : E → Z) (line : Y → Z) (view : H → Y) (entries : List E) (hists : List H) (i : ℕ) (hist : H) (entry : E) {after : List E}
     → i < length hists → hist ≡ get_or hists i hist → map see entries ≡ map line (map view (take i hists)) → see entry ≡ line (view hist) → after ≡ entries ++ entry ∷ []
     → map see after ≡ map line (map view (take (i + 1) hists))

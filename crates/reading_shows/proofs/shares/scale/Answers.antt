@@ -21,7 +21,7 @@ ended size units i h fewer enough =
     let passes : has_three size units (get_or (range_with_len 0 23) i 0) ≡ true = ap (has_three size units) here ∙ le-leb (100 * units) (size * 10 ^ i) enough in
     sym (ap (λ found. unwrap_or found 0) (found_at (has_three size units) (range_with_len 0 23) i 0 (rw length-range_with_len h) fewer passes) ∙ here)
 
--- it goes on past one that is too small
+-- it continues after a number that is too small
 passed : (size units i : ℕ) → i < 23 → find (has_three size units) (take i (range_with_len 0 23)) ≡ None → size * 10 ^ i < 100 * units
     → find (has_three size units) (take (i + 1) (range_with_len 0 23)) ≡ None
 passed size units i h fewer small =

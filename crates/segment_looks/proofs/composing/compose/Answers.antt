@@ -1,4 +1,4 @@
--- The header of the third copy stays lawful.
+-- The header of the third copy stays valid.
 use Rattle.std.proofs.Common.{◌≡◌, true, All}
 use Rattle.segment_image.specs.Blocks.{is_placed}
 use Rattle.segment_looks.proofs.Headed.{header-patched}

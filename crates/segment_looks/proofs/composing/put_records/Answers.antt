@@ -1,4 +1,4 @@
--- One more record is put on the words, in front of those that are.
+-- One more record is put on the words, before those that are there already.
 use Rattle.std.proofs.Common.{◌≡◌, ℕ, ◌-◌, ◌<◌, List, ◌∷◌, drop, get_or, arith, rules, refl, ap, subst, ◌∙◌}
 use Rattle.segment_looks.specs.Patches.{IsPatched}
 use Rattle.segment_looks.specs.Looks.{list_start, records_patches}

@@ -3,7 +3,7 @@ use Rattle.segment_looks.specs.Patches.{IsPatched}
 use Rattle.segment_looks.specs.Looks.{list_start, records_patches}
 use Rattle.segment_looks.proofs.composing.put_records.Given as goal
 
--- The records that are left out are put on the words, and `next` is the first of them.
+-- The records from index `left` on are put on the words, and `next` is the first of them.
 abbrev pub invariant-loop-left : goal.invariant-loop-left
 invariant-loop-left l = record {
   within : l.left ≤ length l.records;

@@ -1,4 +1,4 @@
--- A sample without a fault goes in where it is the first of its value; one with a fault goes to the bad records.
+-- A sample without a fault goes in if it is the first of its histogram and value; one with a fault goes to the bad records.
 use Rattle.std.proofs.Common.{◌≡◌, Bool, true, false, cond, not, ◌==◌, if◌then◌else◌, ℕ, List, [], ◌∷◌, ◌++◌, get_or, refl, ap, sym, ◌∙◌}
 use Rattle.std.proofs.lemmas.Bool.{not-false, not-true}
 use Rattle.std.proofs.lemmas.List.{append-nil}
@@ -17,7 +17,7 @@ returns-in_default-clause-gathered c = λ earlier so_far.
     ∙ c.in_default.ensures)
     c.in_ok-push.ensures.items refl (λ name. refl) refl (λ h. refl) refl
 
--- what an insert tells, of the entry of the record
+-- what an insert returns, for the entry of the record
 held_before : (words : List ℕ) (r : ℕ) (reader : Samples) (entry : Entry) (first said : Bool) → entry ≡ sample_entry words r
     → first ≡ not (holds_sample reader entry) → first ≡ said → not (holds_sample reader (sample_entry words r)) ≡ said
 held_before words r reader entry first said same is says = ap (λ (e : Entry). not (holds_sample reader e)) (sym same) ∙ (sym is ∙ says)

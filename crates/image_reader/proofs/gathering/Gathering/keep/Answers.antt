@@ -1,4 +1,4 @@
--- A name that is known adds nothing; one that is new adds the record, and marks it where it is sparse.
+-- A name that is known adds nothing; one that is new adds the record, and marks it if it is sparse.
 use Rattle.std.proofs.Common.{ℕ, length-set, List, ◌<◌, ◌≤◌, ◌||◌, ◌&&◌, ◌==◌, length, get_or, true, false, refl, arith, ap, sym, ◌∙◌}
 use Rattle.std.proofs.lemmas.Bool.{not-false, not-true, eq-eqb, ne_eqb}
 use Rattle.segment_image.specs.Blocks.{field_at}

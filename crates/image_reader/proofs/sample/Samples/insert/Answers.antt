@@ -1,4 +1,4 @@
--- A sample goes in where none of its histogram and value is there, and nothing changes where one is.
+-- A sample goes in if there is none of its histogram and value, and nothing changes if there is one.
 use Rattle.std.proofs.Common.{◌≡◌, true, not, ℕ, ℤ, List, ap, sym, ◌∙◌, subst}
 use mir.Syntax.{w32}
 use mir.Val.{to_z, of_z}
@@ -16,7 +16,7 @@ use Rattle.image_reader.proofs.Laters.{known-is}
 use Rattle.image_reader.proofs.sample.Samples.insert.Goals as goal
 use Rattle.image_reader.proofs.sample.Samples.insert.Goals.{In_default, In_ok-insert}
 
--- the entries afterwards, where there was none of its histogram and value
+-- the entries afterwards, if there was none of its histogram and value
 added : (c : In_default) → c.insert.new.self.entries ≡ insert_key by_entry c.args.self.now.map.entries (entry_of c.args.sample.now)
 added c =
     let v : ℤ = to_z w32 (of_z w32 c.args.sample.now.value) in
@@ -38,7 +38,7 @@ returns-clause-are c = record {
       c.requires.are.small c.requires.small);
 }
 
--- the entries afterwards, where there was one
+-- the entries afterwards, if there was one
 restored : (c : In_ok-insert) → c.insert-in-Some.new.self.entries ≡ c.args.self.now.map.entries
 restored c =
     let v : ℤ = to_z w32 (of_z w32 c.args.sample.now.value) in

@@ -1,4 +1,4 @@
--- The loop goes over the entries of the histogram, all of which stand between its least and its greatest key.
+-- The loop goes over the entries of the histogram, all of which are between its least and its greatest key.
 use Rattle.std.proofs.Common.{◌≡◌, map, ap, ◌∙◌}
 use Rattle.std.specs.declared.ops.Bound.TheVariants.{Included}
 use Rattle.std.specs.BTreeMap.Range.{entries_between}

@@ -1,4 +1,5 @@
--- The record's fields lie in the words. A sparse histogram has as many keys as values are held of it, and another as many as buckets.
+-- The record's fields lie in the words. A sparse histogram has as many keys as there are values held of it, and another one as many as
+-- buckets.
 use Rattle.std.proofs.Common.{◌≡◌, ℕ, List, length, min, arith, subst, sym, ap, ◌∙◌}
 use Rattle.std.specs.List.{Contains}
 use Rattle.std.proofs.lemmas.List.{length-map}

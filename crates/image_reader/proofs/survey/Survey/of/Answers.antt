@@ -1,4 +1,4 @@
--- What is gathered of the list.
+-- What is gathered from the list.
 use Rattle.std.proofs.Common.{List, ℕ, subst}
 use Rattle.image_reader.specs.Gathering.{IsGathered}
 use Rattle.image_reader.proofs.survey.Survey.of.Goals as goal

@@ -1,4 +1,4 @@
--- Why there is no report, and what the report is where there is one.
+-- Why there is no report, and what the report is if there is one.
 use Rattle.std.proofs.Common.{◌≡◌, ◌≢◌, ◌∙◌, ◌⊎◌, inl, inr, ℕ, List, Option, Some, None, Result, Ok, Err, MatchResult, OnOk, ap, refl}
 use Rattle.std.proofs.lemmas.Result.{MatchResult-at_ok, MatchResult-at_err}
 use Rattle.std.specs.Io.KnownBytes.{Appends, Keeps}
@@ -10,7 +10,7 @@ use Rattle.persist_report_core.specs.declared.fault.CliFault.TheVariants.{Image}
 use Rattle.persist_report_core.specs.Fault.{fault_of_image}
 use Rattle.persist_report_core.specs.Report.{AreWordsOf, IsCausedByImage}
 
--- what an image's header answers is its fault
+-- the fault that is returned is that of the image's header, unless memory ran out
 image_cause : (bytes words : List ℕ) (fault : ImageFault) → AreWordsOf bytes words → (fault ≡ image.NoMemory) ⊎ (header_of words ≡ Err fault) → fault ≢ image.NoMemory → IsCausedByImage bytes (Image fault)
 image_cause bytes words fault same (inl want) other = absurd (other want)
 image_cause bytes words fault same (inr refused) other = (words, same, refused)
@@ -44,7 +44,7 @@ Appends-kept text (Some old) None flushed p q = absurd p
 Appends-kept text (Some old) (Some written) None p q = absurd q
 Appends-kept text (Some old) (Some written) (Some flushed) p q = q ∙ p
 
--- what holds in any case holds where a result is Ok
+-- what holds in any case holds if a result is Ok
 pub OnOk-always : {T E : Type 0} (P : Type 0) (r : Result T E) → P → OnOk r P
 OnOk-always P (Ok x) p = p
 OnOk-always P (Err e) p = tt

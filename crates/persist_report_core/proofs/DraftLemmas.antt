@@ -1,4 +1,4 @@
--- A script with one `hist` record more.
+-- A script with one more `hist` record.
 use Rattle.std.proofs.Common.{◌≡◌, ◌∙◌, ℕ, ◌+◌, ◌≤◌, Bool, true, false, not, ◌==◌, nat_lt, List, [], ◌∷◌, ◌++◌, length, Some, None, if◌then◌else◌, ap, refl, sym, arith}
 use Rattle.std.specs.Option.{option_or}
 use Rattle.std.specs.List.{position_or_len}
@@ -15,7 +15,7 @@ use Rattle.persist_report_core.specs.Request.{Hist}
 use Rattle.persist_report_core.specs.Script.{Script, HistRecord, later_fault}
 use Rattle.persist_report_core.specs.Draft.{extended, known_place}
 
--- where there are no calls a `hist` record has no fault
+-- before any calls, a `hist` record has no fault
 pub lawful_hist : (pool number : ℕ) (script : Script) (name : List ℕ) (spec : Spec) → (length script.calls == 0) ≡ true
     → later_fault pool number script (Some (Hist name spec)) ≡ None
 lawful_hist pool number script name spec none = rw none refl
@@ -26,13 +26,13 @@ pub extended-hist : (shape : Dimensions) (id : ℕ) (hists all : List HistRecord
 extended-hist shape id hists all calls number name spec is =
     λ i. record { shape = shape; id = id; hists = is i; calls = sym (append-nil calls) i }
 
--- a place among some, and what it is among one more
+-- a place among some, and what it is with one more
 known-choice : (place count next : ℕ) (here : Bool) → place ≤ count → next ≡ (if place == count then count + (if here then 0 else 1) else place)
     → (if nat_lt next (count + 1) then Some next else None) ≡ option_or (if nat_lt place count then Some place else None) (if here then Some count else None)
 known-choice place count next true within is = grind (arith, nat_tests)
 known-choice place count next false within is = grind (arith, nat_tests)
 
--- the place of a name among one histogram more
+-- the place of a name with one more histogram
 pub known_place-push : (hists : List HistRecord) (hist : HistRecord) (name : List ℕ)
     → known_place (hists ++ hist ∷ []) name ≡ option_or (known_place hists name) (if bytes_eq hist.name name then Some (length hists) else None)
 known_place-push hists hist name =

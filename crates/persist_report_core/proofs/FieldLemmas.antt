@@ -7,7 +7,7 @@ use Rattle.bucket_ranges.specs.declared.spec.Spec.{Spec}
 use Rattle.bucket_ranges.specs.declared.spec.Spec.TheVariants.{Custom}
 use Rattle.persist_report_core.specs.Request.{Hist, alone, custom_in, from_two, numbers_in, spec_in, hist_in}
 
--- a field that is there, and those behind it
+-- a field that is there, and those after it
 pub drop-field_at : (fields : List (List ℕ)) (i : ℕ) (field : List ℕ) → field_at fields i ≡ Some field
     → drop i fields ≡ field ∷ drop (i + 1) fields
 unfolding field_at
@@ -22,7 +22,7 @@ length-field_at [] i missing = omega arith
 length-field_at (first ∷ rest) zero missing = cc missing
 length-field_at (first ∷ rest) (suc i) missing = let fewer = length-field_at rest i missing in omega arith
 
--- a field that stands before the end is there
+-- a field before the end is there
 pub field_at-missing : (fields : List (List ℕ)) (i : ℕ) {P : Type 0} → i < length fields → field_at fields i ≡ None → P
 field_at-missing fields i within missing = let fewer = length-field_at fields i missing in absurd (omega arith)
 
@@ -38,7 +38,7 @@ three_fields fields start a b c count first second third =
     drop-field_at fields (start + 1) b second ∙ ap (λ k. b ∷ drop k fields) (omega arith) in
     drop-field_at fields start a first ∙ ap (λ rest. a ∷ rest) (middle ∙ ap (λ rest. b ∷ rest) (last ∙ ap (λ rest. c ∷ rest) behind))
 
--- the field behind the first, where there are two
+-- the second of two fields
 pub one_field : (fields : List (List ℕ)) (field : List ℕ) → length fields ≡ 2 → field_at fields 1 ≡ Some field
     → drop 1 fields ≡ field ∷ []
 one_field fields field count there =
@@ -57,7 +57,7 @@ numbers_in-none fields i field so_far there none =
     by number None = rw number refl
     by number (Some more) = rw number refl
 
--- one number more
+-- one more number
 pub numbers_in-more : (fields : List (List ℕ)) (i : ℕ) (field so_far : List ℕ) (number : ℕ) → field_at fields i ≡ Some field
     → unsigned_number field ≡ Some number
     → option_map (λ more. so_far ++ more) (numbers_in (drop i fields))
@@ -79,7 +79,7 @@ numbers_in-end fields i so_far past =
 
 -- ---- the fields of a `hist` record
 
--- a field that is there stands before the end
+-- a field that is there is before the end
 pub within-field_at : (fields : List (List ℕ)) (i : ℕ) (field : List ℕ) → field_at fields i ≡ Some field → i < length fields
 unfolding field_at
 within-field_at [] i field there = cc there
@@ -93,22 +93,22 @@ hist_in-few (word ∷ []) few = refl
 hist_in-few (word ∷ name ∷ []) few = refl
 hist_in-few (word ∷ name ∷ kind ∷ behind) few = absurd (omega arith)
 
--- a name and a kind, and what stands behind them
+-- a name and a kind, and what follows them
 pub hist_in-fields : (fields : List (List ℕ)) (name kind : List ℕ) (spec : Option Spec) → field_at fields 1 ≡ Some name → field_at fields 2 ≡ Some kind
     → spec ≡ spec_in kind (drop 3 fields) → hist_in (drop 1 fields) ≡ option_map (Hist name) spec
 hist_in-fields fields name kind spec first second is =
     ap hist_in (drop-field_at fields 1 name first ∙ ap (λ rest. name ∷ rest) (drop-field_at fields 2 kind second))
     ∙ ap (option_map (Hist name)) (sym is)
 
--- ---- what stands behind a kind
+-- ---- what follows a kind
 
--- one field more, behind a kind that has none
+-- one more field, after a kind that has none
 pub alone-more : (spec : Spec) (fields : List (List ℕ)) (start : ℕ) → start < length fields → alone spec (drop start fields) ≡ None
 alone-more spec [] start within = absurd (omega arith)
 alone-more spec (first ∷ rest) zero within = refl
 alone-more spec (first ∷ rest) (suc start) within = alone-more spec rest start (omega arith)
 
--- one value or more, behind the kind that has values
+-- one value or more, after the kind that has values
 pub custom_in-more : (fields : List (List ℕ)) (start : ℕ) → start < length fields
     → custom_in (drop start fields) ≡ option_map Custom (numbers_in (drop start fields))
 custom_in-more [] start within = absurd (omega arith)

@@ -1,4 +1,4 @@
--- Why an input is too long, or no words, where its first two words were read before the rest.
+-- Why an input is too long, or is not words, if its first two words were read before the rest.
 use Rattle.std.proofs.Common.{◌≡◌, ◌∙◌, ap, sym, subst, refl, Bool, true, false, if◌then◌else◌, ℕ, ◌+◌, ◌*◌, ◌-◌, ◌%◌, ◌<◌, ◌≤◌, List, [], ◌∷◌, ◌++◌, length, Option, None, Some, IfSome, arith}
 use Rattle.std.proofs.lemmas.List.{length-append}
 use Rattle.std.specs.Io.KnownBytes.{Consumes}
@@ -44,7 +44,7 @@ known_cause front rest words most reading.NotWords long are is fits cause =
     let after = most_after front rest words most long are is in
     (omega (arith, after.0, after.1, cause.0, long, length-append front rest, fits), λ whole. cause.1 (omega (arith, whole, long, length-append front rest)))
 
--- the first two words were read, and then a fault came
+-- the first two words were read, and then there was a fault
 pub cause_after : (a b : Option (List ℕ)) (front words : List ℕ) (most : ℕ) (fault : ReadFault) → Consumes a b front → length front ≡ 16 → words ≡ words_in front
     → most ≡ (if is_mapped words then 1048586 else 1048576) → 2 ≤ most → IfSome b (λ bytes. IsCausedBy (most - length words) bytes fault)
     → IfSome a (λ bytes. IsCausedByImage bytes (fault_of_read fault))

@@ -32,7 +32,7 @@ chosen-none first true value failed = cc failed
 chosen-none true false value failed = refl
 chosen-none false false value failed = refl
 
--- a number past the most is none
+-- a number above the most is not read
 pub whole_number-above : (most : ℕ) (field : List ℕ) → most < digits_value 10 field → whole_number most field ≡ None
 whole_number-above most field above =
     let failed : nat_le (digits_value 10 field) most ≡ false = grind (arith, nat_tests) in
@@ -42,7 +42,7 @@ whole_number-above most field above =
 pub digit_value-is : (digit : ℕ) → 48 ≤ digit → digit ≤ 57 → digit_value digit ≡ digit - 48
 digit_value-is digit low high = grind (arith, nat_tests)
 
--- one digit more
+-- one more digit
 pub more_digits : (digits : List ℕ) (i : ℕ) → i < length digits → list_all is_ascii_digit (take i digits) ≡ true
     → is_ascii_digit (get_or digits i 0) ≡ true → list_all is_ascii_digit (take (i + 1) digits) ≡ true
 more_digits digits i within before here = list_all_more is_ascii_digit digits i 0 within ∙ rw (before, here) refl

@@ -39,7 +39,7 @@ next_fault : (pool : ℕ) (rows : List (List (List ℕ))) (draft : Draft) (numbe
 next_fault pool rows draft number fields request read is =
     λ i. later_fault (read.pool_is i) (read.numbered i + 1) (read.script_is i) (is i)
 
--- one record more
+-- one more record
 pub read-more : (pool : ℕ) (rows : List (List (List ℕ))) (old new : Draft) (number : ℕ) (fields : List (List ℕ)) (request : Option ScriptRequest)
     → IsRead pool rows old number → request ≡ request_in fields → IsExtended old new (number + 1) request → IsRead pool (rows ++ fields ∷ []) new (number + 1)
 read-more pool rows old new number fields request read is more =
@@ -63,7 +63,7 @@ few_hists pool rows draft number read =
     let same : length (map hist_view draft.script.hists.items) ≡ length (script_along rows).hists = ap (λ script. length script.hists) read.script_is in
     omega (arith, read.numbered, length-hists rows, length-map draft.script.hists.items hist_view)
 
--- ---- answers
+-- ---- what is returned
 
 -- no records at all
 pub script_of-empty : (pool : ℕ) (bytes : List ℕ) → records default_config (strip_bom bytes) ≡ [] → script_of pool bytes ≡ Err (BadLine 1)
@@ -91,7 +91,7 @@ script_of-later pool bytes rows draft number fields request more fault read all 
     ∙ script_from-fault pool rows fields more fault read.faultless
     (fault_of-later pool rows fields read.some ∙ (sym (next_fault pool rows draft number fields request read asked) ∙ is))
 
--- a fault that is told is that of the script
+-- a fault that is returned is that of the script
 pub fault_told : (pool : ℕ) (bytes : List ℕ) (expected : Option ScriptFault) (fault : ScriptFault) → length bytes ≤ 16777216
     → ((other : ScriptFault) → expected ≡ Some other → script_of pool bytes ≡ Err other) → TellsFault expected fault → IsScriptFault pool bytes fault
 fault_told pool bytes expected Read within answers told = tt
@@ -101,7 +101,7 @@ fault_told pool bytes expected (BadLine number) within answers told = (within, a
 fault_told pool bytes expected (ZeroCount number) within answers told = (within, answers (ZeroCount number) told)
 fault_told pool bytes expected (NoUnits number) within answers told = (within, answers (NoUnits number) told)
 
--- no failed read is told
+-- a failed read is never returned
 pub not_read : (expected : Option ScriptFault) (fault : ScriptFault) → TellsFault expected fault → fault ≢ Read
 not_read expected Read told = absurd told
 not_read expected TooLong told = absurd told

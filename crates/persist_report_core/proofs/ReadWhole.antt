@@ -1,10 +1,10 @@
--- What is answered of a script whose bytes are read whole, whatever they mean.
+-- What is returned for a script whose bytes are read whole, whatever they mean.
 use Rattle.std.proofs.Common.{◌≡◌, ◌≤◌, ℕ, List, length, Option, Some, None, Result, Ok, Err, IfSome, IsErrAnd, MatchResult, sym, subst}
 use Rattle.persist_report_core.specs.declared.script.Script as code
 use Rattle.persist_report_core.specs.declared.script.fault.ScriptFault.{ScriptFault}
 use Rattle.persist_report_core.specs.Script.{IsFaultOfBytes, Script, script_view}
 
--- what the answer says of the bytes
+-- what the result says of the bytes
 abbrev pub Answers : (List ℕ → Result Script ScriptFault) → Result code.Script ScriptFault → List ℕ → Type 0
 Answers meaning result bytes =
     MatchResult result (λ script. (length bytes ≤ 16777216) × (meaning bytes ≡ Ok (script_view script))) (IsFaultOfBytes (meaning bytes) bytes)

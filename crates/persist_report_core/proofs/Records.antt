@@ -16,9 +16,9 @@ use Rattle.csv.specs.declared.reader.Trim.TheVariants as trim
 use Rattle.csv.proofs.ReadFacts.{rows-end, rows-more}
 use Rattle.persist_report_core.specs.Rows.{IsBehind, IsNextRow, left_of}
 
--- ---- between two records the end of the text ends nothing
+-- ---- between two records, the end of the text ends no record
 
--- where an action ends a record, the state after it is between two records
+-- if an action ends a record, the state after it is between two records
 record Rests (next : State × Action) : Type 0 where
   at_end : is_end next.1 ≡ true → ends_at_end next.0 ≡ false
 
@@ -67,9 +67,9 @@ step-rests cfg st.AfterQuote c = Rests-if (cfg.quoting && cfg.double_quote && (c
 step-rests cfg st.InComment c = Rests-if (c == 10) (skips st.StartRecord) (skips st.InComment)
 step-rests cfg st.AfterCr c = Rests-if (c == 10) (skips st.StartRecord) (start_record-rests cfg c)
 
--- ---- what a record takes of a text
+-- ---- what a read of a record takes from a text
 
--- a record that was read leaves no more bytes, and the reader between two records
+-- after a record was read, no more bytes are left than before, and the reader is between two records
 next_record-le : (cfg : Config) (s : State) (fields : List (List ℕ)) (field xs : List ℕ) (p : Read) → next_record cfg s fields field xs ≡ Some p
     → (ends_at_end p.1 ≡ false) × (length p.2 ≤ length xs)
 unfolding next_record
@@ -95,7 +95,7 @@ next_record-le cfg s fields field (c ∷ rest) p e =
         rw (← same) ((step-rests cfg s c).at_end ends, omega arith)
     by false ends more h = let (between, fewer) = more h in (between, omega arith)
 
--- from between two records it takes at least a byte
+-- from between two records, it takes at least a byte
 next_record-lt : (cfg : Config) (s : State) (xs : List ℕ) (p : Read) → ends_at_end s ≡ false → next_record cfg s [] [] xs ≡ Some p
     → (ends_at_end p.1 ≡ false) × (length p.2 < length xs)
 unfolding next_record
@@ -113,7 +113,7 @@ next_record-lt cfg s (c ∷ rest) p between e =
     by false ends h =
         let (after, fewer) = next_record-le cfg (step cfg s c).0 (fields_after (step cfg s c).1 [] []) (field_after (step cfg s c).1 c []) rest p h in (after, omega arith)
 
--- the same of a read
+-- the same for a read
 next_is-lt : (cfg : Config) (s s2 : State) (xs ys : List ℕ) (fields : List (List ℕ)) → ends_at_end s ≡ false
     → NextIs (next_record cfg s [] [] xs) true fields s2 ys → (ends_at_end s2 ≡ false) × (length ys < length xs)
 next_is-lt cfg s s2 xs ys fields between is = by (next_record cfg s [] [] xs) refl is
@@ -134,7 +134,7 @@ records_from-reached cfg k s s2 xs ys (row ∷ rows) h =
     let count : length (row ∷ rows) + k ≡ suc (length rows + k) = omega arith in
     rw (count, is, first) (ap (λ more. p.0 ∷ more) (records_from-reached cfg k p.1 s2 p.2 ys rows rest))
 
--- a text of which no more records are left
+-- a text with no more records left
 records-end : (text ys : List ℕ) (rows : List (List (List ℕ))) (s2 : State) → Reached default_config st.StartRecord text rows s2 ys
     → length rows ≤ length text → next_record default_config s2 [] [] ys ≡ None → records default_config text ≡ rows
 unfolding records_from
@@ -156,12 +156,12 @@ records-behind text rows reader behind =
 
 -- ---- a read
 
--- behind the start of a text the bytes that are left are those that a read left
+-- past the start of a text, the bytes that are left are those that a read left
 source-pending : (reader : Reader (Bor (List ℕ))) (rest : List ℕ) → reader.bom_checked ≡ true → left_of reader ≡ Some rest
     → pending_of (Some reader.rdr.now) reader ≡ Some rest
 source-pending reader rest begun left = rw begun at left
 
--- what a read of a record does behind others
+-- what a read of a record does after others
 pub next_read : (text : List ℕ) (rows : List (List (List ℕ))) (old new : Reader (Bor (List ℕ))) (found : Bool) (fields : List (List ℕ))
     → IsBehind text rows old → ReadRecord (λ (slice : Bor (List ℕ)). Some slice.now) old new found fields → IsNextRow text rows old new found fields
 next_read text rows old new true fields behind read =
@@ -213,7 +213,7 @@ starts bytes reader plain config start source = record {
   room = omega arith;
 }
 
--- what a read found, where it is known whether it found a record
+-- what a read found, if it is known whether it found a record
 pub found_is : (text : List ℕ) (rows : List (List (List ℕ))) (old new : Reader (Bor (List ℕ))) (found known : Bool) (fields : List (List ℕ)) → found ≡ known
     → IsNextRow text rows old new found fields → IsNextRow text rows old new known fields
 found_is text rows old new found known fields same next = subst (λ f. IsNextRow text rows old new f fields) same next

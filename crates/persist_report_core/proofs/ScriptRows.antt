@@ -16,7 +16,7 @@ use Rattle.persist_report_core.specs.Draft.{extended}
 
 -- ---- faults
 
--- the faults of records behind others
+-- the faults of records that come after others
 abbrev faults_behind : ℕ → List (List (List ℕ)) → List (List (List ℕ)) → List ScriptFault
 faults_behind pool earlier rows = filter_map (λ fault. fault) (scan (λ earlier fields. earlier ++ fields ∷ []) (fault_of pool) earlier rows)
 
@@ -34,13 +34,13 @@ faults_behind-append pool earlier (x ∷ xs) ys =
     )
     ∙ cons_option-append (fault_of pool earlier x) (faults_behind pool (earlier ++ x ∷ []) xs) (faults_behind pool (earlier ++ x ∷ xs) ys)
 
--- the faults where one record more stands behind records without faults
+-- the faults with one more record after records without faults
 faults_of-more : (pool : ℕ) (rows : List (List (List ℕ))) (fields : List (List ℕ)) (more : List (List (List ℕ))) → faults_of pool rows ≡ []
     → faults_of pool (rows ++ fields ∷ more) ≡ cons_option (fault_of pool rows fields) (faults_behind pool (rows ++ fields ∷ []) more)
 faults_of-more pool rows fields more none =
     faults_behind-append pool [] rows (fields ∷ more) ∙ ap (λ before. before ++ faults_behind pool rows (fields ∷ more)) none
 
--- one record more without a fault
+-- one more record without a fault
 pub faultless-more : (pool : ℕ) (rows : List (List (List ℕ))) (fields : List (List ℕ)) → faults_of pool rows ≡ [] → fault_of pool rows fields ≡ None
     → faults_of pool (rows ++ fields ∷ []) ≡ []
 faultless-more pool rows fields none fine =
@@ -69,14 +69,14 @@ pub fault_of-later : (pool : ℕ) (rows : List (List (List ℕ))) (fields : List
 fault_of-later pool [] fields some = absurd (omega arith)
 fault_of-later pool (row ∷ rows) fields some = refl
 
--- ---- the script with one record more
+-- ---- the script with one more record
 
 enumerate_from-append : {X : Type 0} (n : ℕ) (xs ys : List X) → enumerate_from n (xs ++ ys) ≡ enumerate_from n xs ++ enumerate_from (n + length xs) ys
 enumerate_from-append n [] ys = ap (λ k. enumerate_from k ys) (omega arith)
 enumerate_from-append n (x ∷ xs) ys =
     ap (λ rest. (n, x) ∷ rest) (enumerate_from-append (n + 1) xs ys ∙ ap (λ k. enumerate_from (n + 1) xs ++ enumerate_from k ys) (omega arith))
 
--- what numbered records give, with one record more
+-- what numbered records give, with one more record
 numbered-more : {X : Type 0} (f : ℕ × List (List ℕ) → Option X) (rows : List (List (List ℕ))) (fields : List (List ℕ))
     → filter_map f (enumerate_from 1 (rows ++ fields ∷ [])) ≡ filter_map f (enumerate_from 1 rows) ++ option_to_list (f (length rows + 1, fields))
 numbered-more f rows fields =
@@ -89,7 +89,7 @@ numbered-more f rows fields =
     by None = refl
     by (Some x) = refl
 
--- the calls of numbered records, by histograms that the names are looked up in
+-- the calls of numbered records, by histograms in which the names are looked up
 abbrev calls_by : List HistRecord → List (ℕ × List (List ℕ)) → List ScriptCall
 calls_by hists numbered = filter_map (λ one. call_from hists one.0 (request_in one.1)) numbered
 
@@ -122,7 +122,7 @@ nil_from_test xs h = nil_from_length xs (grind (arith, nat_tests))
 abbrev hists_along : List (List (List ℕ)) → List HistRecord
 hists_along rows = filter_map (λ numbered. hist_from numbered.0 (request_in numbered.1)) (enumerate_from 1 rows)
 
--- the calls of one record more, which is no `hist` record
+-- the calls with one more record, which is no `hist` record
 calls-call : (rows : List (List (List ℕ))) (fields : List (List ℕ)) (request : Option ScriptRequest) → request_in fields ≡ request → hist_from (length rows + 1) request ≡ None
     → calls_by (hists_along rows ++ option_to_list (hist_from (length rows + 1) request)) (enumerate_from 1 (rows ++ fields ∷ []))
     ≡ calls_by (hists_along rows) (enumerate_from 1 rows) ++ option_to_list (call_from (hists_along rows) (length rows + 1) request)
@@ -132,7 +132,7 @@ calls-call rows fields request is no_hist =
     ∙ (numbered-more (λ (one : ℕ × List (List ℕ)). call_from (hists_along rows) one.0 (request_in one.1)) rows fields
     ∙ ap (λ asked. calls_by (hists_along rows) (enumerate_from 1 rows) ++ option_to_list (call_from (hists_along rows) (length rows + 1) asked)) is))
 
--- the calls of one `hist` record more, behind records without calls
+-- the calls with one more `hist` record, after records without calls
 calls-hist : (rows : List (List (List ℕ))) (fields : List (List ℕ)) (hists : List HistRecord) (name : List ℕ) (spec : Spec) → request_in fields ≡ Some (Hist name spec)
     → calls_by (hists_along rows) (enumerate_from 1 rows) ≡ []
     → calls_by hists (enumerate_from 1 (rows ++ fields ∷ [])) ≡ calls_by (hists_along rows) (enumerate_from 1 rows) ++ []
@@ -141,7 +141,7 @@ calls-hist rows fields hists name spec is none =
     ∙ (ap (λ asked. calls_by hists (enumerate_from 1 rows) ++ option_to_list (call_from hists (length rows + 1) asked)) is
     ∙ ap (λ calls. calls ++ []) (no_calls (hists_along rows) hists (enumerate_from 1 rows) none ∙ sym none))
 
--- the calls of one record more without a fault
+-- the calls with one more record without a fault
 calls-more : (pool : ℕ) (rows : List (List (List ℕ))) (fields : List (List ℕ)) (request : Option ScriptRequest) → request_in fields ≡ request
     → later_fault pool (length rows + 1) (script_along rows) request ≡ None
     → calls_by (hists_along rows ++ option_to_list (hist_from (length rows + 1) request)) (enumerate_from 1 (rows ++ fields ∷ []))
@@ -154,7 +154,7 @@ calls-more pool rows fields (Some (Hist name spec)) is fine =
 calls-more pool rows fields (Some (Add name value count)) is fine = calls-call rows fields (Some (Add name value count)) is refl
 calls-more pool rows fields (Some (Delta name)) is fine = calls-call rows fields (Some (Delta name)) is refl
 
--- the script with one record more, which is neither the first nor faulty
+-- the script with one more record, which is neither the first nor faulty
 pub script_along-more : (pool : ℕ) (rows : List (List (List ℕ))) (fields : List (List ℕ)) → 0 < length rows
     → later_fault pool (length rows + 1) (script_along rows) (request_in fields) ≡ None
     → script_along (rows ++ fields ∷ []) ≡ extended (length rows + 1) (script_along rows) (request_in fields)

@@ -1,4 +1,4 @@
--- What is damaged in a reading, although there is a text of it.
+-- What is damaged in a reading that still has a text.
 use Rattle.std.specs.Prelude.{◌≡◌, ℕ, List, [], ◌∷◌, Option, Some, None}
 use Rattle.segment_image.specs.declared.fault.ImageFault.{ImageFault}
 use Rattle.bucket_ranges.specs.declared.reading.RecordFault.{RecordFault}
@@ -6,7 +6,7 @@ use Rattle.bucket_ranges.specs.Reading.{Reading}
 use Rattle.persist_report_core.specs.declared.fault.CliFault.{CliFault}
 use Rattle.persist_report_core.specs.declared.fault.CliFault.TheVariants.{Bad, Stopped}
 
--- the fault of the first bad record; where none is bad, that of a list that stopped before its end
+-- the fault of the first bad record; if none is bad, that of a list that stopped before its end
 abbrev pub first_damage : List (ℕ × RecordFault) → Option ImageFault → Option CliFault
 first_damage (bad ∷ others) stopped = Some (Bad bad.0 bad.1)
 first_damage [] (Some fault) = Some (Stopped fault)

@@ -18,13 +18,13 @@ found names name = get_by (λ key. bytes_eq name key.items) names
 abbrev pub known_place : List HistRecord → List ℕ → Option ℕ
 known_place hists name = if is_known name hists then Some (place_of name hists) else None
 
--- a name is looked up: it is known and has this place, or the record that has it is a bad line
+-- a name is looked up: it is known and has this place, or the record with it is a bad line
 abbrev pub FindsPlace : List HistRecord → List ℕ → ℕ → Result ℕ ScriptFault → Type 0
 FindsPlace hists name number result = MatchResult result
     (λ place. (is_known name hists ≡ true) × (place_of name hists ≡ place))
     (λ fault. (is_known name hists ≡ false) × (fault ≡ BadLine number))
 
--- what a draft keeps beside its script: where each name stands first, and the units that were taken of the pool
+-- what a draft keeps in addition to its script: the place of each name's first `hist` record, and the units taken from the pool
 pub record IsDraft (draft : Draft) : Type 0 where
   pub placed : (name : List ℕ) → found draft.names name ≡ known_place (script_view draft.script).hists name
   pub taken : draft.taken ≡ units_of draft.script.calls.items
@@ -34,14 +34,14 @@ pub record IsDraft (draft : Draft) : Type 0 where
 abbrev pub opened_script : Option ScriptRequest → Script
 opened_script request = record { shape = (opening_of request).0; id = (opening_of request).1; hists = []; calls = [] }
 
--- a script with one record more
+-- a script with one more record
 abbrev pub extended : ℕ → Script → Option ScriptRequest → Script
 extended number script request = record script {
   hists = script.hists ++ option_to_list (hist_from number request);
   calls = script.calls ++ option_to_list (call_from script.hists number request);
 }
 
--- a call that has this fault to tell answers it, or want of memory
+-- a call that finds this fault returns it, or memory ran out
 abbrev pub TellsFault : Option ScriptFault → ScriptFault → Type 0
 TellsFault fault Read = ⊥
 TellsFault fault TooLong = ⊥
@@ -57,7 +57,7 @@ pub record IsDraftOpened (pool : ℕ) (request : Option ScriptRequest) (draft : 
   pub keeps : IsDraft draft
   pub pool_is : draft.pool ≡ pool
 
--- the first record opens a draft, or its fault is told
+-- the first record opens a draft, or its fault is returned
 abbrev pub Opens : ℕ → Option ScriptRequest → Result Draft ScriptFault → Type 0
 Opens pool request result = MatchResult result (IsDraftOpened pool request) (TellsFault (opening_fault request))
 
@@ -68,7 +68,7 @@ pub record IsExtended (old new : Draft) (number : ℕ) (request : Option ScriptR
   pub keeps : IsDraft new
   pub pool_is : new.pool ≡ old.pool
 
--- a record is put into a draft, or its fault is told
+-- a record is put into a draft, or its fault is returned
 abbrev pub Puts : Draft → Draft → ℕ → Option ScriptRequest → Result (Unit {0}) ScriptFault → Type 0
 Puts old new number request result =
     MatchResult result (λ _. IsExtended old new number request) (TellsFault (later_fault old.pool number (script_view old.script) request))

@@ -36,12 +36,12 @@ fault_of_read reading.Device = cli.Read
 fault_of_read reading.TooLong = cli.TooLong
 fault_of_read reading.NotWords = cli.NotWords
 
--- the fault of a call whose image was refused; want of memory is no fault of the image
+-- the fault of a call whose image was refused; running out of memory is not a fault of the image
 abbrev pub fault_of_image : ImageFault → CliFault
 fault_of_image image.NoMemory = cli.NoMemory
 fault_of_image fault = cli.Image fault
 
--- the fault of a call whose image may not be recorded into again; want of memory is no fault of the image
+-- the fault of a call whose image cannot be recorded into again; running out of memory is not a fault of the image
 abbrev pub fault_of_adoption : AdoptFault → CliFault
 fault_of_adoption adopting.NoMemory = cli.NoMemory
 fault_of_adoption fault = cli.Adopt fault

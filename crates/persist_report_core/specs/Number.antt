@@ -8,7 +8,7 @@ use Rattle.std.specs.Str.Parse.{digits_value, starts_with_minus}
 abbrev pub is_decimal : List ℕ → Bool
 is_decimal field = not (length field == 0) && list_all is_ascii_digit field
 
--- the number that decimal digits write, where it is at most `most`
+-- the number that decimal digits write, if it is at most `most`
 abbrev pub whole_number : ℕ → List ℕ → Option ℕ
 whole_number most field =
     if is_decimal field && nat_le (digits_value 10 field) most then Some (digits_value 10 field) else None
@@ -21,7 +21,7 @@ unsigned_number field = whole_number 4294967295 field
 abbrev pub long_number : List ℕ → Option ℕ
 long_number field = whole_number 18446744073709551615 field
 
--- a number with a sign, not below minus a size and less than the size: one below 0, or 0 itself, behind a `-`
+-- a number with a sign, at least minus a size and less than the size: a `-` comes before one below 0, and may come before 0
 abbrev pub signed_within : ℕ → List ℕ → Option ℤ
 signed_within size field =
     if starts_with_minus field then option_map (λ below. neg_ℤ (pos below)) (whole_number size (drop 1 field))

@@ -1,4 +1,4 @@
--- What a report is of the bytes of an image, and why there is none.
+-- What the report of an image's bytes is, and why there is none.
 use Rattle.std.specs.Prelude.{◌≡◌, ◌≢◌, ℕ, ◌%◌, ◌^◌, ◌<◌, ◌≤◌, List, length, All, Ok, Err, ⊤}
 use Rattle.segment_image.specs.Words.{bytes_of_words}
 use Rattle.segment_image.specs.Head.{header_of}
@@ -9,7 +9,8 @@ use Rattle.persist_report_core.specs.declared.fault.CliFault.{CliFault}
 use Rattle.persist_report_core.specs.declared.fault.CliFault.TheVariants.{Read, Write, TooLong, NotWords, Image, BadLine, Refused, Gate, Merge, NoThread, NoMemory, Adopt, NoSegment, NoHistogram, Bad, Stopped, Changed}
 use Rattle.reading_texts.specs.Text.{IsTextOf}
 
--- The words of the image in an input with these bytes. The words of the input have 64 bits: a number past them would have the bytes of another word.
+-- The words of the image in an input with these bytes. The input's words have 64 bits: a larger number would have the bytes of another
+-- word.
 pub record AreWordsOf (bytes words : List ℕ) : Type 0 where
   pub all : List ℕ
   pub fit : All (λ word. word < 2 ^ 64) all
@@ -24,7 +25,7 @@ pub record IsReadingOf (bytes : List ℕ) (reading : Reading) : Type 0 where
   pub head_is : header_of words ≡ Ok head
   pub reading_is : IsReading words head reading
 
--- the text is such a one of that reading
+-- the text is one of this kind of that reading
 pub record IsOfBytes (IsOf : Reading → List ℕ → Type 0) (bytes text : List ℕ) : Type 0 where
   pub reading : Reading
   pub reading_is : IsReadingOf bytes reading
@@ -34,9 +35,8 @@ pub record IsOfBytes (IsOf : Reading → List ℕ → Type 0) (bytes text : List
 abbrev pub IsReportOfBytes : List ℕ → List ℕ → Type 0
 IsReportOfBytes bytes text = IsOfBytes IsTextOf bytes text
 
--- A fault has its cause in the bytes of the image. Devices that fail and want of memory have none there. The faults of
--- scripts, of merges, of workers, of looks and of images that are recorded into again come of no report; nor do those of a
--- reading of which there is a text.
+-- A fault has its cause in the bytes of the image. Failing devices and running out of memory have no cause there. The faults of scripts,
+-- merges, workers, looks and images that are recorded into again never come from a report; nor do those of a reading that has a text.
 abbrev pub IsCausedByImage : List ℕ → CliFault → Type 0
 IsCausedByImage bytes Read = ⊤
 IsCausedByImage bytes Write = ⊤

@@ -14,17 +14,17 @@ pub data ScriptRequest : Type 0 where
   Add : (name : List ℕ) (value : ℤ) (count : ℕ) → ScriptRequest
   Delta : (name : List ℕ) → ScriptRequest
 
--- a value made of two parts, where both are there
+-- a value made of two parts, if both are there
 abbrev pub from_two : {A B X : Type 0} → (A → B → X) → Option A → Option B → Option X
 from_two make (Some a) (Some b) = Some (make a b)
 from_two make _ _ = None
 
--- a value made of three parts, where all are there
+-- a value made of three parts, if all are there
 abbrev pub from_three : {A B C X : Type 0} → (A → B → C → X) → Option A → Option B → Option C → Option X
 from_three make (Some a) (Some b) (Some c) = Some (make a b c)
 from_three make _ _ _ = None
 
--- ---- the fields behind the word `segment`, `add` or `delta`
+-- ---- the fields after the word `segment`, `add` or `delta`
 
 -- a size, a page and an id
 abbrev pub segment_in : List (List ℕ) → Option ScriptRequest
@@ -41,14 +41,14 @@ abbrev pub delta_in : List (List ℕ) → Option ScriptRequest
 delta_in (name ∷ []) = Some (Delta name)
 delta_in _ = None
 
--- ---- the fields behind a kind of histogram
+-- ---- the fields after a kind of histogram
 
--- the numbers in fields, where each is one
+-- the numbers in fields, if each is one
 abbrev pub numbers_in : List (List ℕ) → Option (List ℕ)
 numbers_in [] = Some []
 numbers_in (field ∷ rest) = from_two (λ number more. number ∷ more) (unsigned_number field) (numbers_in rest)
 
--- the least and the greatest value, and how many buckets
+-- the least and the greatest value, and the number of buckets
 abbrev pub linear_in : List (List ℕ) → Option Spec
 linear_in (min ∷ max ∷ buckets ∷ []) = from_three Linear (unsigned_number min) (unsigned_number max) (unsigned_number buckets)
 linear_in _ = None
@@ -58,12 +58,12 @@ abbrev pub custom_in : List (List ℕ) → Option Spec
 custom_in [] = None
 custom_in (value ∷ rest) = option_map Custom (numbers_in (value ∷ rest))
 
--- a kind with no fields behind it
+-- a kind with no fields after it
 abbrev pub alone : Spec → List (List ℕ) → Option Spec
 alone spec [] = Some spec
 alone spec _ = None
 
--- the spec that a kind and the fields behind it name
+-- the spec that a kind and the fields after it name
 abbrev pub spec_in : List ℕ → List (List ℕ) → Option Spec
 spec_in kind behind =
     if bytes_eq kind (codes "linear") then linear_in behind
@@ -73,12 +73,12 @@ spec_in kind behind =
 
 -- ---- a whole record
 
--- the fields behind the word `hist`: a name, and a kind with what stands behind it
+-- the fields after the word `hist`: a name, and a kind with its fields
 abbrev pub hist_in : List (List ℕ) → Option ScriptRequest
 hist_in (name ∷ kind ∷ behind) = option_map (Hist name) (spec_in kind behind)
 hist_in _ = None
 
--- what a word and the fields behind it ask for
+-- what a word and the fields after it ask for
 abbrev pub request_behind : List ℕ → List (List ℕ) → Option ScriptRequest
 request_behind word behind =
     if bytes_eq word (codes "add") then add_in behind
@@ -86,7 +86,7 @@ request_behind word behind =
     else (if bytes_eq word (codes "hist") then hist_in behind
     else (if bytes_eq word (codes "segment") then segment_in behind else None)))
 
--- what a record asks for, or nothing where it has no lawful form
+-- what a record asks for, or nothing if it is malformed
 abbrev pub request_in : List (List ℕ) → Option ScriptRequest
 request_in [] = None
 request_in (word ∷ behind) = request_behind word behind

@@ -7,11 +7,11 @@ use Rattle.csv.specs.declared.parser.State.TheVariants as state
 use Rattle.csv.specs.declared.reader.Reader.{Reader}
 use Rattle.csv.specs.declared.reader.Trim.TheVariants as trim
 
--- the bytes that a reader of a text in memory has left, where they are known
+-- the bytes that a reader of a text in memory has left, if they are known
 abbrev pub left_of : Reader (Bor (List ℕ)) → Option (List ℕ)
 left_of reader = source_of (λ slice. Some slice.now) reader
 
--- a reader has read these records of a text, and stands between two records
+-- a reader has read these records of a text, and is between two records
 pub record IsBehind (text : List ℕ) (rows : List (List (List ℕ))) (reader : Reader (Bor (List ℕ))) : Type 0 where
   pub plain : reader_trim reader ≡ trim.None
   pub config : reader_config reader ≡ default_config
@@ -21,7 +21,7 @@ pub record IsBehind (text : List ℕ) (rows : List (List (List ℕ))) (reader : 
   pub reached : Reached default_config state.StartRecord text rows (reader_state reader) rest
   pub room : length rows + length rest ≤ length text
 
--- a read found one record more, of fewer bytes that were left, or that there is none
+-- a read found one more record, with fewer bytes left, or that there is none
 abbrev pub IsNextRow : List ℕ → List (List (List ℕ)) → Reader (Bor (List ℕ)) → Reader (Bor (List ℕ)) → Bool → List (List ℕ) → Type 0
 IsNextRow text rows old new true fields =
     IsBehind text (rows ++ fields ∷ []) new × (length (unwrap_or (left_of new) []) < length (unwrap_or (left_of old) []))

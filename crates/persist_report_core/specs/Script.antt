@@ -30,7 +30,7 @@ pub record Script : Type 0 where
   pub hists : List HistRecord
   pub calls : List ScriptCall
 
--- the index of the first `hist` record of a name, or their number where none has it
+-- the index of the first `hist` record of a name, or their number if there is none
 abbrev pub place_of : List ℕ → List HistRecord → ℕ
 place_of name hists = position_or_len (λ hist. bytes_eq name hist.name) hists
 
@@ -43,7 +43,7 @@ abbrev pub units_in : CallKind → ℕ
 units_in (kind.Add value count) = count
 units_in kind.Delta = 0
 
--- the units that all of them add
+-- the units that all `add` records add
 abbrev pub units_of : List ScriptCall → ℕ
 units_of calls = sum_by (λ call. units_in call.kind) calls
 
@@ -88,13 +88,13 @@ script_along records =
 
 -- ---- the faults of records
 
--- the fault of the first record, which has to name a lawful shape
+-- the fault of the first record, which has to name a valid shape
 abbrev pub opening_fault : Option ScriptRequest → Option ScriptFault
 opening_fault (Some (Segment size page id)) = if is_page page && is_size size page then None else Some (BadLine 1)
 opening_fault _ = Some (BadLine 1)
 
--- the fault of a later record, by the script that those before it make: `hist` records come before all calls, a call
--- names a known histogram, and an `add` record adds units, and no more than the pool has left
+-- the fault of a later record, by the script that those before it make: `hist` records come before all calls, a call names a known
+-- histogram, and an `add` record adds units, and no more than the pool has left
 abbrev pub later_fault : ℕ → ℕ → Script → Option ScriptRequest → Option ScriptFault
 later_fault pool number script None = Some (BadLine number)
 later_fault pool number script (Some (Segment size page id)) = Some (BadLine number)
@@ -108,33 +108,33 @@ later_fault pool number script (Some (Add name value count)) =
     first_fault checks
 later_fault pool number script (Some (Delta name)) = first_fault ((not (is_known name script.hists), BadLine number) ∷ [])
 
--- the fault of a record beside those before it
+-- the fault of a record, given those before it
 abbrev pub fault_of : ℕ → List (List (List ℕ)) → List (List ℕ) → Option ScriptFault
 fault_of pool [] fields = opening_fault (request_in fields)
 fault_of pool (first ∷ more) fields =
     later_fault pool (length (first ∷ more) + 1) (script_along (first ∷ more)) (request_in fields)
 
--- the faults of all records in order, each beside those before it
+-- the faults of all records in order, each given those before it
 abbrev pub faults_of : ℕ → List (List (List ℕ)) → List ScriptFault
 faults_of pool records = filter_map (λ fault. fault) (scan (λ earlier fields. earlier ++ fields ∷ []) (fault_of pool) [] records)
 
--- ---- the answer
+-- ---- what is returned
 
--- the first of the faults, or the value where there is none
+-- the first of the faults, or the value if there is none
 abbrev pub unless_faults : {F X : Type 0} → List F → X → Result X F
 unless_faults [] x = Ok x
 unless_faults (fault ∷ more) x = Err fault
 
--- the script that records make, or their first fault; no records are a first record that is missing
+-- the script that records make, or their first fault; if there are no records, the first is missing
 abbrev pub script_from : ℕ → List (List (List ℕ)) → Result Script ScriptFault
 script_from pool [] = Err (BadLine 1)
 script_from pool (first ∷ more) = unless_faults (faults_of pool (first ∷ more)) (script_along (first ∷ more))
 
--- what bytes mean as a script that may take as many units as the pool has, or their first fault
+-- what bytes mean as a script that may take this many units, or their first fault
 abbrev pub script_of : ℕ → List ℕ → Result Script ScriptFault
 script_of pool bytes = script_from pool (records default_config (strip_bom bytes))
 
--- the first of the records that bytes are; no fields where there is none
+-- the first of the records that bytes are; no fields if there is none
 abbrev pub first_record : List ℕ → List (List ℕ)
 first_record bytes = slice_index_or (records default_config (strip_bom bytes)) 0 []
 
@@ -143,13 +143,13 @@ abbrev pub names_segment : Dimensions → ℕ → Option ScriptRequest → Bool
 names_segment shape id (Some (Segment size page other)) = size == shape.size && page == shape.page && other == id
 names_segment shape id _ = false
 
--- what bytes mean as a script for the segment of this shape and id: the first record has to name that one
+-- what bytes mean as a script for the segment of this shape and id, which the first record has to name
 abbrev pub script_for : Dimensions → ℕ → ℕ → List ℕ → Result Script ScriptFault
 script_for shape id pool bytes =
     if names_segment shape id (request_in (first_record bytes)) then script_of pool bytes else Err (BadLine 1)
 
--- A fault of a call that reads a script of at most 16,777,216 bytes, which mean this, has its cause in the bytes that the reader
--- had left. Want of memory and a device that fails have none there.
+-- A fault of a call that reads a script of at most 16,777,216 bytes, which mean this, has its cause in the bytes that the reader had left.
+-- Running out of memory and a failing device have no cause there.
 abbrev pub IsFaultOfBytes : Result Script ScriptFault → List ℕ → ScriptFault → Type 0
 IsFaultOfBytes meaning bytes Read = ⊤
 IsFaultOfBytes meaning bytes TooLong = 16777216 < length bytes
@@ -158,7 +158,7 @@ IsFaultOfBytes meaning bytes (BadLine number) = (length bytes ≤ 16777216) × (
 IsFaultOfBytes meaning bytes (ZeroCount number) = (length bytes ≤ 16777216) × (meaning ≡ Err (ZeroCount number))
 IsFaultOfBytes meaning bytes (NoUnits number) = (length bytes ≤ 16777216) × (meaning ≡ Err (NoUnits number))
 
--- of a script for any segment
+-- a fault has its cause in bytes that are read as a script for any segment
 abbrev pub IsScriptFault : ℕ → List ℕ → ScriptFault → Type 0
 IsScriptFault pool bytes fault = IsFaultOfBytes (script_of pool bytes) bytes fault
 

@@ -1,4 +1,4 @@
-//! What is damaged in a reading, although there is a text of it.
+//! What is damaged in a reading that still has a text.
 
 ghost use Rattle.std.specs.Prelude.{◌≡◌, ◌↔◌, IsNone, option_map};
 ghost use Rattle.image_reader.specs.Views.{reading_view};
@@ -8,7 +8,7 @@ use crate::fault::CliFault;
 use image_reader::Reading;
 use segment_image::ImageFault;
 
-// The fault of a list that stopped for this reason, where it did.
+// The fault of a list that stopped for this reason, if it did.
 fn fault_of_stop(stopped: Option<ImageFault>) -> Option<CliFault>
     ensures { result ≡ option_map CliFault.Stopped stopped }
 {
@@ -18,8 +18,9 @@ fn fault_of_stop(stopped: Option<ImageFault>) -> Option<CliFault>
     }
 }
 
-/// Returns the fault of a reading that is not whole: `Bad` with its first bad record, and where none is bad `Stopped`
-/// with why its list stopped [fault]. None exactly where no record is bad and the list did not stop [whole].
+/// Returns the fault of a reading that is not whole: `Bad` with its first bad record, or, if no record is bad,
+/// `Stopped` with why its list stopped [fault]. Returns none exactly if no record is bad and the list did not stop
+/// [whole].
 pub fn damage_of(reading: &Reading) -> Option<CliFault>
     ensures fault { result ≡ damage_of (reading_view reading.now) }
     ensures whole { IsNone result ↔ IsReadWhole (reading_view reading.now) }

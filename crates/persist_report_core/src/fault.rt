@@ -13,7 +13,7 @@ pub enum CliFault {
     /// A read of an image or of the script failed.
     #[error("Read")]
     Read,
-    /// A write of an image or of a report failed, or its flush did. How much went out is not said.
+    /// A write of an image or of a report failed, or its flush did. It is not known how much was written.
     #[error("Write")]
     Write,
     /// The image has more than 8,388,608 bytes, or the script more than 16,777,216; or 2^64 bytes
@@ -26,28 +26,28 @@ pub enum CliFault {
     /// The image's header has this fault.
     #[error("Image {0}")]
     Image(ImageFault),
-    /// The record of the script with this number has no lawful form or place, or names no histogram.
+    /// The record of the script with this number is malformed or out of place, or names no histogram.
     #[error("BadLine {0}")]
     BadLine(u32),
-    /// What the record of the script with this number asks for is refused; never for want of memory.
+    /// What the record of the script with this number asks for is refused; if memory runs out, it is `NoMemory`.
     #[error("Refused {number} {why}")]
     Refused { number: u32, why: Refusal },
-    /// The gate let a worker not go on.
+    /// The gate refused to let a worker continue.
     #[error("Gate")]
     Gate,
-    /// The merge stopped at the histogram of this name; never for want of memory.
+    /// The merge stopped at the histogram of this name; if memory runs out, it is `NoMemory`.
     #[error("Merge {letters} {why}", letters = Letters(.name))]
     Merge { name: Vec<u8>, why: Refusal },
     /// A worker could not be started.
     #[error("NoThread")]
     NoThread,
-    /// There was no memory for what was read, for what was to be written, or for the work between.
+    /// There was no memory for what was read, for what was to be written, or for the work in between.
     #[error("NoMemory")]
     NoMemory,
-    /// The image may not be recorded into again, for this reason; never for want of memory.
+    /// The image cannot be recorded into again, for this reason; if memory runs out, it is `NoMemory`.
     #[error("Adopt {0}")]
     Adopt(AdoptFault),
-    /// Fewer segments stand among the bytes that were searched.
+    /// The bytes that were searched have fewer segments than the number asked for.
     #[error("NoSegment")]
     NoSegment,
     /// The image has no histogram of this name; the text has the others that were asked for.
@@ -56,16 +56,16 @@ pub enum CliFault {
     /// The record of the image at this word has this fault; the text has all that is valid.
     #[error("Bad {reference} {fault}")]
     Bad { reference: u64, fault: RecordFault },
-    /// The list of the image's records stops before its end, for this reason; the text has all before it.
+    /// The list of the image's records stops before its end, for this reason; the text has all that comes before.
     #[error("Stopped {0}")]
     Stopped(ImageFault),
-    /// Between the reads of a look another segment took the place of the one in the file.
+    /// Between the reads of a look, another segment took the place of the one in the file.
     #[error("Changed")]
     Changed,
 }
 
-// The bytes of a name as text on one line: blanks, letters, digits and signs of ASCII as they are, and any other byte by its
-// number. A valid name has none.
+// The bytes of a name as text on one line: ASCII blanks, letters, digits and signs unchanged, and any other byte as its
+// number. A valid name has no such byte.
 #[derive(Clone, Copy)]
 struct Letters<'a>(&'a [u8]);
 

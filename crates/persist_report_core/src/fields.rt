@@ -1,4 +1,4 @@
-//! What stands in the fields of a record: three fields in a row, and specs.
+//! What the fields of a record say: three fields in a row, and specs.
 
 ghost use Rattle.std.specs.Prelude.{◌≡◌, ◌≢◌, ◌≤◌, [], ◌∷◌, IfOk, IfSome, IfNone, option_map, drop, length};
 ghost use Rattle.csv.specs.Records.{fields_of};
@@ -9,7 +9,7 @@ use bucket_ranges::{CustomValues, Spec};
 use csv::ByteRecord;
 use std::alloc::{AllocError, Global};
 
-/// Returns the fields from `start` on [some]. None only where these are not three [none].
+/// Returns the fields from `start` on, if there are exactly three [some]. Returns none only if there are not [none].
 pub fn three_from(fields: &ByteRecord, start: usize) -> Option<(&[u8], &[u8], &[u8])>
     requires { start ≤ 4 }
     ensures some { IfSome result (λ three. drop start (fields_of fields.now) ≡ three.0.now ∷ three.1.now ∷ three.2.now ∷ []) }
@@ -24,7 +24,7 @@ pub fn three_from(fields: &ByteRecord, start: usize) -> Option<(&[u8], &[u8], &[
     Some((first, second, third))
 }
 
-// A linear spec of the fields behind its kind.
+// The linear spec in the fields after its kind.
 fn read_linear(fields: &ByteRecord, start: usize) -> Option<Spec>
     requires { start ≤ 4 }
     ensures { result ≡ linear_in (drop start (fields_of fields.now)) }
@@ -57,7 +57,7 @@ fn read_numbers(
     Ok(Some(values))
 }
 
-// A custom spec of the fields behind its kind.
+// The custom spec in the fields after its kind.
 fn read_custom(alloc: Global, fields: &ByteRecord, start: usize) -> Result<Option<Spec>, AllocError>
     ensures { IfOk result (λ spec. spec ≡ custom_in (drop start (fields_of fields.now))) }
 {
@@ -70,7 +70,7 @@ fn read_custom(alloc: Global, fields: &ByteRecord, start: usize) -> Result<Optio
     }
 }
 
-// A spec whose kind has no fields behind it.
+// A spec whose kind has no fields after it.
 fn alone(fields: &ByteRecord, spec: Spec, start: usize) -> Option<Spec>
     requires { start ≤ length (fields_of fields.now) }
     ensures { result ≡ alone_in spec (drop start (fields_of fields.now)) }
@@ -82,7 +82,7 @@ fn alone(fields: &ByteRecord, spec: Spec, start: usize) -> Option<Spec>
     }
 }
 
-/// Returns the spec of a kind and the fields after it, which begin at `start`; none where they name no spec.
+/// Returns the spec of a kind and the fields after it, which begin at `start`; none if they are no spec.
 pub fn read_spec(
     alloc: Global,
     kind: &[u8],

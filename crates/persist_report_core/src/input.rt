@@ -12,10 +12,10 @@ use segment_image::{ReadFault, Watched, fill, push_words, read_more_words};
 use std::alloc::Global;
 use std::io::Read;
 
-/// An image has at most so many words.
+/// The most words that an image has.
 pub const MAX_WORDS: usize = MAX_SIZE as usize;
 
-// A mapped file has at most so many words.
+// The most words that a mapped file has.
 const MAX_MAPPED_WORDS: usize = MAX_WORDS + 10;
 
 // Whether words are those of a mapped file.
@@ -25,7 +25,7 @@ fn is_mapped(words: &[u64]) -> bool
     words.len() > 1 && words[0] == 0 && words[1] == SEGMENT_COOKIE
 }
 
-// The most words of an input that begins with these.
+// The most words of an input that begins with these words.
 fn most_words(words: &[u64]) -> usize
     ensures { result ≡ (if is_mapped words.now then MAX_MAPPED_WORDS else MAX_WORDS) }
 {
@@ -36,9 +36,9 @@ fn most_words(words: &[u64]) -> usize
     }
 }
 
-/// Returns the image in the words of an input. In those of a mapped file, which begins with a word of 0 and then the
-/// cookie of a segment, these are the words from the second on, as many as the header there says, or all if there are
-/// fewer; in any others all words.
+/// Returns the image in the words of an input. A mapped file begins with a word of 0 and then the cookie of a segment;
+/// its image is the words from the second on, as many as the header there says, or all if there are fewer. Of any other
+/// input it is all words.
 pub fn image_in(words: &[u64]) -> &[u64]
     ensures { result.now ≡ image_in words.now }
 {
@@ -55,10 +55,10 @@ pub fn image_in(words: &[u64]) -> &[u64]
 
 /// Reads all bytes that a reader has left, as the words of an input: a closed image or a mapped file.
 ///
-/// The reader has not failed before. On `Ok` the words' bytes are all that it had left [words]. `TooLong` comes only
-/// where there are more than 8,388,608 bytes, or, in a mapped file, more than 8,388,688; `NotWords` only where there
-/// are no more and their number is no multiple of eight [cause]. `Read` comes exactly where a read failed [read], and
-/// `NoMemory` where memory runs out for the words. No other fault comes [other].
+/// The reader has not failed before. On `Ok` the words' bytes are all that it had left [words]. `TooLong` is returned
+/// only if there are more than 8,388,608 bytes, or, in a mapped file, more than 8,388,688; `NotWords` only if there are
+/// no more and their number is no multiple of eight [cause]. `Read` is returned exactly if a read failed [read], and
+/// `NoMemory` if memory runs out for the words. There is no other fault [other].
 pub fn read_input<R: Read>(alloc: Global, reader: &mut Watched<R>) -> Result<Vec<u64>, CliFault>
     requires { has_failed reader.old ≡ false }
     ensures words { IfOk result (λ words. IfSome (R.remaining (watched_inner reader.old)) (λ bytes. bytes_of_words words.items ≡ bytes)) }

@@ -1,9 +1,10 @@
 //! The report of a segment's image, and scripts of what is to be recorded in one.
 //!
-//! The text of a report is defined in `reading_texts`, `specs/Text.antt`, and what a call returns in `specs/Report.antt`.
-//! `reading_shows` has the call that reads an image from a reader and writes it in this form or another.
+//! The text of a report is defined in `reading_texts`, `specs/Text.antt`, and what a call returns in
+//! `specs/Report.antt`. `reading_shows` has the call that reads an image from a reader and writes it in this form or
+//! another.
 //!
-//! A script is read whole too, and is then a value or its first faulty record: `specs/Script.antt`.
+//! A script is also read whole, and is then a value or its first faulty record: `specs/Script.antt`.
 #![tactic(auto)]
 
 mod damage;

@@ -1,9 +1,9 @@
-//! Numbers in fields: decimal digits, behind a `-` where a number may be below 0.
+//! Numbers in fields: decimal digits, and a `-` before them for a number below 0.
 
 ghost use Rattle.std.specs.Prelude.{◌≡◌};
 ghost use Rattle.persist_report_core.specs.Number.{whole_number, unsigned_number as unsigned_number_of, long_number as long_number_of, signed_number as signed_number_of, signed_long_number as signed_long_number_of};
 
-/// Returns the number that the digits write, where it fits 64 bits: zeros may lead, so the digits can be many.
+/// Returns the number that the digits write, if it fits 64 bits; there can be many digits, since zeros may lead.
 pub fn long_number(digits: &[u8]) -> Option<u64>
     ensures { result ≡ long_number_of digits.now }
 {
@@ -22,7 +22,7 @@ pub fn long_number(digits: &[u8]) -> Option<u64>
     Some(value)
 }
 
-// The number that the digits write, where it is at most `most`.
+// The number that the digits write, if it is at most `most`.
 fn number_up_to(most: u64, digits: &[u8]) -> Option<u64>
     ensures { result ≡ whole_number most digits.now }
 {
@@ -30,7 +30,7 @@ fn number_up_to(most: u64, digits: &[u8]) -> Option<u64>
     if value <= most { Some(value) } else { None }
 }
 
-/// Returns the number of 32 bits without a sign that a field is, if it is one.
+/// Returns the field as a number of 32 bits without a sign, if it is one.
 pub fn unsigned_number(field: &[u8]) -> Option<u32>
     ensures { result ≡ unsigned_number_of field.now }
 {
@@ -38,7 +38,7 @@ pub fn unsigned_number(field: &[u8]) -> Option<u32>
     Some(value as u32)
 }
 
-/// Returns the number of 32 bits with a sign that a field is, if it is one.
+/// Returns the field as a number of 32 bits with a sign, if it is one.
 pub fn signed_number(field: &[u8]) -> Option<i32>
     ensures { result ≡ signed_number_of field.now }
 {
@@ -54,7 +54,7 @@ pub fn signed_number(field: &[u8]) -> Option<i32>
     }
 }
 
-/// Returns the number of 64 bits with a sign that a field is, if it is one.
+/// Returns the field as a number of 64 bits with a sign, if it is one.
 pub fn signed_long_number(field: &[u8]) -> Option<i64>
     ensures { result ≡ signed_long_number_of field.now }
 {

@@ -16,11 +16,11 @@ use segment_image::Watched;
 use std::alloc::Global;
 use std::io::Write;
 
-/// Returns what the image in the words reads as [reading]: they are those of a closed image or of a mapped file. Of each histogram the spec is valid, each bucket has
-/// its count, and the units fit a word [readable].
+/// Returns what the image in the words reads as [reading]; the words are those of a closed image or of a mapped file.
+/// In each histogram the spec is valid, each bucket has its count, and the units fit a word [readable].
 ///
-/// The fault is `Image` with the first fault of the image's header [cause], or `NoMemory` where memory runs out;
-/// never `Read` or `Write` [other].
+/// The fault is `Image` with the first fault of the image's header [cause], or `NoMemory` if memory runs out; never
+/// `Read` or `Write` [other].
 pub fn read_image(alloc: Global, words: &[u64]) -> Result<Reading, CliFault>
     ensures reading { IfOk result (λ reading. IsReadingOf (bytes_of_words words.now) (reading_view reading)) }
     ensures readable { IfOk result (λ reading. All IsReadable (map histogram_view reading.hists.items)) }
@@ -31,11 +31,12 @@ pub fn read_image(alloc: Global, words: &[u64]) -> Result<Reading, CliFault>
     Ok(reading)
 }
 
-/// Returns the text of the report of the image in the words [text]: those of a closed image or of a mapped file.
+/// Returns the text of the report of the image in the words [text], which are those of a closed image or of a mapped
+/// file.
 ///
-/// Records that are no valid histograms, and a list of records that is broken, are lines of the report. The fault is
-/// `Image` with the first fault of the image's header [cause], or `NoMemory` where memory runs out; never `Read` or
-/// `Write` [other].
+/// Records that are no valid histograms, and a broken list of records, are lines of the report. The fault is `Image`
+/// with the first fault of the image's header [cause], or `NoMemory` if memory runs out; never `Read` or `Write`
+/// [other].
 pub fn report_of(alloc: Global, words: &[u64]) -> Result<Vec<u8>, CliFault>
     ensures text { IfOk result (λ text. IsReportOfBytes (bytes_of_words words.now) text.items) }
     ensures cause { IfErr result (λ fault. IsCausedByImage (bytes_of_words words.now) fault) }
@@ -45,8 +46,8 @@ pub fn report_of(alloc: Global, words: &[u64]) -> Result<Vec<u8>, CliFault>
     Ok(report_text(alloc, &reading)?)
 }
 
-/// Writes bytes to the device itself [ok], and flushes it [flushed]. The fault is `Write` [err]; the writer has
-/// failed exactly where there is one [failed]. It had not failed before.
+/// Writes bytes to the device itself [ok], and flushes it [flushed]. The fault is `Write` [err]; the writer has failed
+/// exactly if there is a fault [failed]. It had not failed before.
 pub fn write_and_flush<W: Write>(writer: &mut Watched<W>, bytes: &[u8]) -> Result<(), CliFault>
     requires { has_failed writer.old ≡ false }
     ensures ok { OnOk result (Appends (W.contents (watched_inner writer.old)) (W.contents (watched_inner writer.new)) bytes.now) }

@@ -8,8 +8,8 @@ ghost use Rattle.persist_report_core.specs.Rows.{IsBehind, IsNextRow};
 use csv::{ByteRecord, ErrorKind, Reader, ReaderBuilder};
 use std::alloc::{AllocError, Global};
 
-// The fields of the next record, and whether there is one. Bytes in memory never fail, which no contract of the kit
-// says; else a read fails for want of memory alone.
+// The fields of the next record, and whether there is one. A read of bytes in memory never fails, though no contract of
+// the kit says so; the one error is that memory runs out.
 pub(crate) fn next_fields(
     reader: &mut Reader<&[u8]>,
     fields: &mut ByteRecord,
@@ -29,8 +29,8 @@ pub(crate) fn next_fields(
     }
 }
 
-/// Returns all records of a text, without a header row, each with any number of fields; empty lines are none [rows].
-/// There are no more than the text has bytes [few].
+/// Returns all records of a text, without a header row, each with any number of fields; empty lines are not records
+/// [rows]. There are at most as many as the text has bytes [few].
 pub fn read_rows(alloc: Global, text: &[u8]) -> Result<Vec<ByteRecord>, AllocError>
     ensures rows { IfOk result (λ rows. map fields_of rows.items ≡ records default_config (strip_bom text.now)) }
     ensures few { IfOk result (λ rows. length rows.items ≤ length text.now) }

@@ -26,12 +26,12 @@ pub struct Script {
     pub calls: Vec<ScriptCall>,
 }
 
-/// A `hist` record: a histogram that is to be there before anything is recorded.
+/// A `hist` record: a histogram that has to be there before anything is recorded.
 #[derive(Debug, Drop)]
 pub struct ScriptHist {
-    /// The bytes of its name, lawful or not.
+    /// The bytes of its name, valid or not.
     pub name: Vec<u8>,
-    /// How it splits the values, lawful or not.
+    /// How it splits the values, valid or not.
     pub spec: Spec,
     /// The number of the record in the script, from 1.
     pub number: u32,
@@ -51,7 +51,7 @@ pub struct ScriptCall {
 /// What an `add` or a `delta` record asks for.
 #[derive(Clone, Copy, Debug, PartialEq, Eq)]
 pub enum CallKind {
-    /// So many units of a value are to be recorded.
+    /// `count` units of a value are to be recorded.
     Add { value: i32, count: u32 },
     /// A delta is to be taken.
     Delta,

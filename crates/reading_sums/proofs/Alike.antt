@@ -1,4 +1,4 @@
--- Histograms that are the same but for their least numbers.
+-- Histograms that are the same except for their least numbers.
 use Rattle.std.proofs.Common.{◌≡◌, ◌<◌, ◌^◌, ℕ, List, map, FitsSigned, nat_cmp, sym, subst, ap, ◌∙◌}
 use Rattle.std.specs.Int.{w128}
 use Rattle.std.specs.Ordering.{ordering_then}
@@ -23,7 +23,7 @@ alike-all P f xs ys same all = all-values P f xs (subst (All P) (sym same) (All-
 
 -- ---- numbers in range
 
--- the numbers of a part are in range, but for the least number
+-- the numbers of a part are in range, except for the least number
 abbrev IsPartInRange : Part → Type 0
 IsPartInRange part =
     All (λ (key : KeySum). key.marks < 2 ^ 64) part.keys × FitsSigned w128 part.sum × FitsSigned w128 part.sum_mark
@@ -58,11 +58,11 @@ seen-whole a b known are =
           (alike-all IsPartInRange seen a b same (All-weaker IsInRange (λ hist. IsPartInRange (seen hist)) part-range b are.range));
     }
 
--- those of the same parts as others are
+-- histograms with the same parts as whole ones are whole
 pub alike-whole : (a b : List HistSum) → map part_of a ≡ map part_of b → AreWhole b → AreWhole a
 alike-whole a b same are = seen-whole a b (ap (map unnumbered) same) are
 
--- those of a sum, with the numbers of their images raised, are where the sum is well formed
+-- whole histograms are whole with the numbers of their images raised
 pub raised-whole : (by : ℕ) (hists raised : List HistSum) → map part_of raised ≡ map (raised_part by) (map part_of hists) → AreWhole hists → AreWhole raised
 unfolding unnumbered
 raised-whole by hists raised is are =

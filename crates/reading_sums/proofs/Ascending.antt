@@ -20,7 +20,7 @@ pub all-both : {K : Type 0} (P : K → Type 0) (xs ys : List K) → AllByRecursi
 all-both P [] ys front behind = behind
 all-both P (x ∷ xs) ys front behind = (front.0, all-both P xs ys front.1 behind)
 
--- what is below an element is below those that it is below
+-- what is below an element is below all that this one is below
 pub all-above : {K : Type 0} {R : K → K → Ordering} (o : IsTotalOrder R) (x y : K) (zs : List K) → R x y ≡ Less
     → AllByRecursion (λ z. R y z ≡ Less) zs → AllByRecursion (λ z. R x z ≡ Less) zs
 all-above o x y [] below all = tt
@@ -32,7 +32,7 @@ all-alike : {K : Type 0} {R : K → K → Ordering} (o : IsTotalOrder R) (e x : 
 all-alike o e x [] same all = tt
 all-alike o e x (z ∷ zs) same all = (o.congr e x z same ∙ all.0, all-alike o e x zs same all.1)
 
--- an element below the first of an ascending list goes in front of it
+-- an element below the first of an ascending list can be put before it
 first-below : {K : Type 0} {R : K → K → Ordering} (o : IsTotalOrder R) (e : K) (rest : List K) → IsStrictlySortedBy R rest
     → ((d : K) → 0 < length rest → R e (get_or rest 0 d) ≡ Less) → IsStrictlySortedBy R (e ∷ rest)
 unfolding IsStrictlySortedBy
@@ -41,7 +41,7 @@ first-below o e (y ∷ ys) ascending below =
     let here = below y (omega arith) in
     ((here, all-above o e y ys here ascending.0), ascending)
 
--- an equal element in the place of one
+-- an equal element in place of another
 pub alike-put : {K : Type 0} {R : K → K → Ordering} (o : IsTotalOrder R) (done : List K) (x e : K) (rest : List K) → R e x ≡ Equal
     → IsStrictlySortedBy R (done ++ x ∷ rest) → IsStrictlySortedBy R (done ++ e ∷ rest)
 unfolding IsStrictlySortedBy
@@ -53,7 +53,7 @@ alike-put {R = R} o (d ∷ ds) x e rest same ascending =
       alike-put o ds x e rest same ascending.1,
     )
 
--- an element in front of the rest of another list, whose first it is below
+-- an element before the rest of another list, the first of which it is below
 pub below-put : {K : Type 0} {R : K → K → Ordering} (o : IsTotalOrder R) (done : List K) (x e : K) (more rest : List K) → R e x ≡ Equal
     → IsStrictlySortedBy R (done ++ x ∷ more) → IsStrictlySortedBy R (done ++ rest)
     → ((d : K) → 0 < length rest → R x (get_or rest 0 d) ≡ Less) → IsStrictlySortedBy R (done ++ e ∷ rest)
@@ -67,7 +67,7 @@ below-put {R = R} o (d ∷ ds) x e more rest same first second below =
       below-put o ds x e more rest same first.1 second.1 below,
     )
 
--- ---- which comes next of two lists
+-- ---- which element of two lists comes next
 
 pub left-next : {K : Type 0} {R : K → K → Ordering} (o : IsTotalOrder R) (a b : List K) (e : K) → 0 < length a
     → ((d : K) → R e (get_or a 0 d) ≡ Equal) → ((d : K) → 0 < length b → R (get_or a 0 d) (get_or b 0 d) ≡ Less) → ComesNext R e 1 0 a b
@@ -88,7 +88,7 @@ both-next o (x ∷ xs) [] e some more first second = absurd (omega arith)
 both-next o (x ∷ xs) (y ∷ ys) e some more first second = λ done one other.
     (alike-put o done x e xs (first x) one, alike-put o done y e ys (second y) other)
 
--- one element more
+-- one more element
 pub order-step : {K : Type 0} (R : K → K → Ordering) (done new a b a_new b_new : List K) (e : K) (i j : ℕ) → new ≡ done ++ e ∷ []
     → a_new ≡ drop i a → b_new ≡ drop j b → ComesNext R e i j a b
     → IsStrictlySortedBy R (done ++ a) × IsStrictlySortedBy R (done ++ b) → IsStrictlySortedBy R (new ++ a_new) × IsStrictlySortedBy R (new ++ b_new)

@@ -89,7 +89,7 @@ name-behind before e behind between unlike x has same =
     unlike x some (name-between e first x (behinds before e behind between 0 x some) below (sym same) ∙ same))
     (cases_eq has.0 0)
 
--- and none has its name, if those next to it have not
+-- and none has its name, if those next to it do not have it
 pub unnamed : (before behind : List HistSum) (e : HistSum) (one other : List ℕ) → one ≡ e.name.items → other ≡ e.name.items
     → ((d : HistSum) → 0 < length before → (get_or before (length before - 1) d).name.items ≢ one)
     → ((d : HistSum) → 0 < length behind → (get_or behind 0 d).name.items ≢ other)

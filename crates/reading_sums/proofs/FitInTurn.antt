@@ -31,7 +31,7 @@ use Rattle.reading_sums.proofs.SameSpecs.{IsPartOf, is_of-true, is_of-moved}
 use Rattle.reading_sums.proofs.SameUnits.{SameNumbers, parts-moved}
 use Rattle.reading_sums.proofs.Totals.{total-append}
 
--- ---- histograms that are whole: of a name and a spec there is one or none
+-- ---- histograms that are whole: there is one or none of a name and a spec
 
 none-moved : (name : List ℕ) (spec : Spec) (part : Part) (parts : List Part) → IsPartOf name spec part → NoneOf part.name part.spec parts → NoneOf name spec parts
 none-moved name spec part [] is none = tt
@@ -50,7 +50,7 @@ total-so P quantity name spec part rest false is none here behind =
     (λ i. (if is i then quantity_of quantity part else pos 0) +ℤ total quantity name spec rest) ∙ +ℤ_idl (total quantity name spec rest) in
     subst P (sym all) behind
 
--- what is so of nothing, and of each histogram, is so of the total
+-- what holds of 0, and of each histogram, holds of the total
 total-of : (P : ℤ → Type 0) (Q : HistSum → Type 0) (quantity : Quantity) (name : List ℕ) (spec : Spec) (hists : List HistSum)
     → IsStrictlySortedBy hist_cmp hists → All IsWholeHist hists → All Q hists → P (pos 0)
     → ((hist : HistSum) → IsWholeHist hist → Q hist → P (quantity_of quantity (part_of hist))) → P (total quantity name spec (map part_of hists))
@@ -196,7 +196,7 @@ share-raised AmountMarks name spec by part = refl
 share-raised Redundant name spec by part = refl
 share-raised Images name spec by part = refl
 
--- raised parts have the same numbers, but for the least
+-- raised parts have the same numbers, except for the least
 pub raised-numbers : (by : ℕ) (parts : List Part) → SameNumbers (map (raised_part by) parts) parts
 raised-numbers by [] = λ quantity name spec. refl
 raised-numbers by (part ∷ rest) = λ quantity name spec i.
@@ -236,7 +236,7 @@ numbers-both : (a b c d : List Part) → SameNumbers a c → SameNumbers b d →
 numbers-both a b c d first second = λ quantity name spec.
     total-append quantity name spec a b ∙ ((λ i. first quantity name spec i +ℤ second quantity name spec i) ∙ sym (total-append quantity name spec c d))
 
--- those of addends in two lists are those of both lists
+-- the numbers of addends in two lists are those of both lists in a row
 turn-both : (xs ys : List Addend) → SameNumbers (parts_in_turn 0 xs ++ parts_in_turn 0 ys) (parts_in_turn 0 (xs ++ ys))
 turn-both xs ys =
     numbers-trans (parts_in_turn 0 xs ++ parts_in_turn 0 ys) (all_parts xs ++ all_parts ys) (parts_in_turn 0 (xs ++ ys))
@@ -250,19 +250,19 @@ turn-one addend =
     subst (SameNumbers addend.parts) (sym (append-nil (map (raised_part 0) addend.parts)))
     (numbers-sym (map (raised_part 0) addend.parts) addend.parts (raised-numbers 0 addend.parts))
 
--- a sum, and parts behind it that have the numbers of others, have the numbers of the addends of both
+-- a sum followed by parts that have the numbers of some addends has the numbers of its own addends and those
 numbers-behind : (sums : Sums) (parts : List Part) (xs ys : List Addend) → IsSumInTurn xs sums → SameNumbers parts (parts_in_turn 0 ys)
     → SameNumbers (parts_of sums ++ parts) (parts_in_turn 0 (xs ++ ys))
 numbers-behind sums parts xs ys is same =
     numbers-trans (parts_of sums ++ parts) (parts_in_turn 0 xs ++ parts_in_turn 0 ys) (parts_in_turn 0 (xs ++ ys))
     (numbers-both (parts_of sums) parts (parts_in_turn 0 xs) (parts_in_turn 0 ys) is.hists.totals same) (turn-both xs ys)
 
--- and so with one addend behind it
+-- the same with one addend after the sum
 pub numbers-in-turn : (sums : Sums) (addends : List Addend) (addend : Addend) → IsSumInTurn addends sums
     → SameNumbers (parts_of sums ++ addend.parts) (parts_in_turn 0 (addends ++ addend ∷ []))
 numbers-in-turn sums addends addend is = numbers-behind sums addend.parts addends (addend ∷ []) is (turn-one addend)
 
--- ---- what fits behind a sum
+-- ---- what fits after a sum
 
 -- some number is 2^64 or more
 abbrev IsSomeTooGreat : ℕ → ℕ → ℕ → ℕ → ℕ → Type 0
@@ -289,7 +289,7 @@ notes-of addends sums is = record { images = is.images; full = is.full; corrupt 
 notes-alone : (addend : Addend) → AreNotesInTurn (addend ∷ []) addend.notes
 notes-alone addend = record { images = omega arith; full = omega arith; corrupt = omega arith; stopped = omega arith; bad = omega arith }
 
--- a number of both lists is that of one and that of the other
+-- a number of both lists is the sum of that of each
 number-of : (f : Addend → ℕ) (xs ys : List Addend) (a b : ℕ) → a ≡ sum_by f xs → b ≡ sum_by f ys → sum_by f (xs ++ ys) ≡ a + b
 number-of f xs ys a b first second = sum_by-append f xs ys ∙ (λ i. sym first i + sym second i)
 
@@ -339,23 +339,23 @@ not-too-many sums parts notes xs ys is same are many =
     (λ of_parts. inr (parts-moved (parts_in_turn 0 (xs ++ ys)) (parts_of sums ++ parts)
     (numbers-sym (parts_of sums ++ parts) (parts_in_turn 0 (xs ++ ys)) (numbers-behind sums parts xs ys is same)) of_parts)) many
 
--- what fits into a sum, fits behind its addends
+-- what fits after a sum, fits after its addends
 pub fits-behind : (sums : Sums) (addends : List Addend) (addend : Addend) → IsSumInTurn addends sums → ¬ SumDoesNotFit sums addend.parts addend.notes
     → ¬ AddendsDoNotFit (addends ++ addend ∷ [])
 fits-behind sums addends addend is fits = λ many.
     fits (not-too-many sums addend.parts addend.notes addends (addend ∷ []) is (turn-one addend) (notes-alone addend) many)
 
--- and what does not, does not
+-- and what does not fit after a sum, does not fit after its addends
 pub too-many-behind : (sums : Sums) (addends : List Addend) (addend : Addend) → IsSumInTurn addends sums → SumDoesNotFit sums addend.parts addend.notes
     → AddendsDoNotFit (addends ++ addend ∷ [])
 too-many-behind sums addends addend is many = too-many sums addend.parts addend.notes addends (addend ∷ []) is (turn-one addend) (notes-alone addend) many
 
--- a sum that fits into another: the addends of both fit together
+-- if a sum fits after another, the addends of both fit together
 pub both-fit : (a b : Sums) (xs ys : List Addend) → IsSumInTurn xs a → IsSumInTurn ys b → ¬ SumDoesNotFit a (parts_of b) b.notes → ¬ AddendsDoNotFit (xs ++ ys)
 both-fit a b xs ys first second fits = λ many.
     fits (not-too-many a (parts_of b) b.notes xs ys first second.hists.totals (notes-of ys b second) many)
 
--- ---- what is in front of others
+-- ---- what comes before others
 
 -- amounts that are small, and two of them
 abs-both : (a b : ℤ) → unsigned_abs a < 2 ^ 126 → unsigned_abs b < 2 ^ 126 → unsigned_abs (a +ℤ b) < 2 ^ 127
@@ -395,7 +395,7 @@ amounts-fit : (quantity : Quantity) (name : List ℕ) (spec : Spec) (a b : List 
 amounts-fit quantity name spec a b first second =
     subst (FitsSigned w128) (sym (total-append quantity name spec a b)) (small-both (total quantity name spec a) (total quantity name spec b) first second)
 
--- what does not fit of two lists with small amounts, does not fit with more behind them
+-- what does not fit of two lists with small amounts, does not fit with more after them either
 quantity-more : (quantity : Quantity) (name : List ℕ) (spec : Spec) (a b behind : List Part) → HasSmallAmounts a → HasSmallAmounts b
     → TotalDoesNotFit quantity (total quantity name spec (a ++ b)) → TotalDoesNotFit quantity (total quantity name spec ((a ++ b) ++ behind))
 quantity-more (Units key) name spec a b behind first second many =
@@ -449,7 +449,7 @@ notes-more xs ys zs many =
     (sum_by images all) (sum_by full all) (sum_by corrupt all) (sum_by stopped all) (sum_by bad all)
     (number-more images xs ys zs) (number-more full xs ys zs) (number-more corrupt xs ys zs) (number-more stopped xs ys zs) (number-more bad xs ys zs) many
 
--- where all addends fit together, those in front do, if the amounts of two lists of them are small
+-- if all addends fit together, those at the front do, if the amounts of two lists of them are small
 pub front-fits : (xs ys zs : List Addend) → ¬ AddendsDoNotFit (xs ++ (ys ++ zs)) → HasSmallAmounts (parts_in_turn 0 xs) → HasSmallAmounts (parts_in_turn 0 ys)
     → ¬ AddendsDoNotFit (xs ++ ys)
 front-fits xs ys zs fits first second = λ many.

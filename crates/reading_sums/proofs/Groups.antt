@@ -180,7 +180,7 @@ group-others group (y ∷ ys) b same best =
     let parts = parts-members group y ys same in
     (best-shown y ys b y best).1 ∙ (λ i. others_than_least (sym parts.0 i) (sym parts.1 i))
 
--- ---- one group more
+-- ---- one more group
 
 pub shown-step : (readings new : List HistReading) (r : HistReading) (part : Part) (group : Group) (rest more : List HistSum) (n m : ℕ) (all : List Histogram)
     → new ≡ readings ++ r ∷ [] → m ≡ n + 1 → histogram_view r ≡ shown_at n part → part ≡ shown_of group

@@ -18,7 +18,7 @@ use Rattle.reading_sums.proofs.Ascending.{left-next, right-next, both-next}
 pub hist-total : IsTotalOrder hist_cmp
 hist-total = then_total (on_total (λ (h : HistSum). h.name.items) nat_list_cmp_total) (on_total (λ (h : HistSum). spec_numbers h.spec) nat_list_cmp_total)
 
--- where one is above, the other is below
+-- if one is above, the other is below
 pub turned : (a b : HistSum) → hist_cmp a b ≡ Greater → hist_cmp b a ≡ Less
 turned a b above = hist-total.antisymm b a ∙ ap ordering_reverse above
 
@@ -51,7 +51,7 @@ both-hist (u ∷ us) (v ∷ vs) x y e some more first second names specs name sp
     (λ d. alike e u (name ∙ ap (λ (h : HistSum). h.name.items) first) (spec ∙ ap (λ (h : HistSum). h.spec) first))
     (λ d. alike e v (name ∙ (names ∙ ap (λ (h : HistSum). h.name.items) second)) (spec ∙ (specs ∙ ap (λ (h : HistSum). h.spec) second)))
 
--- where the first of one list is above that of the other
+-- if the first of one list is above that of the other
 pub first-above : (a b : List HistSum) (x y : HistSum) → 0 < length a → 0 < length b → x ≡ get_or a 0 x → y ≡ get_or b 0 y
     → hist_cmp x y ≡ Greater → (d : HistSum) → hist_cmp (get_or b 0 d) (get_or a 0 d) ≡ Less
 first-above [] b x y some more first second above d = absurd (omega arith)
@@ -60,7 +60,7 @@ first-above (u ∷ us) (v ∷ vs) x y some more first second above d = turned u 
 
 -- ---- whole ones
 
--- what all of a list are, its first is
+-- what holds of all in a list, holds of its first
 pub first-has : (P : HistSum → Type 0) (a : List HistSum) (x : HistSum) → 0 < length a → x ≡ get_or a 0 x → All P a → P x
 first-has P [] x some is all = absurd (omega arith)
 first-has P (y ∷ ys) x some is all = subst P (sym is) (All-head P y ys all)
@@ -69,7 +69,7 @@ first-has P (y ∷ ys) x some is all = subst P (sym is) (All-head P y ys all)
 pub copy-whole : (e x : HistSum) → part_of e ≡ part_of x → IsWholeHist x → IsWholeHist e
 copy-whole e x same whole = subst (λ (p : Part). IsWholeList p.spec p.keys) (sym same) whole
 
--- what all of both lists are, what comes next is; and so all are of which the step leaves both lists
+-- what holds of all in both lists, holds of what comes next, and so, after a step, of what was taken and of what is left
 pub all-step : (P : HistSum → Type 0) (done new a b a_new b_new : List HistSum) (e : HistSum) (i j : ℕ) → new ≡ done ++ e ∷ [] → a_new ≡ drop i a
     → b_new ≡ drop j b → (All P a → All P b → P e) → All P done × All P a × All P b → All P new × All P a_new × All P b_new
 all-step P done new a b a_new b_new e i j pushed cut_a cut_b next before = (

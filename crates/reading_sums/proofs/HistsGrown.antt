@@ -151,7 +151,7 @@ lone-settled laters earliers e name settled alone =
     (λ lone. lone)
     (All-contains (IsNoReason laters) earliers e settled alone.is_earlier)
 
--- where all are settled there is no reason
+-- if all are settled there is no reason
 pub grown : (laters earliers : List HistSum) → IsStrictlySortedBy hist_cmp laters → All (IsNoReason laters) earliers → IsGrown laters earliers
 grown laters earliers up settled = record {
   fell = λ name fallen.

@@ -19,7 +19,7 @@ use Rattle.reading_sums.proofs.Walk.{alike-ascend}
 
 -- ---- one histogram
 
--- everything that is taken away, where the fields are
+-- everything that is taken away, if the fields are
 pub quantities-since : (later earlier since : Part) → AreKeysSince later.keys earlier.keys since.keys → later.sum ≡ earlier.sum +ℤ since.sum
     → later.sum_mark ≡ earlier.sum_mark +ℤ since.sum_mark → later.redundant ≡ earlier.redundant + since.redundant
     → (quantity : Quantity) → quantity ≢ Images → quantity_of quantity later ≡ quantity_of quantity earlier +ℤ quantity_of quantity since
@@ -51,7 +51,7 @@ fallen-same later earlier here there first second fell =
 pub less-redundant : (later earlier : Part) → later.redundant < earlier.redundant → HasLess later earlier
 less-redundant later earlier less = (Redundant, tt, omega (arith, ints, less))
 
--- that a name fell, with the reason
+-- the fault that a name fell, with the reason
 pub told-fell : (fault : MinusFault) (name here : List ℕ) (many : Type 0) (reason : List ℕ → Type 0) (other : List ℕ → Type 0) → name ≡ here → reason here
     → MatchFault fault ⊥ (λ told. told ≡ name) (λ told. ⊥) → MatchFault fault many (λ told. (told ≡ here) × reason told) other
 told-fell NoMemory name here many reason other is why told = tt
@@ -59,7 +59,7 @@ told-fell TooMany name here many reason other is why told = absurd told
 told-fell (Fell fell) name here many reason other is why told = (told ∙ is, subst reason (sym (told ∙ is)) why)
 told-fell (OtherSpec fell) name here many reason other is why told = absurd told
 
--- that a name has another spec, with the reason
+-- the fault that a name has another spec, with the reason
 pub told-other : (fault : MinusFault) (name here : List ℕ) (many : Type 0) (fallen : List ℕ → Type 0) (reason : List ℕ → Type 0) → name ≡ here → reason here
     → MatchFault fault ⊥ (λ told. ⊥) (λ told. told ≡ name) → MatchFault fault many fallen (λ told. (told ≡ here) × reason told)
 told-other NoMemory name here many fallen reason is why told = tt

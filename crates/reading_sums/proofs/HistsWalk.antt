@@ -93,7 +93,7 @@ pub both-ordered : (a b : List HistSum) → 0 < length a → 0 < length b → ((
     → ((d : HistSum) → (get_or a 0 d).spec ≡ (get_or b 0 d).spec) → GoesOnAscending hist_cmp 1 1 a b
 both-ordered a b some more names specs = taken-both hist-total a b some more (λ d. alike (get_or a 0 d) (get_or b 0 d) (names d) (specs d))
 
--- ---- where an earlier histogram stands that has no later one
+-- ---- the place of an earlier histogram that has no later one
 
 pub stands-between : (before later earlier : List HistSum) (e : HistSum) → 0 < length earlier → e ≡ get_or earlier 0 e
     → ((d : HistSum) → 0 < length later → hist_cmp (get_or earlier 0 d) (get_or later 0 d) ≡ Less)

@@ -27,7 +27,7 @@ any-flat_map p g (x ∷ xs) = list_any-append p (g x) (flat_map g xs) ∙ ap (λ
 
 -- ---- in any order
 
--- what a number is above 0, and what it is below
+-- how far a number is above 0, and how far below
 above : ℤ → ℕ
 above (pos n) = n
 above (negsuc n) = 0

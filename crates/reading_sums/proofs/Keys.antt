@@ -7,7 +7,7 @@ use Rattle.std.proofs.lemmas.List.Folds.{list_any-append}
 use Rattle.reading_sums.specs.declared.key.KeySum.{KeySum}
 use Rattle.reading_sums.specs.Keys.{SameKeys, has_key, units_at, marks_at}
 
--- one element more of a list that is added up so far
+-- one more element of a list that is added up so far
 pub sum-step : {X : Type 0} (f : X → ℕ) (done rest more : List X) (key : X) (all : ℕ) → sum_by f (done ++ rest) ≡ all
     → sum_by f (key ∷ more) ≡ sum_by f rest → sum_by f ((done ++ key ∷ []) ++ more) ≡ all
 sum-step f done rest more key all before here =
@@ -20,7 +20,7 @@ any-step p done rest more key all before here =
     ap (list_any p) (append_assoc done (key ∷ []) more) ∙ (list_any-append p done (key ∷ more)
     ∙ (ap (λ b. list_any p done || b) here ∙ (sym (list_any-append p done rest) ∙ before)))
 
--- one key more
+-- one more key
 pub keys-step : (done rest more all : List KeySum) (key : KeySum) → SameKeys (done ++ rest) all → SameKeys (key ∷ more) rest
     → SameKeys ((done ++ key ∷ []) ++ more) all
 keys-step done rest more all key before here = record {

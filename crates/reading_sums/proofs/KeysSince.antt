@@ -16,7 +16,7 @@ use Rattle.reading_sums.proofs.Ascending.{all-above}
 use Rattle.reading_sums.proofs.KeyOrder.{key-total, int-less}
 use Rattle.reading_sums.proofs.Walk.{taken-later, taken-both, rest-ascends, before-below, behind-above}
 
--- what the keys of one value have together, of units or of marks
+-- what the keys of one value have together, in units or in marks
 abbrev pub at : (KeySum → ℕ) → List KeySum → ℤ → ℕ
 at f keys value = sum_by (λ (key : KeySum). if int_eq key.value value then f key else 0) keys
 
@@ -28,12 +28,12 @@ at-other f x xs v unlike none =
     let here : (if int_eq x.value v then f x else 0) ≡ 0 = ap (λ b. if b then f x else 0) unlike in
     omega (arith, at-cons f x xs v)
 
--- there is nothing of a value above all of them
+-- there is nothing of a value that is above all of them
 at-before : (f : KeySum → ℕ) (xs : List KeySum) (e : KeySum) → AllByRecursion (λ z. key_cmp z e ≡ Less) xs → at f xs e.value ≡ 0
 at-before f [] e below = refl
 at-before f (x ∷ xs) e below = at-other f x xs e.value (ap is_eq below.0) (at-before f xs e below.1)
 
--- and nothing of one below all of them
+-- and nothing of one that is below all of them
 at-behind : (f : KeySum → ℕ) (xs : List KeySum) (e : KeySum) → AllByRecursion (λ z. key_cmp e z ≡ Less) xs → at f xs e.value ≡ 0
 at-behind f [] e above = refl
 at-behind f (x ∷ xs) e above =
@@ -47,7 +47,7 @@ at-first f x xs v same =
 at-append : (f : KeySum → ℕ) (xs ys : List KeySum) (v : ℤ) → at f (xs ++ ys) v ≡ at f xs v + at f ys v
 at-append f xs ys v = sum_by-append (λ (key : KeySum). if int_eq key.value v then f key else 0) xs ys
 
--- those behind a first key that another is below
+-- all keys of a list are above what is below the first
 above-first : (e : KeySum) (a : List KeySum) → IsStrictlySortedBy key_cmp a → ((d : KeySum) → 0 < length a → e.value <ℤ (get_or a 0 d).value)
     → AllByRecursion (λ z. key_cmp e z ≡ Less) a
 unfolding IsStrictlySortedBy
@@ -164,7 +164,7 @@ nothing-if : (t : Bool) (n : ℕ) → n ≡ 0 → (if t then n else 0) ≡ 0
 nothing-if true n none = none
 nothing-if false n none = refl
 
--- one key more that has nothing
+-- one more key that has nothing
 pub at-nothing : (f : KeySum → ℕ) (keys : List KeySum) (i : ℕ) (d : KeySum) (v : ℤ) → i < length keys → f (get_or keys i d) ≡ 0 → at f (take i keys) v ≡ 0
     → at f (take (i + 1) keys) v ≡ 0
 at-nothing f keys i d v within none before =

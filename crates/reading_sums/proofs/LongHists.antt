@@ -64,7 +64,7 @@ pair-here left right x y some more first second names specs many = record {
   many = many;
 }
 
--- those of lists that are among others
+-- the same for lists that are among others
 pair-among : (left right here there : List HistSum) → ((x : HistSum) → Contains here x → Contains left x)
     → ((x : HistSum) → Contains there x → Contains right x) → HavePairTooGreat here there → HavePairTooGreat left right
 pair-among left right here there first second pair = record {
@@ -86,7 +86,7 @@ record IsAlone (part : Part) (parts : List Part) : Type 0 where
   pub none_before : NoneOf part.name part.spec front
   pub none_behind : NoneOf part.name part.spec behind
 
--- one before it is not of them
+-- a part that comes before it is not one of them
 apart-before : (x y : HistSum) (t : Bool) → is_of x.name.items x.spec (part_of y) ≡ t → hist_cmp y x ≡ Less → IsWholeHist x → IsWholeHist y → t ≡ false
 apart-before x y true is below first second =
     let of = is_of-true x.name.items x.spec (part_of y) is in
@@ -179,7 +179,7 @@ pair-long left right pair one other =
     parts-long (part_of pair.one) (part_of pair.other) (map part_of left) (map part_of right) pair.name pair.spec
     (stands-alone pair.one left one pair.is_left) (stands-alone pair.other right other pair.is_right) pair.many
 
--- and this tells a fault of lists that are among them
+-- and so a fault of lists that are among them is right
 pub lists-long : (fault : SumsFault) (left right here there : List HistSum) → ((x : HistSum) → Contains here x → Contains left x)
     → ((x : HistSum) → Contains there x → Contains right x) → IfTooMany fault (HavePairTooGreat here there)
     → IfTooMany fault (AreWhole left → AreWhole right → PartsDoNotFit (map part_of left ++ map part_of right))
@@ -187,13 +187,13 @@ lists-long NoMemory left right here there first second told = tt
 lists-long TooMany left right here there first second told = λ one other.
     pair-long left right (pair-among left right here there first second told) one other
 
--- as the first ones of lists do
+-- and a fault of the first ones of lists
 pub firsts-long : (fault : SumsFault) (left right : List HistSum) (x y : HistSum) → 0 < length left → 0 < length right → x ≡ get_or left 0 x → y ≡ get_or right 0 y
     → x.name.items ≡ y.name.items → x.spec ≡ y.spec → IfTooMany fault (PairDoesNotFit (part_of x) (part_of y)) → IfTooMany fault (HavePairTooGreat left right)
 firsts-long NoMemory left right x y some more first second names specs told = tt
 firsts-long TooMany left right x y some more first second names specs told = pair-here left right x y some more first second names specs told
 
--- and the keys of two
+-- and a fault of the keys of two
 pub fault-keys : (fault : SumsFault) (a b : Part) (here there : List KeySum) → here ≡ a.keys → there ≡ b.keys → IfTooMany fault (KeysDoNotFit (here ++ there))
     → IfTooMany fault (PairDoesNotFit a b)
 fault-keys NoMemory a b here there first second told = tt

@@ -11,7 +11,7 @@ use Rattle.reading_sums.specs.Keys.{SameKeys, marks_at}
 use Rattle.reading_sums.specs.Whole.{units_of}
 use Rattle.reading_sums.proofs.Keys.{sum-step}
 
--- what the first elements of two lists pass, both lists pass
+-- a bound that the first elements of two lists pass, both lists pass
 firsts-pass : (f : KeySum → ℕ) (x y : KeySum) (xs ys : List KeySum) (n : ℕ) → n ≤ f x + f y → n ≤ sum_by f ((x ∷ xs) ++ (y ∷ ys))
 firsts-pass f x y xs ys n long =
     omega (arith, long, sum_by-append f (x ∷ xs) (y ∷ ys), sum_by-cons f x xs, sum_by-cons f y ys)
@@ -32,7 +32,7 @@ firsts-long (x ∷ xs) (y ∷ ys) d some more same many =
     inr (x.value, firsts-pass f x y xs ys (2 ^ 64) here))
     many
 
--- what the rest passes, all pass
+-- a bound that the rest passes, all pass
 rest-passes : (f : KeySum → ℕ) (done rest : List KeySum) (all n : ℕ) → sum_by f (done ++ rest) ≡ all → n ≤ sum_by f rest → n ≤ all
 rest-passes f done rest all n is long = omega (arith, is, long, sum_by-append f done rest)
 
@@ -43,7 +43,7 @@ rest-long done rest all same units many =
     (λ long. inr (long.0, rest-passes (λ key. if int_eq key.value long.0 then key.marks else 0) done rest (marks_at all long.0) (2 ^ 64) (same.marks long.0) long.1))
     many
 
--- the units of all, with one key more
+-- the units of all, with one more key
 pub units-step : (done new left right left_new right_new : List KeySum) (key : KeySum) (i j all : ℕ)
     → new ≡ done ++ key ∷ [] → left_new ≡ drop i left → right_new ≡ drop j right → units_of (done ++ (left ++ right)) ≡ all
     → units_of (key ∷ (drop i left ++ drop j right)) ≡ units_of (left ++ right) → units_of (new ++ (left_new ++ right_new)) ≡ all
@@ -51,7 +51,7 @@ units-step done new left right left_new right_new key i j all pushed cut_left cu
     ap units_of (λ k. pushed k ++ (cut_left k ++ cut_right k))
     ∙ sum-step (λ key. key.units) done (left ++ right) (drop i left ++ drop j right) key all before here
 
--- what holds anyway, holds for each fault
+-- what holds in any case, holds for each fault
 pub if-many : (fault : SumsFault) (many : Type 0) → many → IfTooMany fault many
 if-many NoMemory many is = tt
 if-many TooMany many is = is

@@ -21,7 +21,7 @@ moved-long : (xs ys zs : List Part) → IsPermutation ys zs → PartsDoNotFit (x
 moved-long xs ys zs moved many =
     parts-moved (xs ++ ys) (xs ++ zs) (same-append xs xs ys zs (same-refl xs) (same-permutation ys zs moved)).totals many
 
--- a least number that does not fit when it is greater
+-- a least number that does not fit when it is raised
 number-here : (hists : List HistSum) (k : ℕ) (x : HistSum) (by : ℕ) → k < length hists → x ≡ get_or hists k x → 2 ^ 64 ≤ x.least + by
     → HasNumberTooGreat by (map part_of hists)
 number-here hists k x by within is long =
@@ -43,7 +43,7 @@ sums-long TooMany before other here there first second told = λ one more.
     inr (subst PartsDoNotFit (λ i. map part_of (first i) ++ map part_of (second i))
     (told (subst AreWhole (sym first) one) (subst AreWhole (sym second) more)))
 
--- a sum and one reading more
+-- a sum and one more reading
 pub reading-long : (fault : SumsFault) (before : Sums) (number : ℕ) (reading : Reading) (here there listed : List HistSum) → here ≡ before.hists.items → there ≡ listed
     → IsPermutation (map part_of listed) (parts_of_one (number, reading)) → (IsWholeReading reading → AreWhole listed)
     → IfTooMany fault (AreWhole here → AreWhole there → PartsDoNotFit (map part_of here ++ map part_of there))

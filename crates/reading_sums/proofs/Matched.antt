@@ -56,9 +56,9 @@ apart-names number hist (other ∷ rest) once =
         let wrong : true ≡ false = sym ((bytes_eq-Decides hist.name other.name).1 (sym ((bytes_eq-Decides other.name hist.name).0 is))) ∙ once.0 in absurd (cc)
     other-name false is = ap (λ t. t && same_spec other.spec hist.spec) is
 
--- ---- where a histogram of a name and a spec is
+-- ---- the place of a histogram with a name and a spec
 
--- a list with a histogram in it of this name and spec
+-- a list with a histogram of this name and spec
 pub record HasOneOf (number : ℕ) (name : List ℕ) (spec : Spec) (hists : List Histogram) : Type 0 where
   pub front : List Histogram
   pub hist : Histogram
@@ -83,7 +83,7 @@ found feature number name spec (hist ∷ rest) had =
 le-itself : (n : ℕ) → nat_le n n ≡ true
 le-itself n = grind (arith, nat_tests)
 
--- the first part of a list is had
+-- a list has the least number of its first part
 pub first-had : (part : Part) (rest : List Part) → is_had (IsUpTo part.least) part.name part.spec (part ∷ rest) ≡ true
 first-had part rest =
     or_left (is_of part.name part.spec part && nat_le part.least part.least) (is_had (IsUpTo part.least) part.name part.spec rest)
@@ -102,7 +102,7 @@ none-left number [] same = record { listed = []; all = IsPermutation-refl []; ar
 none-left number (hist ∷ rest) same =
     let wrong : false ≡ true = same.features (IsUpTo number) hist.name hist.spec ∙ first-had (part_from number hist) (map (part_from number) rest) in absurd (cc)
 
--- without the first of the sum, and without its histogram
+-- without the first of the sum, and without its histogram in the list
 one-less : (number : ℕ) (x : HistSum) (xs : List HistSum) (hists : List Histogram) (one : HasOneOf number x.name.items x.spec hists)
     → IsStrictlySortedBy hist_cmp (x ∷ xs) → All IsWholeHist (x ∷ xs) → HasNamesOnce hists → All IsWholeHistogram hists
     → SameTotals (map part_of (x ∷ xs)) (map (part_from number) hists)

@@ -10,7 +10,7 @@ use Rattle.std.proofs.lemmas.Bool.{cases_eq}
 use Rattle.std.proofs.lemmas.List.{get_or_read}
 use Rattle.std.proofs.lemmas.Map.Keys.{sorted_from_all_adjacent, sorted_from_strictly_increasing, Less-from_sorted, IsStrictlyIncreasing-from_sorted}
 
--- each of the first so many elements is below the next of them
+-- each of the first `n` elements is below the next of them
 abbrev pub RiseUpTo : {K : Type 0} → (K → K → Ordering) → List K → ℕ → Type 0
 RiseUpTo R xs n = (k : ℕ) (d : _) → k + 1 < n → R (get_or xs k d) (get_or xs (k + 1) d) ≡ Less
 
@@ -19,7 +19,7 @@ is-less Less e = refl
 is-less Equal e = absurd (cc)
 is-less Greater e = absurd (cc)
 
--- one element more
+-- one more element
 pub rise-step : {K : Type 0} (R : K → K → Ordering) (xs : List K) (i : ℕ) (x y : K) → 0 < i → i < length xs
     → x ≡ get_or xs (i - 1) x → y ≡ get_or xs i y → is_lt (R x y) ≡ true → RiseUpTo R xs i → RiseUpTo R xs (i + 1)
 rise-step R xs i x y some within first second below before = λ k d up.
@@ -43,13 +43,13 @@ rise-here R xs i x y some within first second up =
     let other : y ≡ get_or xs i x = get_or_read xs i y within second x in
     (λ j. R (first j) (other j)) ∙ Less-from_sorted R xs (i - 1) i x up (omega (arith, some)) within
 
--- a comparison that does not say below, where it is below
+-- a comparison that does not say below, although it is below
 pub refuted : (o is : Ordering) (t : Bool) → o ≡ is → t ≡ is_lt o → t ≡ false → is ≡ Less → false ≡ true
 refuted o is t same test not less = sym not ∙ (test ∙ ap is_lt (same ∙ less))
 
 -- ---- numbers above 0
 
--- each of the first so many numbers is above the one before it, the first above 0
+-- each of the first `n` numbers is above the one before it, and the first is above 0
 abbrev pub RiseAbove : List ℕ → ℕ → Type 0
 RiseAbove values n = (k : ℕ) → k < n → get_or (0 ∷ values) k 0 < get_or values k 0
 

@@ -1,4 +1,4 @@
--- What comes next of two lists of histograms.
+-- Which of the histograms of two lists comes next.
 use Rattle.std.proofs.Common.{◌≡◌, ◌<◌, ℕ, List, [], ◌∷◌, ◌++◌, map, length, drop, get_or, ap, sym, subst, ◌∙◌, arith}
 use Rattle.reading_sums.specs.declared.hist.HistSum.{HistSum}
 use Rattle.reading_sums.specs.Totals.{Part, SameTotals, IsBoth}
@@ -6,7 +6,7 @@ use Rattle.reading_sums.specs.Views.{part_of}
 use Rattle.reading_sums.proofs.Totals.{same-equal, same-trans, second-first, both-first, totals-step}
 use Rattle.std.proofs.lemmas.List.{map-append}
 
--- the first of the one list
+-- the first of one list
 pub left-next : (left right : List HistSum) (x : HistSum) (e : Part) → 0 < length left → x ≡ get_or left 0 x → e ≡ part_of x
     → SameTotals (e ∷ (map part_of (drop 1 left) ++ map part_of right)) (map part_of left ++ map part_of right)
 left-next [] right x e some first is = absurd (omega arith)

@@ -27,7 +27,7 @@ next-numbered number readings reading is =
     let e : number ≡ 0 + length readings = omega (arith, is, numbered-length 0 readings) in
     ap (λ n. numbered_from 0 readings ++ (n, reading) ∷ []) e ∙ sym (numbered-append 0 readings (reading ∷ []))
 
--- others behind them, which are raised by how many they are
+-- others after them, whose numbers are raised by how many there are
 pub behind-numbered : (by : ℕ) (readings others : List Reading) → by ≡ length (numbered_from 0 readings)
     → numbered_from 0 readings ++ map (raised by) (numbered_from 0 others) ≡ numbered_from 0 (readings ++ others)
 behind-numbered by readings others is =

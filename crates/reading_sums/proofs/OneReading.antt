@@ -69,7 +69,7 @@ pub eq-flips : (a b : List ℕ) → bytes_eq a b ≡ bytes_eq b a
 eq-flips a b =
     sym (is_eq-slice_cmp a b) ∙ (ap is_eq (nat_list_cmp_total.antisymm a b) ∙ (eq-turned (slice_cmp nat_cmp b a) ∙ is_eq-slice_cmp b a))
 
--- names that are there once are so in any order
+-- names that are there once are there once in any order
 pub once-moved : (a b : List Histogram) → IsPermutation a b → HasNamesOnce a → HasNamesOnce b
 once-moved a b moved once =
     IsDistinct-IsPermutation bytes_eq eq-flips (map (λ (h : Histogram). h.name) a) (map (λ (h : Histogram). h.name) b)

@@ -55,7 +55,7 @@ notes-permutation xs ys notes moved are = record {
   bad = are.bad ∙ sym (sum_by-IsPermutation (λ numbered. length numbered.1.bad) xs ys moved);
 }
 
--- ---- one list behind the other
+-- ---- one list after the other
 
 pub parts-both : (xs ys : List (ℕ × Reading)) (a b c : List Part) → SameTotals a (parts_in xs) → SameTotals b (parts_in ys)
     → SameTotals c (a ++ b) → SameTotals c (parts_in (xs ++ ys))

@@ -1,4 +1,4 @@
--- Parts that have the same are equal.
+-- Parts that have the same in everything are equal.
 use Rattle.std.proofs.Common.{◌≡◌, Bool, true, false, ◌&&◌, ◌||◌, nat_le, if◌then◌else◌, ℕ, ◌+◌, ℤ, pos, ◌+ℤ◌, List, [], ◌∷◌, sum_by, refl, ap, sym, ◌∙◌, arith}
 use Rattle.std.specs.Ordering.{int_eq, is_eq}
 use Rattle.std.specs.List.{AllByRecursion}
@@ -55,7 +55,7 @@ same-numbers : (of : KeySum → ℕ) (x y : KeySum) (xs ys : List KeySum) → x.
 same-numbers of x y xs ys values first second same =
     sym (at-first of x xs first) ∙ (same ∙ (ap (at_value of (y ∷ ys)) values ∙ at-first of y ys second))
 
--- keys that ascend, where each value has the same units and the same marks
+-- keys that ascend, with the same units and the same marks of each value, are equal
 equal-keys : (xs ys : List KeySum) → values_of xs ≡ values_of ys → IsStrictlySortedBy key_cmp xs → IsStrictlySortedBy key_cmp ys
     → ((v : ℤ) → units_at xs v ≡ units_at ys v) → ((v : ℤ) → marks_at xs v ≡ marks_at ys v) → xs ≡ ys
 unfolding IsStrictlySortedBy
@@ -103,7 +103,7 @@ equal-parts a b names specs first second quantities features =
       least = least i;
     }
 
--- ---- lists of parts of which no other is of the name and spec of the first
+-- ---- lists of parts with no other part of the name and spec of the first
 
 abbrev pub NoneOf : List ℕ → Spec → List Part → Type 0
 NoneOf name spec parts = AllByRecursion (λ part. is_of name spec part ≡ false) parts
@@ -134,7 +134,7 @@ had-first feature part rest none =
     (λ i. (is_of-itself part i && has_feature feature part) || had-none feature part.name part.spec rest none i)
     ∙ or-none (has_feature feature part)
 
--- two such lists with the same totals begin with the same part, where the first parts are of one name and one spec
+-- two such lists with the same totals begin with the same part, if their first parts are of one name and one spec
 pub first-same : (a b : Part) (xs ys : List Part) → a.name ≡ b.name → a.spec ≡ b.spec → IsStrictlySortedBy key_cmp a.keys → IsStrictlySortedBy key_cmp b.keys
     → NoneOf a.name a.spec xs → NoneOf b.name b.spec ys → SameTotals (a ∷ xs) (b ∷ ys) → a ≡ b
 first-same a b xs ys names specs first second none no_other same =
@@ -162,7 +162,7 @@ rest-had feature name spec part xs ys false is none no_other same =
     λ rest. ap (λ t. (t && has_feature feature part) || is_had feature name spec rest) is in
     sym (without xs) ∙ (same ∙ without ys)
 
--- behind the part with which both begin they have the same totals
+-- after the part with which both begin they have the same totals
 pub rest-same : (part : Part) (xs ys : List Part) → NoneOf part.name part.spec xs → NoneOf part.name part.spec ys → SameTotals (part ∷ xs) (part ∷ ys) → SameTotals xs ys
 rest-same part xs ys none no_other same = record {
   totals = λ quantity name spec.

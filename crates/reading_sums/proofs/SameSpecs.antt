@@ -1,4 +1,4 @@
--- Specs that are the same are equal, where their values ascend.
+-- Specs that are the same are equal, if their values ascend.
 use Rattle.std.proofs.Common.{◌≡◌, true, ◌&&◌, ℕ, ◌<◌, inl, inr, List, [], ◌∷◌, slice_index, refl, ap, sym, ◌∙◌, arith, nat_cmp}
 use Rattle.std.specs.Str.{bytes_eq}
 use Rattle.std.specs.List.{AllByRecursion}
@@ -77,6 +77,6 @@ pub is_of-moved : (name : List ℕ) (spec : Spec) (part other : Part) → IsPart
 is_of-moved name spec part other is = λ i.
     bytes_eq other.name (sym is.name i) && (bytes_eq (spec_fields other.spec) (sym is.fields i) && bytes_eq (spec_ranges other.spec) (sym is.ranges i))
 
--- its spec is this one, where both are in form
+-- its spec is this one, if both are in form
 pub spec-is : (name : List ℕ) (spec : Spec) (part : Part) → IsPartOf name spec part → IsInForm part.spec → IsInForm spec → part.spec ≡ spec
 spec-is name spec part is one other = equal-specs part.spec spec is.fields is.ranges one other

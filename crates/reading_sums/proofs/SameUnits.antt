@@ -1,4 +1,4 @@
--- Parts with the same totals have the same units of all keys, and do not fit together where the others do not.
+-- Parts with the same totals have the same units of all keys, and do not fit together if the others do not.
 use Rattle.std.proofs.Common.{◌≡◌, ◌≤◌, ◌^◌, ◌+◌, ⊎_elim, inl, inr, Bool, true, false, ℕ, ℤ, pos, ◌+ℤ◌, List, [], ◌∷◌, ◌++◌, sum_by, if◌then◌else◌, refl, ap, sym, subst, ◌∙◌, arith}
 use Rattle.std.specs.Ordering.{int_eq}
 use Rattle.std.proofs.lemmas.Cmp.{int_eq_equiv}
@@ -10,13 +10,13 @@ use Rattle.reading_sums.specs.Keys.{units_at}
 use Rattle.reading_sums.specs.Totals.Quantity.{Units}
 use Rattle.reading_sums.specs.Totals.{Part, Quantity, is_of, total}
 
--- two lists of parts have the same numbers: of each name and spec everything that is added up
+-- two lists of parts have the same numbers: for each name and spec everything that is added up
 abbrev pub SameNumbers : List Part → List Part → Type 0
 SameNumbers a b = (quantity : Quantity) (name : List ℕ) (spec : Spec) → total quantity name spec a ≡ total quantity name spec b
 
 -- ---- keys that have the same number of each value
 
--- a number of keys, where they are of one value, and where they are of any other
+-- a number of a key, if it is of one value, or if it is of any other
 abbrev at : (KeySum → ℕ) → ℤ → KeySum → ℕ
 at of value key = if int_eq key.value value then of key else 0
 
@@ -37,7 +37,7 @@ sum-none : (keys : List KeySum) → sum_by (λ (key : KeySum). 0) keys ≡ 0
 sum-none [] = refl
 sum-none (key ∷ rest) = sum_by-cons (λ (key : KeySum). 0) key rest ∙ ap (λ n. 0 + n) (sum-none rest)
 
--- a key of one value, where those of another value do not count
+-- a key of one value, if those of another value do not count
 other-key : (t here there : Bool) (n : ℕ) → (here ≡ true → there ≡ t) → (if here then (if there then 0 else n) else 0) ≡ (if t then 0 else (if here then n else 0))
 other-key true true there n same = λ i. if same refl i then 0 else n
 other-key false true there n same = λ i. if same refl i then 0 else n
@@ -140,7 +140,7 @@ units-known name spec a b same =
     (sym (total-units value name spec a) ∙ (same (Units value) name spec ∙ total-units value name spec b))) in
     sym (sum-in of name spec a) ∙ (keys ∙ sum-in of name spec b)
 
--- and so they do not fit together where the others do not
+-- and so they do not fit together if the others do not
 pub parts-moved : (a b : List Part) → SameNumbers a b → PartsDoNotFit a → PartsDoNotFit b
 parts-moved a b same many = (
   many.0,

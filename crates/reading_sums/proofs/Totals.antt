@@ -13,7 +13,7 @@ use Rattle.reading_sums.specs.Totals.Quantity.{Units, Marks, Amounts, AmountMark
 use Rattle.reading_sums.specs.Totals.Feature.{HasKey, IsUpTo}
 use Rattle.reading_sums.specs.Totals.{Part, Quantity, SameTotals, IsBoth, total, share_of, Feature, is_had, has_feature, is_of, same_spec, quantity_of}
 
--- ---- two lists, one behind the other
+-- ---- two lists, one after the other
 
 pub total-append : (quantity : Quantity) (name : List ℕ) (spec : Spec) (xs ys : List Part)
     → total quantity name spec (xs ++ ys) ≡ total quantity name spec xs +ℤ total quantity name spec ys
@@ -51,7 +51,7 @@ same-append a b c d first second = record {
       ∙ ((λ i. first.features feature name spec i || second.features feature name spec i) ∙ sym (had-append feature name spec b d));
 }
 
--- ---- one part more of two lists that are added up
+-- ---- one more part of two lists that are added up
 
 pub totals-step : (done rest more all : List Part) (part : Part) → SameTotals (done ++ rest) all → SameTotals (part ∷ more) rest
     → SameTotals ((done ++ part ∷ []) ++ more) all
@@ -65,7 +65,7 @@ or-swap true true c = refl
 or-swap true false c = refl
 or-swap false b c = refl
 
--- the first of the list behind
+-- the first part of the second list
 pub second-first : (part : Part) (first rest : List Part) → SameTotals (part ∷ (first ++ rest)) (first ++ part ∷ rest)
 second-first part first rest = record {
   totals = λ quantity name spec.
@@ -104,7 +104,7 @@ or-assoc false b c d e = ap (λ x. x || c) e
 pub is_of-both : (name : List ℕ) (spec : Spec) (a b : Part) → a.name ≡ b.name → a.spec ≡ b.spec → is_of name spec a ≡ is_of name spec b
 is_of-both name spec a b names specs = λ i. bytes_eq (names i) name && same_spec (specs i) spec
 
--- one part in the place of two
+-- one part in place of two
 pub two-in-one : (a b e : Part) (rest : List Part) → a.name ≡ b.name → a.spec ≡ b.spec → IsBoth a b e
     → SameTotals (e ∷ rest) (a ∷ (b ∷ rest))
 two-in-one a b e rest names specs both = record {
@@ -142,7 +142,7 @@ both-first a b e first second names specs both =
 
 -- ---- two parts together
 
--- everything that is added up, where the fields are
+-- everything that is added up, if the fields are
 pub quantities-both : (a b e : Part) → SameKeys e.keys (a.keys ++ b.keys) → e.sum ≡ a.sum +ℤ b.sum
     → e.sum_mark ≡ a.sum_mark +ℤ b.sum_mark → e.redundant ≡ a.redundant + b.redundant → e.images ≡ a.images + b.images
     → (quantity : Quantity) → quantity_of quantity e ≡ quantity_of quantity a +ℤ quantity_of quantity b
@@ -155,7 +155,7 @@ quantities-both a b e keys sum mark redundant images AmountMarks = mark
 quantities-both a b e keys sum mark redundant images Redundant = ap pos redundant
 quantities-both a b e keys sum mark redundant images Images = ap pos images
 
--- every feature, where the keys are and the least number is
+-- every feature, if the keys are those of both and the least number is the lesser one
 pub features-both : (a b e : Part) → SameKeys e.keys (a.keys ++ b.keys) → e.least ≡ min a.least b.least
     → (feature : Feature) → has_feature feature e ≡ (has_feature feature a || has_feature feature b)
 features-both a b e keys least (HasKey key) = keys.values key ∙ list_any-append (λ k. int_eq k.value key) a.keys b.keys

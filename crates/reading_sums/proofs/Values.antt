@@ -26,7 +26,7 @@ or-twice false = refl
 not-equal : (x y : ℤ) (o : Ordering) → int_cmp x y ≡ o → is_eq o ≡ false → int_eq x y ≡ false
 not-equal x y o is unequal = ap is_eq is ∙ unequal
 
--- a value below all keys is none of them
+-- a value below all keys is not one of them
 below-none : (x : KeySum) (zs : List KeySum) → AllByRecursion (λ z. key_cmp x z ≡ Less) zs → has_key zs x.value ≡ false
 below-none x [] below = refl
 below-none x (z ∷ zs) below =
@@ -49,7 +49,7 @@ not-less : (x y : KeySum) (xs ys : List KeySum) → key_cmp x y ≡ Less → All
 not-less x y xs ys less above same =
     sym (below-none x (y ∷ ys) (less, below-all x y ys less above)) ∙ (sym same ∙ has-first x xs)
 
--- behind a key that two lists begin with
+-- after a key with which two lists begin
 rest-same : (v : ℤ) (x y : KeySum) (xs ys : List KeySum) (b : Bool) → int_eq x.value v ≡ b → x.value ≡ y.value
     → AllByRecursion (λ z. key_cmp x z ≡ Less) xs → AllByRecursion (λ z. key_cmp y z ≡ Less) ys
     → has_key (x ∷ xs) v ≡ has_key (y ∷ ys) v → has_key xs v ≡ has_key ys v

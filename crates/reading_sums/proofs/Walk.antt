@@ -22,7 +22,7 @@ one-less R (d ∷ ds) x rest up = (
   one-less R ds x rest up.1,
 )
 
--- what stands behind others
+-- what comes after others
 pub rest-ascends : {K : Type 0} (R : K → K → Ordering) (done rest : List K) → IsStrictlySortedBy R (done ++ rest) → IsStrictlySortedBy R rest
 unfolding IsStrictlySortedBy
 rest-ascends R [] rest up = up
@@ -35,7 +35,7 @@ unfolding IsStrictlySortedBy
 before-below R [] x rest up = tt
 before-below R (d ∷ ds) x rest up = ((all-behind (λ z. R d z ≡ Less) ds (x ∷ rest) up.0).0, before-below R ds x rest up.1)
 
--- those behind it are above it
+-- those after it are above it
 pub behind-above : {K : Type 0} (R : K → K → Ordering) (done : List K) (x : K) (rest : List K) → IsStrictlySortedBy R (done ++ x ∷ rest)
     → AllByRecursion (λ z. R x z ≡ Less) rest
 unfolding IsStrictlySortedBy
@@ -63,7 +63,7 @@ taken-both o (x ∷ xs) [] some more same = absurd (omega arith)
 taken-both {R = R} o (x ∷ xs) (y ∷ ys) some more same = λ done first second.
     subst (IsStrictlySortedBy R) (sym (append_assoc done (x ∷ []) ys)) (alike-put o done y x ys (same x) second)
 
--- what goes on ascending after a step of the walk
+-- what continues to ascend after a step of the walk
 pub walk-on : {K : Type 0} (R : K → K → Ordering) (laters earliers left rest : List K) (i j m n : ℕ) → left ≡ drop i laters → rest ≡ drop j earliers
     → GoesOnAscending R m n left rest
     → (IsStrictlySortedBy R laters → IsStrictlySortedBy R earliers → IsStrictlySortedBy R (take i laters ++ drop j earliers))
@@ -77,7 +77,7 @@ walk-on {K = K} R laters earliers left rest i j m n cut_left cut_rest goes befor
     let behind : drop n rest ≡ drop (j + n) earliers = ap (drop n) cut_rest ∙ drop-drop n j earliers in
     subst (IsStrictlySortedBy R) (λ k. front k ++ behind k) (goes (take i laters) here there)
 
--- what all of the later list are, all are that came so far
+-- what holds of all of the later list, holds of all that were taken so far
 pub all-walk : {K : Type 0} (P : K → Type 0) (laters left hists more new : List K) (i : ℕ) → left ≡ drop i laters → new ≡ hists ++ more
     → (All P left → All P more) → (All P laters → All P hists) → All P laters → All P new
 all-walk P laters left hists more new i cut put step before all =
@@ -103,7 +103,7 @@ unfolding IsStrictlySortedBy
 ascends-seen R f [] up = tt
 ascends-seen R f (x ∷ xs) up = (all-of-seen (λ y. R (f x) y ≡ Less) f xs up.0, ascends-seen R f xs up.1)
 
--- lists of which the same is seen ascend alike
+-- lists in which the same is seen ascend alike
 pub alike-ascend : {X Y : Type 0} (R : Y → Y → Ordering) (f : X → Y) (xs ys : List X) → map f xs ≡ map f ys → IsStrictlySortedBy (λ a b. R (f a) (f b)) ys
     → IsStrictlySortedBy (λ a b. R (f a) (f b)) xs
 alike-ascend R f xs ys same up = ascends-seen R f xs (subst (IsStrictlySortedBy R) (sym same) (seen-ascends R f ys up))

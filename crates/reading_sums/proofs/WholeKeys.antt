@@ -51,7 +51,7 @@ units-back counts marks =
 
 -- ---- buckets
 
--- counts that are one for each bucket of a spec
+-- counts with one entry for each bucket of a spec
 abbrev pub bucketed_by : (ℕ → ℕ) → Spec → List (ℤ × ℕ)
 bucketed_by units spec = map (λ i. (pos (slice_index (boundaries_of spec) i), units i)) (range_with_len 0 (buckets_of spec))
 

@@ -1,4 +1,4 @@
--- Sums that are added up in turn: each is an addend, whose images come after those of the addends before it.
+-- Sums that are added up in turn. Each is an addend, whose images come after those of the addends before it.
 use Rattle.std.specs.Prelude.{◌≡◌, ℕ, ◌+◌, List, [], ◌∷◌, ◌++◌, map, length, is_some, sum_by}
 use Rattle.bucket_ranges.specs.Reading.{Reading}
 use Rattle.reading_sums.specs.declared.notes.Notes.{Notes}
@@ -23,11 +23,11 @@ notes_of_one reading = record {
   bad = length reading.bad;
 }
 
--- an image that reads as this, as an addend
+-- an image that reads as this reading, as an addend
 abbrev pub addend_of_reading : Reading → Addend
 addend_of_reading reading = record { parts = parts_of_one (0, reading); notes = notes_of_one reading }
 
--- a sum became that of one numbered reading more
+-- a sum gained one numbered reading
 pub record AddsNumbered (numbered : ℕ × Reading) (before after : Sums) : Type 0 where
   pub hists : SameTotals (parts_of after) (parts_of before ++ parts_of_one numbered)
   pub notes : AreNotesOfBoth before.notes (notes_of_one numbered.1) after.notes
@@ -40,12 +40,12 @@ addend_of sums = record { parts = parts_of sums; notes = sums.notes }
 abbrev pub no_addend : Addend
 no_addend = record { parts = []; notes = record { images = 0; full = 0; corrupt = 0; stopped = 0; bad = 0 } }
 
--- a sum became that of one addend more, behind its own: the addend's numbers are raised by how many images there were
+-- a sum gained one addend at its end: the addend's numbers are raised by how many images there were
 pub record AddsAddend (addend : Addend) (before after : Sums) : Type 0 where
   pub hists : SameTotals (parts_of after) (parts_of before ++ map (raised_part before.notes.images) addend.parts)
   pub notes : AreNotesOfBoth before.notes addend.notes after.notes
 
--- the parts of addends in their order, the first of which has the images from a number on
+-- the parts of addends in their order; the images of the first are numbered from `first` on
 abbrev pub parts_in_turn : ℕ → List Addend → List Part
 parts_in_turn first [] = []
 parts_in_turn first (addend ∷ rest) = map (raised_part first) addend.parts ++ parts_in_turn (first + addend.notes.images) rest

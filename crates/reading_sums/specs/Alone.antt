@@ -9,11 +9,11 @@ use Rattle.reading_sums.specs.declared.sums.Sums.{Sums}
 use Rattle.reading_sums.specs.Sums.{IsSumOver}
 use Rattle.reading_sums.specs.Whole.{IsWholeReading, IsWellFormed}
 
--- a histogram that has a mark beside each count
+-- a histogram that has a mark for each count
 abbrev pub HasItsMarks : Histogram → Type 0
 HasItsMarks hist = length hist.marks ≡ length hist.counts
 
--- a well-formed sum of one reading, which has a number, is whole, and has a mark beside each count
+-- a well-formed sum of one reading, which has a number, is whole, and has a mark for each count
 pub record IsSumOfOne (number : ℕ) (reading : Reading) (sums : Sums) : Type 0 where
   pub whole : IsWholeReading reading
   pub marks : All HasItsMarks reading.hists
@@ -24,7 +24,7 @@ pub record IsSumOfOne (number : ℕ) (reading : Reading) (sums : Sums) : Type 0 
 abbrev pub renumbered : ℕ → List Histogram → List Histogram
 renumbered index hists = map (λ (one : ℕ × Histogram). record one.1 { reference = one.0 }) (enumerate_from index hists)
 
--- what is shown is all histograms, each as it is but for its reference, in the order of their names
+-- what is shown is all histograms, each unchanged except for its reference, in the order of their names
 pub record ShowsInOrder (hists shown : List Histogram) : Type 0 where
   pub listed : List Histogram
   pub all : IsPermutation listed hists

@@ -16,14 +16,14 @@ use Rattle.reading_sums.specs.Totals.{Part, Quantity, is_of, quantity_of, total}
 use Rattle.reading_sums.specs.Views.{part_of, parts_of}
 use Rattle.reading_sums.specs.Whole.{units_of}
 
--- a condition that holds where the fault is `TooMany`; of a lack of memory nothing is said
+-- a condition that holds if the fault is `TooMany`; none if memory ran out
 abbrev pub IfTooMany : SumsFault → Type 0 → Type 0
 IfTooMany NoMemory many = ⊤
 IfTooMany TooMany many = many
 
 -- ---- parts
 
--- a total does not fit: one of amounts 128 bits with a sign, each other one 64 bits
+-- a total does not fit: a total of amounts in 128 bits with a sign, any other in 64 bits
 abbrev pub TotalDoesNotFit : Quantity → ℤ → Type 0
 TotalDoesNotFit (Units key) number = pos (2 ^ 64) ≤ℤ number
 TotalDoesNotFit (Marks key) number = pos (2 ^ 64) ≤ℤ number
@@ -36,12 +36,12 @@ TotalDoesNotFit Images number = pos (2 ^ 64) ≤ℤ number
 abbrev pub all_units : List ℕ → Spec → List Part → ℕ
 all_units name spec parts = sum_by (λ part. if is_of name spec part then units_of part.keys else 0) parts
 
--- parts do not fit together: of some name and spec all units are 2^64 or more, or some total does not fit
+-- parts do not fit together: for some name and spec all units are 2^64 or more, or some total does not fit
 abbrev pub PartsDoNotFit : List Part → Type 0
 PartsDoNotFit parts = (name : List ℕ) × (spec : Spec)
     × ((2 ^ 64 ≤ all_units name spec parts) ⊎ ((quantity : Quantity) × TotalDoesNotFit quantity (total quantity name spec parts)))
 
--- some part has a least number that is 2^64 or more when it is raised by so much
+-- some part has a least number that is 2^64 or more when it is raised by this number
 abbrev pub HasNumberTooGreat : ℕ → List Part → Type 0
 HasNumberTooGreat by parts = (part : Part) × Contains parts part × (2 ^ 64 ≤ part.least + by)
 
@@ -89,7 +89,7 @@ NotesInTurnDoNotFit addends = (2 ^ 64 ≤ sum_by (λ (addend : Addend). addend.n
 abbrev pub AddendsDoNotFit : List Addend → Type 0
 AddendsDoNotFit addends = NotesInTurnDoNotFit addends ⊎ PartsDoNotFit (parts_in_turn 0 addends)
 
--- of no name and spec the amounts together, or those that deltas have taken, are as much as 2^126
+-- for each name and spec, the amounts together and those that deltas have taken are below 2^126 in size
 abbrev pub HasSmallAmounts : List Part → Type 0
 HasSmallAmounts parts = (name : List ℕ) (spec : Spec)
     → (unsigned_abs (total Amounts name spec parts) < 2 ^ 126) × (unsigned_abs (total AmountMarks name spec parts) < 2 ^ 126)

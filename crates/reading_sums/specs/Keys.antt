@@ -6,7 +6,7 @@ use Rattle.reading_sums.specs.declared.key.KeySum.{KeySum}
 use Rattle.reading_sums.specs.declared.order.Side.{Side}
 use Rattle.reading_sums.specs.declared.order.Side.TheVariants.{Left, Right, Both}
 
--- the key of an index: its value and its units, and the mark beside it, or 0 where there is none
+-- the key at an index: its value, its units and its mark, which is 0 if there is none
 abbrev pub key_from : List (ℤ × ℕ) → List ℕ → ℕ → KeySum
 key_from counts marks i = record {
   value = (get_or counts i (pos 0, 0)).0;
@@ -30,7 +30,7 @@ marks_at keys value = sum_by (λ key. if int_eq key.value value then key.marks e
 abbrev pub has_key : List KeySum → ℤ → Bool
 has_key keys value = list_any (λ key. int_eq key.value value) keys
 
--- two lists have the same values, and of each the same units and the same marks
+-- two lists have the same values, and for each value the same units and the same marks
 pub record SameKeys (a b : List KeySum) : Type 0 where
   pub values : (value : ℤ) → has_key a value ≡ has_key b value
   pub units : (value : ℤ) → units_at a value ≡ units_at b value
@@ -42,8 +42,8 @@ pub record IsKeyOfBoth (a b both : KeySum) : Type 0 where
   pub units : both.units ≡ a.units + b.units
   pub marks : both.marks ≡ a.marks + b.marks
 
--- where the least key stands there is one, which is below the first of the other list, if that has one; and where it
--- stands in both lists these are keys of one value
+-- which list begins with the least key: it is not empty, and its first key is below the first of the other list, if there is one; or both
+-- begin with keys of one value
 abbrev pub IsSide : List KeySum → List KeySum → Side → Type 0
 IsSide a b Left = (0 < length a) × ((d : KeySum) → 0 < length b → (get_or a 0 d).value <ℤ (get_or b 0 d).value)
 IsSide a b Right = (0 < length b) × ((d : KeySum) → 0 < length a → (get_or b 0 d).value <ℤ (get_or a 0 d).value)

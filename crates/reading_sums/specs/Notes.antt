@@ -1,8 +1,8 @@
--- What images say beside their histograms.
+-- What images say apart from their histograms.
 use Rattle.std.specs.Prelude.{◌≡◌, Bool, if◌then◌else◌, ℕ, ◌+◌}
 use Rattle.reading_sums.specs.declared.notes.Notes.{Notes}
 
--- 1 where it holds
+-- 1 if it holds, else 0
 abbrev pub one_if : Bool → ℕ
 one_if holds = if holds then 1 else 0
 

@@ -9,7 +9,7 @@ use Rattle.bucket_ranges.specs.declared.spec.Spec.TheVariants.{Linear, Boolean, 
 use Rattle.reading_sums.specs.declared.hist.HistSum.{HistSum}
 use Rattle.reading_sums.specs.declared.key.KeySum.{KeySum}
 
--- the numbers by which specs are ordered: that of the kind, and those behind it
+-- the numbers by which specs are ordered: that of the kind, and those of the spec after it
 abbrev pub spec_numbers : Spec → List ℕ
 spec_numbers (Linear min max n) = 1 ∷ min ∷ max ∷ n ∷ []
 spec_numbers Boolean = 2 ∷ []
@@ -20,7 +20,7 @@ spec_numbers Sparse = 4 ∷ []
 abbrev pub spec_cmp : Spec → Spec → Ordering
 spec_cmp a b = slice_cmp nat_cmp (spec_numbers a) (spec_numbers b)
 
--- the order of histograms: by name, and of one name by spec
+-- the order of histograms: by name, then by spec
 abbrev pub hist_cmp : HistSum → HistSum → Ordering
 hist_cmp a b = ordering_then (slice_cmp nat_cmp a.name.items b.name.items) (spec_cmp a.spec b.spec)
 
@@ -28,8 +28,8 @@ hist_cmp a b = ordering_then (slice_cmp nat_cmp a.name.items b.name.items) (spec
 abbrev pub key_cmp : KeySum → KeySum → Ordering
 key_cmp a b = int_cmp a.value b.value
 
--- an element comes next of two lists, of which it takes so many elements each: whatever ascends with each of the lists
--- behind it, ascends with this element and what is left of each list behind it
+-- an element comes next of two lists, and takes `i` elements of one and `j` of the other: whatever ascends with each of the lists after it,
+-- also ascends with this element and the rest of each list after it
 abbrev pub ComesNext : {K : Type 0} → (K → K → Ordering) → K → ℕ → ℕ → List K → List K → Type 0
 ComesNext cmp next i j a b = (done : List _) → IsStrictlySortedBy cmp (done ++ a) → IsStrictlySortedBy cmp (done ++ b)
     → IsStrictlySortedBy cmp (done ++ next ∷ drop i a) × IsStrictlySortedBy cmp (done ++ next ∷ drop j b)

@@ -8,11 +8,11 @@ use Rattle.reading_sums.specs.declared.shown.OtherSpec.{OtherSpec}
 use Rattle.reading_sums.specs.Totals.{Part}
 use Rattle.reading_sums.specs.Whole.{units_of}
 
--- keys as a reading has them: each value beside its units
+-- keys as a reading has them: each value with its units
 abbrev pub counts_of : List KeySum → List (ℤ × ℕ)
 counts_of keys = map (λ (key : KeySum). (key.value, key.units)) keys
 
--- and their marks
+-- the marks of keys
 abbrev pub marks_of : List KeySum → List ℕ
 marks_of keys = map (λ (key : KeySum). key.marks) keys
 
@@ -29,7 +29,7 @@ shown_at index part = record {
   redundant = part.redundant;
 }
 
--- what is reported of a part that is not shown: its name, how many images have it, and its units as far as 64 bits go
+-- what is reported of a part that is not shown: its name, how many images have it, and its units, at most 2^64 - 1
 pub record IsOtherOf (part : Part) (other : OtherSpec) : Type 0 where
   pub name : other.name.items ≡ part.name
   pub images : other.images ≡ part.images
@@ -37,7 +37,7 @@ pub record IsOtherOf (part : Part) (other : OtherSpec) : Type 0 where
 
 -- ---- which are shown
 
--- parts of one name that stand together: the first, and those behind it
+-- parts of one name in a row: the first, and those after it
 pub record Group : Type 0 where
   pub first : Part
   pub rest : List Part
@@ -45,7 +45,7 @@ pub record Group : Type 0 where
 abbrev pub members_of : Group → List Part
 members_of group = group.first ∷ group.rest
 
--- a part before groups: it goes to the first of them if it has its name, and is a group of its own if not
+-- a part before groups: it joins the first of them if it has the same name, and is a group of its own otherwise
 abbrev pub before_groups : Part → List Group → List Group
 before_groups part [] = record { first = part; rest = [] } ∷ []
 before_groups part (group ∷ groups) =
@@ -57,12 +57,12 @@ abbrev pub groups_of : List Part → List Group
 groups_of [] = []
 groups_of (part ∷ rest) = before_groups part (groups_of rest)
 
--- the part of the least number, of equal ones the first: a part, unless one behind it has a lesser number
+-- the part with the least number, the first of equal ones: a part, unless one after it has a lesser number
 abbrev pub least_part : Part → List Part → Part
 least_part part [] = part
 least_part part (next ∷ rest) = if nat_le part.least (least_part next rest).least then part else least_part next rest
 
--- the others
+-- all parts but that with the least number
 abbrev pub others_than_least : Part → List Part → List Part
 others_than_least part [] = []
 others_than_least part (next ∷ rest) =
@@ -79,10 +79,10 @@ left_out_of group = others_than_least group.first group.rest
 abbrev pub shown_from : ℕ → List Part → List Histogram
 shown_from index parts = map (λ (one : ℕ × Part). shown_at one.0 one.1) (enumerate_from index parts)
 
--- what a list of parts reads as: of each group what is shown of it
+-- what a list of parts reads as: for each group what is shown of it
 abbrev pub shown_parts : List Part → List Histogram
 shown_parts parts = shown_from 0 (map shown_of (groups_of parts))
 
--- what a list of parts leaves out when it is read: of each group all but what is shown of it
+-- what a list of parts leaves out when it is read: for each group all but what is shown of it
 abbrev pub other_parts : List Part → List Part
 other_parts parts = flat_map left_out_of (groups_of parts)

@@ -1,4 +1,4 @@
--- What came since an earlier sum.
+-- What was counted since an earlier sum.
 use Rattle.std.specs.Prelude.{◌≡◌, ◌≢◌, ◌⊎◌, ⊤, ℕ, ◌+◌, ◌<◌, ◌≤◌, ℤ, pos, ◌+ℤ◌, ◌-ℤ◌, ◌<ℤ◌, FitsSigned, List, ◌∷◌, ◌++◌, map, take, drop}
 use Rattle.std.specs.Int.{w128}
 use Rattle.std.specs.List.{Contains}
@@ -18,22 +18,22 @@ use Rattle.reading_sums.specs.Whole.{values_of, units_of}
 
 -- ---- keys
 
--- what later keys have more than earlier ones: it has the values of the later ones, and of each value the earlier units and
--- its own are the later ones, and so are the marks; and its units are no more than the later ones
+-- what later keys have more than earlier ones: it has the values of the later ones; for each value, the earlier units and its own together
+-- are the later ones, and so are the marks; and its units are no more than the later ones
 pub record AreKeysSince (later earlier since : List KeySum) : Type 0 where
   pub values : values_of since ≡ values_of later
   pub units : (value : ℤ) → units_at later value ≡ units_at earlier value + units_at since value
   pub marks : (value : ℤ) → marks_at later value ≡ marks_at earlier value + marks_at since value
   pub fewer : units_of since ≤ units_of later
 
--- of some value the later keys have fewer units than the earlier ones, or fewer marks
+-- for some value the later keys have fewer units than the earlier ones, or fewer marks
 abbrev pub HasKeyFallen : List KeySum → List KeySum → Type 0
 HasKeyFallen later earlier =
     (value : ℤ) × ((units_at later value < units_at earlier value) ⊎ (marks_at later value < marks_at earlier value))
 
 -- ---- parts
 
--- what stays of a later part: its name, spec and values, how many images have it, and the least number of one
+-- what is unchanged of a later part: its name, spec and values, how many images have it, and the least number of one
 pub record Frame : Type 0 where
   pub name : List ℕ
   pub spec : Spec
@@ -50,15 +50,15 @@ frame_of part = record {
   least = part.least;
 }
 
--- what a later part has more than an earlier one: of everything that is added up but the images, the earlier one and this
--- have together what the later one has; all else is as in the later one
+-- what a later part has more than an earlier one: of everything that is added up but the images, the earlier one and this together have
+-- what the later one has; all else is the same as in the later one
 pub record IsSince (later earlier since : Part) : Type 0 where
   pub quantities : (quantity : Quantity) → quantity ≢ Images
       → quantity_of quantity later ≡ quantity_of quantity earlier +ℤ quantity_of quantity since
   pub kept : frame_of since ≡ frame_of later
 
--- what later parts have more than earlier ones: of each name and spec the earlier ones and these have together what the
--- later ones have, of everything that is added up but the images; all else is as in the later ones, one by one
+-- what later parts have more than earlier ones: for each name and spec, the earlier ones and these together have what the later ones have,
+-- of everything that is added up but the images; all else is the same as in the later ones, one by one
 pub record AreSince (later earlier since : List Part) : Type 0 where
   pub totals : (quantity : Quantity) → quantity ≢ Images → (name : List ℕ) (spec : Spec)
       → total quantity name spec later ≡ total quantity name spec earlier +ℤ total quantity name spec since
@@ -80,11 +80,11 @@ abbrev pub HasLess : Part → Part → Type 0
 HasLess later earlier =
     (quantity : Quantity) × IsCountedUp quantity × (quantity_of quantity later <ℤ quantity_of quantity earlier)
 
--- a part has something: it is counted, or an amount
+-- a part has something that is counted, or an amount
 abbrev pub HasSomething : Part → Type 0
 HasSomething part = (quantity : Quantity) × (quantity ≢ Images) × (quantity_of quantity part ≢ pos 0)
 
--- an amount of a later part less that of an earlier one does not fit 128 bits
+-- an amount of a later part minus that of an earlier one does not fit 128 bits
 abbrev pub HasLongAmount : Part → Part → Type 0
 HasLongAmount later earlier =
     ¬ FitsSigned w128 (later.sum -ℤ earlier.sum) ⊎ ¬ FitsSigned w128 (later.sum_mark -ℤ earlier.sum_mark)
@@ -110,18 +110,18 @@ pub record IsWithoutLater (laters earliers : List HistSum) (earlier : HistSum) (
   pub has_name : earlier.name.items ≡ name
   pub alone : ¬ HasAlike laters earlier
 
--- a name fell: of one spec the later histogram has less than the earlier one; or there is no later one of the name, and an
--- earlier one has something
+-- a name fell: under one spec the later histogram has less than the earlier one; or there is no later one of the name, and an earlier one
+-- has something
 abbrev pub HasFallen : List HistSum → List HistSum → List ℕ → Type 0
 HasFallen laters earliers name =
     ((later : HistSum) × (earlier : HistSum) × ArePair laters earliers later earlier × (earlier.name.items ≡ name) × HasLess (part_of later) (part_of earlier))
     ⊎ ((earlier : HistSum) × IsWithoutLater laters earliers earlier name × (¬ HasHistNamed laters name) × HasSomething (part_of earlier))
 
--- a name has another spec: an earlier histogram of it has no later one of its spec, but there is one of the name
+-- a name has another spec: an earlier histogram of it has no later one of its spec, but there is a later one of the name
 abbrev pub HasChangedSpec : List HistSum → List HistSum → List ℕ → Type 0
 HasChangedSpec laters earliers name = (earlier : HistSum) × IsWithoutLater laters earliers earlier name × HasHistNamed laters name
 
--- some later amount less the earlier one of the name and the spec does not fit 128 bits
+-- some later amount minus the earlier one of the same name and spec does not fit 128 bits
 abbrev pub HasTooMany : List HistSum → List HistSum → Type 0
 HasTooMany laters earliers =
     (later : HistSum) × (earlier : HistSum) × ArePair laters earliers later earlier × HasLongAmount (part_of later) (part_of earlier)
@@ -132,33 +132,33 @@ pub record IsGrown (laters earliers : List HistSum) : Type 0 where
   pub other_spec : (name : List ℕ) → ¬ HasChangedSpec laters earliers name
   pub too_many : ¬ HasTooMany laters earliers
 
--- a condition for each fault, on the name that it has; where there was no memory, none
+-- a condition for each fault, on the name that it has; none if memory ran out
 abbrev pub MatchFault : MinusFault → Type 0 → (List ℕ → Type 0) → (List ℕ → Type 0) → Type 0
 MatchFault NoMemory many fell other = ⊤
 MatchFault TooMany many fell other = many
 MatchFault (Fell name) many fell other = fell name.items
 MatchFault (OtherSpec name) many fell other = other name.items
 
--- a fault reports a reason that there is
+-- the reason that a fault reports is there
 abbrev pub IsReason : List HistSum → List HistSum → MinusFault → Type 0
 IsReason laters earliers fault =
     MatchFault fault (HasTooMany laters earliers) (HasFallen laters earliers) (HasChangedSpec laters earliers)
 
 -- ---- the walk
 
--- an earlier histogram is no reason for a refusal: there is a later one of its name and its spec, which has not less and no
--- long amount; or there is none of its name, and it has nothing
+-- an earlier histogram is no reason for a refusal: there is a later one of its name and its spec, which does not have less and has no long
+-- amount; or there is none of its name, and it has nothing
 abbrev pub IsNoReason : List HistSum → HistSum → Type 0
 IsNoReason laters earlier =
     ((later : HistSum) × Contains laters later × (later.name.items ≡ earlier.name.items) × (later.spec ≡ earlier.spec)
     × (¬ HasLess (part_of later) (part_of earlier)) × (¬ HasLongAmount (part_of later) (part_of earlier)))
     ⊎ ((¬ HasHistNamed laters earlier.name.items) × (¬ HasSomething (part_of earlier)))
 
--- a histogram stands in its place between others
+-- a histogram is in its place between others
 abbrev pub StandsBetween : List HistSum → HistSum → List HistSum → Type 0
 StandsBetween before hist behind = IsStrictlySortedBy hist_cmp (before ++ hist ∷ behind)
 
--- behind whatever ascends with each of two lists, what is taken of the later list ascends with the rest of the earlier one
+-- whatever ascends with each of two lists after it, also ascends with what is taken of the later list and then the rest of the earlier one
 abbrev pub GoesOnAscending : {K : Type 0} → (K → K → Ordering) → ℕ → ℕ → List K → List K → Type 0
 GoesOnAscending cmp i j later earlier = (done : List _) → IsStrictlySortedBy cmp (done ++ later) → IsStrictlySortedBy cmp (done ++ earlier)
     → IsStrictlySortedBy cmp ((done ++ take i later) ++ drop j earlier)

@@ -12,7 +12,7 @@ use Rattle.reading_sums.specs.Views.{parts_of}
 abbrev pub parts_of_one : ℕ × Reading → List Part
 parts_of_one numbered = map (part_from numbered.0) numbered.1.hists
 
--- those of all
+-- the histograms of all numbered readings, as parts
 abbrev pub parts_in : List (ℕ × Reading) → List Part
 parts_in readings = flat_map parts_of_one readings
 
@@ -24,13 +24,13 @@ pub record AreNotesIn (readings : List (ℕ × Reading)) (notes : Notes) : Type 
   pub stopped : notes.stopped ≡ sum_by (λ numbered. one_if (is_some numbered.1.stopped)) readings
   pub bad : notes.bad ≡ sum_by (λ numbered. length numbered.1.bad) readings
 
--- A sum is that of a list of numbered readings: of each name and spec it has the totals of all their histograms of that
--- name and spec, and its notes are theirs.
+-- A sum is that of a list of numbered readings: for each name and spec it has the totals of all their histograms of that name and spec, and
+-- its notes are theirs.
 pub record IsSumOver (readings : List (ℕ × Reading)) (sums : Sums) : Type 0 where
   pub hists : SameTotals (parts_of sums) (parts_in readings)
   pub notes : AreNotesIn readings sums.notes
 
--- two sums are the same: their totals and their notes are
+-- two sums are the same: they have the same totals and the same notes
 pub record HaveSameSum (a b : Sums) : Type 0 where
   pub hists : SameTotals (parts_of a) (parts_of b)
   pub notes : a.notes ≡ b.notes
@@ -40,15 +40,15 @@ pub record IsSumOfBoth (a b both : Sums) : Type 0 where
   pub hists : SameTotals (parts_of both) (parts_of a ++ parts_of b)
   pub notes : AreNotesOfBoth a.notes b.notes both.notes
 
--- a reading, its number raised
+-- a reading with its number raised
 abbrev pub raised : ℕ → ℕ × Reading → ℕ × Reading
 raised by numbered = (numbered.0 + by, numbered.1)
 
--- readings in their order, each with the number of those before it and a first number
+-- readings in their order, numbered from `first` on
 abbrev pub numbered_from : ℕ → List Reading → List (ℕ × Reading)
 numbered_from first [] = []
 numbered_from first (reading ∷ rest) = (first, reading) ∷ numbered_from (first + 1) rest
 
--- a sum is that of readings in their order, which have the numbers from 0 on
+-- a sum is that of readings in their order, numbered from 0 on
 abbrev pub IsSumInOrder : List Reading → Sums → Type 0
 IsSumInOrder readings sums = IsSumOver (numbered_from 0 readings) sums

@@ -8,8 +8,7 @@ use Rattle.bucket_ranges.specs.Reading.{Histogram}
 use Rattle.reading_sums.specs.declared.key.KeySum.{KeySum}
 use Rattle.reading_sums.specs.Keys.{keys_from, has_key, units_at, marks_at}
 
--- a part: the keys, the sum and its mark, the redundant count, how many histograms it is of, and the least number of an
--- image that has one
+-- a part: the keys, the sum and its mark, the redundant count, how many histograms it has, and the least number of an image that has one
 pub record Part : Type 0 where
   pub name : List ℕ
   pub spec : Spec
@@ -33,13 +32,13 @@ part_from number hist = record {
   least = number;
 }
 
--- a part, the numbers of its images raised
+-- a part with the numbers of its images raised
 abbrev pub raised_part : ℕ → Part → Part
 raised_part by part = record part { least = part.least + by }
 
 -- ---- name and spec
 
--- whether two specs are the same: kind, minimum, maximum, number of buckets and, of custom ones, all ranges
+-- whether two specs are the same: kind, minimum, maximum, number of buckets and, for custom ones, all ranges
 abbrev pub same_spec : Spec → Spec → Bool
 same_spec a b = bytes_eq (spec_fields a) (spec_fields b) && bytes_eq (spec_ranges a) (spec_ranges b)
 
@@ -82,17 +81,16 @@ pub data Feature : Type 0 where
   HasKey : (key : ℤ) → Feature
   IsUpTo : (number : ℕ) → Feature
 
--- whether a part has it
+-- whether a part has a feature
 abbrev pub has_feature : Feature → Part → Bool
 has_feature (HasKey key) part = has_key part.keys key
 has_feature (IsUpTo number) part = nat_le part.least number
 
--- whether some part of a name and a spec has it
+-- whether some part of a name and a spec has a feature
 abbrev pub is_had : Feature → List ℕ → Spec → List Part → Bool
 is_had feature name spec parts = list_any (λ part. is_of name spec part && has_feature feature part) parts
 
--- two lists of parts have the same totals: of each name and spec everything that is added up, the same keys, and the same
--- least number
+-- two lists of parts have the same totals: for each name and spec everything that is added up, the same keys, and the same least number
 pub record SameTotals (a b : List Part) : Type 0 where
   pub totals : (quantity : Quantity) (name : List ℕ) (spec : Spec) → total quantity name spec a ≡ total quantity name spec b
   pub features : (feature : Feature) (name : List ℕ) (spec : Spec) → is_had feature name spec a ≡ is_had feature name spec b

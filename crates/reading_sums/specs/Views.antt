@@ -1,4 +1,4 @@
--- What the values of this crate are as values of the definitions.
+-- The values of this crate as values of the definitions.
 use Rattle.std.specs.Prelude.{◌≡◌, ◌<◌, List, length, map, get_or}
 use Rattle.reading_sums.specs.declared.hist.HistSum.{HistSum}
 use Rattle.reading_sums.specs.declared.sums.Sums.{Sums}
@@ -25,8 +25,8 @@ part_of hist = record {
 abbrev pub parts_of : Sums → List Part
 parts_of sums = map part_of sums.hists.items
 
--- where the least histogram stands there is one, which is below the first of the other list, if that has one; and where it
--- stands in both lists these are of one name and one spec
+-- which list begins with the least histogram: it is not empty, and its first one is below the first of the other list, if there is one; or
+-- both begin with histograms of one name and one spec
 abbrev pub IsSideOf : List HistSum → List HistSum → Side → Type 0
 IsSideOf a b Left = (0 < length a) × ((d : HistSum) → 0 < length b → hist_cmp (get_or a 0 d) (get_or b 0 d) ≡ Less)
 IsSideOf a b Right = (0 < length b) × ((d : HistSum) → 0 < length a → hist_cmp (get_or b 0 d) (get_or a 0 d) ≡ Less)

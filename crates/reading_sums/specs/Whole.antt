@@ -28,21 +28,21 @@ units_of keys = sum_by (λ key. key.units) keys
 abbrev pub lows_of : Spec → List ℤ
 lows_of spec = map pos (take (buckets_of spec) (boundaries_of spec))
 
--- the keys are as many as buckets, each the least value of its bucket; where there are no buckets they may be any
+-- there is one key for each bucket, with its least value; if there are no buckets, the keys may be any
 abbrev pub AreBuckets : Spec → List KeySum → Type 0
 AreBuckets (Linear min max n) keys = values_of keys ≡ lows_of (Linear min max n)
 AreBuckets Boolean keys = values_of keys ≡ lows_of Boolean
 AreBuckets (Custom values) keys = values_of keys ≡ lows_of (Custom values)
 AreBuckets Sparse keys = ⊤
 
--- the values of a custom spec ascend from 1, as a segment has them
+-- the values of a custom spec ascend from 1, as in a segment
 abbrev pub IsInForm : Spec → Type 0
 IsInForm (Linear min max n) = ⊤
 IsInForm Boolean = ⊤
 IsInForm (Custom values) = IsStrictlySortedBy nat_cmp (0 ∷ values)
 IsInForm Sparse = ⊤
 
--- a lawful spec and the whole list of keys of a histogram of it: they ascend, they are its buckets, and their units fit 64 bits
+-- a valid spec and the whole list of keys of a histogram with it: they ascend, they are its buckets, and their units fit 64 bits
 pub record IsWholeList (spec : Spec) (keys : List KeySum) : Type 0 where
   pub lawful : spec_fault spec ≡ None
   pub form : IsInForm spec
@@ -54,17 +54,17 @@ pub record IsWholeList (spec : Spec) (keys : List KeySum) : Type 0 where
 abbrev pub IsWholeHist : HistSum → Type 0
 IsWholeHist hist = IsWholeList hist.spec hist.keys.items
 
--- a histogram whose spec is lawful, and whose keys are its buckets
+-- a histogram whose spec is valid, and whose keys are its buckets
 pub record HasItsBuckets (hist : HistSum) : Type 0 where
   pub lawful : spec_fault hist.spec ≡ None
   pub buckets : AreBuckets hist.spec hist.keys.items
 
--- the marks of keys have 64 bits
+-- the marks of keys fit 64 bits
 abbrev pub AreMarksInRange : List KeySum → Type 0
 AreMarksInRange keys = All (λ key. key.marks < 2 ^ 64) keys
 
--- the marks of a histogram of a sum, its redundant count and how many images have it have 64 bits, and its amounts 128 bits with a
--- sign: so it is of each one in memory
+-- the numbers of a histogram of a sum are in range: its marks, its redundant count and the number of its images fit 64 bits, and its
+-- amounts 128 bits with a sign; so it is of each one in memory
 pub record IsInRange (hist : HistSum) : Type 0 where
   pub marks : AreMarksInRange hist.keys.items
   pub sum : FitsSigned w128 hist.sum

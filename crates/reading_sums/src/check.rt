@@ -64,7 +64,7 @@ fn are_buckets(ranges: &Ranges, keys: &[KeySum]) -> bool
     true
 }
 
-// Whether a spec is lawful, and keys that ascend are its buckets.
+// Whether a spec is valid, and keys that ascend are its buckets.
 fn has_its_buckets(alloc: Global, hist: &HistSum) -> Result<bool, AllocError>
     ensures { IfOk result (λ has. (has ≡ true) ↔ HasItsBuckets hist.now) }
 {
@@ -78,8 +78,8 @@ fn has_its_buckets(alloc: Global, hist: &HistSum) -> Result<bool, AllocError>
     }
 }
 
-// That numbers of a histogram are in the ranges of their types. It does nothing: a proof knows it of each number that is
-// passed.
+// Shows that numbers of a histogram are in the ranges of their types. It does nothing: a proof knows this of each
+// number that is passed.
 fn are_in_range(sum: i128, sum_mark: i128, redundant: u64, images: u64)
     ensures sum { FitsSigned w128 sum }
     ensures sum_mark { FitsSigned w128 sum_mark }
@@ -87,7 +87,7 @@ fn are_in_range(sum: i128, sum_mark: i128, redundant: u64, images: u64)
     ensures images { images < 2 ^ 64 }
 {}
 
-// Whether a histogram has a lawful spec, the keys of it, and units that together fit 64 bits.
+// Whether a histogram has a valid spec, the keys of that spec, and units that together fit 64 bits.
 fn is_whole(alloc: Global, hist: &HistSum) -> Result<bool, AllocError>
     ensures whole { IfOk result (λ is. (is ≡ true) ↔ IsWholeHist hist.now) }
     ensures range { IfOk result (λ is. is ≡ true → IsInRange hist.now) }
@@ -125,8 +125,8 @@ fn all_whole(alloc: Global, hists: &[HistSum]) -> Result<bool, AllocError>
     Ok(true)
 }
 
-/// Whether these histograms ascend by name and spec, and each has a lawful spec, the keys of it, and units that together
-/// fit 64 bits.
+/// Whether these histograms ascend by name and spec, and each has a valid spec, the keys of that spec, and units that
+/// together fit 64 bits.
 pub(crate) fn are_whole(alloc: Global, hists: &[HistSum]) -> Result<bool, AllocError>
     ensures { IfOk result (λ are. (are ≡ true) ↔ AreWhole hists.now) }
 {

@@ -3,14 +3,15 @@
 use std::alloc::{AllocError, AllocFailed};
 use thiserror::Error;
 
-/// Why a sum is refused. It is then as it was.
+/// Why a sum is refused. The sum that was to change is unchanged.
 #[derive(Clone, Copy, Debug, PartialEq, Eq, Error)]
 pub enum SumsFault {
     /// There was no memory.
     #[error("NoMemory")]
     NoMemory = 1,
-    /// A total would not fit: the units of a histogram together, or one of marks, of redundant counts or of images 64
-    /// bits, or one of amounts 128; or a number of the notes, or the least number of an image, 64.
+    /// A total would not fit: all units of a histogram, or a total of marks, of redundant counts or of images, would
+    /// not fit 64 bits, or one of amounts 128; or a number of the notes or the least number of an image would not fit
+    /// 64.
     #[error("TooMany")]
     TooMany = 2,
 }
@@ -37,20 +38,21 @@ impl<T: Drop> From<AllocFailed<T>> for SumsFault {
     }
 }
 
-/// Why there is nothing that came since an earlier sum.
+/// Why it cannot be said what was counted since an earlier sum.
 #[derive(Debug, PartialEq, Eq, Drop, Error)]
 pub enum MinusFault {
     /// There was no memory.
     #[error("NoMemory")]
     NoMemory,
-    /// An amount less the earlier one would not fit 128 bits.
+    /// An amount minus the earlier one would not fit 128 bits.
     #[error("TooMany")]
     TooMany,
-    /// The later sum has less of this name than the earlier one: fewer units or marks of a key, a smaller redundant count,
-    /// or nothing at all where the earlier one has something.
+    /// The later sum has less of this name than the earlier one: fewer units or marks of a key, a smaller redundant
+    /// count, or nothing at all although the earlier one has something.
     #[error("Fell")]
     Fell(Vec<u8>),
-    /// The earlier sum has this name under a spec that the later one does not have it with, but another.
+    /// The earlier sum has this name under a spec under which the later one does not have it; the later one has it
+    /// under another.
     #[error("OtherSpec")]
     OtherSpec(Vec<u8>),
 }

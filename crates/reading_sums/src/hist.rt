@@ -27,7 +27,7 @@ pub struct HistSum {
     pub name: Vec<u8>,
     /// How they split the values into buckets.
     pub spec: Spec,
-    /// The buckets in order, each under its least value; or of sparse histograms the values that one of them has,
+    /// The buckets in order, each under its least value; or the values that a sparse histogram among them has,
     /// ascending.
     pub keys: Vec<KeySum>,
     /// The sum of the samples.
@@ -60,7 +60,7 @@ pub(crate) fn copy_of_spec(alloc: Global, spec: &Spec) -> Result<Spec, AllocErro
     })
 }
 
-/// What the histogram of one image has, where the image has a number.
+/// What the histogram of one image has; the image has a number.
 pub(crate) fn sum_of(alloc: Global, number: u64, hist: &HistReading) -> Result<HistSum, AllocError>
     ensures part { IfOk result (λ sum. part_of sum ≡ part_from number (histogram_view hist.now)) }
     ensures range { IfOk result IsInRange }
@@ -79,7 +79,7 @@ pub(crate) fn sum_of(alloc: Global, number: u64, hist: &HistReading) -> Result<H
     })
 }
 
-/// A copy of it.
+/// A copy of a histogram.
 pub(crate) fn copy_of(alloc: Global, hist: &HistSum) -> Result<HistSum, AllocError>
     ensures { IfOk result (λ copy. part_of copy ≡ part_of hist.now) }
 {
@@ -95,7 +95,7 @@ pub(crate) fn copy_of(alloc: Global, hist: &HistSum) -> Result<HistSum, AllocErr
     })
 }
 
-// The sum of two amounts, where it fits 128 bits.
+// The sum of two amounts, if it fits 128 bits.
 fn amount_of_both(left: &i128, right: &i128) -> Result<i128, SumsFault>
     ensures sum { IfOk result (λ sum. sum ≡ left.now +ℤ right.now) }
     ensures fits { IfOk result (FitsSigned w128) }
@@ -104,7 +104,7 @@ fn amount_of_both(left: &i128, right: &i128) -> Result<i128, SumsFault>
     left.checked_add(*right).ok_or(SumsFault::TooMany)
 }
 
-// What two have together, which are of one name and one spec.
+// What two histograms of one name and one spec have together.
 fn both(alloc: Global, left: &HistSum, right: &HistSum) -> Result<HistSum, SumsFault>
     ensures both { IfOk result (λ sum. IsBoth (part_of left.now) (part_of right.now) (part_of sum)) }
     ensures whole { IfOk result (λ sum. left.now.spec ≡ right.now.spec → IsWholeHist left.now → IsWholeHist right.now → IsWholeHist sum) }
@@ -123,7 +123,7 @@ fn both(alloc: Global, left: &HistSum, right: &HistSum) -> Result<HistSum, SumsF
     })
 }
 
-/// The order of two by name, and of one name by spec.
+/// The order of two histograms: by name, then by spec.
 pub(crate) fn by_name_and_spec(left: &HistSum, right: &HistSum) -> Ordering
     ensures order { result ≡ hist_cmp left.now right.now }
     ensures name { is_eq result ≡ true → left.now.name.items ≡ right.now.name.items }
@@ -136,7 +136,7 @@ pub(crate) fn by_name_and_spec(left: &HistSum, right: &HistSum) -> Ordering
     }
 }
 
-/// Where the least of two lists stands, each of which ascends.
+/// Which of two lists, each of which ascends, begins with the least.
 pub(crate) fn side_of(left: &[HistSum], right: &[HistSum]) -> Side
     requires { 0 < length left.now + length right.now }
     ensures { IsSideOf left.now right.now result }
@@ -154,7 +154,7 @@ pub(crate) fn side_of(left: &[HistSum], right: &[HistSum]) -> Side
     }
 }
 
-// The least of two lists, and how many of each it takes.
+// The least of two lists, and how many elements of each it takes.
 fn next_hist(
     alloc: Global,
     left: &[HistSum],
@@ -177,7 +177,7 @@ fn next_hist(
     }
 }
 
-/// What two lists have together. Where both ascend by name and spec, so does the result, and it has each name and spec
+/// What two lists have together. If both ascend by name and spec, so does the result, and it has each name and spec
 /// once.
 pub(crate) fn sums_of_both(
     alloc: Global,

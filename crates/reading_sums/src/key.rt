@@ -23,14 +23,14 @@ pub struct KeySum {
     pub marks: u64,
 }
 
-// The mark beside the key of an index, or 0.
+// The mark of the key at an index, or 0.
 fn mark_beside(marks: &[u64], index: usize) -> u64
     ensures { result ≡ slice_index marks.now index }
 {
     marks.get(index).copied().unwrap_or(0)
 }
 
-/// The keys of a histogram, in their order. A key without a mark beside it has the mark 0.
+/// The keys of a histogram, in their order. A key that has no mark gets the mark 0.
 pub(crate) fn keys_of(
     alloc: Global,
     counts: &[(i32, u64)],
@@ -52,7 +52,7 @@ pub(crate) fn keys_of(
     Ok(keys)
 }
 
-// What two have of a key, or nothing where a total would pass 64 bits.
+// What two keys of one value have together; refused if a total would pass 64 bits.
 fn key_of_both(left: &KeySum, right: &KeySum) -> Result<KeySum, SumsFault>
     requires { left.now.value ≡ right.now.value }
     ensures both { IfOk result (IsKeyOfBoth left.now right.now) }
@@ -70,7 +70,7 @@ fn key_of_both(left: &KeySum, right: &KeySum) -> Result<KeySum, SumsFault>
     }
 }
 
-/// Where the least key of two lists stands, each of which ascends.
+/// Which of two lists, each of which ascends, begins with the least key.
 pub(crate) fn side_of(left: &[KeySum], right: &[KeySum]) -> Side
     requires { 0 < length left.now + length right.now }
     ensures { IsSide left.now right.now result }
@@ -105,7 +105,7 @@ fn next_key(left: &[KeySum], right: &[KeySum]) -> Result<(KeySum, usize, usize),
     }
 }
 
-// The keys of two lists together: each has the units and the marks of both. Where both lists ascend, so do they.
+// The keys of two lists together: each has the units and the marks of both. If both lists ascend, so do they.
 fn keys_of_both(alloc: Global, left: &[KeySum], right: &[KeySum]) -> Result<Vec<KeySum>, SumsFault>
     ensures same { IfOk result (λ keys. SameKeys keys.items (left.now ++ right.now)) }
     ensures units { IfOk result (λ keys. units_of keys.items ≡ units_of (left.now ++ right.now)) }
@@ -123,7 +123,7 @@ fn keys_of_both(alloc: Global, left: &[KeySum], right: &[KeySum]) -> Result<Vec<
     Ok(keys)
 }
 
-// Units and those of a key together, where they fit 64 bits.
+// Units and those of a key together, if they fit 64 bits.
 fn units_with(units: u64, key: KeySum) -> Option<u64>
     ensures sum { IfSome result (λ sum. sum ≡ units + key.units) }
     ensures fits { IfSome result (λ sum. sum < 2 ^ 64) }
@@ -148,7 +148,7 @@ pub(crate) fn units_fit(keys: &[KeySum]) -> bool
     true
 }
 
-/// The keys of two lists together, where their units together fit 64 bits.
+/// The keys of two lists together, if their units together fit 64 bits.
 pub(crate) fn fitting_keys_of_both(
     alloc: Global,
     left: &[KeySum],
@@ -168,7 +168,7 @@ pub(crate) fn fitting_keys_of_both(
     }
 }
 
-/// The keys as a reading has them: each value beside its units.
+/// The keys as a reading has them: each value with its units.
 pub(crate) fn counts_in(alloc: Global, keys: &[KeySum]) -> Result<Vec<(i32, u64)>, AllocError>
     ensures { IfOk result (λ counts. counts.items ≡ counts_of keys.now) }
 {
@@ -190,7 +190,7 @@ pub(crate) fn marks_in(alloc: Global, keys: &[KeySum]) -> Result<Vec<u64>, Alloc
     Ok(marks)
 }
 
-/// The units of all keys; where they would pass 64 bits, the greatest number of 64 bits.
+/// The units of all keys, or the greatest number of 64 bits if they would pass it.
 pub(crate) fn units_in(keys: &[KeySum]) -> u64
     ensures { result ≡ min (units_of keys.now) 18446744073709551615 }
 {

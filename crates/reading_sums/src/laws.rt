@@ -21,10 +21,10 @@ pub fn order_is_nothing()
     ensures { (readings others : List (ℕ × Reading)) → IsPermutation readings others → (sums : Sums) → IsSumOver readings sums → IsSumOver others sums }
 {}
 
-/// The sum of two lists together is known from the sums of both: it is what they have together, and anything that has
-/// that is the sum of both lists [together]. And a list has one sum: two sums of it have the same totals and the same
-/// notes [one]. Two well-formed sums with the same totals have the same histograms: of each name and spec the same keys, units,
-/// marks, amounts, redundant count, number of images and least number, in the same order [same].
+/// The sum of two lists together is known from the sums of both: it is what these have together, and anything that has
+/// that is the sum of both lists [together]. A list has only one sum: two sums of it have the same totals and the same
+/// notes [one]. Two well-formed sums with the same totals and notes have the same histograms: for each name and spec
+/// the same keys, units, marks, amounts, redundant count, number of images and least number, in the same order [same].
 ///
 /// It does nothing: what it promises are laws of the definition.
 pub fn parts_append()
@@ -33,10 +33,11 @@ pub fn parts_append()
     ensures same { (a b : Sums) → IsWellFormed a → IsWellFormed b → HaveSameSum a b → parts_of a ≡ parts_of b }
 {}
 
-/// A well-formed sum of one reading alone reads as that reading, whatever number that has: it shows exactly the histograms
-/// of the reading, each with the same name, spec, counts, marks, sum, mark of the sum and redundant count, in the order of
-/// their names, and with its index as reference [shown]. It leaves none out [left_out], is full or corrupt exactly if the
-/// reading is [full] [corrupt], and is of one image [images]. The reading is whole, and has a mark beside each count.
+/// A well-formed sum of one reading alone reads as that reading, whatever its number: it shows exactly the histograms
+/// of the reading, each with the same name, spec, counts, marks, sum, mark of the sum and redundant count, in the order
+/// of their names, and with its index as reference [shown]. It leaves none out [left_out], is full or corrupt exactly
+/// if the reading is [full] [corrupt], and is of one image [images]. The reading has to be whole, with a mark for each
+/// count.
 ///
 /// It does nothing: what it promises are laws of the definition.
 pub fn one_image_reads_the_same()
@@ -47,8 +48,8 @@ pub fn one_image_reads_the_same()
     ensures images { (number : ℕ) (reading : Reading) (sums : Sums) → IsSumOfOne number reading sums → sums.notes.images ≡ 1 }
 {}
 
-/// What words with a lawful header read as is whole [whole], and has a mark beside each count of a histogram [marks]: so
-/// what `image_reader::read` returns is as `Sums::add` and `one_image_reads_the_same` ask.
+/// What words with a valid header read as is whole [whole], and has a mark for each count of a histogram [marks]. So
+/// what `image_reader::read` returns satisfies the conditions of `Sums::add` and `one_image_reads_the_same`.
 ///
 /// It does nothing: what it promises are laws of the definition.
 pub fn words_are_whole()

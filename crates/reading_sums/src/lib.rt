@@ -1,7 +1,7 @@
 //! Sums of any number of images.
 //!
-//! A sum is made of readings that have numbers, one after the other, or of other sums. Of each name and spec it has what
-//! the histograms of that name and spec have together; histograms of one name with different specs stay apart. Its
+//! A sum is made of readings that have numbers, one after the other, or of other sums. For each name and spec it has
+//! what the histograms of that name and spec have together; histograms of one name with different specs stay apart. Its
 //! totals are those of the list of the readings (`specs/Totals.antt`), in whatever order they were added and however
 //! they were grouped. A refused call changes nothing.
 #![tactic(auto)]

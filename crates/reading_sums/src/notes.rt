@@ -1,4 +1,4 @@
-//! What images say beside their histograms.
+//! What images say apart from their histograms.
 
 ghost use Rattle.std.specs.Prelude.{◌≡◌, ◌+◌, ◌<◌, ◌≤◌, ◌^◌, IfOk, OnOk, OnErr};
 ghost use Rattle.image_reader.specs.Views.{reading_view};
@@ -9,22 +9,22 @@ ghost use Rattle.reading_sums.specs.Notes.{AreNotesOfBoth};
 use crate::fault::SumsFault;
 use image_reader::Reading;
 
-/// What the images of a sum say beside their histograms.
+/// What the images of a sum say apart from their histograms.
 #[derive(Clone, Copy, Debug, PartialEq, Eq)]
 pub struct Notes {
     /// How many images there are.
     pub images: u64,
     /// How many of them had an allocation that did not fit.
     pub full: u64,
-    /// How many some thread found corrupt.
+    /// How many of them some thread found corrupt.
     pub corrupt: u64,
-    /// Of how many the list stops before its end.
+    /// How many have a list that stops before its end.
     pub stopped: u64,
     /// How many bad records they have together.
     pub bad: u64,
 }
 
-/// Those of one image.
+/// The notes of one image.
 pub(crate) fn notes_of(reading: &Reading) -> Notes
     ensures { result ≡ notes_of_one (reading_view reading.now) }
 {
@@ -37,7 +37,7 @@ pub(crate) fn notes_of(reading: &Reading) -> Notes
     }
 }
 
-/// The sum of two numbers, where it fits 64 bits.
+/// The sum of two numbers, if it fits 64 bits.
 pub(crate) fn number_of_both(left: u64, right: u64) -> Result<u64, SumsFault>
     ensures sum { IfOk result (λ sum. sum ≡ left + right) }
     ensures fits { IfOk result (λ sum. sum < 2 ^ 64) }
@@ -46,7 +46,7 @@ pub(crate) fn number_of_both(left: u64, right: u64) -> Result<u64, SumsFault>
     left.checked_add(right).ok_or(SumsFault::TooMany)
 }
 
-/// Those of two sums together, where each number fits 64 bits.
+/// The notes of two sums together, if each number fits 64 bits.
 pub(crate) fn notes_of_both(left: &Notes, right: &Notes) -> Result<Notes, SumsFault>
     ensures both { IfOk result (AreNotesOfBoth left.now right.now) }
     ensures fits { OnOk result (¬ NotesDoNotFit left.now right.now) }

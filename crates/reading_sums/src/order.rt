@@ -1,4 +1,4 @@
-//! The order of the histograms of a sum: by their names, and of one name by their specs.
+//! The order of the histograms of a sum: by name, then by spec.
 
 ghost use Rattle.std.specs.Prelude.{◌≡◌, true, slice_index};
 ghost use Rattle.std.specs.Ordering.{is_eq};
@@ -7,12 +7,12 @@ ghost use Rattle.reading_sums.specs.Orders.{spec_numbers, spec_cmp};
 use bucket_ranges::Spec;
 use std::cmp::Ordering;
 
-/// Where the least of two lists stands.
+/// Which of two lists begins with the least.
 #[derive(Clone, Copy, Debug, PartialEq, Eq)]
 pub(crate) enum Side {
     Left,
     Right,
-    /// At the front of both.
+    /// Both begin with it.
     Both,
 }
 
@@ -28,8 +28,7 @@ fn rank(spec: &Spec) -> u32
     }
 }
 
-/// The order of specs: by kind; of linear ones by minimum, maximum and number of buckets, and of custom ones by their
-/// values.
+/// The order of specs: by kind; linear ones by minimum, maximum and number of buckets, and custom ones by their values.
 pub(crate) fn by_spec(left: &Spec, right: &Spec) -> Ordering
     ensures order { result ≡ spec_cmp left.now right.now }
     ensures same { is_eq result ≡ true → left.now ≡ right.now }

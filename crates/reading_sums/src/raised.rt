@@ -1,4 +1,4 @@
-//! Sums of images that come behind others.
+//! Sums of images that come after others.
 
 ghost use Rattle.std.specs.Prelude.{◌≡◌, ◌+◌, ◌<◌, ◌≤◌, ◌^◌, map, IfOk, IfErr, OnOk};
 ghost use Rattle.std.specs.List.{All};
@@ -11,7 +11,7 @@ use crate::hist::{HistSum, copy_of};
 use crate::notes::number_of_both;
 use std::alloc::Global;
 
-// A histogram of a sum, the numbers of its images raised by `by`, if they fit 64 bits.
+// A histogram of a sum with the numbers of its images raised by `by`, if they fit 64 bits.
 fn raised_hist(alloc: Global, hist: &HistSum, by: u64) -> Result<HistSum, SumsFault>
     ensures raised { IfOk result (λ raised. part_of raised ≡ raised_part by (part_of hist.now)) }
     ensures too_many { IfErr result (λ fault. IfTooMany fault (2 ^ 64 ≤ hist.now.least + by)) }
@@ -23,7 +23,7 @@ fn raised_hist(alloc: Global, hist: &HistSum, by: u64) -> Result<HistSum, SumsFa
     })
 }
 
-/// The histograms of a sum, the numbers of their images raised by `by`, if they fit 64 bits.
+/// The histograms of a sum with the numbers of their images raised by `by`, if they fit 64 bits.
 pub(crate) fn raised_hists(
     alloc: Global,
     hists: &[HistSum],

@@ -1,4 +1,4 @@
-//! Which histograms of a sum are shown: of each name the one of the least number.
+//! Which histograms of a sum are shown: for each name the one with the least number.
 
 ghost use Rattle.std.specs.Prelude.{◌≡◌, ◌<◌, ◌≤◌, ◌∷◌, ◌++◌, List, nat_lt, length, map, min, take, drop, IfOk, OnOk};
 ghost use Rattle.std.specs.List.{All, AllZip, IsFirstBest};
@@ -20,7 +20,7 @@ pub struct OtherSpec {
     pub name: Vec<u8>,
     /// How many images have such a histogram.
     pub images: u64,
-    /// The units of it; where they would pass 64 bits, the greatest number of 64 bits.
+    /// Its units, or the greatest number of 64 bits if they would pass it.
     pub units: u64,
 }
 
@@ -39,7 +39,7 @@ fn run_length(hists: &[HistSum]) -> usize
     hists.len()
 }
 
-// Where the least number stands first.
+// The index of the first histogram with the least number.
 fn least_of(hists: &[HistSum]) -> usize
     requires { 0 < length hists.now }
     ensures { IsFirstBest (λ hist best. nat_lt hist.least best.least) hists.now (length hists.now) result }
@@ -69,7 +69,7 @@ fn reading_of(alloc: Global, index: usize, hist: &HistSum) -> Result<HistReading
     })
 }
 
-/// What the histograms of a sum read as: of each name the first that has the least number. They are readable if those
+/// What the histograms of a sum read as: for each name the first that has the least number. They are readable if those
 /// of the sum are whole.
 pub(crate) fn readings_of(alloc: Global, hists: &[HistSum]) -> Result<Vec<HistReading>, AllocError>
     ensures readable { IfOk result (λ readings. All IsWholeHist hists.now → All IsReadable (map histogram_view readings.items)) }
@@ -97,7 +97,7 @@ fn other_of(alloc: Global, hist: &HistSum) -> Result<OtherSpec, AllocError>
     })
 }
 
-// Puts what is reported of histograms behind others.
+// Puts what is reported of histograms after others.
 fn put_all(alloc: Global, others: &mut Vec<OtherSpec>, hists: &[HistSum]) -> Result<(), AllocError>
     ensures { OnOk result ((parts : List _) → AllZip IsOtherOf parts others.old.items → AllZip IsOtherOf (parts ++ map part_of hists.now) others.new.items) }
 {
@@ -107,7 +107,7 @@ fn put_all(alloc: Global, others: &mut Vec<OtherSpec>, hists: &[HistSum]) -> Res
     Ok(())
 }
 
-// Puts what is reported of the histograms of one name behind others, but for the one that is shown.
+// Puts what is reported of the histograms of one name after others, except for the one that is shown.
 fn put_others(alloc: Global, others: &mut Vec<OtherSpec>, run: &[HistSum]) -> Result<(), AllocError>
     requires { 0 < length run.now }
     ensures { OnOk result ((group : Group) → members_of group ≡ map part_of run.now → (parts : List _) → AllZip IsOtherOf parts others.old.items → AllZip IsOtherOf (parts ++ left_out_of group) others.new.items) }

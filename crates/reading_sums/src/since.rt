@@ -1,4 +1,4 @@
-//! What came to the histograms of a sum since an earlier one.
+//! What was counted in the histograms of a sum since an earlier one.
 
 ghost use Rattle.std.specs.Prelude.{◌≡◌, ◌≢◌, ◌⊎◌, ℤ, true, false, ◌-◌, ◌+ℤ◌, ◌∷◌, ◌++◌, [], ◌+◌, ◌^◌, ◌<◌, ◌≤◌, ◌-ℤ◌, FitsSigned, List, slice_index_or, length, take, map, IfOk, IfErr, IfSome, IfNone, OnOk};
 ghost use Rattle.std.specs.Option.{option_to_list};
@@ -67,7 +67,7 @@ fn next_key_since(later: &[KeySum], earlier: &[KeySum]) -> Option<(Option<KeySum
     }
 }
 
-// Puts a key behind others, if there is one.
+// Puts a key after others, if there is one.
 fn put_key(keys: &mut Vec<KeySum>, key: Option<KeySum>) -> Result<(), AllocError>
     ensures { OnOk result (keys.new.items ≡ keys.old.items ++ option_to_list key) }
 {
@@ -101,7 +101,7 @@ fn keys_since(
     Ok(Some(keys))
 }
 
-// That something of a name fell.
+// The fault that something of a name fell.
 fn fell(alloc: Global, name: &[u8]) -> MinusFault
     ensures { MatchFault result ⊥ (λ told. told ≡ name.now) (λ told. ⊥) }
 {
@@ -111,7 +111,7 @@ fn fell(alloc: Global, name: &[u8]) -> MinusFault
     }
 }
 
-// That the earlier histogram of a name has another spec.
+// The fault that the earlier histogram of a name has another spec.
 fn other_spec(alloc: Global, name: &[u8]) -> MinusFault
     ensures { MatchFault result ⊥ (λ told. ⊥) (λ told. told ≡ name.now) }
 {
@@ -202,7 +202,7 @@ fn ends_with(hists: &[HistSum], name: &[u8]) -> bool
     !hists.is_empty() && hists[hists.len() - 1].name.as_slice() == name
 }
 
-// Passes over an earlier histogram that has no later one of its name and spec. Refuses it if its name is among the later
+// Skips an earlier histogram that has no later one of its name and spec. Refuses it if its name is among the later
 // ones, or if it has something.
 fn pass_over(
     alloc: Global,
@@ -227,8 +227,8 @@ fn pass_over(
     }
 }
 
-// What the least histogram of two lists has more than an earlier one, and how many of each it takes. Before it stand
-// those of the later list that were taken.
+// What the least histogram of two lists has more than an earlier one, and how many of each it takes. `before` has those
+// of the later list that were taken already.
 fn next_hist_since(
     alloc: Global,
     before: &[HistSum],
@@ -256,7 +256,7 @@ fn next_hist_since(
     }
 }
 
-// Puts a histogram behind others, if there is one.
+// Puts a histogram after others, if there is one.
 fn put_hist(hists: &mut Vec<HistSum>, hist: Option<HistSum>) -> Result<(), AllocError>
     ensures { OnOk result (hists.new.items ≡ hists.old.items ++ option_to_list hist) }
 {

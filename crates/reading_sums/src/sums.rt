@@ -27,8 +27,8 @@ use crate::since::hists_since;
 use image_reader::{HistReading, Reading};
 use std::alloc::{AllocError, Global};
 
-/// The sum of any number of images: of each name and spec what the histograms of that name and spec have together, and
-/// what the images say beside them.
+/// The sum of any number of images: for each name and spec what the histograms of that name and spec have together, and
+/// what the images say apart from their histograms.
 #[derive(Debug, Drop)]
 pub struct Sums {
     alloc: Global,
@@ -83,16 +83,16 @@ impl Sums {
         }
     }
 
-    /// Adds what one image reads as, which has a number. A sum of any list of numbered readings is then the sum of that
-    /// list with this one behind it [added], and of any sum it is that with the totals and the notes of this reading more [more].
-    /// It is well formed if it was, and the reading is whole: it has each name once, each of a lawful spec with its keys and
-    /// with units that together fit 64 bits [well_formed].
+    /// Adds the reading of one image, which has a number. A sum of any list of numbered readings becomes the sum of
+    /// that list with this reading at its end [added], and any sum gains the totals and the notes of this reading
+    /// [more]. A well-formed sum stays well formed if the reading is whole: it has each name once, each with a valid
+    /// spec, the keys of that spec, and units that together fit 64 bits [well_formed].
     ///
-    /// Where the sum is well formed and the reading whole, it is refused with `TooMany` only if what both have together does
-    /// not fit: of some name and spec all units, the marks of a key, the redundant counts or the images are 2^64 or more, or
-    /// amounts do not fit 128 bits; or some number of the notes is 2^64 or more [too_many]. And it is accepted only if all of
-    /// that fits [fits]. It is refused with `NoMemory` if there is no memory. Where it is refused, the sum is as it was
-    /// [refused].
+    /// If the sum is well formed and the reading whole, it is refused with `TooMany` only if what both have together
+    /// does not fit: for some name and spec, all units, the marks of a key, the redundant counts or the images are 2^64
+    /// or more, or amounts do not fit 128 bits; or a number of the notes is 2^64 or more [too_many]. It is accepted
+    /// only if all of that fits [fits]. It is refused with `NoMemory` if memory runs out. If it is refused, the sum is
+    /// unchanged [refused].
     pub fn add(&mut self, number: u64, reading: &Reading) -> Result<(), SumsFault>
         ensures added { OnOk result ((readings : List (ℕ × definition.Reading)) → IsSumOver readings self.old → IsSumOver (readings ++ (number, reading_view reading.now) ∷ []) self.new) }
         ensures more { OnOk result (AddsNumbered (number, reading_view reading.now) self.old self.new) }
@@ -109,13 +109,15 @@ impl Sums {
         Ok(())
     }
 
-    /// Adds another sum. Sums of any two lists of numbered readings become the sum of both lists, one behind the other
-    /// [added], and any two sums what both have together [both], well formed if both are [well_formed]. The other sum stays.
+    /// Adds another sum, which stays as it is. Sums of any two lists of numbered readings become the sum of the first
+    /// list followed by the second [added], and any two sums become what both have together [both], well formed if both
+    /// are [well_formed].
     ///
-    /// Where both sums are well formed, it is refused with `TooMany` only if what both have together does not fit: of some
-    /// name and spec all units, the marks of a key, the redundant counts or the images are 2^64 or more, or amounts do not
-    /// fit 128 bits; or some number of the notes is 2^64 or more [too_many]. And it is accepted only if all of that fits
-    /// [fits]. It is refused with `NoMemory` if there is no memory. Where it is refused, the sum is as it was [refused].
+    /// If both sums are well formed, it is refused with `TooMany` only if what both have together does not fit: for
+    /// some name and spec, all units, the marks of a key, the redundant counts or the images are 2^64 or more, or
+    /// amounts do not fit 128 bits; or a number of the notes is 2^64 or more [too_many]. It is accepted only if all of
+    /// that fits [fits]. It is refused with `NoMemory` if memory runs out. If it is refused, the sum is unchanged
+    /// [refused].
     pub fn append(&mut self, other: &Sums) -> Result<(), SumsFault>
         ensures added { OnOk result ((readings more : List (ℕ × definition.Reading)) → IsSumOver readings self.old → IsSumOver more other.now → IsSumOver (readings ++ more) self.new) }
         ensures both { OnOk result (IsSumOfBoth self.old other.now self.new) }
@@ -131,12 +133,12 @@ impl Sums {
         Ok(())
     }
 
-    /// Returns the sum of the same readings, the number of each raised by `by` [raised]: the least number of each name and
-    /// spec is raised by it [parts], and all else is the same [notes]. It is well formed if this sum is [well_formed]. So
-    /// the sum of what comes behind others can be added to theirs.
+    /// Returns the sum of the same readings, with the number of each raised by `by` [raised]: the least number of each
+    /// name and spec is raised by it [parts], and all else is the same [notes]. It is well formed if this sum is
+    /// [well_formed]. So the sum of later images can be added to that of earlier ones.
     ///
-    /// It is refused with `NoMemory` if there is no memory, and with `TooMany` only if some least number would be 2^64 or more
-    /// [too_many]. It is accepted only if none would [fits].
+    /// It is refused with `NoMemory` if memory runs out, and with `TooMany` only if some least number would be 2^64 or
+    /// more [too_many]. It is accepted only if none would [fits].
     pub fn raised(&self, by: u64) -> Result<Sums, SumsFault>
         ensures raised { IfOk result (λ sums. (readings : List (ℕ × definition.Reading)) → IsSumOver readings self.now → IsSumOver (map (raised by) readings) sums) }
         ensures parts { IfOk result (λ sums. parts_of sums ≡ map (raised_part by) (parts_of self.now)) }
@@ -159,22 +161,22 @@ impl Sums {
         are_whole(self.alloc, &self.hists)
     }
 
-    /// Returns what came since an earlier sum of the same segment, or of the same folder. Of each name and spec the earlier
-    /// sum and the result have together what this sum has: the units and the marks of each key, the amounts and those that
-    /// deltas have taken, and the redundant counts. The names, the specs, the keys, how many images have a histogram and
-    /// the least number of one are those of this sum [since], and so are the notes [notes]. It is well formed if this sum
-    /// is [well_formed].
+    /// Returns what was counted since an earlier sum of the same segment, or of the same folder. For each name and
+    /// spec, the earlier sum and the result have together what this sum has: the units and the marks of each key, the
+    /// amounts and those that deltas have taken, and the redundant counts. The names, the specs, the keys, how many
+    /// images have a histogram and the least number of one are those of this sum [since], and so are the notes [notes].
+    /// It is well formed if this sum is [well_formed].
     ///
-    /// Of two well-formed sums it is given only where there is none of these reasons [only], and refused only for one that
-    /// there is, or with `NoMemory` where there is no memory:
+    /// For two well-formed sums it is returned only if there is none of these reasons [only], and refused only for one
+    /// of them, or with `NoMemory` if memory runs out:
     ///
-    /// - `Fell` with a name: of one spec this sum has fewer units or marks of some key than the earlier one, or a smaller
-    ///   redundant count; or it has nothing of the name, and the earlier one has a unit, a mark, a redundant count or an
-    ///   amount that is not 0 [fell].
-    /// - `OtherSpec` with a name: the earlier sum has it under a spec that this one does not have it with, but another
-    ///   [other_spec].
-    /// - `TooMany`: an amount of this sum less that of the earlier one does not fit 128 bits [too_many]. That an amount
-    ///   fell is no reason, since samples may be negative.
+    /// - `Fell` with a name: under one spec this sum has fewer units or marks of some key than the earlier one, or a
+    ///   smaller redundant count; or it has nothing of the name, and the earlier one has a unit, a mark, a redundant
+    ///   count or an amount that is not 0 [fell].
+    /// - `OtherSpec` with a name: the earlier sum has the name under a spec under which this one does not have it, but
+    ///   this one has it under another [other_spec].
+    /// - `TooMany`: an amount of this sum minus that of the earlier one does not fit 128 bits [too_many]. An amount
+    ///   that fell is no reason, since samples may be negative.
     pub fn minus(&self, earlier: &Sums) -> Result<Sums, MinusFault>
         ensures since { IfOk result (λ since. AreSince (parts_of self.now) (parts_of earlier.now) (parts_of since)) }
         ensures notes { IfOk result (λ since. since.notes ≡ self.now.notes) }
@@ -192,24 +194,24 @@ impl Sums {
         })
     }
 
-    /// Returns what the images say beside their histograms.
+    /// Returns what the images say apart from their histograms.
     pub fn notes(&self) -> Notes
         ensures { result ≡ self.now.notes }
     {
         self.notes
     }
 
-    /// Returns the histograms of the sum. A well-formed sum has them ascending by name and spec.
+    /// Returns the histograms of the sum. In a well-formed sum they ascend by name and spec.
     pub fn hists(&self) -> &[HistSum]
         ensures { result.now ≡ self.now.hists.items }
     {
         &self.hists
     }
 
-    /// Returns the sum that has exactly these histograms and notes [exact], if they are those of a well-formed sum, and
-    /// otherwise nothing [whole]: they ascend by name and spec, each spec is lawful, the keys of each are those of its
-    /// spec, and its units together fit 64 bits. Of a custom spec the values ascend from 1, as a segment has them.
-    /// `AllocError` where there is no memory to tell.
+    /// Returns the sum that has exactly these histograms and notes [exact] if they are those of a well-formed sum, and
+    /// nothing otherwise [whole]: they ascend by name and spec, each spec is valid, the keys of each are those of its
+    /// spec, and its units together fit 64 bits. The values of a custom spec ascend from 1, as in a segment.
+    /// `AllocError` is returned if memory runs out before this is known.
     pub fn from_hists(
         alloc: Global,
         hists: Vec<HistSum>,
@@ -229,10 +231,10 @@ impl Sums {
         }
     }
 
-    /// Returns the sum as a reading: of each name the histogram of which an image has the least number, of equal ones the
-    /// first, by their names, each with its index as reference [shown]. Of a well-formed sum the names ascend, so each is
-    /// there once [names], and the histograms are readable [readable]. It is full or corrupt if some image is [full]
-    /// [corrupt], and has no id, no bad records and no stop [rest].
+    /// Returns the sum as a reading: for each name the histogram whose image has the least number, the first of equal
+    /// ones, in the order of the names, each with its index as reference [shown]. The names of a well-formed sum
+    /// ascend, so each is there once [names], and its histograms are readable [readable]. The reading is full or
+    /// corrupt if some image is [full] [corrupt], and has no id, no bad records and no stop [rest].
     pub fn reading(&self, alloc: Global) -> Result<Reading, AllocError>
         ensures readable { IfOk result (λ reading. IsWellFormed self.now → All IsReadable (map histogram_view reading.hists.items)) }
         ensures shown { IfOk result (λ reading. map histogram_view reading.hists.items ≡ shown_parts (parts_of self.now)) }

@@ -7,7 +7,7 @@ use Rattle.std.proofs.lemmas.List.Concat.{flat_map-append}
 use Rattle.reading_texts.specs.Text.{line}
 use Rattle.reading_texts.specs.Exporting.{joined}
 
--- the text of one element more
+-- the text with one more element
 flat_map-take : {X Y : Type 0} (f : X → List Y) (xs : List X) (i : ℕ) (d : X) → i < length xs
     → flat_map f (take (i + 1) xs) ≡ flat_map f (take i xs) ++ f (get_or xs i d)
 flat_map-take f xs i d h =
@@ -17,11 +17,11 @@ flat_map-take f xs i d h =
 pub written-both : (first a b : List ℕ) {second third : List ℕ} → second ≡ first ++ a → third ≡ second ++ b → third ≡ first ++ (a ++ b)
 written-both first a b before after = after ∙ (ap (λ s. s ++ b) before ∙ append_assoc first a b)
 
--- one text more behind a text that is known
+-- one more text after a text that is known
 pub written-behind : (a b : List ℕ) {second third : List ℕ} → second ≡ a → third ≡ second ++ b → third ≡ a ++ b
 written-behind a b before after = after ∙ ap (λ s. s ++ b) before
 
--- parts that are joined, of which the first ones are joined already
+-- parts that are joined, the first of which are joined already
 pub joined-both : (some others : List (List ℕ)) → joined (joined some ∷ others) ≡ joined (some ++ others)
 joined-both some others = sym (flat_map-append (λ part. part) some others)
 
@@ -30,7 +30,7 @@ pub lines-joined : {X : Type 0} (some : List (List ℕ)) (others : X → List (L
     → flat_map (λ x. joined (joined some ∷ others x)) xs ≡ flat_map (λ x. joined (some ++ others x)) xs
 lines-joined some others xs i = flat_map (λ x. joined-both some (others x) i) xs
 
--- one part more behind joined ones
+-- one more part after joined ones
 pub joined-more : (first : List ℕ) (parts : List (List ℕ)) (part : List ℕ) {second third : List ℕ} → second ≡ first ++ joined parts → third ≡ second ++ part
     → third ≡ first ++ joined (parts ++ part ∷ [])
 joined-more first parts part before after =

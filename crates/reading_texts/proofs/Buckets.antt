@@ -1,4 +1,4 @@
--- The buckets of a lawful spec and their boundaries.
+-- The buckets of a valid spec and their boundaries.
 use Rattle.std.proofs.Common.{◌≡◌, ◌≢◌, ◌∙◌, map, ℕ, ◌+◌, ◌<◌, List, length, None, ap, refl, arith}
 use Rattle.std.proofs.Common.{ℤ, pos, get_or, drop, sym, All, false, ◌≤ℤ◌, rules}
 use Rattle.std.proofs.lemmas.Grind.{get_or_after_one}
@@ -15,11 +15,11 @@ use Rattle.bucket_ranges.specs.Spec.{spec_fault, buckets_of}
 use Rattle.bucket_ranges.specs.Ranges.{boundaries_of}
 use Rattle.bucket_ranges.proofs.Ascent.{boundaries_of-split}
 
--- the boundaries are one more than the buckets, where there are buckets
+-- the boundaries are one more than the buckets, if there are buckets
 length-boundaries_of : (spec : Spec) → spec_fault spec ≡ None → spec ≢ Sparse → length (boundaries_of spec) ≡ buckets_of spec + 1
 length-boundaries_of spec e ne = (boundaries_of-split spec e ne).count
 
--- so many stand behind buckets
+-- there are `n` boundaries after `n` buckets
 length-behind : (boundaries : List ℕ) (n : ℕ) → length boundaries ≡ n + 1 → length (map pos (drop 1 boundaries)) ≡ n
 length-behind boundaries n e = omega (arith, length-map (drop 1 boundaries) pos, length-drop 1 boundaries, e)
 
@@ -33,7 +33,7 @@ length-highs (Custom values) counts lawful counted =
     length-behind (boundaries_of (Custom values)) (buckets_of (Custom values)) (length-boundaries_of (Custom values) lawful (λ same. absurd (cc))) ∙ sym counted
 length-highs Sparse counts lawful counted = length-map counts (λ (count : ℤ × ℕ). count.0 +ℤ pos 1)
 
--- what stands behind buckets is the boundaries behind the first
+-- the boundaries after buckets are all but the first boundary
 highs_of-boundaries : (spec : Spec) (counts : List (ℤ × ℕ)) → (spec ≡ Sparse → ⊥) → highs_of spec counts ≡ map pos (drop 1 (boundaries_of spec))
 highs_of-boundaries (Linear min max n) counts ne = refl
 highs_of-boundaries Boolean counts ne = refl
@@ -49,7 +49,7 @@ bucket_behind spec counts i ne within =
     ∙ (get_or-map pos (drop 1 boundaries) i 0 (pos 0) inside
     ∙ ap pos (get_or_after_one boundaries i 0 ∙ ap (λ k. get_or boundaries k 0) (omega arith)))
 
--- so a bucket of counts that are all counted has a boundary behind it
+-- so a bucket of counts that are all counted has a boundary after it
 pub has_behind : (spec : Spec) (counts : List (ℤ × ℕ)) (i : ℕ) → spec_fault spec ≡ None → (spec ≡ Sparse → ⊥) → IsOnePerBucket spec (length counts)
     → i < length counts → i + 1 < length (boundaries_of spec)
 has_behind spec counts i lawful ne counted within =
@@ -62,7 +62,7 @@ has_behind spec counts i lawful ne counted within =
       within,
     )
 
--- behind a value stands the next one
+-- after a value comes the next one
 pub value_behind : (counts : List (ℤ × ℕ)) (i : ℕ) (count : ℤ × ℕ) → i < length counts → count ≡ get_or counts i count
     → get_or (highs_of Sparse counts) i (pos 0) ≡ count.0 +ℤ pos 1
 value_behind counts i count within is =
@@ -72,7 +72,7 @@ value_behind counts i count within is =
 pub not_sparse : (spec : Spec) → is_sparse spec ≡ false → spec ≡ Sparse → ⊥
 not_sparse spec ranged e = absurd (cc)
 
--- what stands behind the buckets of a histogram with ranges is not below 0
+-- the boundary after a bucket of a histogram with ranges is not below 0
 pub highs_positive : (hist : Histogram) → IsReadable hist → is_sparse hist.spec ≡ false → All (λ row. pos 0 ≤ℤ row.high) (rows_of hist)
 highs_positive hist readable ranged = λ k d h.
     let within : k < length hist.counts = rw length-map-range_with_len at h in

@@ -26,7 +26,7 @@ record BeginsSo (prefix : List ℕ) (first second : ℕ) (sample : MetricSample)
   rest : List ℕ
   is : sample.metric ≡ prefix ++ 95 ∷ first ∷ second ∷ rest
 
--- two that begin with other bytes are apart
+-- two names that begin with different bytes are apart
 begin-apart : (prefix : List ℕ) (a b c d : ℕ) (u v : MetricSample) → (a ≡ c → b ≡ d → ⊥) → BeginsSo prefix a b u → BeginsSo prefix c d v → AreApart u v
 begin-apart prefix a b c d u v differ of_u of_v one =
     let same : 95 ∷ a ∷ b ∷ of_u.rest ≡ 95 ∷ c ∷ d ∷ of_v.rest =
@@ -52,7 +52,7 @@ sparse-step : (name : List ℕ) (line_labels : List KeyAndValue) (hist : Histogr
 sparse-step name line_labels hist true e values line = values-once name (labels_of line_labels hist) hist (values e) (hist-tells line_labels hist line)
 sparse-step name line_labels hist false e values line = AllPairs-nil AreApart
 
--- whose labels they have
+-- what holds of all lines also holds of none of them
 of-either : (P : MetricSample → Type 0) (some : Bool) (lines : List MetricSample) → All P lines → All P (if some then [] else lines) × All P (if some then lines else [])
 of-either P true lines all = ((λ k d h. absurd (omega (arith, h))), all)
 of-either P false lines all = (all, (λ k d h. absurd (omega (arith, h))))
@@ -156,7 +156,7 @@ segment-once prefix line_labels reading line =
     (All-cons (AreApart first) second [] (flags-apart (prefix ++ codes "_segment_flag") line_labels reading.corrupt reading.full line) (λ k d h. absurd (omega (arith, h))))
     (AllPairs-cons AreApart second [] (λ k d h. absurd (omega (arith, h))) (AllPairs-nil AreApart)))
 
--- what begins with other bytes than the metrics of the segment do
+-- what begins with other bytes than the metrics of the segment is apart from these
 segment-apart : (prefix : List ℕ) (line_labels : List KeyAndValue) (reading : Reading) (a b : ℕ) (u : MetricSample) → (a ≡ 98 → b ≡ 97 → ⊥)
     → (a ≡ 115 → b ≡ 101 → ⊥) → BeginsSo prefix a b u → All (AreApart u) (segment_lines prefix line_labels reading)
 segment-apart prefix line_labels reading a b u no_bad no_flag of_u =

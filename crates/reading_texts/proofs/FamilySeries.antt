@@ -134,7 +134,7 @@ one-kind (Custom values) b e s = absurd (cc)
 kind_symm : (a b : FamilyMember) → same_kind a b ≡ true → same_kind b a ≡ true
 kind_symm a b e = bytes_eq-same (kind_word b.hist.spec) (kind_word a.hist.spec) (sym ((bytes_eq-Decides (kind_word a.hist.spec) (kind_word b.hist.spec)).0 e))
 
--- two of the members are one, or one stands before the other
+-- two of the members are the same, or one is before the other
 beside-some : {X : Type 0} (R : X → X → Type 0) (xs : List X) (i j : ℕ) (d : X) → AllPairs R xs → i < length xs → j < length xs
     → (get_or xs i d ≡ get_or xs j d) ⊎ (R (get_or xs i d) (get_or xs j d) ⊎ R (get_or xs j d) (get_or xs i d))
 beside-some R xs i j d all within inside = elim (cases_order i j) [
@@ -226,7 +226,7 @@ sums-once name line_labels members one good =
 
 -- ---- names of metrics
 
--- what stands behind the name of a family in that of its metrics
+-- the suffix of a family's name in the names of its metrics
 data Ending : Type 0 where
   whole : Ending
   of_bucket : Ending
@@ -268,7 +268,7 @@ not_part family other of_count unlike ne e =
     let other_is : bytes_eq family (other ++ codes "_count") ≡ false = (or_parts _ (bytes_eq family (other ++ codes "_count")) unlike).1 in
     cc
 
--- families that differ, of which none is a metric of the other, have metrics that differ
+-- families that differ, and are not the names of each other's metrics, have metrics that differ
 endings-apart : (f g : List ℕ) (a b : Ending) → (f ≡ g → ⊥) → is_part_of f g ≡ false → is_part_of g f ≡ false → f ++ ending_text a ≡ g ++ ending_text b → ⊥
 endings-apart f g whole whole differ first second e = differ (append_cancel_right f g [] e)
 endings-apart f g whole of_bucket differ first second e = not_part f g of_bucket first (λ is. absurd (cc)) (sym (append-nil f) ∙ e)
@@ -295,7 +295,7 @@ families-apart prefix f g u v differ first second of_u of_v one =
     endings-apart f g of_u.ending of_v.ending differ first second
     (append_cancel_left (95 ∷ []) (f ++ ending_text of_u.ending) (g ++ ending_text of_v.ending) same)
 
--- a metric of a family is none of the segment
+-- a metric of a family is not one of the segment
 segment-step : (f : List ℕ) (a : Ending) → is_of_segment f ≡ false → (f ++ ending_text a ≡ codes "bad_records" → ⊥) × (f ++ ending_text a ≡ codes "segment_flag" → ⊥)
 segment-step f whole unlike = (
   (λ e.
@@ -465,7 +465,7 @@ family-once prefix line_labels members one good there =
     (values-named name line_labels group) (sums-named (name ++ codes "_sum") line_labels group))))
     (subst HasEachSeriesOnce (sym (append-nil (ranged_lines prefix line_labels members one))) (ranged-once name line_labels members one good))
 
--- two families that stand side by side
+-- the lines of two families are apart, if members of them do not clash
 two-families : (prefix : List ℕ) (line_labels : List KeyAndValue) (members : List FamilyMember) (one two : FamilyMember) → AreSideBySide one two
     → same_family one two ≡ false → AllBetween AreApart (family_lines prefix line_labels members one) (family_lines prefix line_labels members two)
 two-families prefix line_labels members one two beside differ =
@@ -509,7 +509,7 @@ families-once prefix line_labels members reading good free =
     All-weaker (IsOfFamily prefix one.family) (λ u. All (AreApart u) segment)
     (λ u of_u. family-or-segment prefix one.family line_labels reading u (clear k d h) of_u) (lines one) (family-of prefix line_labels members one))))
 
--- so are those of histograms that words read as, where none clash
+-- the same holds of histograms that words read as, if none clash
 pub clear-once : (prefix : List ℕ) (line_labels : List KeyAndValue) (hists : List Histogram) (reading : Reading) → are_line_labels line_labels ≡ true
     → AreRead hists → All IsReadable hists → first_clash (map (member_of line_labels) hists) ≡ None
     → HasEachSeriesOnce (all_samples (families_by_name prefix line_labels (map (member_of line_labels) hists) reading))

@@ -18,7 +18,7 @@ use Rattle.reading_texts.proofs.Rendered.{flat_map-same, flat_map-twice}
 
 -- ---- labels
 
--- one label behind others
+-- one label after others
 next-behind : (labels : List (List ℕ × List ℕ)) (last : List ℕ × List ℕ)
     → flat_map next_label_text (labels ++ last ∷ []) ≡ codes "," ++ (flat_map led_label_text labels ++ label_text last)
 next-behind [] last = append-nil (next_label_text last)
@@ -33,7 +33,7 @@ inner-behind (label ∷ labels) last =
     ap (λ s. label_text label ++ s) (next-behind labels last)
     ∙ simp (append_assoc)
 
--- so they stand in braces
+-- the same labels in braces
 labels-behind : (labels : List (List ℕ × List ℕ)) (last : List ℕ × List ℕ)
     → labels_text (labels ++ last ∷ []) ≡ joined (codes "{" ∷ (flat_map led_label_text labels ++ label_text last) ∷ codes "}" ∷ [])
 labels-behind [] last = ap (λ s. joined (codes "{" ∷ s ∷ codes "}" ∷ [])) (inner-behind [] last)
@@ -55,7 +55,7 @@ braced-text (first ∷ text) byte =
     ap (λ s. joined (codes "{" ∷ s ∷ codes "}" ∷ []))
     (ap (λ n. take n (first ∷ (text ++ byte ∷ []))) long ∙ take-front (first ∷ text) byte)
 
--- labels with commas behind them are labels with commas between them, and one more
+-- labels with a comma after each are labels with commas between them, and one more comma
 led-next : (labels : List (List ℕ × List ℕ)) → codes "," ++ flat_map led_label_text labels ≡ flat_map next_label_text labels ++ codes ","
 led-next [] = refl
 led-next (label ∷ labels) =
@@ -116,7 +116,7 @@ are_members line_labels hists = λ k d h.
 four : (a b c d : List ℕ) → ((a ++ b) ++ c) ++ d ≡ a ++ (b ++ (c ++ (d ++ [])))
 four a b c d = simp (append_assoc, append-nil)
 
--- where each histogram can be read, each member can
+-- if each histogram can be read, each member can
 pub readable_members : (line_labels : List (List ℕ × List ℕ)) (hists : List Histogram) → All IsReadable hists
     → All (λ member. IsReadable member.hist) (map (member_of line_labels) hists)
 readable_members line_labels hists all = λ k d h.

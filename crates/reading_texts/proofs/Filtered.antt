@@ -11,13 +11,13 @@ use Rattle.std.specs.List.{flat_map, filter, list_any}
 use Rattle.reading_texts.specs.Families.{FamilyMember, same_family}
 use Rattle.reading_texts.specs.FamilyLines.{of_family}
 
--- the text of one more, which passes or has none
+-- the text of one more, which passes or has an empty text
 kept-step : {X : Type 0} (p : X → Bool) (f : X → List ℕ) (x : X) (xs : List X) (b : Bool) {rest : List ℕ} → rest ≡ flat_map f (filter p xs)
     → cond b (f x) [] ++ rest ≡ flat_map f (cond b (x ∷ filter p xs) (filter p xs))
 kept-step p f x xs true same = ap (λ s. f x ++ s) same
 kept-step p f x xs false same = same
 
--- the text of those that pass is that of all, where the others have none
+-- the text of those that pass is that of all, if the others have none
 flat_map-kept : {X : Type 0} (p : X → Bool) (f : X → List ℕ) (xs : List X)
     → flat_map (λ x. cond (p x) (f x) []) xs ≡ flat_map f (filter p xs)
 flat_map-kept p f [] = refl
@@ -33,7 +33,7 @@ parts-step : (b x y z : Bool) → x ≡ (y && z) → (b && x) ≡ ((b && y) && z
 parts-step true x y z same = same
 parts-step false x y z same = refl
 
--- a text is two others, one behind the other, if it begins with the first and then has the second
+-- a text is two others in order if it begins with the first and continues with the second
 pub with-parts : (text front behind : List ℕ) → length front ≤ length text
     → bytes_eq text (front ++ behind) ≡ (bytes_eq (take (length front) text) front && bytes_eq (drop (length front) text) behind)
 with-parts text [] behind within = refl

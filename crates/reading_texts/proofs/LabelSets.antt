@@ -79,7 +79,7 @@ adjacent (label ∷ next ∷ more) d e (suc k) h =
 sorted-from : (labels : List KeyAndValue) → keys_ascend labels ≡ true → IsStrictlySortedBy by_key labels
 sorted-from labels e = sorted_from_all_adjacent by_key-total labels ([], []) (adjacent labels ([], []) e)
 
--- a label that is in a list behind another, and is another
+-- with the same first label, a later label of one list is a later one of the other
 tail_of : (x y : KeyAndValue) (xs ys : List KeyAndValue) → x ≡ y → IsStrictlySortedBy by_key (x ∷ xs)
     → ((label : KeyAndValue) → Contains (x ∷ xs) label → Contains (y ∷ ys) label) → (label : KeyAndValue) → Contains xs label → Contains ys label
 tail_of x y xs ys same sorted within label is =
@@ -138,7 +138,7 @@ own-keys taken name = (own-step taken name (is_labeled taken name) refl).0
 pub own-ascend : (taken : List KeyAndValue) (name : List ℕ) → keys_ascend (own_labels taken name) ≡ true
 own-ascend taken name = (own-step taken name (is_labeled taken name) refl).1
 
--- a key that the export itself has is none of a label
+-- a key that the export itself has is not that of another label
 pub not_kept : (key : List ℕ) → is_label_key key ≡ true → is_kept_key key ≡ true → ⊥
 not_kept key may kept =
     let free : is_kept_key key ≡ false = not-true (is_kept_key key) (and_parts _ (not (is_kept_key key)) may).1 in

@@ -11,7 +11,7 @@ use Rattle.reading_texts.specs.Labels.{label_of, behind_brace, in_braces, braced
 
 -- ---- cut at a byte, and put together
 
--- where something stands behind the first of a byte, that byte is there
+-- if something follows the first occurrence of a byte, that byte is there
 cut-is : (byte : ℕ) (text : List ℕ) → 0 < length (after_first (λ b. b == byte) text)
     → text ≡ before_first (λ b. b == byte) text ++ byte ∷ after_first (λ b. b == byte) text
 cut-is byte text some =
@@ -20,7 +20,7 @@ cut-is byte text some =
     let is : get_or text (position_or_len test text) 0 ≡ byte = eqb-true _ _ (passes_at_first test text 0 within) in
     split_at_first test text 0 within ∙ ap (λ b. before_first test text ++ b ∷ after_first test text) is
 
--- a label as it stands in a name
+-- a label as it is written in a name
 abbrev pub part_of : List ℕ × List ℕ → List ℕ
 part_of label = label.0 ++ 61 ∷ label.1
 
@@ -42,7 +42,7 @@ parts_of-labels taken (part ∷ parts) e =
 
 -- ---- the name
 
--- a name from what stands before its braces and the labels in them
+-- a name, from what comes before its braces and the labels in them
 abbrev pub put_together : List ℕ → List (List ℕ × List ℕ) → List ℕ
 put_together base labels = base ++ 123 ∷ (join_with_byte 59 (map part_of labels) ++ 125 ∷ [])
 
@@ -69,7 +69,7 @@ HasLabels-from taken name e =
     let first = and_parts _ (slice_index (behind_brace name) (length (behind_brace name) - 1) == 125) inner.0 in
     record { ends = eqb-true _ _ first.1; own = inner.1; ascend = outer.1 }
 
--- something stands in front of the last byte, or it
+-- a text that ends with a byte other than 0 is not empty
 last-some : (text : List ℕ) (byte : ℕ) → 0 < byte → slice_index text (length text - 1) ≡ byte → 0 < length text
 last-some [] byte some e = absurd (omega (arith, e, some))
 last-some (first ∷ more) byte some e = omega arith
@@ -86,7 +86,7 @@ put_together-is taken name has =
 
 -- ---- names that are one
 
--- labels of a name that has some are not none
+-- the list of labels in the braces is never empty
 labels-some : (name : List ℕ) → braced_labels name ≡ [] → ⊥
 labels-some name e =
     let parts : List (List ℕ) = slice_split (λ byte. byte == 59) (in_braces name) in

@@ -56,7 +56,7 @@ flat_map-twice f g (x ∷ xs) = flat_map-append f (g x) (flat_map g xs) ∙ ap (
 
 -- ---- samples
 
--- the line of a sample whose last label stands behind others
+-- the line of a sample whose last label comes after others
 behind_labels : (metric : List ℕ) (first : List ℕ × List ℕ) (more : List (List ℕ × List ℕ)) (last : List ℕ × List ℕ) (number : List ℕ)
     → sample_text (record { metric = metric; labels = (first ∷ more) ++ last ∷ []; number = number })
     ≡ joined (metric ∷ codes "{" ∷ inner_text (first ∷ more) ∷ next_label_text last ∷ codes "} " ∷ number ∷ codes "\n" ∷ [])

@@ -1,4 +1,4 @@
--- The labels of lines: those of a histogram, and behind them that of its row.
+-- The labels of lines: those of a histogram, then that of its row.
 use Rattle.std.proofs.Common.{◌≡◌, ◌∙◌, ap, sym, subst₂, refl, ⊎_elim, ℕ, Bool, true, false, not, ◌||◌, ◌==◌, ◌≤◌, lt-ltb, List, [], ◌∷◌, ◌++◌, length, get_or, arith, All}
 use Rattle.std.specs.Prelude.{codes, nat_lt, if◌then◌else◌}
 use Rattle.std.specs.List.{Contains, list_all}
@@ -59,7 +59,7 @@ all-of_line (label ∷ more) e =
 
 -- ---- the label of a row
 
--- the labels before that of the row: what the export gives in front of those of the name, and those of all lines
+-- the labels before that of the row: what the export puts before those of the name, and those of all lines
 abbrev pub before_row : List KeyAndValue → List KeyAndValue → List ℕ → List KeyAndValue
 before_row front line_labels name = front ++ (own_labels line_labels name ++ line_labels)
 
@@ -77,7 +77,7 @@ not_before_row front line_labels name label others line row is =
     (Contains-append_cases own line_labels label among))
     (Contains-append_cases front (own ++ line_labels) label is)
 
--- labels in front of one that are such that lines with the same labels have the same last one
+-- labels before the last one, such that lines with the same labels have the same last one
 abbrev pub EndsTell : List KeyAndValue → Type 0
 EndsTell labels =
     (key x y : List ℕ) → is_row_key key ≡ true → AreSameLabels (labels ++ (key, x) ∷ []) (labels ++ (key, y) ∷ []) → x ≡ y
@@ -94,7 +94,7 @@ ends_tell front line_labels name others line key x y row same =
 
 -- ---- the lines of a histogram
 
--- a sample whose labels are these, and behind them at most that of a row
+-- a sample whose labels are these, followed at most by that of a row
 pub record HasLabelsOf (labels : List KeyAndValue) (sample : MetricSample) : Type 0 where
   pub behind : List KeyAndValue
   pub rows : All HasRowKey behind
@@ -145,7 +145,7 @@ name-of_series line_labels a b u v line of_u of_v same =
     let there = (sets mine).0 (Contains-append_left (before_row (mine ∷ []) line_labels a) of_u.behind mine (in-first mine (own_labels line_labels a ++ line_labels))) in
     same_name-from line_labels a b (sym (named-there line_labels a b of_v.behind line of_v.rows there)) own
 
--- a name that is read has no bytes beyond ASCII, and so is its own text
+-- a name that is read has no bytes beyond ASCII, so it is its own text
 ascii-step : (name : List ℕ) → All (λ byte. is_name_byte byte ≡ true) name → text_of_name name ≡ name
 ascii-step [] all = refl
 ascii-step (byte ∷ name) all =

@@ -43,7 +43,7 @@ not_infinite : (z : ℤ) → mag z < 2 ^ 63 → signed_decimal z ≡ codes "+Inf
 not_infinite (pos n) small e = all_digits (decimal n) e (decimal_is_IsNumeral n (omega arith)).0.1
 not_infinite (negsuc n) small e = let heads = ap (λ text. get_or text 0 0) e in omega (arith, heads)
 
--- the greatest value of a bucket, from what stands behind it
+-- the greatest value of a bucket, from the boundary after it
 before-mag : (boundary : ℕ) → boundary ≤ 2147483647 → mag (pos boundary -ℤ pos 1) < 2 ^ 63
 before-mag zero few = omega arith
 before-mag (suc n) few = rw (-ℤ_one (pos (suc n))) (omega arith)
@@ -91,7 +91,7 @@ boundary-small boundaries buckets i split within =
           omega (arith, low, last)
     ]
 
--- what stands behind two buckets is different numbers
+-- the boundaries after two buckets are different numbers
 record TellsBuckets (a b : HistRow) : Type 0 where
   low : ℕ
   high : ℕ
@@ -121,7 +121,7 @@ buckets-tell hist readable ranged =
       second = bucket_behind hist.spec hist.counts j ne there;
     })
 
--- what stands behind a bucket is a value
+-- the boundary after a bucket is a value
 record HasBound (row : HistRow) : Type 0 where
   bound : ℕ
   small : bound ≤ 2147483647

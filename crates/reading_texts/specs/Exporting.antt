@@ -1,4 +1,4 @@
--- The text of a reading for what scrapes metrics: families of samples in the Prometheus text format, version 0.0.4.
+-- The text of a reading for programs that scrape metrics: families of samples in the Prometheus text format, version 0.0.4.
 use Rattle.std.specs.Prelude.{◌≡◌, Bool, true, false, if◌then◌else◌, ℕ, ◌+◌, pos, ◌-ℤ◌, List, [], ◌∷◌, ◌++◌, map, length, codes, Option, Some, None}
 use Rattle.std.specs.Fmt.{decimal, signed_decimal}
 use Rattle.std.specs.List.{flat_map}
@@ -10,7 +10,7 @@ use Rattle.reading_texts.specs.declared.rows.HistRow.{HistRow}
 use Rattle.reading_texts.specs.Rows.{units_of, rows_of, AreSortedByName}
 use Rattle.reading_texts.specs.Labels.{named_by, own_labels, text_of_name, quoted}
 
--- parts, one behind the other
+-- parts, one after the other
 abbrev pub joined : List (List ℕ) → List ℕ
 joined parts = flat_map (λ part. part) parts
 
@@ -22,7 +22,7 @@ pub record MetricSample : Type 0 where
   pub labels : List (List ℕ × List ℕ)
   pub number : List ℕ
 
--- a family of metrics: its name, what it tells, its type, and its samples
+-- a family of metrics: its name, what it counts, its type, and its samples
 pub record MetricFamily : Type 0 where
   pub name : List ℕ
   pub help : List ℕ
@@ -35,7 +35,7 @@ pub record MetricFamily : Type 0 where
 abbrev pub label_text : List ℕ × List ℕ → List ℕ
 label_text label = joined (label.0 ∷ codes "=\"" ∷ quoted label.1 ∷ codes "\"" ∷ [])
 
--- a label behind another
+-- a label after another
 abbrev pub next_label_text : List ℕ × List ℕ → List ℕ
 next_label_text label = codes "," ++ label_text label
 
@@ -44,7 +44,7 @@ abbrev pub inner_text : List (List ℕ × List ℕ) → List ℕ
 inner_text [] = []
 inner_text (label ∷ more) = label_text label ++ flat_map next_label_text more
 
--- labels in braces; nothing where there are none
+-- labels in braces; nothing if there are none
 abbrev pub labels_text : List (List ℕ × List ℕ) → List ℕ
 labels_text [] = []
 labels_text (label ∷ more) = joined (codes "{" ∷ inner_text (label ∷ more) ∷ codes "}" ∷ [])
@@ -53,23 +53,23 @@ labels_text (label ∷ more) = joined (codes "{" ∷ inner_text (label ∷ more)
 abbrev pub sample_text : MetricSample → List ℕ
 sample_text sample = joined (sample.metric ∷ labels_text sample.labels ∷ codes " " ∷ sample.number ∷ codes "\n" ∷ [])
 
--- what stands before the lines of a family: what it tells, and its type
+-- the lines before the samples of a family: what it counts, and its type
 abbrev pub heading_text : List ℕ → List ℕ → List ℕ → List ℕ
 heading_text name help kind =
     joined (codes "# HELP " ∷ name ∷ codes " " ∷ help ∷ codes "\n# TYPE " ∷ name ∷ codes " " ∷ kind ∷ codes "\n" ∷ [])
 
--- a family: what it tells, its type, and a line for each sample
+-- a family: what it counts, its type, and a line for each sample
 abbrev pub family_text : MetricFamily → List ℕ
 family_text one = heading_text one.name one.help one.kind ++ flat_map sample_text one.samples
 
 -- ---- the samples of a histogram
 
--- the labels of a histogram: what it is named, its own labels, and those of all lines
+-- the labels of a histogram: the name that it gets, its own labels, and those of all lines
 abbrev pub labels_of : List (List ℕ × List ℕ) → Histogram → List (List ℕ × List ℕ)
 labels_of line_labels hist =
     (codes "histogram", named_by line_labels (text_of_name hist.name)) ∷ (own_labels line_labels (text_of_name hist.name) ++ line_labels)
 
--- a bucket: the units up to its greatest value, which is the one before what stands behind it
+-- a bucket: the units up to its greatest value, which is one less than the boundary after it
 abbrev pub bucket_sample : List ℕ → List (List ℕ × List ℕ) → HistRow → MetricSample
 bucket_sample name labels row = record {
   metric = name ++ codes "_bucket";
@@ -104,13 +104,13 @@ is_sparse (Linear min max n) = false
 is_sparse Boolean = false
 is_sparse (Custom values) = false
 
--- all units, the sum and the count, which is that of the buckets
+-- all units, the sum and the count, which is the number of all units again
 abbrev pub total_samples : List ℕ → List (List ℕ × List ℕ) → Histogram → List MetricSample
 total_samples name labels hist =
     infinite_sample name labels hist ∷ total_sample (name ++ codes "_sum") labels (signed_decimal hist.sum)
     ∷ total_sample (name ++ codes "_count") labels (decimal (units_of hist)) ∷ []
 
--- the samples of a histogram that has ranges: each of its buckets, also those without units, and its totals
+-- the samples of a histogram that has ranges: each of its buckets, including those without units, and its totals
 abbrev pub ranged_samples : List ℕ → List (List ℕ × List ℕ) → Histogram → List MetricSample
 ranged_samples name line_labels hist =
     if is_sparse hist.spec then []
@@ -131,7 +131,7 @@ bad_records reading = stops reading.stopped + length reading.bad
     stops None = 0
     stops (Some fault) = 1
 
--- the value of a flag: 1 where it is set, else 0
+-- the value of a flag: 1 if it is set, else 0
 abbrev pub flag_value : Bool → List ℕ
 flag_value flag = if flag then codes "1" else codes "0"
 
@@ -182,13 +182,13 @@ flag_family prefix line_labels reading = record {
       ∷ flag_sample (prefix ++ codes "_segment_flag") line_labels (codes "full") reading.full ∷ [];
 }
 
--- the families of a reading, whose histograms stand here in the order of the text
+-- the families of a reading, whose histograms are given in the order of the text
 abbrev pub families_of : List ℕ → List (List ℕ × List ℕ) → List Histogram → Reading → List MetricFamily
 families_of prefix line_labels hists reading =
     units_family prefix line_labels hists ∷ sparse_family prefix line_labels hists ∷ bad_family prefix line_labels reading
     ∷ flag_family prefix line_labels reading ∷ []
 
--- these are the families of a reading, with such names of metrics, and with these labels on all lines
+-- these are the families of a reading, with this prefix of the names of metrics and these labels on all lines
 abbrev pub AreFamiliesOf : List ℕ → List (List ℕ × List ℕ) → Reading → List MetricFamily → Type 0
 AreFamiliesOf prefix line_labels reading families =
     (hists : List Histogram) × AreSortedByName hists reading × (families ≡ families_of prefix line_labels hists reading)

@@ -1,4 +1,4 @@
--- An export that has a family for each histogram, named after it, and which histograms can be families side by side.
+-- An export that has a family for each histogram, named after it, and which histograms cannot both be families.
 use Rattle.std.specs.Prelude.{◌≡◌, Bool, not, ◌||◌, ◌&&◌, if◌then◌else◌, ℕ, List, [], ◌∷◌, ◌++◌, map, codes, Option, Some, None}
 use Rattle.std.specs.Fmt.{signed_decimal}
 use Rattle.std.specs.List.{flat_map, filter}
@@ -11,11 +11,11 @@ use Rattle.reading_texts.specs.Exporting.{MetricFamily, MetricSample, joined, la
 
 -- ---- names of families
 
--- what stands for a byte of a name in the name of a family: an underscore for all but letters and digits of ASCII
+-- what a byte of a name becomes in the name of a family: an underscore for all but ASCII letters and digits
 abbrev pub family_byte : ℕ → ℕ
 family_byte byte = if is_later_byte byte then byte else 95
 
--- the family of a histogram, without the prefix: its name without its labels, made lawful
+-- the family of a histogram, without the prefix: its name without its labels, made a valid one
 abbrev pub family_of : List (List ℕ × List ℕ) → Histogram → List ℕ
 family_of line_labels hist = map family_byte (named_by line_labels (text_of_name hist.name))
 
@@ -23,11 +23,11 @@ family_of line_labels hist = map family_byte (named_by line_labels (text_of_name
 abbrev pub labels_in_family : List (List ℕ × List ℕ) → Histogram → List (List ℕ × List ℕ)
 labels_in_family line_labels hist = own_labels line_labels (text_of_name hist.name) ++ line_labels
 
--- a label before another
+-- a label followed by a comma
 abbrev pub led_label_text : List ℕ × List ℕ → List ℕ
 led_label_text label = label_text label ++ codes ","
 
--- a histogram beside its family and the text of its labels, each with a comma behind it
+-- a histogram with the name of its family and the text of its labels, each followed by a comma
 pub record FamilyMember : Type 0 where
   pub hist : Histogram
   pub family : List ℕ
@@ -41,7 +41,7 @@ member_of line_labels hist = record {
   labels = flat_map led_label_text (labels_in_family line_labels hist);
 }
 
--- ---- which histograms are no families side by side
+-- ---- which histograms cannot both be families
 
 -- whether two histograms are of one family
 abbrev pub same_family : FamilyMember → FamilyMember → Bool
@@ -51,7 +51,7 @@ same_family a b = bytes_eq a.family b.family
 abbrev pub same_kind : FamilyMember → FamilyMember → Bool
 same_kind a b = bytes_eq (kind_word a.hist.spec) (kind_word b.hist.spec)
 
--- whether the name of a family is that of another with what stands behind the names of a histogram's metrics
+-- whether the name of a family is that of another, followed by `_bucket`, `_sum` or `_count`
 abbrev pub is_part_of : List ℕ → List ℕ → Bool
 is_part_of family other =
     bytes_eq family (other ++ codes "_bucket") || bytes_eq family (other ++ codes "_sum") || bytes_eq family (other ++ codes "_count")
@@ -80,7 +80,7 @@ abbrev pub or_else : {X : Type 0} → Option X → Option X → Option X
 or_else None other = other
 or_else (Some one) other = Some one
 
--- the first that clashes with a family of the segment or with one behind it: its name, and that of the other
+-- the first that clashes with a family of the segment or with a later one: its name, and that of the other
 abbrev pub first_clash : List FamilyMember → Option (List ℕ × List ℕ)
 first_clash [] = None
 first_clash (one ∷ more) = or_else (clash_of one more) (first_clash more)
@@ -91,7 +91,7 @@ first_clash (one ∷ more) = or_else (clash_of one more) (first_clash more)
 abbrev pub metric_of : List ℕ → FamilyMember → List ℕ
 metric_of prefix one = joined (prefix ∷ codes "_" ∷ one.family ∷ [])
 
--- the buckets and the totals of a histogram that has ranges; none of a sparse one
+-- the buckets and the totals of a histogram that has ranges; none for a sparse one
 abbrev pub units_in_family : List ℕ → List (List ℕ × List ℕ) → FamilyMember → List MetricSample
 units_in_family name line_labels member =
     if is_sparse member.hist.spec then []
@@ -107,7 +107,7 @@ abbrev pub sum_in_family : List ℕ → List (List ℕ × List ℕ) → FamilyMe
 sum_in_family name line_labels member =
     total_sample name (labels_in_family line_labels member.hist) (signed_decimal member.hist.sum) ∷ []
 
--- the family of histograms that have ranges, which are those of one family
+-- the family of histograms that have ranges and are in one family
 abbrev pub ranged_family : List ℕ → List (List ℕ × List ℕ) → List FamilyMember → MetricFamily
 ranged_family name line_labels members = record {
   name = name;
@@ -116,7 +116,7 @@ ranged_family name line_labels members = record {
   samples = flat_map (units_in_family name line_labels) members;
 }
 
--- the family of sparse histograms; a sum may fall, so it is a family of its own
+-- the family of sparse histograms; a sum may fall, so it is in a family of its own
 abbrev pub value_family : List ℕ → List (List ℕ × List ℕ) → List FamilyMember → MetricFamily
 value_family name line_labels members = record {
   name = name;
@@ -133,7 +133,7 @@ sum_family name line_labels members = record {
   samples = flat_map (sum_in_family name line_labels) members;
 }
 
--- the family of one of these histograms, with all others that are of it
+-- the family of one of these histograms, with all others in it
 abbrev pub families_with : List ℕ → List (List ℕ × List ℕ) → List FamilyMember → FamilyMember → List MetricFamily
 families_with prefix line_labels members one =
     if is_sparse one.hist.spec
@@ -141,19 +141,19 @@ families_with prefix line_labels members one =
     ∷ sum_family (metric_of prefix one ++ codes "_sum") line_labels (filter (same_family one) members) ∷ [])
     else (ranged_family (metric_of prefix one) line_labels (filter (same_family one) members) ∷ [])
 
--- the families of histograms, each where its first one stands, and those of the segment
+-- the families of histograms, each at the place of its first one, and those of the segment
 abbrev pub families_by_name : List ℕ → List (List ℕ × List ℕ) → List FamilyMember → Reading → List MetricFamily
 families_by_name prefix line_labels members reading =
     flat_map (families_with prefix line_labels members) (first_of_each same_family members)
     ++ bad_family prefix line_labels reading ∷ flag_family prefix line_labels reading ∷ []
 
--- these are the families of a reading, with such names of metrics, and with these labels on all lines
+-- these are the families of a reading, with this prefix of the names of metrics and these labels on all lines
 abbrev pub AreFamiliesByName : List ℕ → List (List ℕ × List ℕ) → Reading → List MetricFamily → Type 0
 AreFamiliesByName prefix line_labels reading families =
     (hists : List Histogram) × AreSortedByName hists reading
     × (families ≡ families_by_name prefix line_labels (map (member_of line_labels) hists) reading)
 
--- the text of a reading, with such names of metrics and these labels on all lines: that of its families, none of which clashes
+-- the text of a reading, with this prefix of the names of metrics and these labels on all lines: that of its families, if no two clash
 pub record IsFamiliesTextOf (prefix : List ℕ) (line_labels : List (List ℕ × List ℕ)) (reading : Reading) (text : List ℕ) : Type 0 where
   pub hists : List Histogram
   pub sorted : AreSortedByName hists reading

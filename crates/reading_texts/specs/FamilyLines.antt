@@ -1,4 +1,4 @@
--- Lines of families whose labels are text already, such as code="200", with a comma behind each.
+-- Lines of families whose labels are text already, such as code="200", each followed by a comma.
 use Rattle.std.specs.Prelude.{ℕ, pos, ◌-ℤ◌, if◌then◌else◌, List, [], ◌∷◌, ◌++◌, codes, take, length}
 use Rattle.std.specs.Fmt.{decimal, signed_decimal}
 use Rattle.std.specs.List.{flat_map, filter}
@@ -10,7 +10,7 @@ use Rattle.reading_texts.specs.Lines.{row_end}
 use Rattle.reading_texts.specs.Exporting.{joined, heading_text, is_sparse}
 use Rattle.reading_texts.specs.Families.{FamilyMember, metric_of, same_family}
 
--- the labels in braces, without the last comma; nothing where there are none
+-- the labels in braces, without the last comma; nothing if there are none
 abbrev pub braced : List ℕ → List ℕ
 braced [] = []
 braced (byte ∷ more) = joined (codes "{" ∷ take (length more) (byte ∷ more) ∷ codes "}" ∷ [])
@@ -41,7 +41,7 @@ ranged_lines name member =
     ++ number_line name (codes "_sum") member.labels (signed_decimal member.hist.sum)
     ++ number_line name (codes "_count") member.labels (decimal (units_of member.hist))
 
--- the same; none of a sparse one
+-- the buckets and totals of a histogram that has ranges; none for a sparse one
 abbrev pub units_lines : List ℕ → FamilyMember → List ℕ
 units_lines name member = if is_sparse member.hist.spec then [] else ranged_lines name member
 
@@ -49,11 +49,11 @@ units_lines name member = if is_sparse member.hist.spec then [] else ranged_line
 abbrev pub values_lines : List ℕ → FamilyMember → List ℕ
 values_lines name member = flat_map (value_line name member.labels) (rows_of member.hist)
 
--- the line of its sum
+-- the line of the sum of a sparse histogram
 abbrev pub sum_line : List ℕ → FamilyMember → List ℕ
 sum_line name member = number_line name (codes "_sum") member.labels (signed_decimal member.hist.sum)
 
--- such lines of a histogram
+-- the lines of a histogram that are asked for
 abbrev pub lines_of : MemberLines → List ℕ → FamilyMember → List ℕ
 lines_of Units = units_lines
 lines_of Values = values_lines

@@ -1,4 +1,4 @@
--- Labels of metrics: which keys they may have, and those that the name of a histogram has in itself.
+-- Labels of metrics: which keys they may have, and those that are in the name of a histogram.
 use Rattle.std.specs.Prelude.{Bool, true, false, not, ◌==◌, ◌||◌, ◌&&◌, nat_lt, if◌then◌else◌, ℕ, ◌-◌, List, [], ◌∷◌, length, map, take, slice_index, codes}
 use Rattle.std.specs.Char.{is_ascii_alphabetic, is_ascii_digit}
 use Rattle.std.specs.Cmp.Lexicographic.{slice_cmp}
@@ -13,11 +13,11 @@ label_view label = (label.key.now, label.value.now)
 
 -- ---- keys
 
--- a byte with which a word begins: a letter or an underscore
+-- a byte with which a word may begin: a letter or an underscore
 abbrev pub is_first_byte : ℕ → Bool
 is_first_byte byte = is_ascii_alphabetic byte || byte == 95
 
--- a byte that may stand behind it
+-- a byte that may follow the first one
 abbrev pub is_later_byte : ℕ → Bool
 is_later_byte byte = is_first_byte byte || is_ascii_digit byte
 
@@ -31,12 +31,12 @@ abbrev pub begins_with_underscore : List ℕ → Bool
 begins_with_underscore [] = false
 begins_with_underscore (first ∷ more) = first == 95
 
--- whether two underscores stand in a row, which Prometheus keeps for itself
+-- whether there are two underscores in a row, which Prometheus keeps for itself
 abbrev pub has_two_underscores : List ℕ → Bool
 has_two_underscores [] = false
 has_two_underscores (first ∷ more) = (first == 95 && begins_with_underscore more) || has_two_underscores more
 
--- the keys that no label but those of the export itself may have
+-- the keys that only the labels of the export itself may have
 abbrev pub is_kept_key : List ℕ → Bool
 is_kept_key key =
     bytes_eq key (codes "le") || bytes_eq key (codes "name") || bytes_eq key (codes "value") || bytes_eq key (codes "kind")
@@ -63,23 +63,23 @@ are_line_labels (label ∷ more) = is_line_label label && not (has_key more labe
 
 -- ---- the labels of a name: BASE{KEY=VALUE;KEY=VALUE}
 
--- a label as it stands in a name: a key, an equals sign and a value
+-- a label, from its text in a name: a key, an equals sign and a value
 abbrev pub label_of : List ℕ → List ℕ × List ℕ
 label_of part = (before_first (λ byte. byte == 61) part, after_first (λ byte. byte == 61) part)
 
--- what stands behind the first brace that opens
+-- what follows the first opening brace
 abbrev pub behind_brace : List ℕ → List ℕ
 behind_brace name = after_first (λ byte. byte == 123) name
 
--- what stands in the braces: all behind the first one but the last byte
+-- what is in the braces: all that follows the first opening brace, but the last byte
 abbrev pub in_braces : List ℕ → List ℕ
 in_braces name = take (length (behind_brace name) - 1) (behind_brace name)
 
--- the labels in the braces, between semicolons
+-- the labels in the braces, separated by semicolons
 abbrev pub braced_labels : List ℕ → List (List ℕ × List ℕ)
 braced_labels name = map label_of (slice_split (λ byte. byte == 59) (in_braces name))
 
--- what stands before the braces
+-- what comes before the braces
 abbrev pub base_of : List ℕ → List ℕ
 base_of name = before_first (λ byte. byte == 123) name
 
@@ -97,13 +97,13 @@ abbrev pub keys_ascend : List (List ℕ × List ℕ) → Bool
 keys_ascend [] = true
 keys_ascend (label ∷ more) = is_below label.0 more && keys_ascend more
 
--- whether a name has labels: behind something that is not empty, in braces that end it
+-- whether a name has labels: in braces at its end, after a base that is not empty; each may be one of the export, and their keys ascend
 abbrev pub is_labeled : List (List ℕ × List ℕ) → List ℕ → Bool
 is_labeled taken name =
     not (length (base_of name) == 0) && slice_index (behind_brace name) (length (behind_brace name) - 1) == 125
     && list_all (is_own_label taken) (braced_labels name) && keys_ascend (braced_labels name)
 
--- what the lines of a histogram name it: its name without its labels
+-- how the lines of a histogram name it: its name without its labels
 abbrev pub named_by : List (List ℕ × List ℕ) → List ℕ → List ℕ
 named_by taken name = if is_labeled taken name then base_of name else name
 
@@ -113,7 +113,7 @@ own_labels taken name = if is_labeled taken name then braced_labels name else []
 
 -- ---- their text
 
--- what stands for a byte of a name: for one beyond ASCII U+FFFD, in UTF-8
+-- what a byte of a name becomes in a text: U+FFFD in UTF-8 if it is beyond ASCII
 abbrev pub text_byte : ℕ → List ℕ
 text_byte byte = if nat_lt byte 128 then byte ∷ [] else 239 ∷ 191 ∷ 189 ∷ []
 
@@ -121,7 +121,7 @@ text_byte byte = if nat_lt byte 128 then byte ∷ [] else 239 ∷ 191 ∷ 189 �
 abbrev pub text_of_name : List ℕ → List ℕ
 text_of_name name = flat_map text_byte name
 
--- what stands for a byte of a label's value: a backslash, a double quote and a line feed are escaped
+-- what a byte of a label's value becomes in a text: a backslash, a double quote and a line feed are escaped
 abbrev pub value_byte : ℕ → List ℕ
 value_byte byte =
     if byte == 92 then codes "\\\\"
@@ -129,6 +129,6 @@ value_byte byte =
     else (if byte == 10 then codes "\\n"
     else byte ∷ []))
 
--- a label's value in double quotes
+-- a label's value as it is written between double quotes
 abbrev pub quoted : List ℕ → List ℕ
 quoted value = flat_map value_byte value

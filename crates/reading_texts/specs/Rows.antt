@@ -1,4 +1,4 @@
--- The rows of a histogram, and the order of the histograms: what every text of a reading is made of.
+-- The rows of a histogram, and the order of the histograms, from which every text of a reading is made.
 use Rattle.std.specs.Prelude.{ℕ, ◌+◌, ℤ, pos, ◌+ℤ◌, List, map, take, drop, length, get_or, sum_by, IsPermutation, IsSortedByKey}
 use Rattle.std.specs.List.{range_with_len}
 use Rattle.std.specs.Ordering.{nat_cmp}
@@ -9,8 +9,7 @@ use Rattle.bucket_ranges.specs.Ranges.{boundaries_of}
 use Rattle.bucket_ranges.specs.Reading.{Histogram, Reading}
 use Rattle.reading_texts.specs.declared.rows.HistRow.{HistRow}
 
--- what stands behind each bucket: the least value of the next, or 2,147,483,647; behind a value of a sparse histogram the
--- next value
+-- the boundary after each bucket: the least value of the next, or 2,147,483,647; after a value of a sparse histogram, the next value
 abbrev pub highs_of : Spec → List (ℤ × ℕ) → List ℤ
 highs_of Sparse counts = map (λ count. count.0 +ℤ pos 1) counts
 highs_of spec counts = map pos (drop 1 (boundaries_of spec))
@@ -19,7 +18,7 @@ highs_of spec counts = map pos (drop 1 (boundaries_of spec))
 abbrev pub units_of : Histogram → ℕ
 units_of hist = sum_by (λ count. count.1) hist.counts
 
--- row `i` of a histogram: its least value, what stands behind it, its units, and the units up to it
+-- row `i` of a histogram: its least value, the boundary after it, its units, and the units up to it
 abbrev pub row_at : Histogram → ℕ → HistRow
 row_at hist i = record {
   low = (get_or hist.counts i (pos 0, 0)).0;

@@ -1,4 +1,4 @@
--- The rows of a reading as a table, for engines that read CSV: a head line, and lines of five fields alone.
+-- The rows of a reading as a table, for engines that read CSV: a head line, and then only lines of five fields.
 use Rattle.std.specs.Prelude.{◌≡◌, ℕ, List, [], ◌∷◌, ◌++◌, codes}
 use Rattle.std.specs.List.{flat_map}
 use Rattle.bucket_ranges.specs.Reading.{Histogram, Reading}
@@ -9,11 +9,11 @@ use Rattle.reading_texts.specs.Text.{line, bucket_text}
 abbrev pub table_head : List ℕ
 table_head = line (codes "name" ∷ codes "kind" ∷ codes "low" ∷ codes "high" ∷ codes "count" ∷ [])
 
--- the rows of a histogram: for each bucket that has units its line in the report
+-- the rows of a histogram: for each bucket that has units, its line in the report
 abbrev pub table_rows : Histogram → List ℕ
 table_rows hist = flat_map (bucket_text hist) (rows_of hist)
 
--- the table of histograms that stand here in the order of the report
+-- the table of histograms that are given in the order of the report
 abbrev pub table_in_order : List Histogram → List ℕ
 table_in_order hists = table_head ++ flat_map table_rows hists
 

@@ -23,7 +23,7 @@ kind_word Boolean = codes "boolean"
 kind_word (Custom values) = codes "custom"
 kind_word Sparse = codes "sparse"
 
--- the line of a bucket that has units: its least value, what stands behind it, and its units
+-- the line of a bucket that has units: its least value, the boundary after it, and its units
 abbrev pub bucket_text : Histogram → HistRow → List ℕ
 bucket_text hist row =
     if row.units == 0 then []
@@ -81,7 +81,7 @@ abbrev pub stopped_text : Option ImageFault → List ℕ
 stopped_text None = []
 stopped_text (Some fault) = line (codes "!stopped" ∷ image_fault_word fault ∷ [])
 
--- the text of a reading, whose histograms stand here in the order of the report
+-- the text of a reading, whose histograms are given in the order of the report
 abbrev pub text_in_order : List Histogram → Reading → List ℕ
 text_in_order hists reading =
     flat_map histogram_text hists

@@ -1,4 +1,4 @@
-//! The text of a reading for what scrapes metrics: the Prometheus text format, version 0.0.4.
+//! The text of a reading for programs that scrape metrics: the Prometheus text format, version 0.0.4.
 
 ghost use Rattle.std.specs.Prelude.{◌≡◌, ◌++◌, ◌≤ℤ◌, ◌-ℤ◌, All, IfOk, List, OnOk, pos, map, true, ℕ};
 ghost use Rattle.std.specs.Fmt.{decimal};
@@ -21,7 +21,7 @@ use image_reader::{HistReading, Reading};
 use itoa::Buffer;
 use std::alloc::{AllocError, Global};
 
-/// What stands before the lines of a family.
+/// The two lines before the samples of a family: its help and its type.
 pub(crate) fn put_heading(
     text: &mut Vec<u8>,
     name: &[u8],
@@ -46,7 +46,7 @@ pub(crate) fn put_heading(
     )
 }
 
-// The greatest value of a bucket, before what stands behind it.
+// The greatest value of a bucket: one less than the boundary after it.
 fn before(high: i64) -> i64
     requires { pos 0 ≤ℤ high }
     ensures { result ≡ high -ℤ pos 1 }
@@ -54,7 +54,7 @@ fn before(high: i64) -> i64
     high - 1
 }
 
-// Puts the line of a row, which begins so, and then has a number and units.
+// Puts the line of a row: this start, then a number and units.
 fn put_row(text: &mut Vec<u8>, start: &[u8], number: i64, units: u64) -> Result<(), AllocError>
     ensures { OnOk result (text.new.items ≡ text.old.items ++ row_line start.now number units) }
 {
@@ -68,7 +68,7 @@ fn put_row(text: &mut Vec<u8>, start: &[u8], number: i64, units: u64) -> Result<
     Ok(())
 }
 
-// Puts the line of a bucket, which begins so: the units up to its greatest value.
+// Puts the line of a bucket, from this start: the units up to its greatest value.
 fn put_bucket(text: &mut Vec<u8>, start: &[u8], row: &HistRow) -> Result<(), AllocError>
     requires { pos 0 ≤ℤ row.now.high }
     ensures { OnOk result (text.new.items ≡ text.old.items ++ bucket_row start.now row.now) }
@@ -76,7 +76,7 @@ fn put_bucket(text: &mut Vec<u8>, start: &[u8], row: &HistRow) -> Result<(), All
     put_row(text, start, before(row.high), row.up_to)
 }
 
-/// Puts the lines of buckets, each of which begins so.
+/// Puts the lines of buckets, each from this start.
 pub(crate) fn put_bucket_rows(
     text: &mut Vec<u8>,
     start: &[u8],
@@ -108,8 +108,8 @@ fn put_buckets(
     Ok(())
 }
 
-// Puts a line of a histogram as a whole: the name of its metrics and what stands behind it, the labels and what stands behind
-// them, and the number.
+// Puts a line of a histogram as a whole: the name of its metrics with a suffix, the labels with what follows them in
+// the braces, and the number.
 fn put_total(
     text: &mut Vec<u8>,
     name: &[u8],
@@ -146,7 +146,7 @@ fn put_totals(
     Ok(())
 }
 
-// The labels of a histogram, without braces: what it is named, its own labels, and those of all lines.
+// The labels of a histogram, without braces: the name that it gets, its own labels, and those of all lines.
 fn labels_text_of(
     alloc: Global,
     hist: &HistReading,
@@ -163,7 +163,7 @@ fn labels_text_of(
     Ok(text)
 }
 
-// The lines of a histogram that has ranges; none of a sparse one.
+// The lines of a histogram that has ranges; none for a sparse one.
 fn put_ranged(
     alloc: Global,
     text: &mut Vec<u8>,
@@ -201,14 +201,14 @@ fn put_all_ranged(
     Ok(())
 }
 
-// Puts the line of a value of a sparse histogram, which begins so: its units.
+// Puts the line of a value of a sparse histogram, from this start: its units.
 fn put_value(text: &mut Vec<u8>, start: &[u8], row: &HistRow) -> Result<(), AllocError>
     ensures { OnOk result (text.new.items ≡ text.old.items ++ value_row start.now row.now) }
 {
     put_row(text, start, i64::from(row.low), row.units)
 }
 
-/// Puts the lines of values of a sparse histogram, each of which begins so.
+/// Puts the lines of values of a sparse histogram, each from this start.
 pub(crate) fn put_value_rows(
     text: &mut Vec<u8>,
     start: &[u8],
@@ -238,7 +238,7 @@ fn put_values(
     Ok(())
 }
 
-// The lines of a sparse histogram; none of one that has ranges.
+// The lines of a sparse histogram; none for one that has ranges.
 fn put_sparse(
     alloc: Global,
     text: &mut Vec<u8>,
@@ -428,13 +428,14 @@ fn put_sparse_total(
     Ok(())
 }
 
-/// Returns the text of a reading in the Prometheus text format, version 0.0.4: the buckets of the histograms by name, the
-/// values of the sparse ones, how many records are bad, and the flags. The names of all metrics begin with `prefix`, which is
-/// one if [`is_prefix`](crate::is_prefix) says so, and all lines get these labels, which they may have if
-/// [`are_line_labels`](crate::are_line_labels) says so.
+/// Returns the text of a reading in the Prometheus text format, version 0.0.4: the buckets of the histograms by name,
+/// the values of the sparse ones, how many records are bad, and the flags. The names of all metrics begin with
+/// `prefix`, which has to satisfy [`is_prefix`](crate::is_prefix), and all lines get these labels, which have to
+/// satisfy [`are_line_labels`](crate::are_line_labels).
 ///
-/// The text is exactly the one that is defined [text]. If the reading is that of words and all lines may have these labels, then
-/// no two lines are of one series: of one name of a metric and one set of labels [series]. The one error is that memory runs out.
+/// The text is exactly the one that is defined [text]. If the reading is that of words and all lines may have these
+/// labels, then no two lines are of one series, which is one name of a metric with one set of labels [series]. The one
+/// error is that memory runs out.
 pub fn export_text(
     alloc: Global,
     reading: &Reading,

@@ -1,4 +1,4 @@
-//! The text of a reading for what scrapes metrics, with a family for each histogram, named after it.
+//! The text of a reading for programs that scrape metrics, with a family for each histogram, named after it.
 
 ghost use Rattle.std.specs.Prelude.{◌≡◌, ◌++◌, All, IfOk, IfErr, List, OnOk, None, map, true, ℕ};
 ghost use Rattle.std.specs.List.{flat_map, list_any};
@@ -23,7 +23,8 @@ use std::alloc::{AllocError, Global};
 /// Why a reading has no text with a family for each histogram.
 #[derive(Debug, PartialEq, Eq, Drop)]
 pub enum FamilyFault {
-    /// Two histograms are no families side by side, or one and a family of the segment: both names.
+    /// Two histograms that cannot both be families, or one that cannot be a family beside one of the segment: both
+    /// names.
     Clash { first: Vec<u8>, second: Vec<u8> },
     /// Memory runs out.
     NoMemory,
@@ -54,7 +55,7 @@ fn has_family(members: &[Member<'_>], one: &Member<'_>) -> bool
     false
 }
 
-// The families of all members, each where its first one stands.
+// The families of all members, each at the place of its first member.
 fn put_families(
     alloc: Global,
     text: &mut Vec<u8>,
@@ -72,7 +73,7 @@ fn put_families(
     Ok(())
 }
 
-// Sees that no two members clash.
+// Checks that no two members clash.
 fn check_clashes(alloc: Global, members: &[Member<'_>]) -> Result<(), FamilyFault>
     ensures none { OnOk result (first_clash_of (map member_view members.now) ≡ None) }
     ensures clash { IfErr result (IsClashOf (map member_view members.now)) }
@@ -86,16 +87,16 @@ fn check_clashes(alloc: Global, members: &[Member<'_>]) -> Result<(), FamilyFaul
     }
 }
 
-/// Returns the text of a reading in the Prometheus text format, version 0.0.4, with a family for each histogram: its name
-/// begins with `prefix` and `_`, and then comes the histogram's name without its labels, with an underscore for each byte but
-/// letters and digits of ASCII. A prefix is one if [`is_prefix`](crate::is_prefix) says so, and all lines get these labels,
-/// which they may have if [`are_line_labels`](crate::are_line_labels) says so.
+/// Returns the text of a reading in the Prometheus text format, version 0.0.4, with a family for each histogram. The
+/// name of a family is `prefix`, `_` and the histogram's name without its labels, with an underscore for each byte that
+/// is no ASCII letter or digit. The prefix has to satisfy [`is_prefix`](crate::is_prefix), and all lines get these
+/// labels, which have to satisfy [`are_line_labels`](crate::are_line_labels).
 ///
-/// The text is exactly the one that is defined, and then no two histograms clash [text]. If the reading is that of words and all
-/// lines may have these labels, then no two lines are of one series: of one name of a metric and one set of labels [series].
-/// `Clash` comes only with the names of the first that clash [clash]: two of one family that are of two kinds or have the same
-/// labels, or two of which one's family is named as a metric of the other, or one whose family is one of the segment. Else
-/// memory runs out.
+/// The text is exactly the one that is defined, and then no two histograms clash [text]. If the reading is that of
+/// words and all lines may have these labels, then no two lines are of one series, which is one name of a metric with
+/// one set of labels [series]. `Clash` is returned only with the names of the first that clash [clash]: two of one
+/// family that are of two kinds or have the same labels, two of which one's family has the name of a metric of the
+/// other, or one whose family is one of the segment. The other error is that memory runs out.
 pub fn families_text(
     alloc: Global,
     reading: &Reading,

@@ -15,7 +15,7 @@ use crate::rows::{HistRow, rows_of, units};
 use crate::words::is_sparse;
 use std::alloc::{AllocError, Global};
 
-// Puts labels in braces, without the last comma; nothing where there are none.
+// Puts labels in braces, without the last comma; nothing if there are none.
 fn put_braced(text: &mut Vec<u8>, labels: &[u8]) -> Result<(), AllocError>
     ensures { OnOk result (text.new.items ≡ text.old.items ++ braced labels.now) }
 {
@@ -95,7 +95,7 @@ fn put_ranged(
     Ok(())
 }
 
-// The lines of a member; none of a sparse one.
+// The lines of a member; none for a sparse one.
 fn put_units(
     alloc: Global,
     text: &mut Vec<u8>,
@@ -165,7 +165,7 @@ enum MemberLines {
     Sum,
 }
 
-// Such lines of a member, if it is of the family of another.
+// These lines of a member, if it is of the same family as another.
 fn put_lines_within(
     alloc: Global,
     text: &mut Vec<u8>,
@@ -187,7 +187,7 @@ fn put_lines_within(
     }
 }
 
-// Such lines of all members of the family of one.
+// These lines of all members of the family of one.
 fn put_all_lines(
     alloc: Global,
     text: &mut Vec<u8>,
@@ -205,7 +205,7 @@ fn put_all_lines(
     Ok(())
 }
 
-// The families of the sparse histograms that are of the family of one: their values, and their sums.
+// The families of the sparse histograms in the family of one: their values, and their sums.
 fn put_sparse_family(
     alloc: Global,
     text: &mut Vec<u8>,
@@ -235,7 +235,7 @@ fn put_sparse_family(
     Ok(())
 }
 
-// The family of the histograms with ranges that are of the family of one.
+// The family of the histograms with ranges in the family of one.
 fn put_ranged_family(
     alloc: Global,
     text: &mut Vec<u8>,
@@ -256,7 +256,7 @@ fn put_ranged_family(
     Ok(())
 }
 
-/// The family of one of these members, with all others that are of it.
+/// The family of one of these members, with all others in it.
 pub(crate) fn put_family(
     alloc: Global,
     text: &mut Vec<u8>,

@@ -11,7 +11,7 @@ use std::cmp::Ordering;
 /// A label of a metric.
 #[derive(Clone, Copy, Debug)]
 pub struct Label<'a> {
-    /// Its key: a letter of ASCII or `_`, and then such ones and digits.
+    /// Its key: an ASCII letter or `_`, then any number of these and of digits.
     pub key: &'a [u8],
     /// Its value, a text in UTF-8.
     pub value: &'a [u8],
@@ -24,14 +24,14 @@ fn is_first(byte: u8) -> bool
     byte.is_ascii_alphabetic() || byte == b'_'
 }
 
-/// Whether a byte may stand behind the first of a word.
+/// Whether a byte may follow the first one of a word.
 pub(crate) fn is_later(byte: u8) -> bool
     ensures { result ≡ is_later_byte byte }
 {
     is_first(byte) || byte.is_ascii_digit()
 }
 
-// Whether all bytes may stand there.
+// Whether all of these bytes may follow it.
 fn are_later(bytes: &[u8]) -> bool
     ensures { result ≡ list_all is_later_byte bytes.now }
 {
@@ -43,7 +43,8 @@ fn are_later(bytes: &[u8]) -> bool
     true
 }
 
-/// Returns whether the names of metrics may begin with these bytes: a letter of ASCII or `_`, and then such ones and digits.
+/// Returns whether the names of metrics may begin with these bytes: an ASCII letter or `_`, then any number of these
+/// and of digits.
 pub fn is_prefix(text: &[u8]) -> bool
     ensures { result ≡ is_metric_word text.now }
 {
@@ -63,7 +64,7 @@ fn begins_with_underscore(bytes: &[u8]) -> bool
     }
 }
 
-// Whether two underscores stand in a row.
+// Whether there are two underscores in a row.
 fn has_two_underscores(key: &[u8]) -> bool
     ensures { result ≡ has_two_underscores_of key.now }
 {
@@ -116,8 +117,8 @@ fn is_line_label(label: &Label<'_>) -> bool
     is_label_key(label.key) && label.key != b"flag".as_slice() && !label.value.is_empty()
 }
 
-/// Returns whether all lines of an export may get these labels: each key is a word without two underscores in a row, none of `le`,
-/// `name`, `value`, `kind`, `histogram` and `flag`, and comes once; and no value is empty.
+/// Returns whether all lines of an export may get these labels: each key is a word without two underscores in a row, is
+/// none of `le`, `name`, `value`, `kind`, `histogram` and `flag`, and comes once; and no value is empty.
 pub fn are_line_labels(labels: &[Label<'_>]) -> bool
     ensures { result ≡ are_line_labels_of (map label_view labels.now) }
 {
@@ -131,7 +132,7 @@ pub fn are_line_labels(labels: &[Label<'_>]) -> bool
     true
 }
 
-// What stands before the first such byte, and what stands behind it; all and nothing if there is none.
+// What comes before the first such byte, and what comes after it; all bytes and none if there is no such byte.
 fn cut(bytes: &[u8], at: u8) -> (&[u8], &[u8])
     ensures before { result.0.now ≡ before_first (λ byte. byte == at) bytes.now }
     ensures behind { result.1.now ≡ after_first (λ byte. byte == at) bytes.now }
@@ -144,7 +145,7 @@ fn cut(bytes: &[u8], at: u8) -> (&[u8], &[u8])
     (bytes, &[])
 }
 
-// A label as it stands in a name.
+// A label, from its text in a name.
 fn label_of(part: &[u8]) -> Label<'_>
     ensures { label_view result ≡ label_of_part part.now }
 {
@@ -159,7 +160,7 @@ fn parts_of(alloc: Global, text: &[u8]) -> Result<Vec<&[u8]>, AllocError>
     text.split(|byte| *byte == b';').collect(alloc)
 }
 
-// The labels that parts of a name are.
+// The labels that these parts of a name are.
 fn labels_of<'a>(alloc: Global, parts: &[&'a [u8]]) -> Result<Vec<Label<'a>>, AllocError>
     ensures { IfOk result (λ labels. map label_view labels.items ≡ map label_of_part (map (λ part. part.now) parts.now)) }
 {
@@ -215,14 +216,14 @@ fn keys_ascend(labels: &[Label<'_>]) -> bool
     true
 }
 
-/// What the lines of a histogram name it, and the labels that its name gives it.
+/// How the lines of a histogram name it, and the labels that its name gives it.
 #[derive(Drop)]
 pub(crate) struct Named<'a> {
     pub base: &'a [u8],
     pub own: Vec<Label<'a>>,
 }
 
-// Whether bytes end with a brace that closes.
+// Whether bytes end with a closing brace.
 fn ends_with_brace(bytes: &[u8]) -> bool
     ensures { result ≡ (slice_index bytes.now (length bytes.now - 1) == 125) }
 {
@@ -242,14 +243,14 @@ fn without_last(bytes: &[u8]) -> &[u8]
     }
 }
 
-// Whether a name has labels: what stands before its braces and behind them, and the labels there.
+// Whether a name has labels, by what comes before its first opening brace, what comes after it, and the labels there.
 fn is_labeled(taken: &[Label<'_>], base: &[u8], behind: &[u8], own: &[Label<'_>]) -> bool
     ensures { result ≡ (not (length base.now == 0) && (slice_index behind.now (length behind.now - 1) == 125) && list_all (is_own_label_of (map label_view taken.now)) (map label_view own.now) && keys_ascend_of (map label_view own.now)) }
 {
     !base.is_empty() && ends_with_brace(behind) && are_own(taken, own) && keys_ascend(own)
 }
 
-/// What a name says, if all lines get these labels.
+/// The parts of a name, if all lines get these labels.
 pub(crate) fn read_name<'a>(
     alloc: Global,
     name: &'a [u8],
@@ -270,7 +271,7 @@ pub(crate) fn read_name<'a>(
     })
 }
 
-// Puts what stands for a byte of a name.
+// Puts what a byte of a name becomes in a text.
 fn put_text_byte(text: &mut Vec<u8>, byte: u8) -> Result<(), AllocError>
     ensures { OnOk result (text.new.items ≡ text.old.items ++ text_byte byte) }
 {
@@ -293,7 +294,7 @@ pub(crate) fn text_of_name(alloc: Global, name: &[u8]) -> Result<Vec<u8>, AllocE
     Ok(text)
 }
 
-// Puts what stands for a byte of a label's value.
+// Puts what a byte of a label's value becomes in a text.
 fn put_value_byte(text: &mut Vec<u8>, byte: u8) -> Result<(), AllocError>
     ensures { OnOk result (text.new.items ≡ text.old.items ++ value_byte byte) }
 {
@@ -327,7 +328,7 @@ pub(crate) fn put_label(text: &mut Vec<u8>, key: &[u8], value: &[u8]) -> Result<
     Ok(())
 }
 
-/// Puts labels behind another one.
+/// Puts labels after another one.
 pub(crate) fn put_labels(text: &mut Vec<u8>, labels: &[Label<'_>]) -> Result<(), AllocError>
     ensures { OnOk result (text.new.items ≡ text.old.items ++ flat_map next_label_text (map label_view labels.now)) }
 {

@@ -1,7 +1,8 @@
-//! The texts of a reading, each composed in memory: its report as CSV, its rows alone, and lines for what scrapes metrics.
+//! The texts of a reading, each made in memory: its report as CSV, its rows alone, and lines for programs that scrape
+//! metrics.
 //!
-//! Each is defined in `specs/` as lines in their order, most of them from a row of a histogram. The rows, and the order of
-//! the histograms, are the same for all texts: `specs/Rows.antt`.
+//! Each is defined in `specs/` as lines in their order, most of them made from a row of a histogram. The rows, and the
+//! order of the histograms, are the same for all texts: `specs/Rows.antt`.
 #![tactic(auto)]
 
 mod exporting;

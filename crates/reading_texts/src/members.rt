@@ -1,4 +1,4 @@
-//! Histograms as members of families, and which of them are no families side by side.
+//! Histograms as members of families, and which of them cannot both be families.
 
 ghost use Rattle.std.specs.Prelude.{◌≡◌, ◌++◌, IfOk, OnOk, map, option_map};
 ghost use Rattle.std.specs.List.{flat_map};
@@ -13,8 +13,8 @@ use crate::words::kind_word;
 use image_reader::HistReading;
 use std::alloc::{AllocError, Global};
 
-/// A histogram as a member of its family: the family's name without the prefix, and the labels of its lines as text, each with
-/// a comma behind it.
+/// A histogram as a member of its family: the family's name without the prefix, and the labels of its lines as text,
+/// each followed by a comma.
 #[derive(Drop)]
 pub(crate) struct Member<'a> {
     pub hist: &'a HistReading,
@@ -22,21 +22,21 @@ pub(crate) struct Member<'a> {
     pub labels: Vec<u8>,
 }
 
-/// The names of two histograms that are no families side by side; or the name of one, and that of a family of the segment.
+/// The names of two histograms that cannot both be families; or the name of one, and that of a family of the segment.
 #[derive(Clone, Copy, Debug)]
 pub(crate) struct Clash<'a> {
     pub first: &'a [u8],
     pub second: &'a [u8],
 }
 
-// What stands for a byte of a name in the name of a family.
+// What a byte of a name becomes in the name of a family.
 fn family_byte(byte: u8) -> u8
     ensures { result ≡ byte_of_family byte }
 {
     if is_later(byte) { byte } else { b'_' }
 }
 
-// A name made the name of a family.
+// A histogram's name as the name of a family.
 fn family_of(alloc: Global, name: &[u8]) -> Result<Vec<u8>, AllocError>
     ensures { IfOk result (λ family. family.items ≡ map byte_of_family name.now) }
 {
@@ -47,7 +47,7 @@ fn family_of(alloc: Global, name: &[u8]) -> Result<Vec<u8>, AllocError>
     Ok(family)
 }
 
-// Puts labels, each with a comma behind it.
+// Puts labels, each followed by a comma.
 fn put_led(text: &mut Vec<u8>, labels: &[Label<'_>]) -> Result<(), AllocError>
     ensures { OnOk result (text.new.items ≡ text.old.items ++ flat_map led_label_text (map label_view labels.now)) }
 {
@@ -108,7 +108,7 @@ fn same_kind(a: &Member<'_>, b: &Member<'_>) -> bool
     kind_word(&a.hist.spec) == kind_word(&b.hist.spec)
 }
 
-// Whether a family's name is another and then this.
+// Whether a family's name is another one with this suffix.
 fn is_with(family: &[u8], other: &[u8], suffix: &[u8]) -> bool
     ensures { result ≡ bytes_eq family.now (other.now ++ suffix.now) }
 {
@@ -119,7 +119,7 @@ fn is_with(family: &[u8], other: &[u8], suffix: &[u8]) -> bool
     front == other && behind == suffix
 }
 
-// Whether a family has the name of a metric of another.
+// Whether a family's name is that of another, followed by `_bucket`, `_sum` or `_count`.
 fn is_part_of(family: &[u8], other: &[u8]) -> bool
     ensures { result ≡ is_part_of_family family.now other.now }
 {
@@ -174,7 +174,7 @@ fn clash_of<'a>(one: &'a Member<'a>, more: &'a [Member<'a>]) -> Option<Clash<'a>
     clash_among(one, more)
 }
 
-/// The first that clashes with a family of the segment or with one behind it, and with what.
+/// The first one that clashes with a family of the segment or with a later one, and with what.
 pub(crate) fn first_clash<'a>(members: &'a [Member<'a>]) -> Option<Clash<'a>>
     ensures { option_map clash_view result ≡ first_clash_of (map member_view members.now) }
 {

@@ -1,4 +1,4 @@
-//! Parts of a text, one behind the other.
+//! Parts of a text, in order.
 
 ghost use Rattle.std.specs.Prelude.{◌≡◌, ◌++◌, map, OnOk};
 ghost use Rattle.reading_texts.specs.Exporting.{joined};

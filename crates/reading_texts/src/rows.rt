@@ -1,4 +1,4 @@
-//! The rows of a histogram, which every text of it is made of.
+//! The rows of a histogram, from which every text of it is made.
 
 ghost use Rattle.std.specs.Prelude.{◌≡◌, ◌<◌, ◌^◌, IfOk, None, length, get_or, pos, ◌+ℤ◌};
 ghost use Rattle.bucket_ranges.specs.Ranges.{boundaries_of};
@@ -16,7 +16,7 @@ use std::alloc::{AllocError, Global};
 pub struct HistRow {
     /// Its least value.
     pub low: i32,
-    /// What stands behind it: the least value of the next bucket, or 2,147,483,647; behind a value the next value.
+    /// The boundary after it: the least value of the next bucket, or 2,147,483,647; for a value, the value after it.
     pub high: i64,
     /// Its units.
     pub units: u64,
@@ -24,7 +24,7 @@ pub struct HistRow {
     pub up_to: u64,
 }
 
-// The ranges of a spec that is known to be lawful.
+// The ranges of a spec that is known to be valid.
 fn ranges_of(alloc: Global, spec: &Spec) -> Result<Ranges, AllocError>
     requires { spec_fault spec.now ≡ None }
     ensures { IfOk result (λ ranges. ranges ≡ boundaries_of spec.now) }
@@ -36,14 +36,14 @@ fn ranges_of(alloc: Global, spec: &Spec) -> Result<Ranges, AllocError>
     }
 }
 
-// What stands behind a value of a sparse histogram: the next one.
+// The boundary after a value of a sparse histogram: the next value.
 fn behind(value: i32) -> i64
     ensures { result ≡ value +ℤ pos 1 }
 {
     i64::from(value) + 1
 }
 
-// What stands behind bucket `i`: the least value of the next one, or the next value of a sparse histogram.
+// The boundary after bucket `i`: the least value of the next one; in a sparse histogram, the value after it.
 fn high(hist: &HistReading, ranges: &Ranges, i: usize) -> i64
     requires ranges { ranges.now ≡ boundaries_of hist.now.spec }
     requires readable { IsReadable (histogram_view hist.now) }
@@ -64,9 +64,9 @@ pub fn units(hist: &HistReading) -> u64
     hist.counts.iter().map(|(_, count)| *count).sum()
 }
 
-/// Returns all rows of a histogram, ascending, also those without units: for each bucket, or for each value of a
-/// sparse histogram, its least value, the boundary after it, its units, and those of it and all rows before it. The
-/// one error is that memory runs out.
+/// Returns all rows of a histogram, ascending, including those without units: for each bucket, or for each value of a
+/// sparse histogram, its least value, the boundary after it, its units, and the units of it and of all rows before it.
+/// The one error is that memory runs out.
 pub fn rows_of(alloc: Global, hist: &HistReading) -> Result<Vec<HistRow>, AllocError>
     requires { IsReadable (histogram_view hist.now) }
     ensures { IfOk result (λ rows. rows.items ≡ rows_of_histogram (histogram_view hist.now)) }

@@ -16,7 +16,7 @@ use image_reader::{BadRecord, HistReading, Reading};
 use segment_image::ImageFault;
 use std::alloc::{AllocError, Global};
 
-// The line of a bucket that has units: its least value, what stands behind it, and its units.
+// The line of a bucket that has units: its least value, the boundary after it, and its units.
 fn put_bucket(
     alloc: Global,
     text: &mut Vec<u8>,
@@ -101,7 +101,7 @@ fn put_histograms(
     Ok(())
 }
 
-// The line of a flag, where it is set.
+// The line of a flag, if it is set.
 fn put_flag(text: &mut Vec<u8>, word: &[u8], flag: bool) -> Result<(), AllocError>
     ensures { OnOk result (text.new.items ≡ text.old.items ++ flag_text word.now flag) }
 {
@@ -111,7 +111,7 @@ fn put_flag(text: &mut Vec<u8>, word: &[u8], flag: bool) -> Result<(), AllocErro
     Ok(())
 }
 
-// The line of a redundant count, where it differs from the units.
+// The line of a redundant count, if it differs from the units.
 fn put_redundant(alloc: Global, text: &mut Vec<u8>, hist: &HistReading) -> Result<(), AllocError>
     requires { IsReadable (histogram_view hist.now) }
     ensures { OnOk result (text.new.items ≡ text.old.items ++ redundant_text (histogram_view hist.now)) }
@@ -150,7 +150,7 @@ fn put_all_bad(alloc: Global, text: &mut Vec<u8>, all: &[BadRecord]) -> Result<(
     Ok(())
 }
 
-// The line of why the list stopped, where it did.
+// The line of why the list stopped, if it did.
 fn put_stopped(text: &mut Vec<u8>, stopped: Option<ImageFault>) -> Result<(), AllocError>
     ensures { OnOk result (text.new.items ≡ text.old.items ++ stopped_text stopped) }
 {
@@ -160,8 +160,8 @@ fn put_stopped(text: &mut Vec<u8>, stopped: Option<ImageFault>) -> Result<(), Al
     Ok(())
 }
 
-/// The text of the report of a reading: the histograms by name, then the flags that are set, the redundant counts
-/// that differ, the bad records and why the list stopped. It fails for want of memory alone.
+/// The text of the report of a reading: the histograms by name, then the flags that are set, the redundant counts that
+/// differ, the bad records and why the list stopped. The one error is that memory runs out.
 pub fn report_text(alloc: Global, reading: &Reading) -> Result<Vec<u8>, AllocError>
     requires { All IsReadable (map histogram_view reading.now.hists.items) }
     ensures { IfOk result (λ text. IsTextOf (reading_view reading.now) text.items) }

@@ -1,4 +1,4 @@
--- How often lists have a segment, and what of them is not named.
+-- How often a segment is in lists, and what of them is not named.
 use Rattle.std.proofs.Common.{◌≡◌, ℕ, ◌+◌, ◌≤◌, ◌<◌, Bool, true, false, not, cond, ◌&&◌, ◌||◌, ◌==◌, ◌⊎◌, inl, inr, List, [], ◌∷◌, ◌++◌, ap, sym, ◌∙◌, subst, arith, refl}
 use Rattle.std.specs.List.{count_by, filter, list_any}
 use Rattle.std.proofs.lemmas.Bool.{cases_Bool, and_parts, and_from, eqb-true, eq-eqb, not_from_true, not_from_false, both_ways, false_from_ne_true}
@@ -63,7 +63,7 @@ filter_le p q (x ∷ xs) = le_step p x (filter q xs) xs (q x) (filter_le p q xs)
 
 -- ---- names
 
--- what a list has is found in it, and what is found it has
+-- what is in a list is found in it, and what is found is in it
 pub named_times : (names : List (ℕ × ℕ)) (s : ℕ × ℕ) → is_named names s ≡ true → 0 < times s names
 named_times [] s h = absurd (both_ways false refl h)
 named_times (x ∷ names) s h =

@@ -1,4 +1,4 @@
--- What is written of a fold is a fold.
+-- What is written for a fold is a fold.
 use Rattle.std.proofs.Common.{◌≡◌, ℕ, ◌+◌, ◌≤◌, ◌<◌, true, ◌||◌, ◌==◌, ◌⊎◌, inl, inr, List, ◌++◌, ap, sym, ◌∙◌, subst, arith}
 use Rattle.std.specs.List.{filter}
 use Rattle.std.proofs.lemmas.Bool.{cases_lt, both_ways, or_left, false_from_ne_true}
@@ -7,7 +7,7 @@ use Rattle.recording_folders.specs.Folder.{Folder, Folds}
 use Rattle.recording_folders.specs.Folding.{MayFold, folded, kept, greatest}
 use Rattle.recording_folders.proofs.Counting.{same_is, named_times, times_named, times_append, filter_all, filter_le}
 
--- a name that still stands stays
+-- the name of a segment that is still there stays
 stays : (named left : List (ℕ × ℕ)) (s : ℕ × ℕ) → is_named left s ≡ true → times s (kept named left) ≡ times s named
 stays named left s stands =
     filter_all (is_same s) (λ name. is_named left name || (name.0 == greatest named))

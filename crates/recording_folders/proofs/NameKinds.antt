@@ -1,4 +1,4 @@
--- A name of a number is of no other kind.
+-- The name of a number is of no other kind.
 use Rattle.std.proofs.Common.{◌≡◌, ℕ, ◌<◌, List, ◌++◌, ap, sym, ◌∙◌, codes, get_or, arith}
 use Rattle.std.specs.Int.{IsInRange}
 use Rattle.std.proofs.lemmas.List.{append_cancel_right}
@@ -7,7 +7,7 @@ use Rattle.recording_folders.specs.declared.kind.FileKind.TheVariants.{Segment, 
 use Rattle.recording_folders.specs.Names.{IsNumber, IsNameOf, HasNoNumber, padded, numbered, segment_name, damaged_name}
 use Rattle.recording_folders.proofs.Padded.{padded_injective, ends_differ, begins_with_digit}
 
--- a name with a number is none without one
+-- a name with a number is no name without one
 pub has_number : (name ending : List ℕ) (n : ℕ) → IsNumber n → name ≡ numbered n ending → (kind : FileKind) → HasNoNumber kind → IsNameOf name kind → ⊥
 has_number name ending n number is (Segment m) none h = none
 has_number name ending n number is (Damaged m) none h = none
@@ -47,7 +47,7 @@ damaged_only name n number is FoldLock h = absurd (has_number name (codes ".dama
 damaged_only name n number is Mark h = absurd (has_number name (codes ".damaged") n number is Mark tt h)
 damaged_only name n number is Other h = absurd h
 
--- a name that is that of no number is known by what it is without one
+-- a name that is that of no number is recognized by what it is without one
 pub without_number : (name : List ℕ) → ((n : ℕ) → IsNumber n → name ≡ segment_name n → ⊥) → ((n : ℕ) → IsNumber n → name ≡ damaged_name n → ⊥)
     → (found : FileKind) → ((kind : FileKind) → HasNoNumber kind → IsNameOf name kind → found ≡ kind) → (kind : FileKind) → IsNameOf name kind → found ≡ kind
 without_number name segment damaged found only (Segment m) h = absurd (segment m h.0 h.1)

@@ -1,4 +1,4 @@
--- The digits of a number behind zeros, read again.
+-- The digits of a number after zeros, read again.
 use Rattle.std.proofs.Common.{◌≡◌, ℕ, zero, suc, ◌<◌, ◌≤◌, ◌^◌, ◌+◌, ◌*◌, ◌-◌, List, [], ◌∷◌, ◌++◌, length, replicate, true, Result, Ok, ap, ◌∙◌, sym, arith, rules, refl, codes, get_or, Option, Some, None, Err, MatchResult, subst, length-append}
 use Rattle.std.specs.Fmt.{decimal}
 use Rattle.std.specs.Str.{all_ascii_digits, IsUtf8}
@@ -12,7 +12,7 @@ use Rattle.std.proofs.lemmas.Str.{IsUtf8-from_ascii}
 use Rattle.std.proofs.lemmas.Str.Parse.{IsNumeralModel, numerals_by_fold, parse_gives, not_in_digits}
 use Rattle.recording_folders.specs.Names.{padded, numbered}
 
--- the number that digits write, behind what was read already
+-- the number that digits write, after what was read already
 abbrev read_on : ℕ → List ℕ → ℕ
 read_on n [] = n
 read_on n (c ∷ cs) = read_on (10 * n + (c - 48)) cs
@@ -28,11 +28,11 @@ zeros_add_nothing : (k : ℕ) (ds : List ℕ) → read_on 0 (replicate k 48 ++ d
 zeros_add_nothing zero ds = refl
 zeros_add_nothing (suc k) ds = zeros_add_nothing k ds
 
--- a padded number is digits
+-- a padded number has only digits
 pub padded_digits : (n : ℕ) → n < 2 ^ 64 → all_ascii_digits (padded n) ≡ true
 padded_digits n small = zeros_are_digits (10 - length (decimal n)) (decimal n) (digits_decimal own n small)
 
--- and some
+-- and at least one
 pub padded_nonempty : (n : ℕ) → n < 2 ^ 64 → 0 < length (padded n)
 padded_nonempty n small = omega (arith, length-append (replicate (10 - length (decimal n)) 48) (decimal n), decimal_nonempty n small)
 

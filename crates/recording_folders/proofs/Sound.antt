@@ -7,11 +7,11 @@ use Rattle.recording_folders.specs.Folder.{Folder, IsSoundFolder, counted, Begin
 use Rattle.recording_folders.specs.Folder.IsLater.{same, more}
 use Rattle.recording_folders.proofs.Counting.{same_is, same_self, named_times, named_is_left_out, other_is_kept, times_append, times_cons_yes, times_cons_no, filter_le, filter_all}
 
--- what is counted is in the totals, or stands and is not named
+-- what is counted is in the totals, or is there and not named
 parts : (folder : Folder) (s : ℕ × ℕ) → IsSoundFolder folder → times s folder.summed + times s (unnamed folder.names folder.standing) ≡ times s folder.begun
 parts folder s sound = sym (times_append s folder.summed (unnamed folder.names folder.standing)) ∙ sound.each.all s
 
--- a list of segments each of which is counted as often as it was begun, which is once
+-- a list of segments, each counted as often as it was begun, which is once
 each_once : (begun sums rest : List (ℕ × ℕ)) → ((s : ℕ × ℕ) → times s sums + times s rest ≡ times s begun) → ((s : ℕ × ℕ) → times s begun ≤ 1)
     → AreEachOnce begun (sums ++ rest)
 each_once begun sums rest all once = record {
@@ -133,12 +133,12 @@ later_sound first last sound (more old new before happens) = happens_sound old l
 
 -- ---- the totals of one serial
 
--- totals are as they were
+-- totals are unchanged
 record AreSame (first last : Folder) : Type 0 where
   names : first.names ≡ last.names
   summed : first.summed ≡ last.summed
 
--- of one serial they are, and serials only grow
+-- while the serial is the same they are unchanged, and serials only grow
 record Holds (first last : Folder) : Type 0 where
   grows : first.serial ≤ last.serial
   stay : first.serial ≡ last.serial → AreSame first last
@@ -167,7 +167,7 @@ later_holds : (first last : Folder) → IsLater first last → Holds first last
 later_holds first last same = record { grows = omega arith; stay = λ e. record { names = refl; summed = refl } }
 later_holds first last (more old new before happens) = happens_holds first old last (later_holds first old before) happens
 
--- a reading between whose two reads of totals no fold wrote them counts each segment of its listing once
+-- if no fold wrote totals between its two reads of them, a reading counts each segment of its listing once
 pub reading_counts_once : (first listed last : Folder) → IsSoundFolder first → IsLater first listed → IsLater listed last → first.serial ≡ last.serial
     → AreEachOnce listed.begun (counted first listed)
 reading_counts_once first listed last sound before after serials =

@@ -1,10 +1,10 @@
--- What a recording's folder is to whoever reads or folds it, and what happens there.
+-- A recording's folder, as those that read or fold it see it, and what happens there.
 use Rattle.std.specs.Prelude.{◌≡◌, ◌<◌, ◌≤◌, ◌+◌, ◌⊎◌, ℕ, List, [], ◌∷◌, ◌++◌, not, true}
 use Rattle.std.specs.List.{filter}
 use Rattle.recording_folders.specs.Segments.{is_same, times, is_named, unnamed, AreEachOnce}
 
--- A folder at one moment: how many folds have written its totals, the segments whose units are in these, those that they
--- name, the segments whose files stand there, and all that were ever begun there.
+-- A folder at one moment: how many folds have written its totals, the segments whose units are in these, those that they name, the segments
+-- whose files are there, and all that were ever begun there.
 pub record Folder : Type 0 where
   pub serial : ℕ
   pub summed : List (ℕ × ℕ)
@@ -12,7 +12,7 @@ pub record Folder : Type 0 where
   pub standing : List (ℕ × ℕ)
   pub begun : List (ℕ × ℕ)
 
--- what is counted by whoever reads totals and then a listing: what is in the totals, and of the listing what they do not name
+-- what is counted from totals and then a listing: what is in the totals, and of the listing what they do not name
 abbrev pub counted : Folder → Folder → List (ℕ × ℕ)
 counted first listed = first.summed ++ unnamed first.names listed.standing
 
@@ -28,15 +28,15 @@ new_folder = record { serial = 0; summed = []; names = []; standing = []; begun 
 
 -- ---- what happens
 
--- a segment is begun, which never was before
+-- a segment is begun that was never begun before
 pub record Begins (old new : Folder) : Type 0 where
   pub segment : ℕ × ℕ
   pub fresh : times segment old.begun ≡ 0
   pub apart : times segment old.standing ≡ 0
   pub after : new ≡ record old { standing = segment ∷ old.standing; begun = segment ∷ old.begun }
 
--- a fold writes totals: of segments that stand and were not named, whose units it adds, and it names these, and of those
--- that were named before at least the ones that still stand
+-- a fold writes totals: it adds the units of segments that are there and were not named, and names these, and of those that were named
+-- before at least the ones that are still there
 pub record Folds (old new : Folder) : Type 0 where
   pub finals : List (ℕ × ℕ)
   pub names : List (ℕ × ℕ)
@@ -46,7 +46,7 @@ pub record Folds (old new : Folder) : Type 0 where
   pub no_other : (segment : ℕ × ℕ) → is_named names segment ≡ true → (is_named old.names segment ≡ true) ⊎ (0 < times segment finals)
   pub after : new ≡ record old { serial = old.serial + 1; summed = old.summed ++ finals; names = names }
 
--- a segment is removed that the totals name
+-- a segment that the totals name is removed
 pub record Removes (old new : Folder) : Type 0 where
   pub segment : ℕ × ℕ
   pub named : is_named old.names segment ≡ true
@@ -56,7 +56,7 @@ pub record Removes (old new : Folder) : Type 0 where
 abbrev pub Happens : Folder → Folder → Type 0
 Happens old new = Begins old new ⊎ Folds old new ⊎ Removes old new
 
--- a folder is another one later, whatever happened meanwhile: also of folds and processes that were killed
+-- a folder is a later state of another, whatever happened in the meantime, even if folds and processes were killed
 pub data IsLater (first : Folder) : Folder → Type 0 where
   same : IsLater first first
   more : (old new : Folder) → IsLater first old → Happens old new → IsLater first new

@@ -4,12 +4,12 @@ use Rattle.std.specs.Fmt.{decimal}
 use Rattle.recording_folders.specs.declared.kind.FileKind.{FileKind}
 use Rattle.recording_folders.specs.declared.kind.FileKind.TheVariants.{Segment, Damaged, Spare, Totals, NewTotals, FoldLock, Mark, Other}
 
--- segments are numbered from 1, by 64 bits
+-- segments are numbered from 1, in 64 bits
 pub record IsNumber (number : ℕ) : Type 0 where
   pub low : 0 < number
   pub high : number < 2 ^ 64
 
--- the digits of a number, behind as many zeros as make them ten
+-- the digits of a number, with zeros before them if they are fewer than ten
 abbrev pub padded : ℕ → List ℕ
 padded number = replicate (10 - length (decimal number)) 48 ++ decimal number
 
@@ -21,11 +21,11 @@ numbered number ending = padded number ++ ending
 abbrev pub segment_name : ℕ → List ℕ
 segment_name number = numbered number (codes ".seg")
 
--- the name of a file that was the segment of a number, and whose header has a fault
+-- the name of a file that was the segment of a number, but has a fault in its header
 abbrev pub damaged_name : ℕ → List ℕ
 damaged_name number = numbered number (codes ".damaged")
 
--- a name begins so
+-- a name begins with this
 pub record BeginsWith (front name : List ℕ) : Type 0 where
   pub behind : List ℕ
   pub is : name ≡ front ++ behind

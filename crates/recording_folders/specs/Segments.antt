@@ -6,11 +6,11 @@ use Rattle.std.specs.List.{list_any, count_by, filter}
 abbrev pub is_same : ℕ × ℕ → ℕ × ℕ → Bool
 is_same one other = (one.0 == other.0) && (one.1 == other.1)
 
--- how often a list has a segment
+-- how often a segment is in a list
 abbrev pub times : ℕ × ℕ → List (ℕ × ℕ) → ℕ
 times segment segments = count_by (is_same segment) segments
 
--- whether names have a segment
+-- whether a segment is among the names
 abbrev pub is_named : List (ℕ × ℕ) → ℕ × ℕ → Bool
 is_named names segment = list_any (is_same segment) names
 

@@ -15,7 +15,7 @@ whole_of_fold sums next = record {
   fold = Some next.serial;
 }
 
--- the numbers of a fold fit, as all of 64 bits do
+-- the numbers of a fold fit 64 bits
 pub record FitsFold (next : Fold) : Type 0 where
   pub names : AllByRecursion FitsSegment next.names.items
   pub serial : next.serial < 2 ^ 64

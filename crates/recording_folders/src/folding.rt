@@ -1,4 +1,4 @@
-//! What a fold writes beside the sum.
+//! What a fold writes in addition to the sum.
 
 ghost use Rattle.std.specs.Prelude.{◌≡◌, ◌<◌, ◌+◌, ◌^◌, ◌++◌, IfOk, IfSome, IsSome, ◌↔◌};
 ghost use Rattle.recording_folders.specs.Folder.{Folder, Folds};
@@ -8,7 +8,7 @@ ghost use Rattle.recording_folders.specs.Folding.{MayFold, folded};
 use crate::named::is_named;
 use std::alloc::{AllocError, Global};
 
-/// What a fold writes beside the sum.
+/// What a fold writes in addition to the sum.
 #[derive(Debug, Drop)]
 pub struct Fold {
     /// The segments that the totals name, each a number and an id.
@@ -40,11 +40,11 @@ fn kept(
         .collect(alloc)
 }
 
-/// Returns what the next totals of a folder say beside the sum, where the present ones have this serial and these names: of
-/// the named ones `standing` could not be removed, and `finals` are final and were added to the sum. The totals name those
-/// that stand still, that of the greatest number, and the added ones [names]; their serial is one more [serial]. There are
-/// none only if the serial would pass 64 bits [some]. Writing them is a fold of the folder, after which each segment is
-/// still counted once [fold]. It fails for want of memory alone.
+/// Returns what the next totals of a folder say in addition to the sum, if the present ones have this serial and these
+/// names. Of the named segments, `standing` could not be removed; `finals` are final and were added to the sum. The
+/// totals name those that are still there, the one with the greatest number, and the added ones [names]; their serial
+/// is one more [serial]. Returns none exactly if the serial would pass 64 bits [some]. Writing them is a fold of the
+/// folder, after which each segment is still counted once [fold]. The one error is that memory runs out.
 pub fn fold_of(
     alloc: Global,
     serial: u64,

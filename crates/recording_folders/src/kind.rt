@@ -1,4 +1,4 @@
-//! Which files of a recording's folder there are.
+//! The kinds of files in a recording's folder.
 
 ghost use Rattle.std.specs.Prelude.{◌≡◌, ◌⊎◌, IfOk};
 ghost use Rattle.recording_folders.specs.declared.kind.FileKind as file_kind;
@@ -13,7 +13,7 @@ use std::alloc::{AllocError, Global};
 pub enum FileKind {
     /// The segment of a number.
     Segment(u64),
-    /// What was the segment of a number, and whose header has a fault.
+    /// What was the segment of a number, but has a fault in its header.
     Damaged(u64),
     /// A segment that is not in use yet.
     Spare,
@@ -21,7 +21,7 @@ pub enum FileKind {
     Totals,
     /// Totals that are being written.
     NewTotals,
-    /// The file whose lock a fold has.
+    /// The file that a fold locks.
     FoldLock,
     /// The file that says what the folder is.
     Mark,
@@ -60,8 +60,9 @@ fn kind_without_number(name: &[u8]) -> FileKind
     }
 }
 
-/// Returns the kind of a file by its name: where it is not `Other`, the name is one of that kind [found]. And each name of
-/// a kind has that one, so the kind of the name of a number is the number [only]. It fails for want of memory alone.
+/// Returns the kind of a file by its name. If it is not `Other`, the name is one of that kind [found]. Each name of a
+/// kind has that kind, so the name of a number is recognized as that number [only]. The one error is that memory runs
+/// out.
 pub fn kind_of(alloc: Global, name: &[u8]) -> Result<FileKind, AllocError>
     ensures found { IfOk result (λ kind. (kind ≡ Other) ⊎ IsNameOf name.now kind) }
     ensures only { (kind : file_kind.FileKind) → IsNameOf name.now kind → IfOk result (λ found. found ≡ kind) }

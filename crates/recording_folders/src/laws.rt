@@ -11,7 +11,7 @@ pub fn a_new_folder_is_sound()
     ensures { IsSoundFolder new_folder }
 {}
 
-/// In a sound folder each segment that was begun is counted once, and it stays sound whatever happens there.
+/// In a sound folder each segment that was begun is counted once. A folder stays sound whatever happens there.
 ///
 /// It does nothing: what it promises is a law of the definition.
 pub fn a_folder_stays_sound()

@@ -1,7 +1,8 @@
 //! The rules of a recording's folder: its names, which segments a reading counts, and what a fold writes.
 //!
-//! [`kind_of`] tells what a file is by its name. A reading counts each segment of its listing that [`is_named`] does not find in the totals,
-//! and [`stands`] says whether it may be used. [`fold_of`] says what a fold writes beside the sum.
+//! [`kind_of`] says what a file is by its name. A reading counts each segment of its listing that [`is_named`] does not
+//! find in the totals, and [`stands`] says whether the reading can be used. [`fold_of`] says what a fold writes in
+//! addition to the sum.
 #![tactic(auto)]
 
 mod folding;

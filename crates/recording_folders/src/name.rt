@@ -1,4 +1,4 @@
-//! The names of numbers.
+//! The names of numbered files.
 
 ghost use Rattle.std.specs.Prelude.{◌≡◌, ◌<◌, ◌^◌, ℕ, Some, IfOk, IfSome};
 ghost use Rattle.recording_folders.specs.Names as names;
@@ -10,10 +10,10 @@ use std::alloc::{AllocError, Global};
 /// What the name of a segment ends with.
 pub(crate) const SEGMENT: &[u8] = b".seg";
 
-/// What the name of a file ends with whose header has a fault.
+/// What the name of a file with a fault in its header ends with.
 pub(crate) const DAMAGED: &[u8] = b".damaged";
 
-// How many digits a name has at least.
+// The least number of digits in a name.
 const DIGITS: usize = 10;
 
 // The name of a number, with an ending.
@@ -31,21 +31,21 @@ fn numbered(alloc: Global, number: u64, ending: &[u8]) -> Result<Vec<u8>, AllocE
     Ok(name)
 }
 
-/// Returns the name of the segment of a number. It fails for want of memory alone.
+/// Returns the name of the segment of a number. The one error is that memory runs out.
 pub fn segment_name(alloc: Global, number: u64) -> Result<Vec<u8>, AllocError>
     ensures { IfOk result (λ name. name.items ≡ names.segment_name number) }
 {
     numbered(alloc, number, SEGMENT)
 }
 
-/// Returns the name that the file of a number gets whose header has a fault. It fails for want of memory alone.
+/// Returns the name that the file of a number gets if its header has a fault. The one error is that memory runs out.
 pub fn damaged_name(alloc: Global, number: u64) -> Result<Vec<u8>, AllocError>
     ensures { IfOk result (λ name. name.items ≡ names.damaged_name number) }
 {
     numbered(alloc, number, DAMAGED)
 }
 
-// The number that digits write, with zeros in front or without.
+// The number that digits write, with or without zeros before it.
 fn parsed(digits: &[u8]) -> Option<u64>
     ensures { (number : ℕ) → number < 2 ^ 64 → digits.now ≡ padded number → result ≡ Some number }
 {
@@ -53,7 +53,7 @@ fn parsed(digits: &[u8]) -> Option<u64>
     text.parse::<u64>().ok()
 }
 
-/// Returns the number whose name with an ending this is, if it is that of one.
+/// Returns the number that has this name with this ending, if there is one.
 pub(crate) fn number_in(
     alloc: Global,
     name: &[u8],

@@ -10,16 +10,16 @@ use crate::folding::Fold;
 use reading_sums::Sums;
 use sum_texts::Totals;
 
-/// Returns the serial of the fold that wrote these totals, or 0 where no fold did.
+/// Returns the serial of the fold that wrote these totals, or 0 if no fold did.
 pub fn serial_of(totals: &Totals) -> u64
     ensures { result ≡ unwrap_or totals.now.fold 0 }
 {
     totals.fold.unwrap_or(0)
 }
 
-/// Returns the totals that a fold writes: of this sum, which has what the fold adds, with its names and its serial [whole].
-/// Where totals of the sum can be written and read back, so can these, whose numbers have 64 bits: `sum_texts::totals_of`
-/// returns them of their text [writable].
+/// Returns the totals that a fold writes: this sum, which has what the fold adds, with the names and the serial of the
+/// fold [whole]. If totals of the sum can be written and read back, so can these, whose numbers have 64 bits:
+/// `sum_texts::totals_of` returns them from their text [writable].
 pub fn folded_totals(sums: Sums, fold: Fold) -> Totals
     ensures whole { whole_of result ≡ whole_of_fold sums fold }
     ensures writable { (totals : totals_type.Totals) → totals.sums ≡ sums → IsWritable totals → FitsFold fold → IsWritable result }

@@ -1,4 +1,4 @@
--- All inputs have one sum, where each can be one thing alone.
+-- All inputs have one sum, if each can only be one thing.
 use Rattle.std.proofs.Common.{◌≡◌, ◌≢◌, Bool, true, false, nat_lt, ℕ, ◌+◌, ◌≤◌, List, [], ◌∷◌, ◌++◌, length, zero, suc, All, ◌⊎◌, ⊎_elim, inl, inr, refl, ap, sym, subst, ◌∙◌, arith}
 use Rattle.reading_sums.specs.declared.notes.Notes.{Notes}
 use Rattle.reading_sums.specs.declared.sums.Sums.{Sums}
@@ -23,7 +23,7 @@ use Rattle.sum_commands.proofs.Fits.{AllFit, all-fit}
 
 -- ---- the same inputs
 
--- what an input is taken as, is known where it is fixed, and it is whole or not left out with `TooMany`
+-- it is known what an input is taken as if it is fixed, and is whole or not left out with `TooMany`
 abbrev IsSure : Type 0 → Input → Type 0
 IsSure whole input = whole ⊎ (input ≢ LeftOut TooMany)
 
@@ -34,7 +34,7 @@ left-is whole may_be D (Image fault) may = inl ((λ e. absurd (cc)), may)
 left-is whole may_be D (BadTotals line) may = inl ((λ e. absurd (cc)), may)
 left-is whole may_be D TooMany may = inr (refl, may)
 
--- of one input not both are so: that it is added, and that it is left out
+-- one input is never both added and left out
 not-both : (whole : Type 0) (may_be : Input → Type 0) (D : Addend → Type 0) (is_damaged : Bool) (addend : Addend) (fault : InputFault)
     → ((one other : Input) → may_be one → may_be other → one ≡ other) → IsSure whole (LeftOut fault)
     → MayBeTaken whole may_be D (Added is_damaged addend) → MayBeTaken whole may_be D (LeftOut fault) → ⊥
@@ -45,7 +45,7 @@ not-both whole may_be D is_damaged addend fault fixed sure added left =
     ⊎_elim (λ w. added.1 w (subst D (sym same) (many.1.many w))) (λ other. other (ap LeftOut many.0)) sure)
     (left-is whole may_be D fault left)
 
--- nor that it is left out for two faults
+-- nor is it left out for two faults
 same-fault : (whole : Type 0) (may_be : Input → Type 0) (D : Addend → Type 0) (one other : InputFault)
     → ((one other : Input) → may_be one → may_be other → one ≡ other) → MayBeTaken whole may_be D (LeftOut one) → MayBeTaken whole may_be D (LeftOut other) → one ≡ other
 same-fault whole may_be D one other fixed first second =
@@ -67,7 +67,7 @@ same-first whole may_be D (LeftOut fault) (Added is_damaged addend) fixed sure a
     absurd (not-both whole may_be D is_damaged addend fault fixed sure second first)
 same-first whole may_be D (LeftOut fault) (LeftOut other) fixed sure also first second = ap LeftOut (same-fault whole may_be D fault other fixed first second)
 
--- so it is of each of some inputs
+-- the same holds of each of some inputs
 abbrev AreSure : Type 0 → List Input → Type 0
 AreSure whole [] = ⊤
 AreSure whole (input ∷ rest) = IsSure whole input × AreSure whole rest
@@ -80,7 +80,7 @@ fit-sure : (whole : Type 0) (xs : List Input) → AllFit xs → AreSure whole xs
 fit-sure whole [] fit = tt
 fit-sure whole (x ∷ xs) fit = (inr fit.0, fit-sure whole xs fit.1)
 
--- as many inputs
+-- both have as many inputs
 same-many : (whole : Type 0) (may_be : ℕ → Input → Type 0) (before : List Addend) (place : ℕ) (xs ys : List Input) → AreFixedInputs may_be
     → AreSure whole xs → AreSure whole ys → AreTakenInputs whole may_be before place xs → AreTakenInputs whole may_be before place ys → length xs ≡ length ys → xs ≡ ys
 same-many whole may_be before place [] [] fixed sure also first second many = refl
@@ -93,7 +93,7 @@ same-many whole may_be before place (x ∷ xs) (y ∷ ys) fixed sure also first 
     let rest : xs ≡ ys = same-many whole may_be (before ++ addends_of x) (place + 1) xs ys fixed sure.1 also.1 first.1 other (omega (arith, many)) in
     λ i. here i ∷ rest i
 
--- inputs up to the first that is left out, or all of so many
+-- inputs up to the first that is left out, or all of this number
 abbrev EndsSo : ℕ → ℕ → List Input → Type 0
 EndsSo place count xs = EndsAtFault xs × (length xs ≤ count) × (nat_lt 0 (length (left_from place xs)) ≡ false → length xs ≡ count)
 
@@ -150,7 +150,7 @@ same-sum addends a b first second = record {
   notes = same-notes addends a b first second;
 }
 
--- the report says nothing of a sum but its parts and its notes
+-- the report depends only on the parts of a sum and its notes
 same-report : (a b : Sums) (n m : ℕ) (text : List ℕ) → parts_of a ≡ parts_of b → a.notes ≡ b.notes → n ≡ m → IsSumReport a n text → IsSumReport b m text
 same-report a b n m text parts notes many is = record {
   reading = is.reading;

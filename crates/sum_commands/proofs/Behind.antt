@@ -1,4 +1,4 @@
--- What is added behind a sum fits, or does not fit.
+-- What is added after a sum fits, or does not fit.
 use Rattle.std.proofs.Common.{◌≡◌, ◌⊎◌, ⊎_elim, inl, inr, ◌<◌, ◌≤◌, ◌^◌, ◌+◌, ◌+ℤ◌, ℕ, List, [], ◌∷◌, ◌++◌, map, refl, ap, sym, subst, ◌∙◌, arith}
 use Rattle.std.specs.List.{All, Contains}
 use Rattle.std.proofs.Math.Nat.{lt_of_not-le}

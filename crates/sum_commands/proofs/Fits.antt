@@ -1,4 +1,4 @@
--- Which inputs fit behind others.
+-- Which inputs fit after others.
 use Rattle.std.proofs.Common.{◌≡◌, ◌≢◌, ◌⊎◌, ⊎_elim, inl, inr, ◌<◌, ◌≤◌, ◌^◌, ◌+◌, ℕ, List, [], ◌∷◌, ◌++◌, All, sum_by, true, false, refl, ap, sym, subst, ◌∙◌, arith}
 use Rattle.std.specs.Prelude.{⊤}
 use Rattle.std.proofs.Math.Nat.{lt_of_not-le}
@@ -17,7 +17,7 @@ use Rattle.sum_commands.specs.Inputs.{DoesNotFitAfter, DoesNotFitBehind, Numbers
 use Rattle.sum_commands.specs.Sources.{Input, AreSmallAddends, AreSmallInputs, AreTakenInputs, IsSmallSum, IsTakenAfter, IsTakenBehind, addends_in, addends_of, left_at, left_from}
 use Rattle.sum_commands.specs.Sources.Input.{Added, LeftOut}
 
--- ---- behind a sum, and behind the addends that it is of
+-- ---- after a sum, and after the addends of that sum
 
 behind-after : (sums : Sums) (xs : List Addend) (addend : Addend) → IsSumInTurn xs sums → DoesNotFitBehind sums addend → DoesNotFitAfter xs addend
 behind-after sums xs addend is many =
@@ -28,7 +28,7 @@ fits-after sums xs addend is fits = λ many.
     ⊎_elim (fits-behind sums xs addend is (λ long. fits (inl long)))
     (λ numbers. fits (inr (subst (λ n. NumbersDoNotFit n addend.parts) (sym is.images) numbers))) many
 
--- an input that is taken behind a sum is taken so after its addends
+-- an input that is taken after a sum is taken the same after its addends
 pub taken-after : (whole : Type 0) (may_be : Input → Type 0) (sums : Sums) (xs : List Addend) (input : Input) → (whole → IsWellFormed sums) → IsSumInTurn xs sums
     → IsTakenBehind whole may_be sums input → IsTakenAfter whole may_be xs input
 taken-after whole may_be sums xs (Added is_damaged addend) formed is taken = (taken.0, λ w. fits-after sums xs addend is (taken.1 (w, formed w)))
@@ -41,7 +41,7 @@ taken-after whole may_be sums xs (LeftOut TooMany) formed is taken = record {
   many = λ w. behind-after sums xs taken.addend is (taken.many (w, formed w));
 }
 
--- ---- inputs of which none is left out with `TooMany`
+-- ---- inputs none of which is left out with `TooMany`
 
 abbrev pub AllFit : List Input → Type 0
 AllFit [] = ⊤
@@ -71,13 +71,13 @@ small-append before [] ys first second = subst (λ z. AreSmallInputs z ys) (appe
 small-append before (x ∷ xs) ys first second =
     (first.0, small-append (before ++ addends_of x) xs ys first.1 (subst (λ z. AreSmallInputs z ys) (sym (append_assoc before (addends_of x) (addends_in xs))) second))
 
--- so are all of them
+-- all of them together are small, too
 pub small-end : (before : List Addend) (xs : List Input) → AreSmallAddends before → AreSmallInputs before xs → AreSmallAddends (before ++ addends_in xs)
 small-end before [] here small = subst AreSmallAddends (sym (append-nil before)) here
 small-end before (x ∷ xs) here small =
     subst AreSmallAddends (append_assoc before (addends_of x) (addends_in xs)) (small-end (before ++ addends_of x) xs small.0 small.1)
 
--- ---- what fits after some addends fits also where small ones come before them, if all fit together
+-- ---- what fits after some addends also fits if small ones come before them, provided that all fit together
 
 fits-later : (xs zs more : List Addend) (addend : Addend) → ¬ AddendsDoNotFit (xs ++ ((zs ++ addend ∷ []) ++ more)) → AreSmallAddends xs
     → AreSmallAddends (zs ++ addend ∷ []) → ¬ DoesNotFitAfter zs addend → ¬ DoesNotFitAfter (xs ++ zs) addend

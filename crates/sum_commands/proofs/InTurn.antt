@@ -13,7 +13,7 @@ use Rattle.reading_sums.proofs.RaisedSums.{not-raised, same-raised}
 use Rattle.reading_sums.proofs.Totals.{same-append, same-equal, same-trans}
 use Rattle.sum_commands.specs.Inputs.{images_of}
 
--- ---- the parts of addends that come behind others
+-- ---- the parts of addends that come after others
 
 twice-raised : (by first : ℕ) (parts : List Part) → map (raised_part by) (map (raised_part first) parts) ≡ map (raised_part (first + by)) parts
 twice-raised by first [] = refl
@@ -77,11 +77,11 @@ alone addend =
       bad = omega arith;
     }
 
--- one addend more, behind others
+-- one more addend, after others
 pub next-in-turn : (xs : List Addend) (addend : Addend) (a c : Sums) → IsSumInTurn xs a → AddsAddend addend a c → IsSumInTurn (xs ++ addend ∷ []) c
 next-in-turn xs addend a c first more = behind-others xs (addend ∷ []) addend a c first (alone addend) more
 
--- the sum of addends, behind others
+-- the sum of addends, after others
 pub both-in-turn : (xs ys : List Addend) (a b c : Sums) → IsSumInTurn xs a → IsSumInTurn ys b → AddsAddend (addend_of b) a c → IsSumInTurn (xs ++ ys) c
 both-in-turn xs ys a b c first second more =
     behind-others xs ys (addend_of b) a c first
@@ -109,7 +109,7 @@ hists-raised by [] = refl
 hists-raised by (hist ∷ rest) =
     let e : by ≡ 0 + by = omega arith in λ i. (record (part_from by hist) { least = e i }) ∷ hists-raised by rest i
 
--- a reading was added whose number is how many images there were
+-- a reading was added that is numbered by how many images there were
 pub numbered-behind : (number : ℕ) (reading : Reading) (before after : Sums) → number ≡ before.notes.images → AddsNumbered (number, reading) before after
     → AddsAddend (addend_of_reading reading) before after
 numbered-behind number reading before after images more = record {

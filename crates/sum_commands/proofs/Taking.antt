@@ -23,7 +23,7 @@ use Rattle.sum_commands.specs.Sources.Input.{Added, LeftOut}
 use Rattle.sum_commands.proofs.Fits.{all-fit, none-small, small-append, small-end, sum-small-addends, taken-after, taken-later}
 use Rattle.sum_commands.proofs.InTurn.{next-in-turn, both-in-turn}
 
--- ---- lists of inputs, one behind the other
+-- ---- lists of inputs, one after the other
 
 taken-append : (whole : Type 0) (may_be : ℕ → Input → Type 0) (before : List Addend) (place : ℕ) (xs ys : List Input)
     → AreTakenInputs whole may_be before place xs → AreTakenInputs whole may_be (before ++ addends_in xs) (place + length xs) ys
@@ -63,7 +63,7 @@ damaged-append : (xs ys : List Input) → are_damaged (xs ++ ys) ≡ (are_damage
 damaged-append [] ys = refl
 damaged-append (x ∷ xs) ys = ap (λ z. is_damaged_in x || z) (damaged-append xs ys) ∙ or-assoc (is_damaged_in x) (are_damaged xs) (are_damaged ys)
 
--- others may come behind inputs of which none is left out
+-- others may come after inputs none of which is left out
 ends-append : (place : ℕ) (xs ys : List Input) → left_from place xs ≡ [] → EndsAtFault ys → EndsAtFault (xs ++ ys)
 ends-append place [] ys none ends = ends
 ends-append place (Added is_damaged addend ∷ xs) ys none ends = ends-append (place + 1) xs ys none ends
@@ -81,7 +81,7 @@ and-true : (a b : Bool) → (a && b) ≡ false → a ≡ true → b ≡ false
 and-true true b both is = both
 and-true false b both is = absurd (cc)
 
--- of a sum that is strict and has not ended no input is left out
+-- a sum that is strict and has not ended leaves no input out
 none-left : (is_strict : Bool) (summed : Summed) → has_ended is_strict summed ≡ false → is_strict ≡ true → summed.left.items ≡ []
 none-left is_strict summed goes_on strict = no-elements summed.left.items (and-true is_strict (nat_lt 0 (length summed.left.items)) goes_on strict)
 
@@ -95,7 +95,7 @@ adds-in-turn xs (LeftOut fault) a c is adds =
 left-alone : (place : ℕ) (input : Input) → left_from place (input ∷ []) ≡ left_at place input
 left-alone place input = append-nil (left_at place input)
 
--- what was left out stands at its places
+-- what was left out is listed with its places
 left-behind : (first place reached : ℕ) (before more after : List Left) (xs ys : List Input) → first ≡ place → reached ≡ place + length xs
     → before ≡ left_from place xs → more ≡ left_from reached ys → after ≡ before ++ more → after ≡ left_from first (xs ++ ys)
 left-behind first place reached before more after xs ys same is first_left more_left both =
@@ -168,13 +168,13 @@ next-taken whole may_be is_strict before after is goes_on step =
       refl,
     )
 
--- addends that were small are so after an input behind which the sum is small
+-- addends that were small are still small after an input with which the sum is small
 small-next : (sums : Sums) (xs : List Addend) (one : Input) → IsWellFormed sums → IsSumInTurn (xs ++ addends_of one) sums → AreSmallAddends xs → IsSmallAfter one sums
     → AreSmallAddends (xs ++ addends_of one)
 small-next sums xs (Added is_damaged addend) formed is before small = sum-small-addends sums (xs ++ addend ∷ []) formed is small
 small-next sums xs (LeftOut fault) formed is before small = subst AreSmallAddends (sym (append-nil xs)) before
 
--- the same of a sum that has taken its next input
+-- the same for a sum that has taken its next input
 small-taken : (whole : Type 0) (may_be : ℕ → Input → Type 0) (is_strict : Bool) (before after : Summed) (is : IsSumOfInputs whole may_be is_strict before)
     (step : HasTakenInput whole (may_be before.reached) before after) → whole → after.was_large ≡ false → (before.was_large ≡ false → AreSmallAddends (addends_in is.inputs))
     → AreSmallAddends (addends_in is.inputs ++ addends_of step.input)
@@ -207,7 +207,7 @@ next-of-run whole may_be is_strict before after is goes_on step =
 
 -- ---- the inputs of another sum are appended
 
--- they are taken so behind those before them, since all fit together
+-- they are taken the same after those before them, since all fit together
 more-behind : (whole : Type 0) (may_be : ℕ → Input → Type 0) (is_strict : Bool) (more before after : Summed) (is : IsSumSoFar whole may_be is_strict before)
     (behind : IsSumOfRun whole may_be is_strict more) → before.reached ≡ more.first → HasAppended more before after
     → AreTakenInputs whole may_be (addends_in is.sum.inputs) before.reached behind.sum.inputs
@@ -287,7 +287,7 @@ opened-append {O} opened_may_be may_be place (x ∷ xs) one are more =
     let e : place + suc (length xs) ≡ (place + 1) + length xs = omega arith in
     (are.0, opened-append opened_may_be may_be (place + 1) xs one are.1 (λ input is. subst (λ n. may_be n input) e (more input is)))
 
--- a sum of inputs of which more is known
+-- a sum of inputs about which more is known
 sum-known : (whole known : Type 0) (P Q : ℕ → Input → Type 0) (is_strict : Bool) (summed : Summed) → (known → whole)
     → ((at : ℕ) (one : Input) → P at one → Q at one) → IsSumOfInputs whole P is_strict summed → IsSumOfInputs known Q is_strict summed
 sum-known whole known P Q is_strict summed each more is = record {
@@ -301,7 +301,7 @@ sum-known whole known P Q is_strict summed each more is = record {
   well_formed = λ k. is.well_formed (each k);
 }
 
--- a run of opened inputs was added up, each of which may be what its place may have
+-- a run of opened inputs was added up, and each may only be what the input at its place may be
 run-taken : {O : Type 0} (is_whole : O → Type 0) (opened_may_be : O → Input → Type 0) (whole : Type 0) (may_be : ℕ → Input → Type 0) (is_strict : Bool) (first : ℕ)
     (opened : List O) (summed : Summed) → AreOpenedFrom opened_may_be may_be first opened → (whole → All is_whole opened)
     → IsSumOfRun (All is_whole opened) (IsOpenedAt opened_may_be first opened) is_strict summed → IsSumOfRun whole may_be is_strict summed
@@ -388,7 +388,7 @@ may-more-within is_strict more before after most step first second =
       | inr goes ↦ subst (λ n. n ≤ most) (sym goes.2.reached) second
     ]
 
--- what the workers of runs have made, each of which is of inputs that end before a place
+-- what the workers of runs have made: sums of inputs that end before a place
 pub all-within : {O : Type 0} (is_whole : O → Type 0) (opened_may_be : O → Input → Type 0) (whole : Type 0) (may_be : ℕ → Input → Type 0) (end : ℕ)
     (is_strict : Bool) (runs : List (Run O)) (done : List (Result Summed AllocError))
     → All (IsOpenedRun is_whole opened_may_be whole may_be end is_strict) runs → length done ≡ length runs

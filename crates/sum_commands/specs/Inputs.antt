@@ -26,18 +26,18 @@ abbrev pub fault_of_sums : SumsFault → InputFault
 fault_of_sums sums.NoMemory = Image NoMemory
 fault_of_sums sums.TooMany = TooMany
 
--- that of an input that is no totals
+-- the fault of an input that is not a totals
 abbrev pub fault_of_totals : TotalsFault → InputFault
 fault_of_totals totals.NoMemory = Image NoMemory
 fault_of_totals (totals.BadTotals line) = BadTotals line
 
 -- ---- what does not fit
 
--- least numbers do not fit behind so many images: one is 2^62 or more, or 2^64 or more when it is raised by these
+-- least numbers do not fit after this many images: one is 2^62 or more, or 2^64 or more when it is raised by these
 abbrev pub NumbersDoNotFit : ℕ → List Part → Type 0
 NumbersDoNotFit images parts = (part : Part) × Contains parts part × ((2 ^ 62 ≤ part.least) ⊎ (2 ^ 64 ≤ part.least + images))
 
--- an addend does not fit behind a sum: what both have together does not fit, or the addend's numbers do not
+-- an addend does not fit after a sum: what both have together does not fit, or the addend's numbers do not
 abbrev pub DoesNotFitBehind : Sums → Addend → Type 0
 DoesNotFitBehind sums addend = SumDoesNotFit sums addend.parts addend.notes ⊎ NumbersDoNotFit sums.notes.images addend.parts
 
@@ -45,31 +45,31 @@ DoesNotFitBehind sums addend = SumDoesNotFit sums addend.parts addend.notes ⊎ 
 abbrev pub images_of : List Addend → ℕ
 images_of addends = sum_by (λ (addend : Addend). addend.notes.images) addends
 
--- an addend does not fit behind others
+-- an addend does not fit after others
 abbrev pub DoesNotFitAfter : List Addend → Addend → Type 0
 DoesNotFitAfter before addend = AddendsDoNotFit (before ++ addend ∷ []) ⊎ NumbersDoNotFit (images_of before) addend.parts
 
 -- ---- why an input is left out
 
--- a reading of these bytes does not fit behind a well-formed sum
+-- a reading of these bytes does not fit after a well-formed sum
 pub record ReadingDoesNotFit (bytes : List ℕ) (before : Sums) : Type 0 where
   pub reading : Reading
   pub reading_is : IsReadingOf bytes reading
   pub many : IsWellFormed before → DoesNotFitBehind before (addend_of_reading reading)
 
--- why an image is left out: for a cause in its bytes, or since it does not fit; of a lack of memory nothing is said
+-- why an image is left out: for a cause in its bytes, or since it does not fit; nothing is claimed if memory ran out
 abbrev pub IsCausedByInput : List ℕ → Sums → InputFault → Type 0
 IsCausedByInput bytes before (Image fault) = IsCausedByImage bytes fault
 IsCausedByInput bytes before (BadTotals line) = ⊥
 IsCausedByInput bytes before TooMany = ReadingDoesNotFit bytes before
 
--- the totals of this text do not fit behind a well-formed sum
+-- the totals of this text do not fit after a well-formed sum
 pub record TotalsDoNotFit (text : List ℕ) (before : Sums) : Type 0 where
   pub totals : Totals
   pub text_is : text ≡ totals_text (whole_of totals)
   pub many : IsWellFormed before → DoesNotFitBehind before (addend_of totals.sums)
 
--- why totals are left out: the text is that of no totals, or they do not fit; and memory may run out
+-- why totals are left out: the text is not that of a totals, or they do not fit, or memory ran out
 abbrev pub IsCausedByTotals : List ℕ → Sums → InputFault → Type 0
 IsCausedByTotals text before (Image fault) = fault ≡ NoMemory
 IsCausedByTotals text before (BadTotals line) = (totals : Totals) → IsWritable totals → text ≡ totals_text (whole_of totals) → ⊥
@@ -77,7 +77,7 @@ IsCausedByTotals text before TooMany = TotalsDoNotFit text before
 
 -- ---- what is added
 
--- a sum became that of one reading more, which is what these bytes read as
+-- a sum gained one reading, which is what these bytes read as
 pub record AddsReading (bytes : List ℕ) (before after : Sums) : Type 0 where
   pub reading : Reading
   pub reading_is : IsReadingOf bytes reading
@@ -86,12 +86,12 @@ pub record AddsReading (bytes : List ℕ) (before after : Sums) : Type 0 where
   pub well_formed : IsWellFormed before → IsWellFormed after
   pub fits : IsWellFormed before → ¬ DoesNotFitBehind before (addend_of_reading reading)
 
--- a sum became that of the readings of another one more, behind its own
+-- a sum gained the readings of another one, after its own
 abbrev pub AddsBehind : Sums → Sums → Sums → Type 0
 AddsBehind more before after = (readings others : List Reading) → IsSumInOrder readings before → IsSumInOrder others more
     → IsSumInOrder (readings ++ others) after
 
--- a sum became that of the readings more of which a text is the totals
+-- a sum gained the readings of a totals that has this text
 pub record AddsTotals (text : List ℕ) (before after : Sums) : Type 0 where
   pub totals : Totals
   pub text_is : text ≡ totals_text (whole_of totals)

@@ -1,4 +1,4 @@
--- What the inputs of a source are, and of which of them a sum is.
+-- What the inputs of a source are, and which of them a sum has.
 use Rattle.std.specs.Prelude.{◌≡◌, ◌≢◌, ◌⊎◌, Bool, true, false, ◌&&◌, ◌||◌, nat_lt, ℕ, ◌+◌, ◌<◌, ◌≤◌, ◌^◌, List, [], ◌∷◌, ◌++◌, length, All, unsigned_abs, Result, Ok, Err, IfOk, IfErr, ⊤}
 use Rattle.persist_report_core.specs.declared.fault.CliFault.TheVariants.{NoMemory}
 use Rattle.reading_sums.specs.declared.sums.Sums.{Sums}
@@ -28,23 +28,23 @@ pub record MayBeTooMany (whole : Type 0) (may_be : Input → Type 0) (does_not_f
   pub is : may_be (Added is_damaged addend)
   pub many : whole → does_not_fit addend
 
--- An input is taken as what it may be: an addend, which fits, or a fault for which it is left out. With `TooMany` it is left out
--- where an addend that it may be does not fit. What fits is only said of inputs that are whole.
+-- An input is taken as what it may be: an addend, which fits, or a fault for which it is left out. It is left out with `TooMany` if an
+-- addend that it may be does not fit. What fits is said only of inputs that are whole.
 abbrev pub MayBeTaken : Type 0 → (Input → Type 0) → (Addend → Type 0) → Input → Type 0
 MayBeTaken whole may_be does_not_fit (Added is_damaged addend) = may_be (Added is_damaged addend) × (whole → ¬ does_not_fit addend)
 MayBeTaken whole may_be does_not_fit (LeftOut (Image fault)) = may_be (LeftOut (Image fault))
 MayBeTaken whole may_be does_not_fit (LeftOut (BadTotals line)) = may_be (LeftOut (BadTotals line))
 MayBeTaken whole may_be does_not_fit (LeftOut TooMany) = MayBeTooMany whole may_be does_not_fit
 
--- it is taken so behind a sum; what fits is only said if that is well formed
+-- an input is taken as what it may be, after a sum; what fits is said only if that is well formed
 abbrev pub IsTakenBehind : Type 0 → (Input → Type 0) → Sums → Input → Type 0
 IsTakenBehind whole may_be before input = MayBeTaken (whole × IsWellFormed before) may_be (DoesNotFitBehind before) input
 
--- it is taken so behind other addends
+-- an input is taken as what it may be, after other addends
 abbrev pub IsTakenAfter : Type 0 → (Input → Type 0) → List Addend → Input → Type 0
 IsTakenAfter whole may_be before input = MayBeTaken whole may_be (DoesNotFitAfter before) input
 
--- a sum became that of an input more, behind its own, which is taken as what it may be; of a whole input it stays well formed
+-- a sum gained an input after its own, which is taken as what it may be; with a whole input it stays well formed
 pub record AddsInput (whole : Type 0) (may_be : Input → Type 0) (is_damaged : Bool) (before after : Sums) : Type 0 where
   pub addend : Addend
   pub taken : IsTakenBehind whole may_be before (Added is_damaged addend)
@@ -55,7 +55,7 @@ pub record AddsInput (whole : Type 0) (may_be : Input → Type 0) (is_damaged : 
 abbrev pub MayNotBeAdded : Type 0 → (Input → Type 0) → Sums → InputFault → Type 0
 MayNotBeAdded whole may_be before fault = (fault ≡ Image NoMemory) ⊎ IsTakenBehind whole may_be before (LeftOut fault)
 
--- a sum became that of some input more, of which nothing is known, as of a file's
+-- a sum gained some input of which nothing is known, like that of a file
 abbrev pub AddsSome : Bool → Sums → Sums → Type 0
 AddsSome is_damaged before after = AddsInput ⊥ (λ input. ⊤) is_damaged before after
 
@@ -74,7 +74,7 @@ abbrev pub addends_in : List Input → List Addend
 addends_in [] = []
 addends_in (input ∷ rest) = addends_of input ++ addends_in rest
 
--- an input at a place is left out, and all that are from a place on, in their order
+-- an input at a place, if it is left out; and all that are left out from a place on, in their order
 abbrev pub left_at : ℕ → Input → List Left
 left_at place (Added is_damaged addend) = []
 left_at place (LeftOut fault) = (record { place = place; fault = fault }) ∷ []
@@ -83,7 +83,7 @@ abbrev pub left_from : ℕ → List Input → List Left
 left_from place [] = []
 left_from place (input ∷ rest) = left_at place input ++ left_from (place + 1) rest
 
--- inputs from a place on, behind addends, each taken as one that may be at its place
+-- inputs from a place on, after addends, each taken as one that may be at its place
 abbrev pub AreTakenInputs : Type 0 → (ℕ → Input → Type 0) → List Addend → ℕ → List Input → Type 0
 AreTakenInputs whole may_be before place [] = ⊤
 AreTakenInputs whole may_be before place (input ∷ rest) =
@@ -106,9 +106,9 @@ EndsAtFault (LeftOut fault ∷ rest) = rest ≡ []
 
 -- ---- sums of them
 
--- A sum is that of inputs in their order: from its first place on up to the one that it has reached, each as it may be. The totals
--- are those of the addends, and it tells which inputs are left out, and whether one is damaged. If the first that is left out is to
--- end it, none comes behind that. If the inputs are whole, it is well formed.
+-- A sum is that of inputs in their order: from its first place up to the one that it has reached, each as it may be. The totals are those
+-- of the addends, and the sum says which inputs are left out, and whether one is damaged. If it is strict, no input comes after one that is
+-- left out. If the inputs are whole, it is well formed.
 pub record IsSumOfInputs (whole : Type 0) (may_be : ℕ → Input → Type 0) (is_strict : Bool) (summed : Summed) : Type 0 where
   pub inputs : List Input
   pub taken : AreTakenInputs whole may_be [] summed.first inputs
@@ -123,7 +123,7 @@ pub record IsSumOfInputs (whole : Type 0) (may_be : ℕ → Input → Type 0) (i
 abbrev pub has_ended : Bool → Summed → Bool
 has_ended is_strict summed = is_strict && nat_lt 0 (length summed.left.items)
 
--- a sum is that of all inputs, which are so many; or up to the first that is left out, if that is to end it
+-- a sum is that of all `count` inputs; or of those up to the first that is left out, if it is strict
 pub record IsSumOfAllInputs (whole : Type 0) (may_be : ℕ → Input → Type 0) (is_strict : Bool) (count : ℕ) (summed : Summed) : Type 0 where
   pub sum : IsSumOfInputs whole may_be is_strict summed
   pub first : summed.first ≡ 0
@@ -132,7 +132,7 @@ pub record IsSumOfAllInputs (whole : Type 0) (may_be : ℕ → Input → Type 0)
 
 -- ---- the same sum
 
--- the input at each place can be one thing alone, as that of a file which stays as it is
+-- the input at each place can only be one thing, like that of a file that does not change
 abbrev pub AreFixedInputs : (ℕ → Input → Type 0) → Type 0
 AreFixedInputs may_be = (place : ℕ) (one other : Input) → may_be place one → may_be place other → one ≡ other
 
@@ -158,34 +158,34 @@ pub record IsSmallSum (sums : Sums) : Type 0 where
   pub images : sums.notes.images < 2 ^ 62
   pub amounts : All (λ (hist : HistSum). (unsigned_abs hist.sum < 2 ^ 126) × (unsigned_abs hist.sum_mark < 2 ^ 126)) sums.hists.items
 
--- so do addends together
+-- addends together have fewer images than 2^62, and amounts that are nearer to 0 than 2^126
 pub record AreSmallAddends (addends : List Addend) : Type 0 where
   pub images : images_of addends < 2 ^ 62
   pub amounts : HasSmallAmounts (parts_in_turn 0 addends)
 
--- and so do addends with those of the first inputs behind them, of one of these, of two, and so on
+-- addends are small together with those of the first input after them, of the first two, and so on
 abbrev pub AreSmallInputs : List Addend → List Input → Type 0
 AreSmallInputs before [] = ⊤
 AreSmallInputs before (input ∷ rest) = AreSmallAddends (before ++ addends_of input) × AreSmallInputs (before ++ addends_of input) rest
 
 -- ---- steps
 
--- what it notes of an input: at a place it is left out, or not
+-- what is noted of an input: at this place it is left out, or not
 abbrev pub left_of : ℕ → Result Bool InputFault → List Left
 left_of place (Ok is_damaged) = []
 left_of place (Err fault) = (record { place = place; fault = fault }) ∷ []
 
--- whether it is damaged
+-- whether an input that was added is damaged
 abbrev pub damage_in : Result Bool InputFault → Bool
 damage_in (Ok is_damaged) = is_damaged
 damage_in (Err fault) = false
 
--- a sum got what an input has, if that is not left out
+-- a sum gained what an input has, if that is not left out
 abbrev pub AddsTaken : Input → Sums → Sums → Type 0
 AddsTaken (Added is_damaged addend) before after = AddsAddend addend before after
 AddsTaken (LeftOut fault) before after = after ≡ before
 
--- an input more was noted: how it was added, or why it is left out; memory did not run out
+-- one more input was noted: how it was added, or why it is left out; memory did not run out
 pub record HasNotedInput (added : Result Bool InputFault) (before after : Summed) : Type 0 where
   pub first : after.first ≡ before.first
   pub reached : after.reached ≡ before.reached + 1
@@ -204,7 +204,7 @@ pub record IsNoneAt (place : ℕ) (summed : Summed) : Type 0 where
   pub damaged : summed.is_damaged ≡ false
   pub well_formed : IsWellFormed summed.sums
 
--- an input after which a sum is small; one that is left out leaves it as it was
+-- an input after which a sum is small; one that is left out leaves it unchanged
 abbrev pub IsSmallAfter : Input → Sums → Type 0
 IsSmallAfter (Added is_damaged addend) after = IsSmallSum after
 IsSmallAfter (LeftOut fault) after = ⊤
@@ -234,7 +234,7 @@ pub record HasAppended (more before after : Summed) : Type 0 where
   pub small : after.was_large ≡ false → IsSmallSum after.sums
   pub room : All (λ left. left.fault ≢ TooMany) more.left.items
 
--- the inputs of another sum were appended, since they follow, and nothing has ended it; or nothing was done
+-- the inputs of another sum were appended, since they follow and nothing has ended it; or nothing was done
 abbrev pub MayHaveAppended : Bool → Summed → Summed → Summed → Type 0
 MayHaveAppended is_strict more before after =
     (after ≡ before) ⊎ ((before.reached ≡ more.first) × (has_ended is_strict before ≡ false) × HasAppended more before after)
@@ -283,7 +283,7 @@ pub record IsSumSoFar (whole : Type 0) (may_be : ℕ → Input → Type 0) (is_s
   pub sum : IsSumOfInputs whole may_be is_strict summed
   pub small : whole → summed.was_large ≡ false → AreSmallAddends (addends_in sum.inputs)
 
--- the same from the first input on
+-- a sum so far that begins at the first input, and whose inputs come before a place
 pub record IsSumBefore (whole : Type 0) (may_be : ℕ → Input → Type 0) (is_strict : Bool) (end : ℕ) (summed : Summed) : Type 0 where
   pub sum : IsSumSoFar whole may_be is_strict summed
   pub first : summed.first ≡ 0

@@ -6,17 +6,18 @@ use std::alloc::AllocError;
 use sum_texts::TotalsFault;
 use thiserror::Error;
 
-/// Why an input is left out of a sum, or why there is none.
+/// Why an input is left out of a sum, or why there is no sum.
 #[derive(Debug, PartialEq, Eq, Drop, Error)]
 pub enum InputFault {
-    /// Its bytes cannot be read, or they are those of no image.
+    /// Its bytes cannot be read, or are not those of an image; or memory ran out.
     #[error("{0}")]
     Image(CliFault),
-    /// It is the totals of no sum: the line with this number is wrong.
+    /// It is not the totals of a sum: the line with this number is wrong.
     #[error("BadTotals {0}")]
     BadTotals(u64),
-    /// With it a total would not fit: 64 bits for all units of a histogram, the marks of a key, redundant counts, images and
-    /// what they say beside their histograms; 128 for amounts. Or it has a least number of 2^62 or more.
+    /// With it a total would not fit: 64 bits for all units of a histogram, the marks of a key, redundant counts,
+    /// images and what they say apart from their histograms; 128 for amounts. Or it has a least number of 2^62 or more,
+    /// or one that reaches 2^64 when it is raised by how many images there were.
     #[error("TooMany")]
     TooMany,
 }

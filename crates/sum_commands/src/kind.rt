@@ -1,9 +1,9 @@
-//! What an input begins as.
+//! What the first bytes of an input say that it is.
 
 ghost use Rattle.std.specs.Prelude.{◌≡◌};
 ghost use Rattle.sum_commands.specs.Kinds.{kind_of as kind_of_bytes};
 
-/// So many bytes of an input tell what it is.
+/// This many bytes from the start of an input are enough to see what it is.
 pub const FRONT: usize = 16;
 
 /// What an input begins as.
@@ -26,8 +26,8 @@ const MAPPED: [u8; 16] = [0, 0, 0, 0, 0, 0, 0, 0, 0xdc, 0x05, 0x83, 0x40, 0, 0, 
 // The first line of a totals.
 const TOTALS: [u8; 9] = *b"totals,1\n";
 
-/// Returns what an input is whose bytes begin with these: an image where they begin with the cookie of a segment, or with
-/// a word of zeros and then the cookie; a totals where they begin with its first line [kind]. [`FRONT`] bytes are enough.
+/// Returns what an input is whose bytes begin with these: an image if they begin with the cookie of a segment, or with
+/// a word of zeros and then the cookie; a totals if they begin with its first line [kind]. [`FRONT`] bytes are enough.
 pub fn kind_of(front: &[u8]) -> InputKind
     ensures kind { result ≡ kind_of_bytes front.now }
 {

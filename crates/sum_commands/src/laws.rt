@@ -7,11 +7,12 @@ ghost use Rattle.sum_commands.specs.Sources.{AreAlike, AreFixedInputs, HasRoom, 
 
 use crate::summing::Source;
 
-/// The number of workers makes no difference. Where the input at each place of a source can be one thing alone, as that of a file
-/// which stays as it is, all inputs have one sum: two sums of them, as `sum_of_inputs` returns one for any number of workers, have the
-/// same totals and notes, leave out the same inputs for the same faults, and are damaged alike. If they are well formed, they have the
-/// same histograms and the same report. So it is if the inputs are whole, or if neither sum leaves one out with `TooMany` [alike].
-/// Sums of whole inputs are well formed [well_formed].
+/// The number of workers makes no difference. If the input at each place of a source can only be one thing, like that
+/// of a file that does not change, all inputs have one sum: any two sums of them, as `sum_of_inputs` returns them for
+/// any number of workers, have the same totals and notes, leave out the same inputs for the same faults, and are
+/// damaged alike; if they are well formed, they have the same histograms and the same report. This holds if the inputs
+/// are whole, or if neither sum leaves one out with `TooMany` [alike]. Sums of whole inputs are well formed
+/// [well_formed].
 ///
 /// It does nothing: what it promises is a law of the definitions.
 pub fn workers_are_nothing<S: Source>(_source: &S)

@@ -1,10 +1,10 @@
 //! Sums of the inputs of a command: images and totals, one after the other.
 //!
-//! [`kind_of`] tells what an input begins as. [`add_image`] and [`add_totals`] add up one input after the other, in their order: the images
-//! that were read have the numbers from 0 on, those of a totals too. Sums of parts of a list become that of the whole
-//! list: `specs/Inputs.antt` says of which readings a sum is. An input that cannot be read leaves the sum unchanged.
-//! [`sum_of_inputs`] does this with all inputs of a [`Source`], by any number of workers, which make no difference
-//! ([`workers_are_nothing`]): `specs/Sources.antt` says of which inputs a sum is.
+//! [`kind_of`] says what an input begins as. [`add_image`] and [`add_totals`] add up one input after the other, in
+//! their order. The images that were read are numbered from 0 on, including those of a totals. Sums of parts of a list
+//! become that of the whole list: `specs/Inputs.antt` says of which readings a sum is. An input that cannot be read
+//! leaves the sum unchanged. [`sum_of_inputs`] does this with all inputs of a [`Source`], with any number of workers,
+//! which make no difference ([`workers_are_nothing`]): `specs/Sources.antt` says of which inputs a sum is.
 #![tactic(auto)]
 
 mod fault;

@@ -15,14 +15,16 @@ pub trait OpenInput {
     /// What the input may be.
     ghost may_be: { Self → Input → Type 0 };
 
-    /// Whether the input is known to be whole, the condition under which a well-formed sum stays so and what fits is said. Where
-    /// nothing is known of it, as of a file, it never holds: such an input may be left out with `TooMany` for any reason.
+    /// Whether the input is known to be whole, which is the condition for a well-formed sum to stay well formed, and
+    /// for all that is promised of what fits. If nothing is known of it, as of a file, it never holds: such an input
+    /// may be left out with `TooMany` for any reason.
     ghost is_whole: { Self → Type 0 };
 
-    /// Adds the input to a sum, behind its readings, and returns whether it is damaged: what was added is what the input may be. If
-    /// the input is whole and the sum well formed, it fits, and the sum stays well formed [added]. An input that is left out has a
-    /// fault that it may have, or `TooMany`: then something that it may be does not fit, if it is whole and the sum well formed.
-    /// `NoMemory` comes where memory runs out [cause]. The sum is then unchanged [refused].
+    /// Adds the input to a sum, after its readings, and returns whether it is damaged: what was added is what the input
+    /// may be. If the input is whole and the sum well formed, it fits, and the sum stays well formed [added]. An input
+    /// that is left out has a fault that it may have, or `TooMany`: then something that it may be does not fit, if it
+    /// is whole and the sum well formed. `NoMemory` is returned if memory runs out [cause]. If nothing is added, the
+    /// sum is unchanged [refused].
     fn add_to(self, sums: &mut Sums) -> Result<bool, InputFault>
         ensures added { IfOk result (λ is_damaged. AddsInput (is_whole self) (may_be self) is_damaged sums.old sums.new) }
         ensures cause { IfErr result (MayNotBeAdded (is_whole self) (may_be self) sums.old) }
@@ -40,25 +42,26 @@ pub trait Source {
     /// Whether all inputs are known to be whole, as [`OpenInput`] says.
     ghost are_whole: { Self → Type 0 };
 
-    /// Opens the input at a place for a worker: it may then be what the input at that place may be [opened], and is whole if all
-    /// are [whole]. None where no worker is to read it, or where it cannot be opened: it is then added by
-    /// [`add_input`](Source::add_input).
+    /// Opens the input at a place for a worker: it can then only be what the input at that place may be [opened], and
+    /// is whole if all are [whole]. Returns none if no worker is to read it, or if it cannot be opened: it is then
+    /// added by [`add_input`](Source::add_input).
     fn open(&self, place: usize) -> Option<Self::Opened>
         ensures opened { IfSome result (λ opened. (input : Input) → Self.Opened.may_be opened input → may_be self.now place input) }
         ensures whole { IfSome result (λ opened. are_whole self.now → Self.Opened.is_whole opened) };
 
-    /// Adds the input at a place to a sum, behind its readings, and returns whether it is damaged: what was added is what the input
-    /// at that place may be. If the inputs are whole and the sum well formed, it fits, and the sum stays well formed [added]. An
-    /// input that is left out has a fault that it may have, or `TooMany`: then something that it may be does not fit, if the inputs
-    /// are whole and the sum well formed. `NoMemory` comes where memory runs out [cause]. The sum is then unchanged [refused]. It
-    /// may be asked for an input that was opened before, and for that more than once.
+    /// Adds the input at a place to a sum, after its readings, and returns whether it is damaged: what was added is
+    /// what the input at that place may be. If the inputs are whole and the sum well formed, it fits, and the sum stays
+    /// well formed [added]. An input that is left out has a fault that it may have, or `TooMany`: then something that
+    /// it may be does not fit, if the inputs are whole and the sum well formed. `NoMemory` is returned if memory runs
+    /// out [cause]. If nothing is added, the sum is unchanged [refused]. It may be asked for an input that was opened
+    /// before, and for one input more than once.
     fn add_input(&self, sums: &mut Sums, place: usize) -> Result<bool, InputFault>
         ensures added { IfOk result (λ is_damaged. AddsInput (are_whole self.now) (may_be self.now place) is_damaged sums.old sums.new) }
         ensures cause { IfErr result (MayNotBeAdded (are_whole self.now) (may_be self.now place) sums.old) }
         ensures refused { OnErr result (sums.new ≡ sums.old) };
 }
 
-/// Whoever is told how far a sum is.
+/// What is notified of how far a sum is.
 pub trait Progress {
     /// Takes note that the inputs before a place are in a sum, or left out of it.
     fn reached(&mut self, place: usize, sums: &Sums);
@@ -81,13 +84,13 @@ pub struct Summed {
     pub is_damaged: bool,
     /// The place of the first input.
     pub first: usize,
-    /// The place behind the last one.
+    /// The place after the last one.
     pub reached: usize,
-    // Whether an amount or a number was so large at some input that those of other inputs may not fit beside it.
+    // Whether an amount or a number was so large at some input that those of other inputs may not fit with it.
     was_large: bool,
 }
 
-// Two amounts fit together that are nearer to 0 than this. No number of images has as much, but totals may say so.
+// Two amounts fit together if both are nearer to 0 than this. No number of images has as much, but totals may say so.
 const LARGE_AMOUNT: u128 = 1 << 126;
 
 // Whether an amount of a histogram is large.
@@ -98,8 +101,8 @@ fn is_large(hist: &HistSum) -> bool
     hist.sum.unsigned_abs() >= LARGE_AMOUNT || hist.sum_mark.unsigned_abs() >= LARGE_AMOUNT
 }
 
-// Whether a sum has a large amount, or many images. Unlike units amounts can fall again, so a total may not fit amid inputs, and fit
-// behind them.
+// Whether a sum has a large amount, or many images. Unlike units, amounts can fall again, so a total may not fit in the
+// middle of the inputs, and fit after all of them.
 fn has_large(sums: &Sums) -> bool
     ensures { result ≡ false → IsSmallSum sums.now }
 {
@@ -111,7 +114,7 @@ fn has_large(sums: &Sums) -> bool
     sums.notes().images >= NUMBER_LIMIT
 }
 
-// Puts an input that is left out behind others.
+// Puts an input that is left out after others.
 fn put_left(all: &mut Vec<Left>, left: Left) -> Result<(), AllocError>
     ensures { OnOk result (all.new.items ≡ all.old.items ++ left ∷ []) }
 {
@@ -119,7 +122,7 @@ fn put_left(all: &mut Vec<Left>, left: Left) -> Result<(), AllocError>
     Ok(())
 }
 
-// Puts inputs that are left out behind others.
+// Puts inputs that are left out after others.
 fn put_all(all: &mut Vec<Left>, left: Vec<Left>) -> Result<(), AllocError>
     ensures { OnOk result (all.new.items ≡ all.old.items ++ left.items) }
 {
@@ -130,7 +133,7 @@ fn put_all(all: &mut Vec<Left>, left: Vec<Left>) -> Result<(), AllocError>
 }
 
 impl Summed {
-    // The sum of no inputs, before the one at a place.
+    // The sum of no inputs, which begins at a place.
     pub(crate) fn none(alloc: Global, first: usize) -> Summed
         ensures { IsNoneAt first result }
     {
@@ -163,8 +166,8 @@ impl Summed {
         false
     }
 
-    // Whether its inputs can be appended to those of another sum with the same outcome as one by one: nothing was so large
-    // that a total might not fit amid them, and none was left out for that.
+    // Whether its inputs can be appended to those of another sum with the same outcome as one by one: nothing was so
+    // large that a total might not fit in the middle of them, and no input was left out for that reason.
     fn fits_behind(&self, other: &Summed) -> bool
         ensures small { result ≡ true → self.now.was_large ≡ false }
         ensures other_small { result ≡ true → other.now.was_large ≡ false }
@@ -211,7 +214,7 @@ impl Summed {
         self.note(added)
     }
 
-    // Adds the inputs of a source up to a place; up to the first that is left out, if that is to end it.
+    // Adds the inputs of a source up to a place, or up to the first that is left out if the sum is strict.
     pub(crate) fn add_up_to<S: Source, P: Progress>(
         &mut self,
         source: &S,
@@ -231,14 +234,15 @@ impl Summed {
         Ok(())
     }
 
-    // Appends the sum of the inputs that follow, if it goes on; not where a total might not fit.
+    // Appends the sum of the inputs that follow, unless this sum has ended or is not followed by them, or a total might
+    // not fit.
     fn append(&mut self, summed: Summed, is_strict: bool) -> Result<(), AllocError>
         ensures { OnOk result (MayHaveAppended is_strict summed self.old self.new) }
     {
         if self.reached != summed.first || self.is_ended(is_strict) || !summed.fits_behind(self) {
             return Ok(());
         }
-        // Refused, also for want of memory: the caller adds these inputs one by one.
+        // Refused, or out of memory: the caller adds these inputs one by one.
         if append_next(&mut self.sums, &summed.sums).is_err() {
             return Ok(());
         }
@@ -249,8 +253,8 @@ impl Summed {
         Ok(())
     }
 
-    // Adds the inputs of a source that a worker has added up, and those before them. Where a total might not fit, which of them are
-    // left out is seen when they are added one by one.
+    // Adds the inputs of a source that a worker has added up, and those before them. If a total might not fit, they are
+    // added one by one, which shows which of them are left out.
     pub(crate) fn add_summed<S: Source, P: Progress>(
         &mut self,
         source: &S,

@@ -19,10 +19,10 @@ use reading_sums::{Sums, SumsFault};
 use std::alloc::Global;
 use sum_texts::totals_of;
 
-/// Least numbers below this fit behind fewer than so many images, however these are appended.
+/// A least number below this fits after fewer images than this, in whatever way they are appended.
 pub(crate) const NUMBER_LIMIT: u64 = 1 << 62;
 
-// Whether some least number of a sum is that great.
+// Whether some least number of a sum is not below the limit.
 fn has_great_number(sums: &Sums) -> bool
     ensures some { result ≡ true → (part : Part) × Contains (parts_of sums.now) part × (2 ^ 62 ≤ part.least) }
     ensures none { result ≡ false → All (λ (part : Part). part.least < 2 ^ 62) (parts_of sums.now) }
@@ -35,14 +35,15 @@ fn has_great_number(sums: &Sums) -> bool
     false
 }
 
-/// Adds the readings of another sum to a sum, behind its own: the sum of any readings in their order, the first of which
-/// has the number 0, and the next 1, becomes that of these and then those of the other [added]. Any sum gets the totals and the
-/// notes of the other one more, whose images come behind its own [behind]: an input, which may be damaged or not [some]. Well-formed
-/// sums become a well-formed one [well_formed].
+/// Adds the readings of another sum to a sum, after its own: the sum of any readings in their order, numbered from 0
+/// on, becomes that of these followed by those of the other [added]. Any sum gains the totals and the notes of the
+/// other one, whose images come after its own [behind]; the other one is an input, which may be damaged or not [some].
+/// Well-formed sums become a well-formed one [well_formed].
 ///
-/// Of well-formed sums it is accepted only if the other one fits behind the first [fits], and refused with `TooMany` only if it does
-/// not: a total would not fit, or a least number of the other one is 2^62 or more, or 2^64 or more when it is raised by how many
-/// images there were [too_many]. `NoMemory` comes where there is no memory. The sum is then as it was [refused].
+/// Of well-formed sums it is accepted only if the other one fits after the first [fits], and refused with `TooMany`
+/// only if it does not: a total would not fit, or a least number of the other one is 2^62 or more, or 2^64 or more when
+/// it is raised by how many images there were [too_many]. `NoMemory` is returned if memory runs out. If it is refused,
+/// the sum is unchanged [refused].
 pub fn append_next(sums: &mut Sums, more: &Sums) -> Result<(), SumsFault>
     ensures added { OnOk result (AddsBehind more.now sums.old sums.new) }
     ensures behind { OnOk result (AddsAddend (addend_of more.now) sums.old sums.new) }
@@ -60,12 +61,13 @@ pub fn append_next(sums: &mut Sums, more: &Sums) -> Result<(), SumsFault>
     Ok(())
 }
 
-/// Adds what the image in the words of an input reads as, a closed image or a mapped file, behind the readings of a sum: a
-/// well-formed sum stays so, and the reading fits behind it [added]. Returns what is damaged in it, if something is, of which the sum
-/// has all that is valid: so it is an input that is damaged or not [some].
+/// Adds what the image in the words of an input reads as, a closed image or a mapped file, after the readings of a sum:
+/// a well-formed sum stays well formed, and the reading fits after it [added]. Returns what is damaged in the image, if
+/// something is; the sum has all of it that is valid, so the image is an input that is damaged or not [some].
 ///
-/// An input is left out whose bytes are those of no image, for the first fault of its header, and with `TooMany` one that does not
-/// fit behind a well-formed sum [cause]. `NoMemory` comes where memory runs out. The sum is then unchanged [refused].
+/// An input is left out if its bytes are not those of an image, for the first fault of its header, and with `TooMany`
+/// if it does not fit after a well-formed sum [cause]. `NoMemory` is returned if memory runs out. If nothing is added,
+/// the sum is unchanged [refused].
 pub fn add_image(
     alloc: Global,
     sums: &mut Sums,
@@ -82,11 +84,12 @@ pub fn add_image(
     Ok(damage_of(&reading))
 }
 
-/// Adds the readings of the totals whose text this is to a sum, behind its own: a well-formed sum stays so, and the totals fit behind
-/// it [added]. It is an input that is not damaged [some].
+/// Adds the readings of the totals whose text this is to a sum, after its own: a well-formed sum stays well formed, and
+/// the totals fit after it [added]. They are an input that is not damaged [some].
 ///
-/// An input is left out whose bytes are those of no totals, `BadTotals` with a line, and with `TooMany` one that does not fit behind a
-/// well-formed sum; `NoMemory` comes where memory runs out [cause]. The sum is then as it was [refused].
+/// An input is left out with `BadTotals` and a line if its bytes are not those of a totals, and with `TooMany` if it
+/// does not fit after a well-formed sum; `NoMemory` is returned if memory runs out [cause]. If nothing is added, the
+/// sum is unchanged [refused].
 pub fn add_totals(alloc: Global, sums: &mut Sums, text: &[u8]) -> Result<(), InputFault>
     ensures added { OnOk result (AddsTotals text.now sums.old sums.new) }
     ensures some { OnOk result (AddsSome false sums.old sums.new) }
@@ -98,15 +101,15 @@ pub fn add_totals(alloc: Global, sums: &mut Sums, text: &[u8]) -> Result<(), Inp
     Ok(())
 }
 
-/// With a sum as it is, an input was added that has nothing, and is not damaged: as a file that is no image and no totals, and is
-/// passed over [some].
+/// A sum that is unchanged has gained an input that has nothing and is not damaged, such as a file that is no image and
+/// no totals and is skipped [some].
 ///
 /// It does nothing: what it promises is a law of the definition.
 pub fn nothing_is_added(_sums: &Sums)
     ensures some { AddsSome false _sums.now _sums.now }
 {}
 
-/// Of an input of which nothing is known any fault may come, whatever sum it was to be added to [cause].
+/// An input of which nothing is known may have any fault, whatever sum it was to be added to [cause].
 ///
 /// It does nothing: what it promises is a law of the definition.
 pub fn any_fault_may_come(_added: &Result<bool, InputFault>)

@@ -1,8 +1,8 @@
 //! The sum of many inputs, which workers read and add up.
 //!
-//! The inputs are opened by the caller's thread, and each worker is given inputs that follow one another, of which it makes a sum.
-//! The sums are appended in the order of the inputs, with those that no worker reads between them. All this is done in rounds, since
-//! only so many inputs can be open at once.
+//! The inputs are opened by the caller's thread, and each worker is given inputs that follow one another, which it adds
+//! up. The sums are appended in the order of the inputs, with those that no worker reads between them. All this is done
+//! in rounds, since only a limited number of inputs can be open at once.
 
 ghost use Rattle.std.specs.Prelude.{◌≡◌, ◌≤◌, ◌<◌, ◌+◌, ℕ, length, All, IfOk, OnOk};
 ghost use Rattle.sum_commands.specs.Sources.{IsSumBefore, IsOpenedRun, IsSumOfAllInputs, SumEndsWithin};
@@ -16,13 +16,13 @@ use thread_jobs::{Job, run_within};
 /// How inputs are added up.
 #[derive(Clone, Copy)]
 pub struct Manner {
-    /// By how many workers; 0 counts as 1.
+    /// How many workers add them up; 0 counts as 1.
     pub workers: usize,
-    /// Whether the first input that is left out ends it.
+    /// Whether the sum ends at the first input that is left out.
     pub is_strict: bool,
 }
 
-// So many inputs are open at once at most for one worker, and for all of them.
+// The most inputs that are open at once, for one worker and for all of them; each worker has at least one.
 const OPEN_FOR_ONE: usize = 64;
 
 const OPEN_FOR_ALL: usize = 512;
@@ -46,7 +46,7 @@ impl<O: OpenInput + Drop> Job for Run<O> {
 
     ghost gives = { λ run result. IfOk result (HasSummedRun O.is_whole O.may_be run.first run.opened.items run.is_strict) };
 
-    // Adds up the inputs; up to the first that is left out, if that is to end it.
+    // Adds up the inputs, or those up to the first that is left out if the sum is strict.
     fn run(self) -> Result<Summed, AllocError> {
         let mut summed = Summed::none(self.alloc, self.first);
         for opened in self.opened {
@@ -85,7 +85,8 @@ fn open_run<S: Source>(
     })
 }
 
-// How many inputs a worker is given, of so many that are left: as many as each other one, in this round and in those behind it.
+// How many of the inputs that are left a worker is given: as many as any other worker, in this round and in those after
+// it.
 fn share_of(left: usize, workers: usize) -> usize
     requires { 0 < workers }
     ensures { 0 < result }
@@ -95,7 +96,7 @@ fn share_of(left: usize, workers: usize) -> usize
     left.div_ceil(rounds.saturating_mul(workers)).max(1)
 }
 
-// The inputs that workers are given at once, of those from one place to another, and the place behind them.
+// The inputs that workers are given at once, of those from one place to another, and the place after them.
 fn open_round<S: Source>(
     alloc: Global,
     source: &S,
@@ -138,13 +139,14 @@ fn add_all<S: Source, P: Progress>(
     Ok(())
 }
 
-/// Returns the sum of so many inputs of a source, from the one at 0 on. Workers read and add them up, each in a thread of its own, or
-/// fewer where a thread cannot be started. For any number of them it is the sum of all inputs in their order, each as it may be: the
-/// totals are those of the inputs that are added, `left` lists those left out, in their order, each with its place and fault, and
-/// `is_damaged` says whether one is damaged. The first that is left out ends it, if it is strict [sum]. With one worker the caller's
-/// thread adds them up one by one.
+/// Returns the sum of the first `inputs` inputs of a source, from the one at 0 on. Workers read and add them up, each
+/// in a thread of its own, or fewer if a thread cannot be started. For any number of workers it is the sum of all
+/// inputs in their order, each taken as what it may be: the totals are those of the inputs that are added, `left` lists
+/// those left out, in their order, each with its place and fault, and `is_damaged` says whether one is damaged. If
+/// `how` is strict, the sum ends at the first input that is left out [sum]. With one worker the caller's thread adds
+/// them up one by one.
 ///
-/// It fails for want of memory alone.
+/// The one error is that memory runs out.
 pub fn sum_of_inputs<R: Threads + Wait, S: Source, P: Progress>(
     rt: &R,
     alloc: Global,

@@ -8,7 +8,7 @@ use Rattle.std.proofs.lemmas.Slice.Eq.{bytes_eq-Decides}
 use Rattle.std.proofs.lemmas.List.{drop_all, get_or-map, length-map}
 use Rattle.std.proofs.lemmas.Bool.{false≢true}
 
--- a field, and those behind it
+-- a field, and those after it
 pub one_more : (fields : List (Bor (List ℕ))) (i : ℕ) (d : Bor (List ℕ)) (text : List ℕ) (texts : List (List ℕ)) → i < length fields
     → (get_or fields i d).now ≡ text → bytes_of (drop (suc i) fields) ≡ texts → bytes_of (drop i fields) ≡ text ∷ texts
 one_more fields i d text texts within here behind =
@@ -18,7 +18,7 @@ one_more fields i d text texts within here behind =
 pub none_left : (fields : List (Bor (List ℕ))) (i : ℕ) → length fields ≤ i → bytes_of (drop i fields) ≡ []
 none_left fields i past = ap bytes_of (drop_all i fields past)
 
--- a word that differs from no other
+-- a test that does not fail succeeds
 not_false : (b : Bool) → false ≡ not b → b ≡ true
 not_false true same = refl
 not_false false same = absurd (false≢true same)

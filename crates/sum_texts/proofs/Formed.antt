@@ -1,4 +1,4 @@
--- Well-formed sums by their parts: what is well formed stays so where the parts are the same.
+-- Well-formed sums by their parts: what is well formed stays so if the parts are the same.
 use Rattle.std.proofs.Common.{◌≡◌, ◌∙◌, ◌∷◌, ◌++◌, ◌+◌, ◌≤◌, ◌↔◌, Bool, true, false, Option, None, is_some, ℕ, List, [], map, take, length, sum_by, nat_cmp, length-append, refl, ap, sym, subst, arith}
 use Rattle.std.specs.List.{flat_map}
 use Rattle.std.specs.List.Sorted.{IsStrictlySortedBy}
@@ -16,7 +16,7 @@ use Rattle.sum_texts.specs.Writable.{AreFormed, line_count, name_line}
 
 -- ---- parts
 
--- whether histograms are those of a well-formed sum is a matter of their parts
+-- whether histograms are those of a well-formed sum depends only on their parts
 pub formed-answer : (b : Bool) (hists : List HistSum) (parts : List Part) → map part_of hists ≡ parts → ((b ≡ true) ↔ AreWhole hists)
     → (b ≡ true) ↔ AreFormed parts
 formed-answer b hists parts same answer = (
@@ -24,7 +24,7 @@ formed-answer b hists parts same answer = (
   (λ formed. answer.1 (alike-whole hists formed.hists (same ∙ sym formed.same) formed.whole)),
 )
 
--- parts of no names are those of a well-formed sum
+-- no parts are those of a well-formed sum
 pub none-formed : AreFormed []
 unfolding IsStrictlySortedBy
 none-formed = record { hists = []; same = refl; whole = record { ascending = tt; whole = All-nil IsWholeHist; range = All-nil IsInRange } }
@@ -40,7 +40,7 @@ counted (hist ∷ hists) =
     ∙ (ap (λ n. n + sum_by line_count (map part_of hists)) here
     ∙ (ap (λ n. own hist + n) (counted hists) ∙ sym (sum_by-cons own hist hists)))
 
--- where none was found, the histograms are those of no well-formed sum
+-- if none was found, the histograms are those of no well-formed sum
 pub unformed : {X : Type 0} (found : Option X) (hists : List HistSum) → found ≡ None → ((is_some found ≡ true) ↔ AreWhole hists) → AreWhole hists → ⊥
 unformed found hists none answer whole =
     let no : false ≡ true = subst (λ f. is_some f ≡ true) none (answer.1 whole) in
@@ -48,7 +48,7 @@ unformed found hists none answer whole =
 
 -- ---- lines
 
--- each line has a byte at least
+-- each line has at least a byte
 lines-long : (lines : List (List (List ℕ))) → length lines ≤ length (flat_map line_text lines)
 lines-long [] = omega arith
 lines-long (line ∷ lines) =

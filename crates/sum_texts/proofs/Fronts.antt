@@ -12,8 +12,8 @@ use Rattle.sum_texts.specs.declared.wrong.Wrong.TheVariants.{NoMemory, Line}
 use Rattle.sum_texts.specs.Lines.{line_bytes, key_fields}
 use Rattle.sum_texts.specs.Runs.{bytes_of, begins, key_block, part_block, Gives}
 
--- Lines begin with the blocks of elements, of which the first ones are read: if they are the blocks of any elements that fit,
--- with an end behind them, then those that are read are the first of these, and what is left are the blocks of the others.
+-- Lines begin with the blocks of elements, the first of which are read. If the lines are the blocks of any elements that fit, and then an
+-- end, those that are read are the first of these elements, and the rest of the lines are the blocks of the others.
 abbrev pub Left : (X : Type 0) → (X → List (List ℕ)) → (X → Type 0) → (List (List ℕ) → Type 0) → List (List ℕ) → List X → List (List ℕ) → Type 0
 Left X block Fits Ends start done rest =
     (xs : List X) (behind : List (List ℕ)) → AllByRecursion Fits xs → Ends behind → start ≡ flat_map block xs ++ behind
@@ -34,7 +34,7 @@ step X block Fits done rest letter y next xs behind not_behind begun reads (x �
     let both : (y ≡ x) × (next ≡ flat_map block todo ++ behind) = reads x todo fits.0 fits.1 (is ∙ append_assoc (block x) (flat_map block todo) behind) in
     (todo, same ∙ (ap (λ z. done ++ z ∷ todo) (sym both.0) ∙ sym (append_assoc done (y ∷ []) todo)), fits.1, both.1)
 
--- one element more is read
+-- one more element is read
 pub left_more : (X : Type 0) (block : X → List (List ℕ)) (Fits : X → Type 0) (Ends : List (List ℕ) → Type 0) (start : List (List ℕ)) (done : List X)
     (rest : List (List ℕ)) (letter : ℕ) (y : X) (next : List (List ℕ)) → Left X block Fits Ends start done rest
     → ((behind : List (List ℕ)) → Ends behind → begins letter behind ≡ false) → begins letter rest ≡ true
@@ -52,7 +52,7 @@ stop X block Fits done rest letter xs behind begun ended [] same is = (sym (same
 stop X block Fits done rest letter xs behind begun ended (x ∷ todo) same is =
     absurd (false≢true (sym ended ∙ (ap (begins letter) (is ∙ append_assoc (block x) (flat_map block todo) behind) ∙ begun x (flat_map block todo ++ behind))))
 
--- no more elements are there
+-- there are no more elements
 pub left_done : (X : Type 0) (block : X → List (List ℕ)) (Fits : X → Type 0) (Ends : List (List ℕ) → Type 0) (start : List (List ℕ)) (done : List X)
     (rest : List (List ℕ)) (letter : ℕ) → Left X block Fits Ends start done rest
     → ((x : X) (lines : List (List ℕ)) → begins letter (block x ++ lines) ≡ true) → begins letter rest ≡ false
@@ -68,7 +68,7 @@ halt : (X : Type 0) (block : X → List (List ℕ)) (Fits : X → Type 0) (rest 
 halt X block Fits rest letter behind not_behind begun wrong [] fits is = false≢true (sym (ap (begins letter) is ∙ not_behind) ∙ begun)
 halt X block Fits rest letter behind not_behind begun wrong (x ∷ todo) fits is = wrong x todo fits.0 fits.1 (is ∙ append_assoc (block x) (flat_map block todo) behind)
 
--- an element that no reader reads is none that fits
+-- an element that no reader reads does not fit
 pub left_wrong : (X : Type 0) (block : X → List (List ℕ)) (Fits : X → Type 0) (Ends : List (List ℕ) → Type 0) (start : List (List ℕ)) (done : List X)
     (rest : List (List ℕ)) (letter : ℕ) → Left X block Fits Ends start done rest
     → ((behind : List (List ℕ)) → Ends behind → begins letter behind ≡ false) → begins letter rest ≡ true
@@ -78,27 +78,27 @@ left_wrong X block Fits Ends start done rest letter left never begun wrong xs be
     let known = left xs behind fit ends is in
     halt X block Fits rest letter behind (never behind ends) begun (λ x more fits all is'. wrong x more behind fits all ends is') known.0 known.2 known.3
 
--- ---- the line of an index, and those behind it
+-- ---- the line at an index, and those after it
 
--- where a line begins with a letter there is one
+-- if a line begins with a letter there is one
 pub begins_within : (letter : ℕ) (lines : List (Bor (List ℕ))) (i : ℕ) → begins letter (bytes_of (drop i lines)) ≡ true → i < length lines
 begins_within letter [] zero begun = absurd (false≢true begun)
 begins_within letter [] (suc i) begun = absurd (false≢true begun)
 begins_within letter (line ∷ lines) zero begun = omega arith
 begins_within letter (line ∷ lines) (suc i) begun = omega (arith, begins_within letter lines i begun)
 
--- the line of an index, and the lines behind it
+-- the line at an index, and the lines after it
 pub line_at : (lines : List (Bor (List ℕ))) (i : ℕ) (d : Bor (List ℕ)) → i < length lines
     → bytes_of (drop i lines) ≡ (get_or lines i d).now ∷ bytes_of (drop (i + 1) lines)
 line_at lines i d within = rw add-one (ap bytes_of (drop-cons lines i d within))
 
--- what the line of an index is, and the lines behind it
+-- what the line at an index is, and the lines after it
 pub line_is : (lines : List (Bor (List ℕ))) (i : ℕ) (d : Bor (List ℕ)) (line : List ℕ) (rest : List (List ℕ)) → i < length lines
     → bytes_of (drop i lines) ≡ line ∷ rest → ((get_or lines i d).now ≡ line) × (bytes_of (drop (i + 1) lines) ≡ rest)
 line_is lines i d line rest within is =
     let both = sym (line_at lines i d within) ∙ is in (ap (λ z. get_or z 0 []) both, ap (drop 1) both)
 
--- one block more is found
+-- one more block is found
 pub found_more : (X : Type 0) (block : X → List (List ℕ)) (start : List (List ℕ)) (done : List X) (rest : List (List ℕ)) (y : X) (next : List (List ℕ))
     → start ≡ flat_map block done ++ rest → rest ≡ block y ++ next → start ≡ flat_map block (done ++ y ∷ []) ++ next
 found_more X block start done rest y next found here =
@@ -116,7 +116,7 @@ key_blocks (key ∷ keys) = ap (λ lines. line_bytes (key_fields key) ∷ lines)
 
 -- ---- readers that fail
 
--- for want of memory
+-- because memory ran out
 abbrev pub IsMemory : Wrong → Type 0
 IsMemory NoMemory = ⊤
 IsMemory (Line at) = ⊥
@@ -140,7 +140,7 @@ no_line (Line at) never = never at refl
 abbrev pub part_with : List KeySum → Part → Part
 part_with keys part = record part { keys = keys }
 
--- behind the lines of a name come those of another, or what is behind all
+-- after the lines of a name come those of another, or what follows them all
 pub no_key_behind : (parts : List Part) (behind : List (List ℕ)) → begins 107 behind ≡ false → begins 107 (flat_map part_block parts ++ behind) ≡ false
 no_key_behind [] behind ends = ends
 no_key_behind (part ∷ parts) behind ends = refl

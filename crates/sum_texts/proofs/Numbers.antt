@@ -16,7 +16,7 @@ use Rattle.std.proofs.lemmas.List.{take_all}
 wide : (n : ℕ) → n < 2 ^ 128 → n < 10 ^ 64
 wide n small = omega arith
 
--- what is not UTF-8 are no digits
+-- digits are UTF-8
 pub digits_are_text : (field : List ℕ) (size : ℕ) → size < 2 ^ 128 → field ≡ decimal size → IsUtf8 field
 digits_are_text field size small is =
     subst IsUtf8 (sym is) (IsUtf8-from_ascii (decimal size) (IsAscii-decimal_wide size (wide size small)))

@@ -91,7 +91,7 @@ one-order (x ∷ xs) (y ∷ ys) up also to from =
     let rest : xs ≡ ys = one-order xs ys up.1 also.1 (rest-among x y xs ys head up.0 to) (rest-among y x ys xs (sym head) also.0 from) in
     λ i. head i ∷ rest i
 
--- histograms by name, each name once, stand in one order
+-- histograms by name, each name once, have only one order
 pub sorted-once : (hists listed : List Histogram) (reading : Reading) → AreSortedByName hists reading → HasNamesOnce reading.hists
     → IsPermutation listed reading.hists → Ascend listed → hists ≡ listed
 sorted-once hists listed reading sorted once moved up =
@@ -113,7 +113,7 @@ sorted-from hists up = λ k d least within.
 
 -- ---- references
 
--- what says nothing of references
+-- a text of histograms that says nothing of references
 pub without-references : {X : Type 0} (f : Histogram → List X) → ((hist : Histogram) (index : ℕ) → f (record hist { reference = index }) ≡ f hist)
     → (index : ℕ) (hists : List Histogram) → flat_map f (renumbered index hists) ≡ flat_map f hists
 without-references f same index [] = refl
@@ -125,7 +125,7 @@ names-renumbered index (hist ∷ rest) = ap (λ z. hist.name ∷ z) (names-renum
 
 -- ---- both readings
 
--- a reading, and the same but for the references, in the order of the names
+-- a reading, and the same except for the references, in the order of the names
 pub record IsTheSame (reading shown : Reading) : Type 0 where
   pub listed : List Histogram
   pub here : AreSortedByName listed reading
@@ -157,7 +157,7 @@ is-the-same number reading sums one no_bad no_stop shown of =
       stopped = of.stopped ∙ sym no_stop;
     }
 
--- what a text says of a reading beside its histograms
+-- what a text says of a reading besides its histograms
 beside : {X : Type 0} (reading shown : Reading) → IsTheSame reading shown → (f : Reading → X)
     → f shown ≡ f (record shown { full = reading.full; corrupt = reading.corrupt; bad = reading.bad; stopped = reading.stopped })
 beside reading shown same f = λ i. f (record shown { full = same.full i; corrupt = same.corrupt i; bad = same.bad i; stopped = same.stopped i })
@@ -180,7 +180,7 @@ none-told [] [] none told = refl
 none-told [] (other ∷ rest) none told = absurd told
 none-told (part ∷ parts) others none told = absurd (cc)
 
--- nothing stands behind the report of one image
+-- nothing comes after the report of one image
 no-ending : (images : ℕ) (others : List OtherSpec) → images ≡ 1 → others ≡ [] → ending_text images others 0 ≡ []
 no-ending images others one none = λ i. ending_text (one i) (none i) 0
 
@@ -319,7 +319,7 @@ clash-renumbered line_labels listed =
     sym (clash-plain (map (member_of line_labels) (renumbered 0 listed)))
     ∙ (ap first_clash (members-plain line_labels 0 listed) ∙ clash-plain (map (member_of line_labels) listed))
 
--- the first clash of the one is that of the other
+-- the first clash of one is that of the other
 pub clash-same : (reading shown : Reading) → IsTheSame reading shown → (line_labels : List (List ℕ × List ℕ)) (first second : List ℕ)
     → IsFirstClashOf line_labels shown first second ↔ IsFirstClashOf line_labels reading first second
 clash-same reading shown same line_labels first second =

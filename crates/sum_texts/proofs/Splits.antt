@@ -40,7 +40,7 @@ split_joined c first (next ∷ rest) all =
 pub said : (line : List ℕ) (fields texts : List (List ℕ)) → fields ≡ slice_split (λ b. b == 44) line → fields ≡ texts → line ≡ line_bytes texts
 said line fields texts cut is = sym (join_with_byte-slice_split 44 line) ∙ ap (join_with_byte 44) (sym cut ∙ is)
 
--- the fields into which a line is cut that says these
+-- the fields of a line that says these, once it is cut
 pub unsaid : (line : List ℕ) (fields : List (List ℕ)) (first : List ℕ) (rest : List (List ℕ)) → AllByRecursion (Lacks 44) (first ∷ rest)
     → fields ≡ slice_split (λ b. b == 44) line → line ≡ line_bytes (first ∷ rest) → fields ≡ first ∷ rest
 unsaid line fields first rest lacks cut is = cut ∙ (ap (slice_split (λ b. b == 44)) is ∙ split_joined 44 first rest lacks)

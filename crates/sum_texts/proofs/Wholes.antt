@@ -18,18 +18,18 @@ segment_blocks (segment ∷ segments) = ap (λ s. line_bytes (segment_fields seg
 regroup : (a b c d e : List (List ℕ)) → (a ++ (b ++ (c ++ d))) ++ e ≡ a ++ (b ++ (c ++ (d ++ e)))
 regroup a b c d e = simp append_assoc
 
--- the last line, and what stands behind its line feed
+-- the last line, and what comes after its line feed
 abbrev pub ending : ℕ → List (List ℕ)
 ending parts = line_bytes (end_fields parts) ∷ [] ∷ []
 
--- the lines behind those of the names, and those behind the segments
+-- the lines after those of the names, and those after the segments
 abbrev pub behind_segments : Option ℕ → ℕ → List (List ℕ)
 behind_segments fold parts = map line_bytes (fold_lines fold) ++ ending parts
 
 abbrev pub behind_names : List (ℕ × ℕ) → Option ℕ → ℕ → List (List ℕ)
 behind_names of fold parts = flat_map segment_block of ++ behind_segments fold parts
 
--- all lines behind the notes
+-- all lines after the notes
 abbrev pub behind_notes : Whole → List (List ℕ)
 behind_notes whole = flat_map part_block whole.parts ++ behind_names whole.of whole.fold (length whole.parts)
 
@@ -48,7 +48,7 @@ spelled_lines whole =
     ∙ (ap (λ s. s ++ (map line_bytes b ++ (map line_bytes c ++ (map line_bytes d ++ e)))) (part_blocks whole.parts)
     ∙ ap (λ s. flat_map part_block whole.parts ++ (s ++ (map line_bytes c ++ (map line_bytes d ++ e)))) (segment_blocks whole.of))))
 
--- behind the names there is no name and no key, behind the segments no segment, and behind a fold no fold
+-- after the names there is no name and no key, after the segments no segment, and after a fold no fold
 pub no_name : (of : List (ℕ × ℕ)) (fold : Option ℕ) (parts : ℕ) → (begins 104 (behind_names of fold parts) ≡ false) × (begins 107 (behind_names of fold parts) ≡ false)
 no_name [] None parts = (refl, refl)
 no_name [] (Some serial) parts = (refl, refl)
@@ -62,6 +62,6 @@ pub whole_same : (notes : Notes) (parts : List Part) (of : List (ℕ × ℕ)) (f
     → fold ≡ whole.fold → ◌≡◌ {A = Whole} (record { notes = notes; parts = parts; of = of; fold = fold }) whole
 whole_same notes parts of fold whole a b c d = rw (a, b, c, d) refl
 
--- how long a vector is
+-- the length of a vector
 pub vec_items_len : {X : Type 0} (v : Vec X Global) → vec_len v ≡ length v.items
 vec_items_len v = omega (arith, v.ok.0)

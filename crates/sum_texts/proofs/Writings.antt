@@ -20,7 +20,7 @@ numbers_written old word front numbers {a} {b} {c} {d} begun joined numbered end
     line-written old word (front ++ map decimal numbers) begun
     (written-both a _ _ joined numbered ∙ ap (λ s. a ++ s) (sym fields)) ended
 
--- the lines of lists, one behind the other
+-- the lines of lists, one after the other
 pub flat_map-flat : {X Y Z : Type 0} (f : Y → List Z) (g : X → List Y) (xs : List X) → flat_map f (flat_map g xs) ≡ flat_map (λ x. flat_map f (g x)) xs
 flat_map-flat f g [] = refl
 flat_map-flat f g (x ∷ xs) = flat_map-append f (g x) (flat_map g xs) ∙ ap (λ s. flat_map f (g x) ++ s) (flat_map-flat f g xs)
@@ -41,7 +41,7 @@ totals_spelled whole =
     ∙ ap (λ s. flat_map (λ part. flat_map line_text (part_lines part)) whole.parts ++ s) segments) in
     ap (λ s. line_text head_fields ++ (line_text (notes_fields whole.notes) ++ s)) parts
 
--- six texts, written one behind the other from nothing on
+-- six texts, written one after the other, starting from nothing
 pub six_written : (a b c d e f : List ℕ) {one two three four five six : List ℕ} → one ≡ [] ++ a → two ≡ one ++ b → three ≡ two ++ c
     → four ≡ three ++ d → five ≡ four ++ e → six ≡ five ++ f → six ≡ a ++ (b ++ (c ++ (d ++ (e ++ (f ++ [])))))
 six_written a b c d e f p q r s t u =

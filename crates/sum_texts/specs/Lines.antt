@@ -29,15 +29,15 @@ abbrev pub notes_fields : Notes → List (List ℕ)
 notes_fields notes =
     codes "images" ∷ decimal notes.images ∷ decimal notes.full ∷ decimal notes.corrupt ∷ decimal notes.stopped ∷ decimal notes.bad ∷ []
 
--- the numbers of a spec: of a linear one its minimum, maximum and number of buckets, of a custom one its values
+-- the numbers of a spec: for a linear one its minimum, maximum and number of buckets, for a custom one its values
 abbrev pub spec_numbers : Spec → List ℕ
 spec_numbers (Linear min max n) = min ∷ max ∷ n ∷ []
 spec_numbers Boolean = []
 spec_numbers (Custom values) = values
 spec_numbers Sparse = []
 
--- the fields of a name with its spec up to the kind: how many images have it, the least number of one, the sum and its mark,
--- and the redundant count
+-- the fields of a name with its spec up to the kind: how many images have it, the least number of an image that has it, the sum and its
+-- mark, and the redundant count
 abbrev pub hist_front : Part → List (List ℕ)
 hist_front part =
     part.name ∷ decimal part.images ∷ decimal part.least ∷ signed_decimal part.sum ∷ signed_decimal part.sum_mark
@@ -59,7 +59,7 @@ segment_fields segment = codes "of" ∷ decimal segment.0 ∷ decimal segment.1 
 abbrev pub fold_fields : ℕ → List (List ℕ)
 fold_fields serial = codes "fold" ∷ decimal serial ∷ []
 
--- the last line: of how many names and specs there are lines
+-- the last line: the number of names and specs that have lines
 abbrev pub end_fields : ℕ → List (List ℕ)
 end_fields parts = codes "end" ∷ decimal parts ∷ []
 
@@ -69,12 +69,12 @@ end_fields parts = codes "end" ∷ decimal parts ∷ []
 abbrev pub part_lines : Part → List (List (List ℕ))
 part_lines part = hist_fields part ∷ map key_fields part.keys
 
--- the fold, where there is one
+-- the fold, if there is one
 abbrev pub fold_lines : Option ℕ → List (List (List ℕ))
 fold_lines None = []
 fold_lines (Some serial) = fold_fields serial ∷ []
 
--- the lines behind the notes
+-- the lines after the notes
 abbrev pub lines_behind_notes : Whole → List (List (List ℕ))
 lines_behind_notes whole =
     flat_map part_lines whole.parts ++ (map segment_fields whole.of ++ (fold_lines whole.fold ++ end_fields (length whole.parts) ∷ []))

@@ -1,4 +1,4 @@
--- What readers of lines give.
+-- What readers of lines return.
 use Rattle.std.specs.Prelude.{⊤, ◌==◌, Bool, false, ℕ, List, [], ◌∷◌, map, Result, Ok, Err}
 use Rattle.std.specs.Borrow.{Bor}
 use Rattle.reading_sums.specs.declared.key.KeySum.{KeySum}
@@ -29,7 +29,7 @@ segment_block segment = line_bytes (segment_fields segment) ∷ []
 abbrev pub part_block : Part → List (List ℕ)
 part_block part = map line_bytes (part_lines part)
 
--- a reader gave a value of which this holds, unless memory ran out
+-- a reader returned a value of which this holds, unless memory ran out
 abbrev pub Gives : {A : Type 0} → Result A Wrong → (A → Type 0) → Type 0
 Gives (Ok value) P = P value
 Gives (Err NoMemory) P = ⊤

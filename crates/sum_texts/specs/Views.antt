@@ -1,4 +1,4 @@
--- What a totals of the code is as a value of the definitions.
+-- A totals of the code as a value of the definitions.
 use Rattle.reading_sums.specs.Views.{parts_of}
 use Rattle.sum_texts.specs.declared.totals.Totals.{Totals}
 use Rattle.sum_texts.specs.Lines.{Whole}

@@ -19,8 +19,8 @@ pub record AreFormed (parts : List Part) : Type 0 where
   pub same : map part_of hists ≡ parts
   pub whole : AreWhole hists
 
--- a name with its spec is the first that cannot be behind those before it: up to it the parts are those of a well-formed
--- sum, and not with it
+-- a name with its spec is the first that cannot come after those before it: the parts up to it are those of a well-formed sum, and with it
+-- they are not
 pub record IsFirstWrong (parts : List Part) (index : ℕ) : Type 0 where
   pub before : AreFormed (take index parts)
   pub here : AreFormed (take (index + 1) parts) → ⊥
@@ -29,11 +29,11 @@ pub record IsFirstWrong (parts : List Part) (index : ℕ) : Type 0 where
 abbrev pub line_count : Part → ℕ
 line_count part = length (part_lines part)
 
--- the number of the line of a name with its spec, from 1: two lines stand before the first
+-- the number of the line of a name with its spec, from 1: two lines come before the first
 abbrev pub name_line : List Part → ℕ → ℕ
 name_line parts index = 3 + sum_by line_count (take index parts)
 
--- a line is that of the first name that cannot be behind those before it
+-- a line is that of the first name that cannot come after those before it
 pub record IsWrongLine (parts : List Part) (line : ℕ) : Type 0 where
   pub index : ℕ
   pub first : IsFirstWrong parts index

@@ -1,4 +1,4 @@
-//! The report of a sum: that of its reading, and lines behind it of what that leaves out.
+//! The report of a sum: that of its reading, followed by lines of what it leaves out.
 
 ghost use Rattle.std.specs.Prelude.{◌≡◌, ◌++◌, IfOk, OnOk};
 ghost use Rattle.std.specs.List.{flat_map};
@@ -31,7 +31,7 @@ fn put_others(text: &mut Vec<u8>, others: &[OtherSpec]) -> Result<(), AllocError
     Ok(())
 }
 
-// Puts the line of how many inputs were left out, where some were.
+// Puts the line of how many inputs were left out, if any were.
 fn put_left(text: &mut Vec<u8>, left: u64) -> Result<(), AllocError>
     ensures { OnOk result (text.new.items ≡ text.old.items ++ inputs_line left) }
 {
@@ -41,7 +41,7 @@ fn put_left(text: &mut Vec<u8>, left: u64) -> Result<(), AllocError>
     put_number_line(text, b"!left", left)
 }
 
-// Puts the lines behind the report of a sum of so many images.
+// Puts the lines after the report of a sum of this many images.
 fn put_ending(
     text: &mut Vec<u8>,
     images: u64,
@@ -58,10 +58,10 @@ fn put_ending(
     put_left(text, left)
 }
 
-/// Returns the report of a sum, beside which so many inputs were left out: that of its reading, and behind it, where there
-/// are several images, or a histogram or an input was left out, how many images there are, each name and spec that the
-/// reading leaves out, with its images and units, and how many inputs were left out [text]. It fails for want of memory
-/// alone.
+/// Returns the report of a sum for which `left` inputs were left out: that of its reading, and, if there are several
+/// images or a histogram or an input was left out, lines after it of how many images there are, of each name and spec
+/// that the reading leaves out, with its images and units, and of how many inputs were left out [text]. The one error
+/// is that memory runs out.
 pub fn report_of(alloc: Global, sums: &Sums, left: u64) -> Result<Vec<u8>, AllocError>
     requires { IsWellFormed sums.now }
     ensures text { IfOk result (λ text. IsSumReport sums.now left text.items) }

@@ -9,7 +9,7 @@ pub enum TotalsFault {
     /// There was no memory.
     #[error("NoMemory")]
     NoMemory,
-    /// It is the totals of no well-formed sum. The number is that of a line, from 1.
+    /// It is not the totals of a well-formed sum. The number is that of a line, from 1.
     #[error("BadTotals {0}")]
     BadTotals(u64),
 }

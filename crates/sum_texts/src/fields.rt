@@ -17,7 +17,7 @@ use bucket_ranges::{CustomValues, Spec};
 use reading_sums::{HistSum, KeySum, Notes};
 use std::alloc::{AllocError, Global};
 
-/// Returns the key that the fields of a line are, if they are those of one.
+/// Returns the key in the fields of a line, if they are those of a key.
 pub(crate) fn key_in(fields: &[&[u8]]) -> Option<KeySum>
     ensures found { IfSome result (λ key. map (λ field. field.now) fields.now ≡ key_fields key) }
     ensures only { (key : key_type.KeySum) → FitsKey key → map (λ field. field.now) fields.now ≡ key_fields key → result ≡ Some key }
@@ -35,7 +35,7 @@ pub(crate) fn key_in(fields: &[&[u8]]) -> Option<KeySum>
     })
 }
 
-/// Returns the notes that the fields of a line are, if they are those of some.
+/// Returns the notes in the fields of a line, if they are those of notes.
 pub(crate) fn notes_in(fields: &[&[u8]]) -> Option<Notes>
     ensures found { IfSome result (λ notes. map (λ field. field.now) fields.now ≡ notes_fields notes) }
     ensures only { (notes : notes_type.Notes) → FitNotes notes → map (λ field. field.now) fields.now ≡ notes_fields notes → result ≡ Some notes }
@@ -57,7 +57,7 @@ pub(crate) fn notes_in(fields: &[&[u8]]) -> Option<Notes>
     })
 }
 
-/// Returns the segment that the fields of a line name, if they name one.
+/// Returns the segment in the fields of a line, if they are those of a segment.
 pub(crate) fn segment_in(fields: &[&[u8]]) -> Option<(u64, u64)>
     ensures found { IfSome result (λ segment. map (λ field. field.now) fields.now ≡ segment_fields segment) }
     ensures only { (segment : ℕ × ℕ) → FitsSegment segment → map (λ field. field.now) fields.now ≡ segment_fields segment → result ≡ Some segment }
@@ -70,7 +70,7 @@ pub(crate) fn segment_in(fields: &[&[u8]]) -> Option<(u64, u64)>
     Some((number, id))
 }
 
-/// Returns the serial that the fields of a line are, if they are those of a fold.
+/// Returns the serial in the fields of a line, if they are those of a fold.
 pub(crate) fn fold_in(fields: &[&[u8]]) -> Option<u64>
     ensures found { IfSome result (λ serial. map (λ field. field.now) fields.now ≡ fold_fields serial) }
     ensures only { (serial : ℕ) → serial < 2 ^ 64 → map (λ field. field.now) fields.now ≡ fold_fields serial → result ≡ Some serial }
@@ -81,7 +81,7 @@ pub(crate) fn fold_in(fields: &[&[u8]]) -> Option<u64>
     number_in(fields[1])
 }
 
-// The numbers that fields are, if each is one.
+// The numbers in fields, if each is one.
 fn numbers_in(alloc: Global, fields: &[&[u8]]) -> Result<Option<Vec<u32>>, AllocError>
     ensures found { IfOk result (λ numbers. IfSome numbers (λ numbers. map (λ field. field.now) fields.now ≡ map decimal numbers.items)) }
     ensures only { (numbers : List ℕ) → AllByRecursion (λ number. number < 2 ^ 32) numbers → map (λ field. field.now) fields.now ≡ map decimal numbers → IfOk result (λ read. option_map (λ numbers. numbers.items) read ≡ Some numbers) }
@@ -121,7 +121,7 @@ fn spec_of(kind: &[u8], numbers: Vec<u32>) -> Option<Spec>
     None
 }
 
-// The spec that fields are, its kind and its numbers, if they are those of one.
+// The spec in the fields of its kind and its numbers, if they are those of a spec.
 fn spec_in(alloc: Global, kind: &[u8], numbers: &[&[u8]]) -> Result<Option<Spec>, AllocError>
     ensures kind { IfOk result (λ spec. IfSome spec (λ spec. kind.now ≡ kind_word spec)) }
     ensures numbers { IfOk result (λ spec. IfSome spec (λ spec. map (λ field. field.now) numbers.now ≡ map decimal (spec_numbers spec))) }
@@ -133,7 +133,7 @@ fn spec_in(alloc: Global, kind: &[u8], numbers: &[&[u8]]) -> Result<Option<Spec>
     }
 }
 
-/// Returns how many names and specs there are by the fields of a last line, if they are those of one.
+/// Returns the number of names and specs in the fields of a last line, if they are those of one.
 pub(crate) fn end_in(fields: &[&[u8]]) -> Option<u64>
     ensures found { IfSome result (λ parts. map (λ field. field.now) fields.now ≡ end_fields parts) }
     ensures only { (parts : ℕ) → parts < 2 ^ 64 → map (λ field. field.now) fields.now ≡ end_fields parts → result ≡ Some parts }
@@ -144,7 +144,7 @@ pub(crate) fn end_in(fields: &[&[u8]]) -> Option<u64>
     number_in(fields[1])
 }
 
-// The fields of a name with its spec up to the kind.
+// The fields of a name with its spec that come before the kind.
 #[derive(Clone, Copy)]
 struct Front<'a> {
     name: &'a [u8],
@@ -155,7 +155,7 @@ struct Front<'a> {
     redundant: u64,
 }
 
-// The fields of a name with its spec up to the kind, of at least eight fields.
+// The fields of a name with its spec that come before the kind, in at least eight fields.
 fn front_in<'a>(fields: &[&'a [u8]]) -> Option<Front<'a>>
     requires { 8 ≤ length fields.now }
     ensures found { IfSome result (λ front. bytes_of fields.now ≡ codes "hist" ∷ front.name.now ∷ decimal front.images ∷ decimal front.least ∷ signed_decimal front.sum ∷ signed_decimal front.sum_mark ∷ decimal front.redundant ∷ bytes_of (drop 7 fields.now)) }
@@ -179,7 +179,7 @@ fn front_in<'a>(fields: &[&'a [u8]]) -> Option<Front<'a>>
     })
 }
 
-/// Returns the name with its spec that the fields of a line are, if they are those of one. It has no keys yet.
+/// Returns the name with its spec in the fields of a line, if they are those of one. It has no keys yet.
 pub(crate) fn hist_in(alloc: Global, fields: &[&[u8]]) -> Result<Option<HistSum>, AllocError>
     ensures found { IfOk result (λ hist. IfSome hist (λ hist. bytes_of fields.now ≡ hist_fields (part_of hist))) }
     ensures keys { IfOk result (λ hist. IfSome hist (λ hist. hist.keys.items ≡ [])) }

@@ -10,11 +10,11 @@ ghost use Rattle.reading_sums.specs.declared.sums.Sums.{Sums};
 ghost use Rattle.reading_sums.specs.Alone.{IsSumOfOne};
 ghost use Rattle.sum_texts.specs.Endings.{IsOfSum, IsSumReport};
 
-/// A well-formed sum of one image that reads without a fault, whatever number that has, has the texts of the image, byte for
-/// byte. Its report, where no other input was left out, is that of the image [report]. So are the table [table], the export
-/// with any prefix and labels [export], and the export with a family for each histogram [families], of the reading that the
-/// sum gives; where that export is refused, since histograms clash, the first clash is of the same names [clash]. Without a
-/// fault an image has no bad record and does not stop.
+/// This holds of a well-formed sum of one image that reads without a fault, that is, with no bad record and no stop,
+/// and that has any number. The texts of the sum are those of the image, byte for byte: its report, if no other input
+/// was left out [report], and of its reading the table [table], the export with any prefix and labels [export], and the
+/// export with a family for each histogram [families]. If the last one is refused because histograms clash, the first
+/// clash has the same names [clash].
 ///
 /// It does nothing: what it promises are laws of the definitions.
 pub fn one_image_writes_the_same()

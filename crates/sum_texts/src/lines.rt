@@ -13,14 +13,14 @@ use crate::fields::{end_in, fold_in, hist_in, key_in, notes_in, segment_in};
 use reading_sums::{HistSum, KeySum, Notes};
 use std::alloc::{AllocError, Global};
 
-// The fields of a line: what stands between its commas.
+// The fields of a line, between its commas.
 fn fields_of(alloc: Global, line: &[u8]) -> Result<Vec<&[u8]>, AllocError>
     ensures { IfOk result (λ fields. bytes_of fields.items ≡ slice_split (λ byte. byte == 44) line.now) }
 {
     line.split(|byte| *byte == b',').collect(alloc)
 }
 
-/// Returns the notes that a line says, if it says some.
+/// Returns the notes on a line, if it is one of notes.
 pub(crate) fn notes_at(alloc: Global, line: &[u8]) -> Result<Option<Notes>, AllocError>
     ensures found { IfOk result (λ notes. IfSome notes (λ notes. line.now ≡ line_bytes (notes_fields notes))) }
     ensures only { (notes : notes_type.Notes) → FitNotes notes → line.now ≡ line_bytes (notes_fields notes) → IfOk result (λ read. read ≡ Some notes) }
@@ -29,7 +29,7 @@ pub(crate) fn notes_at(alloc: Global, line: &[u8]) -> Result<Option<Notes>, Allo
     Ok(notes_in(&fields))
 }
 
-/// Returns the name with its spec that a line says, if it says one. It has no keys yet.
+/// Returns the name with its spec on a line, if it is one of these. It has no keys yet.
 pub(crate) fn hist_at(alloc: Global, line: &[u8]) -> Result<Option<HistSum>, AllocError>
     ensures found { IfOk result (λ hist. IfSome hist (λ hist. line.now ≡ line_bytes (hist_fields (part_of hist)))) }
     ensures keys { IfOk result (λ hist. IfSome hist (λ hist. hist.keys.items ≡ [])) }
@@ -40,7 +40,7 @@ pub(crate) fn hist_at(alloc: Global, line: &[u8]) -> Result<Option<HistSum>, All
     Ok(hist)
 }
 
-/// Returns the key that a line says, if it says one.
+/// Returns the key on a line, if it is one of a key.
 pub(crate) fn key_at(alloc: Global, line: &[u8]) -> Result<Option<KeySum>, AllocError>
     ensures found { IfOk result (λ key. IfSome key (λ key. line.now ≡ line_bytes (key_fields key))) }
     ensures only { (key : key_type.KeySum) → FitsKey key → line.now ≡ line_bytes (key_fields key) → IfOk result (λ read. read ≡ Some key) }
@@ -49,7 +49,7 @@ pub(crate) fn key_at(alloc: Global, line: &[u8]) -> Result<Option<KeySum>, Alloc
     Ok(key_in(&fields))
 }
 
-/// Returns the segment that a line names, if it names one.
+/// Returns the segment on a line, if it is one of a segment.
 pub(crate) fn segment_at(alloc: Global, line: &[u8]) -> Result<Option<(u64, u64)>, AllocError>
     ensures found { IfOk result (λ segment. IfSome segment (λ segment. line.now ≡ line_bytes (segment_fields segment))) }
     ensures only { (segment : ℕ × ℕ) → FitsSegment segment → line.now ≡ line_bytes (segment_fields segment) → IfOk result (λ read. read ≡ Some segment) }
@@ -58,7 +58,7 @@ pub(crate) fn segment_at(alloc: Global, line: &[u8]) -> Result<Option<(u64, u64)
     Ok(segment_in(&fields))
 }
 
-/// Returns the serial of the fold that a line says, if it says one.
+/// Returns the serial of the fold on a line, if it is one of a fold.
 pub(crate) fn fold_at(alloc: Global, line: &[u8]) -> Result<Option<u64>, AllocError>
     ensures found { IfOk result (λ serial. IfSome serial (λ serial. line.now ≡ line_bytes (fold_fields serial))) }
     ensures only { (serial : ℕ) → serial < 2 ^ 64 → line.now ≡ line_bytes (fold_fields serial) → IfOk result (λ read. read ≡ Some serial) }
@@ -67,7 +67,7 @@ pub(crate) fn fold_at(alloc: Global, line: &[u8]) -> Result<Option<u64>, AllocEr
     Ok(fold_in(&fields))
 }
 
-/// Returns how many names and specs there are by a last line, if it is one.
+/// Returns the number of names and specs on a last line, if it is one.
 pub(crate) fn end_at(alloc: Global, line: &[u8]) -> Result<Option<u64>, AllocError>
     ensures found { IfOk result (λ parts. IfSome parts (λ parts. line.now ≡ line_bytes (end_fields parts))) }
     ensures only { (parts : ℕ) → parts < 2 ^ 64 → line.now ≡ line_bytes (end_fields parts) → IfOk result (λ read. read ≡ Some parts) }

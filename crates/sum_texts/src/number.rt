@@ -1,4 +1,4 @@
-//! Numbers in fields: the digits that write them, and no others.
+//! Numbers in fields, each with the one spelling that the code writes.
 
 ghost use Rattle.std.specs.Prelude.{◌≡◌, ◌<◌, ◌^◌, ℕ, ℤ, Some, IfSome};
 ghost use Rattle.std.specs.Fmt.{decimal, signed_decimal};
@@ -7,7 +7,7 @@ ghost use Rattle.std.specs.Prelude.{FitsSigned};
 
 use itoa::Buffer;
 
-// The number without a sign that a field is the digits of, if it is that of one.
+// The number without a sign that a field writes, if it writes one.
 fn size_in(field: &[u8]) -> Option<u128>
     ensures found { IfSome result (λ size. field.now ≡ decimal size) }
     ensures only { (size : ℕ) → size < 2 ^ 128 → field.now ≡ decimal size → result ≡ Some size }
@@ -22,7 +22,7 @@ fn size_in(field: &[u8]) -> Option<u128>
     }
 }
 
-/// Returns the number of 64 bits that a field is the digits of, if it is that of one.
+/// Returns the number of 64 bits that a field writes, if it writes one.
 pub(crate) fn number_in(field: &[u8]) -> Option<u64>
     ensures found { IfSome result (λ number. field.now ≡ decimal number) }
     ensures only { (number : ℕ) → number < 2 ^ 64 → field.now ≡ decimal number → result ≡ Some number }
@@ -30,7 +30,7 @@ pub(crate) fn number_in(field: &[u8]) -> Option<u64>
     u64::try_from(size_in(field)?).ok()
 }
 
-/// Returns the number of 32 bits that a field is the digits of, if it is that of one.
+/// Returns the number of 32 bits that a field writes, if it writes one.
 pub(crate) fn small_number_in(field: &[u8]) -> Option<u32>
     ensures found { IfSome result (λ number. field.now ≡ decimal number) }
     ensures only { (number : ℕ) → number < 2 ^ 32 → field.now ≡ decimal number → result ≡ Some number }

@@ -22,7 +22,7 @@ pub(crate) struct TotalsRead {
     pub(crate) fold: Option<u64>,
 }
 
-/// Returns the notes on the second line, behind the first line of a totals.
+/// Returns the notes on the second line, after the first line of a totals.
 pub(crate) fn notes_in(alloc: Global, lines: &[&[u8]]) -> Result<Notes, Wrong>
     ensures found { IfOk result (λ notes. bytes_of lines.now ≡ line_bytes head_fields ∷ line_bytes (notes_fields notes) ∷ bytes_of (drop 2 lines.now)) }
     ensures within { IfOk result (λ _. 2 ≤ length lines.now) }
@@ -40,7 +40,7 @@ pub(crate) fn notes_in(alloc: Global, lines: &[&[u8]]) -> Result<Notes, Wrong>
     }
 }
 
-/// Returns the fold whose line has an index, if it is one's, and the index of the line behind it.
+/// Returns the fold on the line at `at`, if that is the line of one, and the index of the line after it.
 pub(crate) fn fold_in(
     alloc: Global,
     lines: &[&[u8]],
@@ -60,7 +60,7 @@ pub(crate) fn fold_in(
     }
 }
 
-/// Returns nothing where the line of an index is the last of a totals of so many names, and the text ends behind it.
+/// Returns `Ok` if the line at `at` is the last of a totals of `parts` names, and the text ends after it.
 pub(crate) fn check_end(alloc: Global, lines: &[&[u8]], at: usize, parts: u64) -> Result<(), Wrong>
     requires { at ≤ length lines.now }
     ensures found { OnOk result (bytes_of (drop at lines.now) ≡ line_bytes (end_fields parts) ∷ [] ∷ []) }
@@ -76,7 +76,7 @@ pub(crate) fn check_end(alloc: Global, lines: &[&[u8]], at: usize, parts: u64) -
     }
 }
 
-/// Returns what the lines of a totals say, where an empty one stands behind the last line feed.
+/// Returns what the lines of a totals say, if an empty one comes after the last line feed.
 pub(crate) fn whole_in(alloc: Global, lines: &[&[u8]]) -> Result<TotalsRead, Wrong>
     ensures found { IfOk result (λ read. bytes_of lines.now ≡ map line_bytes (lines_of (read_view read)) ++ [] ∷ []) }
     ensures only { (whole : Whole) → FitsWhole whole → bytes_of lines.now ≡ map line_bytes (lines_of whole) ++ [] ∷ [] → Gives result (λ read. read_view read ≡ whole) }
@@ -94,14 +94,15 @@ pub(crate) fn whole_in(alloc: Global, lines: &[&[u8]]) -> Result<TotalsRead, Wro
     })
 }
 
-// The lines of a text: what stands between its line feeds.
+// The lines of a text, between its line feeds.
 fn lines_in(alloc: Global, text: &[u8]) -> Result<Vec<&[u8]>, AllocError>
     ensures { IfOk result (λ lines. bytes_of lines.items ≡ slice_split (λ byte. byte == 10) text.now) }
 {
     text.split(|byte| *byte == b'\n').collect(alloc)
 }
 
-/// Returns what the text of a totals says: each text says one thing at most, and what fits into lines is read from its text.
+/// Returns what the text of a totals says. A text says at most one thing, and whatever fits into lines is read back
+/// from its text.
 pub(crate) fn text_in(alloc: Global, text: &[u8]) -> Result<TotalsRead, Wrong>
     ensures found { IfOk result (λ read. text.now ≡ totals_text (read_view read)) }
     ensures only { (whole : Whole) → FitsWhole whole → text.now ≡ totals_text whole → Gives result (λ read. read_view read ≡ whole) }

@@ -17,7 +17,7 @@ use crate::wrong::Wrong;
 use reading_sums::{HistSum, Sums};
 use std::alloc::Global;
 
-// What the text of a totals says, and where it says nothing the number of a line.
+// What the text of a totals says; if it says nothing, the number of a line.
 fn said_in(alloc: Global, text: &[u8]) -> Result<TotalsRead, TotalsFault>
     ensures found { IfOk result (λ said. text.now ≡ totals_text (read_view said)) }
     ensures back { (whole : Whole) → FitsWhole whole → text.now ≡ totals_text whole → IfOk result (λ said. read_view said ≡ whole) }
@@ -30,7 +30,7 @@ fn said_in(alloc: Global, text: &[u8]) -> Result<TotalsRead, TotalsFault>
     }
 }
 
-// Whether the first so many names of a text are those of a well-formed sum.
+// Whether the first `count` names of a text are those of a well-formed sum.
 fn are_formed(alloc: Global, text: &[u8], count: usize) -> Result<bool, TotalsFault>
     ensures formed { (whole : Whole) → FitsWhole whole → text.now ≡ totals_text whole → IfOk result (λ are. (are ≡ true) ↔ AreFormed (take count whole.parts)) }
     ensures only { (whole : Whole) → FitsWhole whole → text.now ≡ totals_text whole → IfErr result (λ fault. fault ≡ NoMemory) }
@@ -41,7 +41,7 @@ fn are_formed(alloc: Global, text: &[u8], count: usize) -> Result<bool, TotalsFa
     Ok(Sums::from_hists(alloc, hists, notes)?.is_some())
 }
 
-// The index of the first name of so many that cannot be behind those before it, where there is one.
+// The index of the first of `count` names that cannot come after those before it, if there is one.
 fn first_wrong(alloc: Global, text: &[u8], count: usize) -> Result<usize, TotalsFault>
     ensures first { (whole : Whole) → FitsWhole whole → text.now ≡ totals_text whole → (AreFormed (take count whole.parts) → ⊥) → IfOk result (IsFirstWrong whole.parts) }
     ensures within { IfOk result (λ index. index ≤ count) }
@@ -60,7 +60,7 @@ fn first_wrong(alloc: Global, text: &[u8], count: usize) -> Result<usize, Totals
     Ok(formed)
 }
 
-// The number of the line behind those of these names.
+// The number of the line after those of these names.
 fn line_behind(hists: &[HistSum]) -> u64
     ensures { result ≡ min (3 + sum_by line_count (map part_of hists.now)) 18446744073709551615 }
 {
@@ -73,7 +73,7 @@ fn line_behind(hists: &[HistSum]) -> u64
     line
 }
 
-// The number of the line of the first name that cannot be behind those before it, where there is one.
+// The number of the line of the first name that cannot come after those before it, if there is one.
 fn wrong_line(alloc: Global, text: &[u8]) -> Result<u64, TotalsFault>
     ensures line { (whole : Whole) → FitsWhole whole → text.now ≡ totals_text whole → (AreFormed whole.parts → ⊥) → IfOk result (λ line. IsWrongLine whole.parts line) }
     ensures only { (whole : Whole) → FitsWhole whole → text.now ≡ totals_text whole → IfErr result (λ fault. fault ≡ NoMemory) }
@@ -83,14 +83,14 @@ fn wrong_line(alloc: Global, text: &[u8]) -> Result<u64, TotalsFault>
     Ok(line_behind(&said.hists[..index]))
 }
 
-/// Returns the totals whose text this is: it has exactly this text [read], and its sum is well formed [well_formed]. From
-/// the text of a totals of a well-formed sum, whose names have neither commas nor line feeds, it returns the same totals
-/// again [back].
+/// Returns the totals whose text this is: it has exactly this text [read], and its sum is well formed [well_formed].
+/// From the text of a totals of a well-formed sum, whose names have neither commas nor line feeds, it returns the same
+/// totals again [back].
 ///
-/// `BadTotals` comes only where the text is that of no such totals [only]. Its number is that of a line, from 1: meant is
-/// the first line that does not go on from those before it. Where each line does, it is that of the first name that
-/// is in no well-formed sum behind the names before it: the names do not ascend, or one has not the keys of its spec or
-/// units that pass 64 bits [line]. `NoMemory` comes where memory runs out.
+/// `BadTotals` is returned only if the text is not that of such a totals [only]. Its number is that of a line, from 1,
+/// and is meant to be the first line that does not continue those before it. If every line does, it is that of the
+/// first name that is in no well-formed sum after the names before it: the names do not ascend, or one does not have
+/// the keys of its spec, or has units that pass 64 bits [line]. `NoMemory` is returned if memory runs out.
 pub fn totals_of(alloc: Global, text: &[u8]) -> Result<Totals, TotalsFault>
     ensures read { IfOk result (λ totals. text.now ≡ totals_text (whole_of totals)) }
     ensures well_formed { IfOk result (λ totals. IsWellFormed totals.sums) }

@@ -13,7 +13,7 @@ use crate::wrong::Wrong;
 use reading_sums::{HistSum, KeySum};
 use std::alloc::Global;
 
-/// Returns whether there is a line of an index and begins with a letter.
+/// Returns whether there is a line at `at` that begins with this letter.
 pub(crate) fn begins(letter: u8, lines: &[&[u8]], at: usize) -> bool
     ensures { result ≡ begins_with letter (bytes_of (drop at lines.now)) }
 {
@@ -23,7 +23,7 @@ pub(crate) fn begins(letter: u8, lines: &[&[u8]], at: usize) -> bool
     }
 }
 
-/// Returns the keys whose lines stand from an index on, and the index of the line behind them.
+/// Returns the keys whose lines begin at `start`, and the index of the line after them.
 pub(crate) fn keys_in(
     alloc: Global,
     lines: &[&[u8]],
@@ -47,7 +47,7 @@ pub(crate) fn keys_in(
     Ok((keys, at))
 }
 
-/// Returns the segments whose lines stand from an index on, and the index of the line behind them.
+/// Returns the segments whose lines begin at `start`, and the index of the line after them.
 pub(crate) fn segments_in(
     alloc: Global,
     lines: &[&[u8]],
@@ -70,7 +70,7 @@ pub(crate) fn segments_in(
     Ok((segments, at))
 }
 
-// The name with its spec and its keys whose lines stand from an index on, and the index of the line behind them.
+// The name with its spec and its keys whose lines begin at `start`, and the index of the line after them.
 fn hist_from(alloc: Global, lines: &[&[u8]], start: usize) -> Result<(HistSum, usize), Wrong>
     requires { start < length lines.now }
     ensures found { IfOk result (λ read. bytes_of (drop start lines.now) ≡ part_block (part_of read.0) ++ bytes_of (drop read.1 lines.now)) }
@@ -85,7 +85,7 @@ fn hist_from(alloc: Global, lines: &[&[u8]], start: usize) -> Result<(HistSum, u
     Ok((with_keys(head, keys), behind))
 }
 
-// It, with these keys in place of its own.
+// The histogram with these keys in place of its own.
 fn with_keys(hist: HistSum, keys: Vec<KeySum>) -> HistSum
     ensures { part_of result ≡ record (part_of hist) { keys = keys.items } }
 {
@@ -94,7 +94,7 @@ fn with_keys(hist: HistSum, keys: Vec<KeySum>) -> HistSum
     hist
 }
 
-/// Returns the names whose lines stand from an index on, each with its spec and its keys, and the index of the line behind
+/// Returns the names whose lines begin at `start`, each with its spec and its keys, and the index of the line after
 /// them.
 pub(crate) fn hists_in(
     alloc: Global,

@@ -1,13 +1,13 @@
-//! Sums that stand for themselves, apart from their images.
+//! Sums that are kept without their images.
 
 use reading_sums::Sums;
 
-/// A sum, and which segments are in it where a fold made it.
+/// A sum, and which segments are in it if a fold made it.
 #[derive(Debug, Drop)]
 pub struct Totals {
     /// The sum.
     pub sums: Sums,
-    /// The segments that are in the sum, each a number and an id; none where no fold made it.
+    /// The segments that are in the sum, each a number and an id; none if no fold made it.
     pub of: Vec<(u64, u64)>,
     /// The serial of the fold that made it.
     pub fold: Option<u64>,

@@ -15,7 +15,7 @@ use reading_sums::{HistSum, KeySum, Notes};
 use reading_texts::kind_word;
 use std::alloc::{AllocError, Global};
 
-// Puts fields, a comma before each.
+// Puts fields, with a comma before each.
 fn put_fields(text: &mut Vec<u8>, fields: &[&[u8]]) -> Result<(), AllocError>
     ensures { OnOk result (text.new.items ≡ text.old.items ++ flat_map (λ field. 44 ∷ field) (map (λ field. field.now) fields.now)) }
 {
@@ -36,7 +36,7 @@ pub(crate) fn put_line(text: &mut Vec<u8>, word: &[u8], others: &[&[u8]]) -> Res
     Ok(())
 }
 
-// Puts numbers, a comma before each.
+// Puts numbers, with a comma before each.
 fn put_numbers(text: &mut Vec<u8>, numbers: &[u32]) -> Result<(), AllocError>
     ensures { OnOk result (text.new.items ≡ text.old.items ++ flat_map (λ number. 44 ∷ decimal number) numbers.now) }
 {
@@ -48,7 +48,7 @@ fn put_numbers(text: &mut Vec<u8>, numbers: &[u32]) -> Result<(), AllocError>
     Ok(())
 }
 
-// Puts the numbers of a spec, a comma before each.
+// Puts the numbers of a spec, with a comma before each.
 fn put_spec_numbers(text: &mut Vec<u8>, spec: &Spec) -> Result<(), AllocError>
     ensures { OnOk result (text.new.items ≡ text.old.items ++ flat_map (λ number. 44 ∷ decimal number) (spec_numbers spec.now)) }
 {
@@ -81,7 +81,7 @@ fn put_notes(text: &mut Vec<u8>, notes: &Notes) -> Result<(), AllocError>
     )
 }
 
-// Puts the fields of a name with its spec up to the kind, a comma before each.
+// Puts the fields of a name with its spec up to the kind, with a comma before each.
 fn put_hist_front(text: &mut Vec<u8>, hist: &HistSum) -> Result<(), AllocError>
     ensures { OnOk result (text.new.items ≡ text.old.items ++ flat_map (λ field. 44 ∷ field) (lines.hist_front (part_of hist.now))) }
 {
@@ -193,7 +193,7 @@ pub(crate) fn put_number_line(
     put_line(text, word, &[digits.format(number).as_bytes()])
 }
 
-// Puts the line of the fold, where there is one.
+// Puts the line of the fold, if there is one.
 fn put_fold(text: &mut Vec<u8>, fold: Option<u64>) -> Result<(), AllocError>
     ensures { OnOk result (text.new.items ≡ text.old.items ++ flat_map line_text (lines.fold_lines fold)) }
 {
@@ -203,7 +203,7 @@ fn put_fold(text: &mut Vec<u8>, fold: Option<u64>) -> Result<(), AllocError>
     }
 }
 
-/// Returns the text of a totals. It fails for want of memory alone.
+/// Returns the text of a totals. The one error is that memory runs out.
 pub fn totals_text(alloc: Global, totals: &Totals) -> Result<Vec<u8>, AllocError>
     ensures { IfOk result (λ text. text.items ≡ lines.totals_text (whole_of totals.now)) }
 {

@@ -7,7 +7,7 @@ use std::alloc::{AllocError, AllocFailed};
 pub(crate) enum Wrong {
     /// There was no memory.
     NoMemory,
-    /// A line is wrong: the first of so many that were left.
+    /// The line at this index is wrong.
     Line(usize),
 }
 

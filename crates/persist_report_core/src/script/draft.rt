@@ -24,14 +24,14 @@ pub(crate) struct Draft {
     taken: u64,
 }
 
-// The fault of a record that has no lawful form, place or name.
+// The fault of a record that is malformed, out of place, or names no histogram.
 fn bad_line(number: u32) -> ScriptFault
     ensures { result ≡ ScriptFault.BadLine number }
 {
     ScriptFault::BadLine(number)
 }
 
-/// The script that the first record opens, by what it asks for.
+/// The script that the first record begins, by what it asks for.
 pub(crate) fn open_draft(
     alloc: Global,
     request: Option<ScriptRequest<'_>>,
@@ -133,7 +133,7 @@ impl Draft {
         }
     }
 
-    /// Puts a record behind the first, by what it asks for.
+    /// Puts a record that is not the first, by what it asks for.
     pub(crate) fn put(
         &mut self,
         alloc: Global,

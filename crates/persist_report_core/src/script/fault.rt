@@ -15,8 +15,7 @@ pub enum ScriptFault {
     /// There was no memory for the script.
     #[error("NoMemory")]
     NoMemory,
-    /// The record has no lawful form, a number out of its type, an unlawful shape or an unknown name, or stands out
-    /// of order.
+    /// The record is malformed or out of order, or has a number out of range, an invalid shape or an unknown name.
     #[error("BadLine {0}")]
     BadLine(u32),
     /// The record adds no unit.

@@ -1,4 +1,4 @@
-//! Where names stand, by their bytes.
+//! The places of names, by their bytes.
 
 ghost use Rattle.std.specs.Prelude.{◌≡◌, List, ℕ, None, Some, OnOk, if◌then◌else◌};
 ghost use Rattle.std.specs.Option.{option_or};

@@ -1,4 +1,4 @@
-//! Scripts for a segment that is there.
+//! Scripts for an existing segment.
 
 ghost use Rattle.std.specs.Prelude.{◌≡◌, ◌≤◌, ◌↔◌, true, false, length, option_map, Ok, IfOk, IfSome, OnOk, IsErrOf, MatchResult};
 ghost use Rattle.std.specs.Io.KnownBytes.{IsAtEnd};
@@ -47,12 +47,12 @@ fn names(alloc: Global, bytes: &[u8], shape: Shape, id: u64) -> Result<bool, All
     Ok(is_of_segment(read_request(alloc, &fields)?, shape, id))
 }
 
-/// Reads the script that the reader has left, for the segment of this shape and id, whose `add` records may take as
-/// many units as the pool has.
+/// Reads the script that the reader has left, for the segment of this shape and id. Its `add` records may take as many
+/// units as the pool has.
 ///
-/// On `Ok` it is exactly the script of the bytes. A fault is as of [`read_script`](crate::read_script); `BadLine` of
-/// record 1 comes also where that names another segment [answer]. `Read` comes exactly where a read failed [read]. On
-/// `Ok` the reader is at its end [end].
+/// On `Ok` it is exactly the script of the bytes. The faults are those of [`read_script`](crate::read_script), but
+/// `BadLine` of record 1 is also returned if that record names another segment [answer]. `Read` is returned exactly if
+/// a read failed [read]. On `Ok` the reader is at its end [end].
 pub fn read_script_for<R: Read>(
     alloc: Global,
     reader: &mut Watched<R>,

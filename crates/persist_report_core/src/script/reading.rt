@@ -15,7 +15,7 @@ use segment_image::{ReadFault, Watched, read_bytes};
 use std::alloc::Global;
 use std::io::Read;
 
-// A script has at most so many bytes.
+// The most bytes that a script has.
 const MAX_BYTES: usize = 16_777_216;
 
 /// The script that the bytes are.
@@ -62,18 +62,17 @@ pub(crate) fn bytes_of<R: Read>(
     }
 }
 
-/// Reads the script that the reader has left. Its `add` records may take as many units as the pool has. The reader
-/// has not failed before, and is read whole before any record is looked at.
+/// Reads the script that the reader has left. Its `add` records may take as many units as the pool has. The reader has
+/// not failed before, and is read whole before any record is looked at.
 ///
-/// On `Ok` it is exactly the script of the bytes. `TooLong` comes only where there are more than 16,777,216 bytes.
-/// Else the first record with a fault is reported by its number: `BadLine` where it has no valid form, a number out
-/// of its type, an invalid shape or an unknown name, or comes out of order; otherwise `ZeroCount` where an `add`
-/// record adds no unit, and `NoUnits` where it passes the pool. A script without records is `BadLine` of record 1.
-/// `NoMemory` comes where memory runs out [answer]. Names and specs of `hist` records are taken as they are, valid or
-/// not.
+/// On `Ok` it is exactly the script of the bytes. `TooLong` is returned only if there are more than 16,777,216 bytes.
+/// Otherwise the first record with a fault is reported by its number: `BadLine` if it is malformed or out of order, or
+/// has a number out of range, an invalid shape or an unknown name; otherwise `ZeroCount` if an `add` record adds no
+/// unit, and `NoUnits` if it passes the pool. A script without records is `BadLine` of record 1. `NoMemory` is returned
+/// if memory runs out [answer]. Names and specs of `hist` records are taken as they are, valid or not.
 ///
-/// `Read` comes exactly where a read failed [read]. On `Ok` the reader is at its end [end], and at most one byte more
-/// than 16,777,216 is taken from it [taken].
+/// `Read` is returned exactly if a read failed [read]. On `Ok` the reader is at its end [end], and at most one byte
+/// more than 16,777,216 is taken from it [taken].
 pub fn read_script<R: Read>(
     alloc: Global,
     reader: &mut Watched<R>,

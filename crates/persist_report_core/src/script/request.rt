@@ -13,7 +13,7 @@ use std::alloc::{AllocError, Global};
 /// What a record asks for.
 #[derive(Drop)]
 pub(crate) enum ScriptRequest<'a> {
-    /// A segment of a size and a page in words, and of an id.
+    /// A segment with a size and a page in words, and with an id.
     Segment {
         size: u32,
         page: u32,
@@ -36,7 +36,7 @@ pub(crate) enum ScriptRequest<'a> {
     },
 }
 
-// The fields behind the word `segment`.
+// The fields after the word `segment`.
 fn read_segment(fields: &ByteRecord) -> Option<ScriptRequest<'_>>
     ensures { option_map request_view result ≡ segment_in (drop 1 (fields_of fields.now)) }
 {
@@ -47,7 +47,7 @@ fn read_segment(fields: &ByteRecord) -> Option<ScriptRequest<'_>>
     Some(ScriptRequest::Segment { size, page, id })
 }
 
-// The fields behind the word `add`.
+// The fields after the word `add`.
 fn read_add(fields: &ByteRecord) -> Option<ScriptRequest<'_>>
     ensures { option_map request_view result ≡ add_in (drop 1 (fields_of fields.now)) }
 {
@@ -57,7 +57,7 @@ fn read_add(fields: &ByteRecord) -> Option<ScriptRequest<'_>>
     Some(ScriptRequest::Add { name, value, count })
 }
 
-// The name behind the word `delta`.
+// The name after the word `delta`.
 fn read_delta(fields: &ByteRecord) -> Option<ScriptRequest<'_>>
     ensures { option_map request_view result ≡ delta_in (drop 1 (fields_of fields.now)) }
 {
@@ -68,7 +68,7 @@ fn read_delta(fields: &ByteRecord) -> Option<ScriptRequest<'_>>
     Some(ScriptRequest::Delta { name })
 }
 
-// The fields behind the word `hist`.
+// The fields after the word `hist`.
 fn read_hist(alloc: Global, fields: &ByteRecord) -> Result<Option<ScriptRequest<'_>>, AllocError>
     ensures { IfOk result (λ request. option_map request_view request ≡ hist_in (drop 1 (fields_of fields.now))) }
 {
@@ -84,7 +84,7 @@ fn read_hist(alloc: Global, fields: &ByteRecord) -> Result<Option<ScriptRequest<
     }
 }
 
-// What the fields behind a word ask for.
+// What the fields after a word ask for.
 fn read_behind<'a>(
     alloc: Global,
     word: &[u8],
@@ -105,7 +105,7 @@ fn read_behind<'a>(
     }
 }
 
-/// What a record asks for, or nothing where it has no lawful form.
+/// What a record asks for, or nothing if it is malformed.
 pub(crate) fn read_request(
     alloc: Global,
     fields: &ByteRecord,

@@ -3,7 +3,7 @@ use Rattle.std.proofs.Common.{Result, Ok, Err, IfOk, subst, rules}
 use Rattle.reading_sums.specs.Whole.{AreMarksInRange, IsInRange}
 use Rattle.reading_sums.proofs.check.is_whole.Goals as goal
 
--- what holds anyway, holds of a value
+-- what holds in any case, holds of a value
 if-ok : {T E : Type 0} (P : T → Type 0) (r : Result T E) → ((t : T) → P t) → IfOk r P
 if-ok P (Ok t) all = all t
 if-ok P (Err e) all = tt

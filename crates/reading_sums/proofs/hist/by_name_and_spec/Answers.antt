@@ -1,4 +1,4 @@
--- Names are equal where their order is.
+-- Names are equal if their order is.
 use Rattle.std.proofs.Common.{sym, ◌∙◌, nat_cmp}
 use Rattle.std.specs.Cmp.Lexicographic.{slice_cmp}
 use Rattle.reading_sums.proofs.Orders.{lists-equal}

@@ -1,4 +1,4 @@
--- Where the first of the left list is above that of the right one, this is below that.
+-- If the first of the left list is above that of the right one, this is below that.
 use Rattle.std.proofs.Common.{◌≡◌, ◌<◌, ◌==◌, false, ℕ, sym, ◌∙◌, arith}
 use Rattle.std.proofs.lemmas.Bool.Decides.{nat_tests}
 use Rattle.reading_sums.proofs.HistOrder.{first-above}

@@ -1,4 +1,4 @@
--- What comes next goes behind what was taken before.
+-- What comes next is put after what was taken before.
 use Rattle.std.proofs.lemmas.Result.{err_from_is_err_and}
 use Rattle.reading_sums.specs.Orders.{hist_cmp}
 use Rattle.reading_sums.specs.Whole.{IsInRange, IsWholeHist}

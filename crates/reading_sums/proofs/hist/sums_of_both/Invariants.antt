@@ -8,8 +8,8 @@ use Rattle.reading_sums.specs.Views.{part_of}
 use Rattle.reading_sums.specs.Whole.{IsInRange, IsWholeHist}
 use Rattle.reading_sums.proofs.hist.sums_of_both.Given as goal
 
--- the histograms so far, with what is left of both lists, have the totals of both; where both lists are whole they ascend
--- with what is left of each, and all of them are whole and in range; and what is left of a list is of that list
+-- the histograms so far, with what is left of both lists, have the totals of both; if both lists are whole they ascend with what is left of
+-- each, and all of them are whole and in range; and what is left of a list is of that list
 abbrev pub invariant-loop-left_rest : goal.invariant-loop-left_rest
 invariant-loop-left_rest l =
     SameTotals (map part_of l.hists.items ++ (map part_of l.left_rest ++ map part_of l.right_rest)) (map part_of l.left ++ map part_of l.right)

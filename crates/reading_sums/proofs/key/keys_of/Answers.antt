@@ -1,4 +1,4 @@
--- The keys go one behind the other.
+-- The keys are put one after the other.
 use Rattle.std.proofs.Common.{◌<◌, ◌^◌, ℕ, get_or, subst, sym, arith, rules}
 use Rattle.std.specs.List.{All, range_with_len}
 use Rattle.std.proofs.lemmas.List.Elements.{All-from_get_or, All-map}

@@ -1,4 +1,4 @@
--- The key that comes next goes behind what was taken before.
+-- The key that comes next is put after what was taken before.
 use Rattle.std.proofs.Common.{◌≡◌, ◌++◌, ◌∷◌, [], List, drop, subst, sym}
 use Rattle.reading_sums.specs.declared.key.KeySum.{KeySum}
 use Rattle.reading_sums.specs.Keys.{SameKeys}

@@ -1,4 +1,4 @@
--- The least key of both lists goes in front of what is left of them.
+-- The least key of both lists comes before what is left of them.
 use Rattle.reading_sums.proofs.KeyOrder.{left-key, right-key, both-key}
 use Rattle.std.proofs.lemmas.Result.{err_from_is_err_and}
 use Rattle.reading_sums.proofs.LongKeys.{firsts-long}

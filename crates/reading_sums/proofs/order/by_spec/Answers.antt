@@ -1,4 +1,4 @@
--- Custom specs are equal where their values are.
+-- Custom specs are equal if their values are.
 use Rattle.std.proofs.Common.{◌≡◌, ap, sym, ◌∙◌}
 use Rattle.std.proofs.Common.{nat_cmp}
 use Rattle.std.specs.Cmp.Lexicographic.{slice_cmp}

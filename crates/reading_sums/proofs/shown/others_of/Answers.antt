@@ -1,4 +1,4 @@
--- What is not shown of one name goes behind that of the names before it.
+-- What is not shown of one name comes after that of the names before it.
 use Rattle.std.proofs.Common.{◌++◌, ◌∷◌, map, ap, sym, ◌∙◌}
 use Rattle.reading_sums.specs.Shown.{groups_of, left_out_of}
 use Rattle.reading_sums.specs.Views.{part_of}

@@ -1,4 +1,4 @@
--- Those in front of the one that is shown, and those behind it.
+-- Those before the one that is shown, and those after it.
 use Rattle.std.proofs.Common.{◌≡◌, ◌++◌, List, map, take, drop, append_assoc, ap, subst, ◌∙◌}
 use Rattle.std.specs.List.{AllZip}
 use Rattle.std.proofs.lemmas.Result.{on_ok_weaker}

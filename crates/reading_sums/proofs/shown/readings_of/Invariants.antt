@@ -7,8 +7,8 @@ use Rattle.reading_sums.specs.Views.{part_of}
 use Rattle.reading_sums.specs.Whole.{IsWholeHist}
 use Rattle.reading_sums.proofs.shown.readings_of.Given as goal
 
--- where all are whole, those so far are readable, and those that are left are whole; those so far, and what is shown of the
--- rest, are what is shown
+-- if all are whole, those so far are readable, and those that are left are whole; those so far, and what is shown of the rest, are what is
+-- shown
 abbrev pub invariant-loop-rest : goal.invariant-loop-rest
 invariant-loop-rest l = record {
   readable : All IsWholeHist l.hists → All IsReadable (map histogram_view l.readings.items) × All IsWholeHist l.rest;

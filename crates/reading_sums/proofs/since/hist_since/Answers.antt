@@ -1,4 +1,4 @@
--- What a histogram has more than an earlier one, and why it has not.
+-- What a histogram has more than an earlier one, or why it does not.
 use Rattle.std.proofs.Common.{◌<◌, List, subst, arith, rules}
 use Rattle.reading_sums.specs.declared.key.KeySum.{KeySum}
 use Rattle.reading_sums.specs.Whole.{AreMarksInRange}

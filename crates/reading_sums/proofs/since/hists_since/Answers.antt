@@ -1,4 +1,4 @@
--- What is taken in a step goes behind what was taken before.
+-- What is taken in a step is put after what was taken before.
 use Rattle.std.proofs.Common.{◌≤◌, map, length, ap, subst, ◌∙◌, arith}
 use Rattle.std.specs.List.{All}
 use Rattle.std.proofs.lemmas.List.{take_all}

@@ -7,8 +7,8 @@ use Rattle.reading_sums.specs.Views.{part_of}
 use Rattle.reading_sums.specs.Whole.{IsInRange, IsWholeHist}
 use Rattle.reading_sums.proofs.since.hists_since.Given as goal
 
--- the histograms so far are what the later ones so far have more than the earlier ones so far, which are settled; and the
--- later ones so far go on ascending with the rest of the earlier ones
+-- the histograms so far are what the later ones so far have more than the earlier ones so far, which are settled; and the later ones so far
+-- continue to ascend with the rest of the earlier ones
 abbrev pub invariant-loop-i : goal.invariant-loop-i
 invariant-loop-i l = record {
   later : l.i ≤ length l.later;

@@ -1,4 +1,4 @@
--- What is taken in a step goes behind what was taken before.
+-- What is taken in a step is put after what was taken before.
 use Rattle.std.proofs.Common.{◌<◌, ◌^◌, arith}
 use Rattle.reading_sums.specs.declared.key.KeySum.{KeySum}
 use Rattle.reading_sums.specs.Orders.{key_cmp}

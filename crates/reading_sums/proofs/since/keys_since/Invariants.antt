@@ -5,8 +5,8 @@ use Rattle.reading_sums.specs.Since.{AreKeysSince}
 use Rattle.reading_sums.specs.Whole.{AreMarksInRange}
 use Rattle.reading_sums.proofs.since.keys_since.Given as goal
 
--- the keys so far are what the later ones so far have more than the earlier ones so far; and those go on ascending with the
--- rest of these
+-- the keys so far are what the later ones so far have more than the earlier ones so far; and those continue to ascend with the rest of
+-- these
 abbrev pub invariant-loop-i : goal.invariant-loop-i
 invariant-loop-i l = record {
   later : l.i ≤ length l.later;

@@ -1,4 +1,4 @@
--- What is taken goes on ascending; and a key that fell has fewer units or fewer marks than before.
+-- What is taken continues to ascend; and a key that fell has fewer units or fewer marks than before.
 use Rattle.std.proofs.Common.{◌<◌, ◌^◌, [], ℕ, pos, inl, inr, ⊎_elim}
 use Rattle.std.proofs.lemmas.List.Elements.{All-nil, All-cons, All-get_or}
 use Rattle.reading_sums.specs.declared.key.KeySum.{KeySum}

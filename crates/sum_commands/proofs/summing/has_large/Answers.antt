@@ -1,4 +1,4 @@
--- The histograms before it have small amounts, and so does it.
+-- The histograms before it have small amounts, and it has them too.
 use Rattle.std.proofs.Common.{◌<◌, ◌^◌, unsigned_abs, List, length, take, ap, subst, sym, ◌∙◌, arith}
 use Rattle.std.specs.List.{All}
 use Rattle.std.proofs.lemmas.Bool.{leb-false}

@@ -1,4 +1,4 @@
--- What the totals has stands behind the others.
+-- What the totals has comes after the others.
 use Rattle.std.proofs.Common.{◌≡◌, ℕ, List, refl}
 use Rattle.std.proofs.lemmas.Result.{err_from_is_err_and}
 use Rattle.reading_sums.specs.declared.fault.SumsFault.{SumsFault}

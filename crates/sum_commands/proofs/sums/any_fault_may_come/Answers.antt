@@ -1,4 +1,4 @@
--- Each fault may come.
+-- Each fault may be returned.
 use Rattle.sum_commands.proofs.Taking.{any-fault}
 use Rattle.sum_commands.proofs.sums.any_fault_may_come.Goals as goal
 

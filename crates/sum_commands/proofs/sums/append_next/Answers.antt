@@ -1,4 +1,4 @@
--- The others are raised by how many there were, and then stand behind them.
+-- The others are raised by how many images there were, and then come after them.
 use Rattle.std.proofs.Common.{◌≡◌, List, ℕ, length, map, ap, subst, ◌∙◌}
 use Rattle.std.proofs.lemmas.Result.{err_from_is_err_and}
 use Rattle.bucket_ranges.specs.Reading.{Reading}

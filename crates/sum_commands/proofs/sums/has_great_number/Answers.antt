@@ -1,4 +1,4 @@
--- The number is that of a histogram, or none is so great.
+-- The number is that of a histogram, or all are below the limit.
 use Rattle.std.proofs.Common.{◌≡◌, ◌<◌, ◌^◌, ◌≤◌, ◌+◌, ℕ, List, length, map, take, get_or, ap, subst, sym, ◌∙◌, arith}
 use Rattle.std.specs.List.{All, Contains}
 use Rattle.std.proofs.lemmas.List.{length-map, take_all}

@@ -1,4 +1,4 @@
--- Each turn goes on by at least one place.
+-- Each turn moves at least one place on.
 use Rattle.std.proofs.Common.{◌<◌, All, length, inl, inr, ap, sym, subst, arith}
 use Rattle.std.proofs.lemmas.List.Elements.{All-nil}
 use Rattle.sum_commands.specs.Sources.{IsOpenedRun}

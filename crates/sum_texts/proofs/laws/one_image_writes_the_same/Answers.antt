@@ -1,4 +1,4 @@
--- The reading of the sum is that of the image but for the references, which no text says.
+-- The reading of the sum is that of the image except for the references, which no text shows.
 use Rattle.sum_texts.proofs.OneImage.{is-the-same, sum-report-same, table-same, export-same, families-same, clash-same}
 use Rattle.sum_texts.proofs.laws.one_image_writes_the_same.Goals as goal
 

@@ -7,7 +7,7 @@ use Rattle.sum_texts.specs.Runs.{bytes_of, begins, part_block}
 use Rattle.sum_texts.proofs.Fronts.{Left}
 use Rattle.sum_texts.proofs.runs.hists_in.Given as goal
 
--- what is read so far stands before what is left, and nothing else can
+-- what is read so far comes before what is left, and nothing else can
 abbrev pub invariant-run : goal.invariant-run
 invariant-run l = record {
   within : l.at ≤ length l.lines;

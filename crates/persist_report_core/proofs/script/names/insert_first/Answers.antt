@@ -9,7 +9,7 @@ use Rattle.std.proofs.lemmas.Bool.{cases_Bool}
 use Rattle.persist_report_core.specs.Draft.{found}
 use Rattle.persist_report_core.proofs.script.names.insert_first.Goals as goal
 
--- a key of one name is none of another
+-- a key of one name is not a key of another
 apart : (name other key : List ℕ) → bytes_eq name other ≡ false → bytes_eq name key ≡ true → bytes_eq other key ≡ false
 apart name other key differ here = nat_list_eq_equiv.symm other key ∙ sym (nat_list_eq_equiv.congr name key other here) ∙ differ
 
@@ -19,7 +19,7 @@ other_entries : {X : Type 0} (test : Vec ℕ Global → Bool) (old new : List (V
 unfolding KeepsOthers
 other_entries test old new kept = kept
 
--- what is put under a name that is not there, beside what was there
+-- what is put under a new name, and what was there before
 put_beside : {X S : Type 0} (name : List ℕ) (old new : HashMap (Vec ℕ Global) X S) (value : X) → is_some (found old name) ≡ false
     → UpdatesBy (λ x y. bytes_eq x.items y.items) (λ key. bytes_eq name key.items) old new (Some value)
     → (other : List ℕ) → found new other ≡ option_or (found old other) (if bytes_eq name other then Some value else None)

@@ -1,4 +1,4 @@
--- What a reading has goes to what the readings before it have.
+-- What a reading has is added to what the readings before it have.
 use Rattle.std.proofs.Common.{⊎_elim, ◌∷◌, ◌++◌, [], ℕ, List, map, ap, subst, sym, ◌∙◌, IsPermutation}
 use Rattle.bucket_ranges.specs.Reading.{Reading}
 use Rattle.std.proofs.lemmas.Simd.{map-map}
@@ -20,7 +20,7 @@ use Rattle.std.proofs.lemmas.Result.{err_from_is_err_and}
 use Rattle.reading_sums.proofs.LongSums.{reading-long}
 use Rattle.reading_sums.proofs.sums.Sums.add.Goals as goal
 
--- a sum with one numbered reading more is that of the readings with this one behind them
+-- a sum with one more numbered reading is that of the readings with this one after them
 added-behind : (readings : List (ℕ × Reading)) (one : ℕ × Reading) (before after : Sums) → IsSumOver readings before
     → AddsNumbered one before after → IsSumOver (readings ++ one ∷ []) after
 added-behind readings one before after is more = record {

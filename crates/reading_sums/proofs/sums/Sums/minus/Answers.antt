@@ -1,4 +1,4 @@
--- What came to the histograms.
+-- What was counted in the histograms since.
 use Rattle.std.proofs.Common.{List, map, ℕ}
 use Rattle.std.specs.Bool.{⊤}
 use Rattle.std.proofs.lemmas.Result.{err_from_is_err_and}

@@ -1,4 +1,4 @@
--- None before it has that fault, and nor has it.
+-- None before it has that fault, and it does not have it either.
 use Rattle.std.proofs.Common.{◌≡◌, ◌≢◌, true, false, List, length, take, subst, sym, ◌∙◌, arith}
 use Rattle.std.specs.List.{All}
 use Rattle.std.proofs.lemmas.List.{take_all}

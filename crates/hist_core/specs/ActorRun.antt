@@ -82,11 +82,11 @@ ended_by actor_run = take actor_run.ended actor_run.entries.items
 abbrev pub begun_by : ActorRun → List Entry
 begun_by actor_run = take actor_run.begun actor_run.entries.items
 
--- what the running call is to count: the entries behind those of ended calls
+-- what the running call is to count: the entries after those of ended calls
 abbrev pub pending_by : ActorRun → List Entry
 pending_by actor_run = drop actor_run.ended actor_run.entries.items
 
--- one that has done nothing
+-- an actor that has done nothing
 pub record IsFreshRun (actor_run : ActorRun) : Type 0 where
   pub entries : actor_run.entries.items ≡ []
   pub ended : actor_run.ended ≡ 0
@@ -101,7 +101,7 @@ pub record IsFreshRun (actor_run : ActorRun) : Type 0 where
 abbrev pub known_of : KnownHist → MachineKnown
 known_of known = record { name = known.name.items; spec = known.spec; reference = known.reference }
 
--- Its name and its spec are lawful, it has the ranges of the spec, its counts fit in a page, and its record lies in the segment.
+-- Its name and its spec are valid, it has the ranges of the spec, its counts fit in a page, and its record lies in the segment.
 pub record IsKnown (shape : Dimensions) (known : KnownHist) : Type 0 where
   pub name : is_name known.name.items ≡ true
   pub lawful : spec_fault known.spec ≡ None
@@ -109,21 +109,21 @@ pub record IsKnown (shape : Dimensions) (known : KnownHist) : Type 0 where
   pub fits : BLOCK_HEADER + 2 * buckets_of known.spec ≤ shape.page
   pub within : known.reference + HISTOGRAM_NAME ≤ shape.size
 
--- the histogram of a name stands at a place among those that are known
+-- the histogram of a name is at a place among those that are known
 abbrev pub IsKnownAt : List KnownHist → ℕ → List ℕ → Type 0
 IsKnownAt list i name = (known : KnownHist) × (get_elem? list i ≡ some known) × (known.name.items ≡ name)
 
--- What an actor knows at a place is lawful, and has the ranges of its spec.
+-- What an actor knows at a place is valid, and has the ranges of its spec.
 pub record KnowsAt (actor_run : ActorRun) (i : ℕ) : Type 0 where
   pub near : i < vec_len actor_run.known
   pub lawful : (known : KnownHist) → get_elem? actor_run.known.items i ≡ some known → spec_fault known.spec ≡ None
   pub ranges : (known : KnownHist) → get_elem? actor_run.known.items i ≡ some known → known.ranges ≡ boundaries_of known.spec
 
--- none of them has a name
+-- none of these known histograms has this name
 abbrev pub NoneHasName : List KnownHist → List ℕ → Type 0
 NoneHasName list name = (i : ℕ) (known : KnownHist) → get_elem? list i ≡ some known → known.name.items ≢ name
 
--- no two have one name
+-- no two of these known histograms have the same name
 abbrev pub HaveOwnNames : List KnownHist → Type 0
 HaveOwnNames [] = ⊤
 HaveOwnNames (known ∷ rest) = NoneHasName rest known.name.items × HaveOwnNames rest
@@ -138,14 +138,14 @@ pub record IsDeltaShown (taken : Taken) (machine : MachineTaken) : Type 0 where
   pub counts : (key : ℤ) → units_listed taken.counts.items key ≡ units_listed machine.counts key
   pub units : AreUnits taken.counts.items
 
--- so are all, in order
+-- these deltas are shown as the machine has them, in order
 abbrev pub AreDeltasShown : List Taken → List MachineTaken → Type 0
 AreDeltasShown [] [] = ⊤
 AreDeltasShown [] (machine ∷ rest) = ⊥
 AreDeltasShown (taken ∷ list) [] = ⊥
 AreDeltasShown (taken ∷ list) (machine ∷ rest) = IsDeltaShown taken machine × AreDeltasShown list rest
 
--- what stands last
+-- the last of these
 abbrev pub IsLast : List Taken → Taken → Type 0
 IsLast list taken = get_elem? list (length list - 1) ≡ some taken
 
@@ -154,13 +154,13 @@ abbrev pub IsDeltaDraft : DeltaCall → Taken → Type 0
 IsDeltaDraft delta_call taken =
     (taken.counts.items ≡ delta_call.counts.items) × (vec_capacity taken.counts ≡ vec_capacity delta_call.counts) × (taken.sum ≡ pos 0)
 
--- until its first event there is room for that; from then on it stands last
+-- until its first event there is room for what a running delta is shown as; from then on that is the last one
 abbrev pub HasDraft : Option Running → Vec Taken Global → Type 0
 HasDraft (Some (Delta delta_call (Some fresh))) taken = (vec_len taken < vec_capacity taken) × IsDeltaDraft delta_call fresh
 HasDraft (Some (Delta delta_call None)) taken = (0 < vec_len taken) × ((last : Taken) → IsLast taken.items last → IsDeltaDraft delta_call last)
 HasDraft running taken = ⊤
 
--- the name that it is to be shown with stands ready until then
+-- until its first event it holds the name that it is to be shown with
 abbrev pub IsTimely : MachineKnown → DeltaCall → Option Taken → Type 0
 IsTimely known delta_call (Some fresh) = IsFirstStage delta_call.stage × (fresh.name.items ≡ known.name)
 IsTimely known delta_call None = HasBegun delta_call.stage
@@ -175,14 +175,14 @@ pub record CountsNoEntries (pending : List Entry) (a : Actor) : Type 0 where
   pub share : a.units.share ≡ 0
   pub takes : a.deltas.taking ≡ false
 
--- A call that counts entries, before its first event: its actor has the units of it, and no more. With that event it may begin to count,
--- and then it stands so.
+-- A call that counts entries, before its first event: its actor has just the units of the call. With that event it may begin to count, and
+-- `standing` holds of it then.
 pub record IsBefore (name : List ℕ) (cost : ℕ) (entries : List MachineEntry) (standing : Actor → Type 0) (a : Actor) : Type 0 where
   pub share : a.units.share ≡ cost
   pub may : MayNote a (begins name cost entries)
   pub stands : standing (noted a (begins name cost entries))
 
--- A call that counts entries, whose first event has happened, or that is before that. The entries are pending.
+-- A call that counts entries, before or after its first event. The entries are pending.
 pub record IsGhostNoting (pending : List Entry) (name : List ℕ) (cost : ℕ) (entries : List MachineEntry) (standing : Actor → Type 0) (a : Actor) : Type 0 where
   pub pending_are : map entry_of pending ≡ entries
   pub stands : IsBefore name cost entries standing a ⊎ ((a.units.share ≡ 0) × standing a)
@@ -197,17 +197,17 @@ abbrev pub IsBatching : Dimensions → List Entry → BatchCall → Actor → Ty
 IsBatching shape pending batch a =
     (known : MachineKnown) × IsGhostNoting pending known.name batch.cost (counted_entries known batch) (IsBatch shape known batch) a
 
--- an actor, but for the delta that it takes
+-- an actor, except for the delta that it takes
 abbrev pub apart_from_delta : Actor → Actor
 apart_from_delta a = record a { deltas = record a.deltas { taking = false } }
 
--- A `delta`: its actor counts nothing, and takes of a histogram, behind the deltas before.
+-- A `delta`: its actor counts nothing, and takes a delta of a histogram, after the earlier ones.
 abbrev pub IsDrawing : Dimensions → List Entry → DeltaCall → Option Taken → Actor → Type 0
 IsDrawing shape pending delta_call fresh a =
     CountsNoEntries pending (apart_from_delta a)
     × ((known : MachineKnown) × (earlier : List MachineTaken) × IsDeltaCall shape known earlier delta_call a × IsTimely known delta_call fresh)
 
--- Where the machine's actor stands whose call is this, or that runs none. A `hist` asks for a histogram that is not known.
+-- Where the machine's actor is that runs this call, or none. A `hist` asks for a histogram that is not known.
 abbrev pub StandsIn : Dimensions → List KnownHist → List Entry → Option Running → Actor → Type 0
 StandsIn shape known pending None a = IsFree a × CountsNoEntries pending a
 StandsIn shape known pending (Some SetCorrupt) a = IsFree a × CountsNoEntries pending a
@@ -217,14 +217,14 @@ StandsIn shape known pending (Some (Delta delta_call fresh)) a = IsDrawing shape
 StandsIn shape known pending (Some (Batch batch)) a = IsBatching shape pending batch a
 StandsIn shape known pending (Some (Snapshot snapshot_call)) a = CountsNoEntries pending a × ((seen : MachineKnown) × IsSnapshotCall shape seen snapshot_call a)
 
--- there is room for the histogram that a `hist` asks for, beside so many that are known
+-- there is room for the histogram that a `hist` asks for, in addition to those that are known
 abbrev pub HasRoomForHist : Option Running → ℕ → ℕ → Type 0
 HasRoomForHist (Some (Hist hist)) known capacity = known < capacity
 HasRoomForHist running known capacity = ⊤
 
--- An actor of a segment of this shape and version is a recorder, whose log is the entries of ended calls, and which has begun those of
--- the running call that have begun; its deltas took what is shown; it knows the same histograms, each of another name, has met the record of
--- each, and stands where the running call does.
+-- An actor of a segment of this shape and version is a recorder: its log is the entries of ended calls, and it has begun those of the
+-- running call that have begun; its deltas took what is shown; it knows the same histograms, no two of one name, has visited the record of
+-- each, and is where the running call is.
 pub record IsActorRunOf (shape : Dimensions) (version : ℕ) (actor_run : ActorRun) (a : Actor) : Type 0 where
   pub records : is_opener a.role ≡ false
   pub segment : a.segment ≡ record { shape = shape; version = version; cursors = 0 }
@@ -241,11 +241,11 @@ pub record IsActorRunOf (shape : Dimensions) (version : ℕ) (actor_run : ActorR
   pub room : HasRoomForHist actor_run.running (vec_len actor_run.known) (vec_capacity actor_run.known)
   pub draft : HasDraft actor_run.running actor_run.taken
 
--- an actor that stands for one somewhere, in so many words
+-- an actor that stands for some actor of the machine, in a segment of `n` words
 abbrev pub IsSomeRun : ℕ → ActorRun → Type 0
 IsSomeRun n actor_run = (shape : Dimensions) × (version : ℕ) × (a : Actor) × (n ≡ shape.size) × (HEADER_WORDS ≤ n) × IsActorRunOf shape version actor_run a
 
--- ---- how it goes on
+-- ---- how it continues
 
 -- the units of the pool that its running call would give back: those that no counted item of it has spent
 abbrev pub held_by : Option Running → ℕ
@@ -253,20 +253,20 @@ held_by (Some (Add add)) = add.units
 held_by (Some (Batch batch)) = batch.left
 held_by running = 0
 
--- those of them that come back: all, where it is refused
+-- those of them that come back: all if the call is refused, and else none
 abbrev pub returned_by : Stepped → ℕ → ℕ
 returned_by (Done (answer.Refused why)) held = held
 returned_by (Done (answer.BatchRefused refusal)) held = held
 returned_by said held = 0
 
--- the histogram's record that a running call takes of, or looks at
+-- the record of the histogram of which a running call takes a delta or a snapshot
 abbrev pub looked_by : Option Running → ℕ
 looked_by (Some (Delta delta_call fresh)) = delta_call.histogram
 looked_by (Some (Snapshot snapshot_call)) = snapshot_call.histogram
 looked_by running = 0
 
--- A snapshot of the histogram of a record is the last that its actor was answered, and is what the actor saw since it began. The values of
--- a sparse histogram ascend, each with units.
+-- A snapshot of the histogram of a record is the last that was returned to its actor, and is what the actor saw since it began. The values
+-- of a sparse histogram ascend, each with units.
 pub record IsAnswer (histogram : ℕ) (snapshot : SnapshotAnswer) (a : Actor) : Type 0 where
   pub known : MachineKnown
   pub knows : Contains a.answers.names known
@@ -295,14 +295,14 @@ pub record IsTook (histogram : ℕ) (delta : DeltaAnswer) (a : Actor) : Type 0 w
   pub sum : delta.sum ≡ last.sum
   pub took : TookAll a known
 
--- Units that are to be counted in the histogram of a record are refused the block that they need there: its counts, or the sample of a value.
--- Their actor has met no counts, behind which alone units of another call are moved: so it has moved nothing.
+-- Units that are to be counted in the histogram of a record are refused the block that they need there: its counts, or the sample of a
+-- value. Their actor has found no counts, and only a call that has found some moves units of another call: so it has moved nothing.
 abbrev pub LacksBlock : ℕ → ℤ × ℕ → Refusal → Actor → Actor → Type 0
 LacksBlock histogram sample cause a b =
     (known : MachineKnown) × Contains b.answers.names known × (known.reference ≡ histogram) × IsCause cause (block_words known) a b × NeedsBlock known sample b
 
--- Why a running call is refused, by its last event: the block that it needs is refused, a batch that of its next item; or its actor has seen
--- that the first record of the name that a `hist` asks for has another spec. No other call is.
+-- Why a running call is refused, by its last event: the block that it needs is refused, which for a batch is that of its next item; or its
+-- actor has seen that the first record of the name that a `hist` asks for has another spec. No other call is refused.
 abbrev pub IsRefusedBy : Option Running → Refusal → Actor → Actor → Type 0
 IsRefusedBy (Some (Hist hist)) cause a b = IsHistCause hist.asked.name.items hist.asked.spec cause a b
 IsRefusedBy (Some (Add add)) cause a b = LacksBlock add.histogram (add.value, add.units) cause a b
@@ -310,12 +310,12 @@ IsRefusedBy (Some (Batch batch)) cause a b =
     (sample : ℤ × ℕ) × (get_elem? (map sample_of batch.items.items) batch.added ≡ some sample) × LacksBlock batch.histogram sample cause a b
 IsRefusedBy running cause a b = ⊥
 
--- where its actor lands whose call is refused: it gives the units back that are left of it
+-- where an actor lands if its call is refused: it gives back the units that are left of the call
 abbrev pub LandsBack : Dimensions → ℕ → ℕ → ActorRun → Actor → Type 0
 LandsBack shape version units new b = (b.hand.place ≢ Spent) × (units ≤ b.units.share) × IsActorRunOf shape version new (giver b units)
 
--- Where its actor lands: a call that is refused gives units back, and has a cause; a snapshot is answered with what was seen, and a delta
--- with what it took; a call that sets the corrupt flag has done so.
+-- Where its actor lands: a call that is refused gives units back, and has a cause; a snapshot returns what was seen, and a delta what it
+-- took; a call that sets the corrupt flag has done so.
 abbrev pub Lands : Dimensions → ℕ → ActorRun → ActorRun → Stepped → Actor → Actor → Type 0
 Lands shape version old new (Done (answer.Refused cause)) a b = LandsBack shape version (held_by old.running) new b × IsRefusedBy old.running cause a b
 Lands shape version old new (Done (answer.BatchRefused refusal)) a b =
@@ -325,7 +325,7 @@ Lands shape version old new (Done (answer.Snapshot snapshot)) a b = IsActorRunOf
 Lands shape version old new (Done answer.Flagged) a b = IsActorRunOf shape version new b × (b.done.spoiled ≡ true)
 Lands shape version old new said a b = IsActorRunOf shape version new b
 
--- since when a running snapshot looks: its first event looks anew, and no other does
+-- since when a running snapshot looks: its first event sets that, and no other event changes it
 abbrev pub LooksSince : Option Running → Actor → Actor → Type 0
 LooksSince (Some (Snapshot snapshot_call)) a b = LooksAnew snapshot_call.stage a b
 LooksSince running a b = ⊤
@@ -341,9 +341,9 @@ lacks_room (Done (answer.Refused cause)) = is_full cause
 lacks_room (Done (answer.BatchRefused refusal)) = is_full refusal.why
 lacks_room said = false
 
--- What a running call of an actor may do: a `hist` makes a record of the name and the spec that it asks for; a call that counts makes a sample
--- of a value that it counts, in its histogram, or claims the counts of that. Where it raises the free pointer, the actor has seen that it needs
--- the block.
+-- What a running call of an actor may do: a `hist` makes a record of the name and the spec that it asks for; a call that counts makes a
+-- sample of a value that it counts, in its histogram, or claims the counts of that. If it raises the free pointer, the actor has seen that
+-- it needs the block.
 abbrev pub Serves : Option Running → Actor → SharedEffect → Type 0
 Serves (Some (Hist hist)) a deed = serves_asked hist a deed
 Serves (Some (Add add)) a deed = (known : MachineKnown) × Contains a.answers.names known × (known.reference ≡ add.histogram) × add_serves known add a deed
@@ -355,12 +355,12 @@ Serves running a deed = ⊥
 abbrev pub DoesAsSaid : Option Running → Stepped → Actor → Actor → Type 0
 DoesAsSaid running said a b = DoesOnly (is_flagged said) (lacks_room said) (Serves running a) a b
 
--- It goes on by one event, as the actor does for which it stands.
+-- It performs one event, and so does the actor for which it stands.
 abbrev pub Advances : Dimensions → ℕ → ActorRun → List ℕ → ActorRun → List ℕ → Stepped → Actor → Type 0
 Advances shape version old words new new_words said a = StepsBy shape.size version a words new_words
     (λ b. Lands shape version old new said a b × LooksSince old.running a b × DoesAsSaid old.running said a b)
 
--- it asks for the same histogram as before
+-- it still asks for the same histogram
 abbrev pub AsksOn : Option Running → Option Running → Type 0
 AsksOn old new = (asked : HistCall) → old ≡ Some (Hist asked) → (now : HistCall) × (new ≡ Some (Hist now)) × (now.asked ≡ asked.asked)
 
@@ -369,28 +369,28 @@ abbrev pub IsAskedBy : Option Running → KnownHist → Type 0
 IsAskedBy running known =
     (call : HistCall) × (running ≡ Some (Hist call)) × let asked = call.asked in (known.name ≡ asked.name) × (known.spec ≡ asked.spec)
 
--- What becomes of its entries: from the first event of its call on all of them have begun; where the call is accepted, all have ended;
--- of a refused batch those of the first items have; else those that have ended are the same.
+-- How its entries change: from the first event of its call on all of them have begun; if the call is accepted, all have ended; of a refused
+-- batch those of the first items have; else those that have ended are the same.
 abbrev pub EntriesGo : ActorRun → ActorRun → Stepped → Type 0
 EntriesGo old new More = (ended_by new ≡ ended_by old) × (begun_by new ≡ ended_by old ++ pending_by old) × (pending_by new ≡ pending_by old)
 EntriesGo old new (Done answer.Added) = (ended_by new ≡ ended_by old ++ pending_by old) × (begun_by new ≡ ended_by new)
 EntriesGo old new (Done (answer.BatchRefused refusal)) = (ended_by new ≡ ended_by old ++ take refusal.added (pending_by old)) × (begun_by new ≡ ended_by new)
 EntriesGo old new (Done answered) = (ended_by new ≡ ended_by old) × (begun_by new ≡ ended_by new)
 
--- it goes on with the same `add`
+-- it continues the same `add`
 abbrev pub AddsOn : Option Running → Option Running → Type 0
 AddsOn old new = (add : AddCall) → old ≡ Some (Add add) → (now : AddCall) × (new ≡ Some (Add now)) × (now.units ≡ add.units)
 
--- it goes on with the same snapshot
+-- it continues the same snapshot
 abbrev pub SnapshotGoesOn : Option Running → Option Running → Type 0
 SnapshotGoesOn old new = (snapshot_call : SnapshotCall) → old ≡ Some (Snapshot snapshot_call) → (now : SnapshotCall) × (new ≡ Some (Snapshot now)) × (now.histogram ≡ snapshot_call.histogram)
 
--- it goes on with the same delta, whose first event has happened
+-- it continues the same delta, whose first event has happened
 abbrev pub DeltaGoesOn : Option Running → Option Running → Type 0
 DeltaGoesOn old new = (delta_call : DeltaCall) (fresh : Option Taken) → old ≡ Some (Delta delta_call fresh)
     → (now : DeltaCall) × (new ≡ Some (Delta now None)) × (now.histogram ≡ delta_call.histogram)
 
--- it goes on with the same batch
+-- it continues the same batch
 abbrev pub BatchesOn : Option Running → Option Running → Type 0
 BatchesOn old new = (batch : BatchCall) → old ≡ Some (Batch batch) → (now : BatchCall) × (new ≡ Some (Batch now)) × IsSameBatch batch now
 
@@ -398,15 +398,15 @@ BatchesOn old new = (batch : BatchCall) → old ≡ Some (Batch batch) → (now 
 abbrev pub RunsAddOrBatch : Option Running → Type 0
 RunsAddOrBatch running = ((add : AddCall) × (running ≡ Some (Add add))) ⊎ ((batch : BatchCall) × (running ≡ Some (Batch batch)))
 
--- a call that may be refused in the midst, and is no batch
+-- a call, other than a batch, that may be refused by one of its events
 abbrev pub MayBeRefused : Option Running → Type 0
 MayBeRefused (Some (Hist hist)) = ⊤
 MayBeRefused (Some (Add add)) = ⊤
 MayBeRefused running = ⊥
 
--- What its call says, and what it knows then: it goes on; the corrupt flag is set by the one event of its call; a `hist` is answered with the histogram that it asked
--- for, which is the last that is known; an `add` or a `batch` is accepted; a delta or a snapshot is answered; a batch is refused behind its
--- first items; or a `hist` or an `add` is refused.
+-- What its call says, and what it knows then: it continues; the corrupt flag is set by the one event of its call; a `hist` returns the
+-- histogram that it asked for, which is the last that is known; an `add` or a `batch` is accepted; a delta or a snapshot returns; a batch
+-- is refused after its first items; or a `hist` or an `add` is refused.
 abbrev pub Tells : ActorRun → List ℕ → ActorRun → List ℕ → Stepped → Type 0
 Tells old words new new_words More =
     (new.known.items ≡ old.known.items) × AsksOn old.running new.running × AddsOn old.running new.running × SnapshotGoesOn old.running new.running
@@ -425,12 +425,12 @@ Tells old words new new_words (Done (answer.BatchRefused refusal)) =
     ((batch : BatchCall) × (old.running ≡ Some (Batch batch)) × (refusal.added ≡ batch.added)) × (new.running ≡ None) × (new.known.items ≡ old.known.items)
 Tells old words new new_words (Done (answer.Refused why)) = MayBeRefused old.running × (new.running ≡ None) × (new.known.items ≡ old.known.items)
 
--- of what an actor's deltas took, that of the deltas that have ended
+-- what the ended deltas of an actor took
 abbrev pub ended_deltas : Option Running → List Taken → List Taken
 ended_deltas (Some (Delta delta_call None)) list = take (length list - 1) list
 ended_deltas running list = list
 
--- What a delta is shown as behind an event: what it had taken, with what that event took; once it has ended, what it is answered with.
+-- What a delta is shown as after an event: what it had taken, with what that event took; once it has ended, what it returns.
 abbrev pub TakesMore : DeltaCall → Stepped → Taken → Type 0
 TakesMore delta_call More last =
     (last.sum ≡ pos 0)
@@ -438,13 +438,13 @@ TakesMore delta_call More last =
 TakesMore delta_call (Done (answer.Delta delta)) last = (last.counts.items ≡ delta.counts.items) × (last.sum ≡ delta.sum)
 TakesMore delta_call said last = ⊥
 
--- What becomes of what its deltas took. A running one stands last, behind those that have ended; no other call changes it.
+-- What its deltas took, after an event. A running one is last, after those that have ended; no other call changes it.
 abbrev pub TakenGoes : Option Running → List Taken → List Taken → Stepped → Type 0
 TakenGoes (Some (Delta delta_call fresh)) old new said =
     (last : Taken) × (new ≡ ended_deltas (Some (Delta delta_call fresh)) old ++ last ∷ []) × TakesMore delta_call said last
 TakenGoes running old new said = new ≡ old
 
--- what its call says, and what becomes of its entries and of what its deltas took
+-- what its call says, and how its entries and what its deltas took change
 abbrev pub Answers : ActorRun → List ℕ → ActorRun → List ℕ → Stepped → Type 0
 Answers old words new new_words said =
     Tells old words new new_words said × EntriesGo old new said × TakenGoes old.running old.taken.items new.taken.items said
@@ -454,7 +454,7 @@ abbrev pub AsksForOne : Option Running → Type 0
 AsksForOne (Some (Hist hist)) = ⊤
 AsksForOne running = ⊥
 
--- what becomes of it by what a step of its `hist` said: it goes on, or knows the histogram, or is refused
+-- what a step of its `hist` leads to: it continues, or knows the histogram, or is refused
 abbrev pub IsHistAnnounced : ActorRun → HistStep → ActorRun → Stepped → Type 0
 IsHistAnnounced old hist.More new result = (new ≡ old) × (result ≡ More)
 IsHistAnnounced old hist.Done new result =
@@ -471,7 +471,7 @@ abbrev pub RunsAdd : Option Running → Type 0
 RunsAdd (Some (Add add)) = ⊤
 RunsAdd running = ⊥
 
--- what becomes of it by what a step of its `add` said: it goes on; its entry has ended; or it is refused, and the entry is gone
+-- what a step of its `add` leads to: it continues; its entry has ended; or it is refused, and the entry is gone
 abbrev pub IsAddAnnounced : ActorRun → AddStep → ActorRun → Stepped → Type 0
 IsAddAnnounced old add.More new result = (new ≡ record old { begun = length old.entries.items }) × (result ≡ More)
 IsAddAnnounced old add.Done new result =
@@ -501,8 +501,8 @@ abbrev pub RunsBatch : Option Running → Type 0
 RunsBatch (Some (Batch batch)) = ⊤
 RunsBatch running = ⊥
 
--- What becomes of it by what a step of its `batch` said: it goes on; its entries have ended; or it is refused, and those of its first
--- items have ended, and the others are gone.
+-- What a step of its `batch` leads to: it continues; its entries have ended; or it is refused, and those of its first items have ended, and
+-- the others are gone.
 abbrev pub IsBatchAnnounced : ActorRun → BatchStep → ActorRun → Stepped → Type 0
 IsBatchAnnounced old batch.More new result = (new ≡ record old { begun = length old.entries.items }) × (result ≡ More)
 IsBatchAnnounced old batch.Done new result =
@@ -521,23 +521,23 @@ pub record BeginsBatch (shape : Dimensions) (version : ℕ) (known : KnownHist) 
 
 -- ---- a `delta`
 
--- it takes of a histogram
+-- it takes a delta of a histogram
 abbrev pub TakesOfOne : Option Running → Type 0
 TakesOfOne (Some (Delta delta_call fresh)) = ⊤
 TakesOfOne running = ⊥
 
--- there is room for what a step of it says
+-- there is room to show what a step of it says
 abbrev pub HasRoomForStep : DeltaCallStep → Taken → Type 0
 HasRoomForStep (take_step.Took key units) taken = vec_len taken.counts < vec_capacity taken.counts
 HasRoomForStep said taken = ⊤
 
--- in what it is shown as, for which there is room, or which stands last
+-- what a running delta is shown as has room for what a step says: it is the last one, or there is room for it
 abbrev pub HasDraftRoom : DeltaCallStep → Option Running → Vec Taken Global → Type 0
 HasDraftRoom said (Some (Delta delta_call (Some fresh))) taken = (vec_len taken < vec_capacity taken) × HasRoomForStep said fresh
 HasDraftRoom said (Some (Delta delta_call None)) taken = (0 < vec_len taken) × ((last : Taken) → IsLast taken.items last → HasRoomForStep said last)
 HasDraftRoom said running taken = ⊥
 
--- what becomes of what it is shown as
+-- how a step changes what it is shown as
 abbrev pub Becomes : DeltaCallStep → Taken → Taken → Type 0
 Becomes take_step.More last now = now ≡ last
 Becomes (take_step.Took key units) last now =
@@ -545,7 +545,7 @@ Becomes (take_step.Took key units) last now =
     × (vec_capacity now.counts ≡ vec_capacity last.counts)
 Becomes (take_step.Done sum) last now = now ≡ record last { sum = sum }
 
--- what stands last becomes so, and all before it stays
+-- the last of these becomes this, and all before it stay
 abbrev pub LastBecomes : DeltaCallStep → List Taken → List Taken → Type 0
 LastBecomes said old new = (before : List Taken) × (last now : Taken) × (old ≡ before ++ last ∷ []) × (new ≡ before ++ now ∷ []) × Becomes said last now
 
@@ -554,13 +554,13 @@ abbrev pub IsNowShown : DeltaCall → Option Taken → ActorRun → ActorRun →
 IsNowShown delta_call fresh old new =
     (new ≡ record old { taken = new.taken; running = Some (Delta delta_call None) }) × (new.taken.items ≡ old.taken.items ++ option_to_list fresh)
 
--- it has ended, with this of the sum, and is answered with what it listed
+-- it has ended, with this of the sum, and returns what it listed
 abbrev pub HasEndedDelta : DeltaCall → ℤ → ActorRun → ActorRun → Stepped → Type 0
 HasEndedDelta delta_call sum old new result =
     LastBecomes (take_step.Done sum) old.taken.items new.taken.items × (new ≡ record old { taken = new.taken; running = None })
     × (result ≡ Done (answer.Delta (record { counts = delta_call.counts; sum = sum })))
 
--- what becomes of it by what a step of its `delta` said: it goes on, and is shown; or is answered with what it listed and this of the sum
+-- what a step of its `delta` leads to: it continues, and is shown; or it returns what it listed and this of the sum
 abbrev pub IsDeltaAnnounced : DeltaCall → Option Taken → ActorRun → DeltaCallStep → ActorRun → Stepped → Type 0
 IsDeltaAnnounced delta_call fresh old (take_step.Done sum) new result =
     LastBecomes (take_step.Done sum) (old.taken.items ++ option_to_list fresh) new.taken.items × (new ≡ record old { taken = new.taken; running = None })
@@ -569,7 +569,7 @@ IsDeltaAnnounced delta_call fresh old said new result =
     LastBecomes said (old.taken.items ++ option_to_list fresh) new.taken.items
     × (new ≡ record old { taken = new.taken; running = Some (Delta delta_call None) }) × (result ≡ More)
 
--- It begins a `delta` of a known histogram. What it is to be shown as stands ready, with room for it.
+-- It begins a `delta` of a known histogram. What it is to be shown as is ready, and there is room for it.
 pub record BeginsDelta (shape : Dimensions) (version : ℕ) (known : KnownHist) (old new : ActorRun) : Type 0 where
   pub delta_call : DeltaCall
   pub fresh : Taken
@@ -582,12 +582,12 @@ pub record BeginsDelta (shape : Dimensions) (version : ℕ) (known : KnownHist) 
 
 -- ---- a `snapshot`
 
--- it looks at a histogram
+-- it takes a snapshot of a histogram
 abbrev pub LooksAtOne : Option Running → Type 0
 LooksAtOne (Some (Snapshot snapshot_call)) = ⊤
 LooksAtOne running = ⊥
 
--- what becomes of it by what a step of its `snapshot` said: it goes on, or is answered with the totals, the sum and the redundant count
+-- what a step of its `snapshot` leads to: it continues, or returns the totals, the sum and the redundant count
 abbrev pub IsSnapshotAnnounced : ActorRun → SnapshotCallStep → ActorRun → Stepped → Type 0
 IsSnapshotAnnounced old look.More new result = (new ≡ old) × (result ≡ More)
 IsSnapshotAnnounced old (look.Done sum redundant) new result =
@@ -601,20 +601,20 @@ BeginsSnapshot shape version known old new =
 
 -- ---- how it begins a `hist`
 
--- What a `hist` of a known name is answered: the known reference where the spec is the same, and else that it has another.
+-- What a `hist` of a known name returns: the known reference if the spec is the same, and else that it has another.
 abbrev pub IsKnownAnswer : List KnownHist → List ℕ → Spec → Answer → Type 0
 IsKnownAnswer list name spec (answer.Hist reference) =
     (i : ℕ) × (known : IsKnownAt list i name) × SameSpec known.0.spec spec × (known.0.reference ≡ reference)
 IsKnownAnswer list name spec (answer.Refused why.OtherSpec) = (i : ℕ) × (known : IsKnownAt list i name) × (¬ (SameSpec known.0.spec spec))
 IsKnownAnswer list name spec answered = ⊥
 
--- it is as it was, but for the room for entries, for histograms that it may know, and for deltas
+-- it is unchanged, except for the room for entries, for histograms that it may know, and for deltas
 abbrev pub IsAsItWas : ActorRun → ActorRun → Type 0
 IsAsItWas old new =
     (new ≡ record old { entries = new.entries; known = new.known; taken = new.taken }) × (new.entries.items ≡ old.entries.items)
     × (new.known.items ≡ old.known.items) × (new.taken.items ≡ old.taken.items)
 
--- It asks for a histogram that it does not know, with room for it; or is answered at once; or there was no memory for the room.
+-- It asks for a histogram that it does not know, with room for it; or the call returns at once; or there was no memory for the room.
 abbrev pub BeginsHist : Dimensions → Asked → ActorRun → ActorRun → Result Begun AllocError → Type 0
 BeginsHist shape asked old new (Ok Going) =
     (hist : HistCall) × IsHistBegun shape asked hist × (new ≡ record old { known = new.known; running = Some (Hist hist) })

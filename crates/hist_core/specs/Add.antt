@@ -1,4 +1,4 @@
--- An `add` that is going on.
+-- A running `add`.
 use Rattle.std.specs.Prelude.{◌≡◌, ◌≢◌, Bool, true, false, not, ◌⊎◌, ◌==◌, if◌then◌else◌, ℕ, ◌+◌, ◌*◌, ◌/◌, ◌%◌, ◌^◌, ◌&&◌, nat_lt, ◌<◌, ◌≤◌, ℤ, pos, List, [], ◌∷◌, ◌++◌, length, map, Option, Some, None, is_some, ⊤}
 use Rattle.std.specs.List.{All, Contains}
 use Rattle.std.specs.Ordering.{int_eq}
@@ -53,19 +53,19 @@ counted_entry known add = record {
   amount = add.amount;
 }
 
--- What stands about its entry in the call that it is of: the entries before it, of which all has happened, those behind it, of which
--- nothing has, and the units that the call holds.
+-- What is around its entry in the call to which it belongs: the entries before it, which have ended, those after it, of which nothing is
+-- counted, and the units that the call holds.
 pub record Amid : Type 0 where
   pub before : List EntryProgress
   pub behind : List Entry
   pub cost : ℕ
 
--- nothing does where the call counts no more than that
+-- nothing is around the entry of a call that counts it alone
 abbrev pub alone : Add → Amid
 alone add = record { before = []; behind = []; cost = add.units }
 
--- It counts some units of a value in a known histogram of a lawful spec, whose record lies in the segment, and whose counts fit in a
--- page. The bucket is that of the value.
+-- It counts some units of a value in a known histogram of a valid spec, whose record lies in the segment, and whose counts fit in a page.
+-- The bucket is that of the value.
 pub record IsCounting (shape : Dimensions) (known : Known) (add : Add) : Type 0 where
   pub shaped : add.shape ≡ shape
   pub versions : (add.version ≡ 1) ⊎ (add.version ≡ 2)
@@ -77,15 +77,14 @@ pub record IsCounting (shape : Dimensions) (known : Known) (add : Add) : Type 0 
   pub fits : BLOCK_HEADER + 2 * add.buckets ≤ shape.page
   pub bucket : has_buckets known.spec ≡ true → IsKeyOfBucket known add.bucket (key_of (boundaries_of known.spec) add.value)
 
--- What it does first: it loads the single word, or, where the histogram is sparse, looks for the sample of the value, which is one of an
--- `i32`.
+-- What it does first: it loads the single word or, if the histogram is sparse, looks for the sample of the value, which is an `i32`.
 abbrev pub OpensWith : Dimensions → Known → Add → AddStage → Type 0
 OpensWith shape known add LoadingSingle = has_buckets known.spec ≡ true
 OpensWith shape known add (Sampling sampling) =
     (known.spec ≡ spec.Sparse) × (is_i32 add.value ≡ true) × BeginsToSearch shape known.reference add.value sampling
 OpensWith shape known add stage = ⊥
 
--- It begins: it counts so many units of a value in a known histogram, and an amount.
+-- It begins: it counts `units` units of a value in a known histogram, and an amount.
 pub record IsStarted (shape : Dimensions) (version : ℕ) (known : Known) (value : ℤ) (units : ℕ) (amount : ℤ) (add : Add) : Type 0 where
   pub shaped : add.shape ≡ shape
   pub versioned : add.version ≡ version
@@ -97,18 +96,18 @@ pub record IsStarted (shape : Dimensions) (version : ℕ) (known : Known) (value
   pub amounts : add.amount ≡ amount
   pub opens : OpensWith shape known add add.stage
 
--- ---- where it stands
+-- ---- where it is
 
--- its entry stands among those of the running call; whether it is counted, and summed. It is not noted
+-- its entry is among those of the running call, counted and summed or not, and not noted
 abbrev pub HasEntry : Known → Amid → Add → Actor → Bool → Bool → Type 0
 HasEntry known amid add a counted summed =
     a.entries.running ≡ amid.before ++ record { entry = counted_entry known add; counted = counted; summed = summed; noted = false } ∷ map fresh amid.behind
 
--- its entry once all of it has happened: an amount of 0 is left out
+-- its entry once it has ended: an amount of 0 is left out
 abbrev pub ended_entry : Known → Add → EntryProgress
 ended_entry known add = record { entry = counted_entry known add; counted = true; summed = not (int_eq add.amount (pos 0)); noted = true }
 
--- that stands among those of the running call
+-- its ended entry is among those of the running call
 abbrev pub EntryHasEnded : Known → Amid → Add → Actor → Type 0
 EntryHasEnded known amid add a = a.entries.running ≡ amid.before ++ ended_entry known add ∷ map fresh amid.behind
 
@@ -120,14 +119,14 @@ Looks known a word counts = a.hand.place ≡ Looking (record { histogram = known
 abbrev pub HasSeenSingle : Known → Actor → ℕ → Type 0
 HasSeenSingle known a word = Contains a.seen.singles (record { at = known.reference + HISTOGRAM_SINGLE; word = word })
 
--- the count of its value stands at a word: that of its bucket, where the counts are in use; or that of the first sample of the value
+-- the count of its value is at a word: that of its bucket, if the counts are in use; or that of the first sample of the value
 abbrev pub IsCountOf : Known → Add → Actor → ℕ → Type 0
 IsCountOf known add a at =
     ((look : Look) × LooksOff a look known × (at ≡ look.counts + BLOCK_HEADER + add.bucket))
     ⊎ ((sample : ℕ) × MayTurn a × Sparse a known.reference known × IsFirstSample a.seen known.reference add.value sample
     × (at ≡ sample + SAMPLE_COUNT))
 
--- the counts block of the histogram stands there, within the segment
+-- the counts block of the histogram is there, within the segment
 abbrev pub CountsLieWithin : Dimensions → Add → ℕ → Type 0
 CountsLieWithin shape add counts = (counts ≢ 0) × (counts + (BLOCK_HEADER + 2 * add.buckets) ≤ shape.size)
 
@@ -137,7 +136,7 @@ HasCountsBlock shape add a at =
     ((own : Own) × Contains a.hand.own own × (own.at ≡ at) × IsBlankCounts own add.buckets)
     × (HEADER_WORDS ≤ at) × (at + (BLOCK_HEADER + 2 * add.buckets) ≤ shape.size)
 
--- of a histogram with buckets it has met no counts: it has seen no counts reference there but 0
+-- of a histogram with buckets it has found no counts: it has seen no counts reference there but 0
 abbrev pub HasMetNoCounts : Known → Actor → Type 0
 HasMetNoCounts known a =
     has_buckets known.spec ≡ true → (counts : ℕ) → word_seen a.seen.words (known.reference + HISTOGRAM_COUNTS) ≡ Some counts → counts ≡ 0
@@ -147,18 +146,18 @@ abbrev pub CannotPack : Known → ℤ × ℕ → Actor → Type 0
 CannotPack known sample a = (word : ℕ) × HasSeenSingle known a word × (is_off word ≡ false)
     × ((bucket packed : ℕ) → IsKeyOfBucket known bucket (key_of (boundaries_of known.spec) sample.0) → IsPacking bucket sample.1 word packed → ⊥)
 
--- A histogram with buckets needs counts for units of a value: a single word that was seen cannot take them, and a counts reference was loaded
--- that was 0; no other was met.
+-- A histogram with buckets needs counts for units of a value: a single word that was seen cannot take them, and a counts reference was
+-- loaded that was 0; no other was found.
 abbrev pub NeedsCounts : Known → ℤ × ℕ → Actor → Type 0
 NeedsCounts known sample a = CannotPack known sample a × Contains a.seen.ends (known.reference + HISTOGRAM_COUNTS) × HasMetNoCounts known a
 
--- Units of a value need a block: with buckets the counts; of a sparse histogram a sample, where the list was seen to its end, and on it none of
--- the value.
+-- Units of a value need a block: with buckets the counts; of a sparse histogram a sample, when the list was seen to its end with no sample
+-- of the value on it.
 pub record NeedsBlock (known : Known) (sample : ℤ × ℕ) (a : Actor) : Type 0 where
   pub counts : has_buckets known.spec ≡ true → NeedsCounts known sample a
   pub value : known.spec ≡ spec.Sparse → SawNoSample known.reference sample.0 a.seen
 
--- Where its actor stands, whose units are not counted yet.
+-- Where its actor is while its units are not counted yet.
 abbrev pub StandsBefore : Dimensions → Known → Add → Actor → AddStage → Type 0
 StandsBefore shape known add a LoadingSingle = MayTurn a
 StandsBefore shape known add a (Packing old new) =
@@ -182,7 +181,7 @@ StandsBefore shape known add a (Moving counts bucket units) =
     × (a.hand.place ≡ PlaceMoving (record { histogram = known.reference; single = Some word; counts = counts }) bucket units))
 StandsBefore shape known add a _ = ⊥
 
--- Where its actor stands, and what has happened of its entry.
+-- Where its actor is, and how far its entry is.
 abbrev pub StandsAtStage : Dimensions → Known → Amid → Add → Actor → AddStage → Type 0
 StandsAtStage shape known amid add a (Counting at) = HasEntry known amid add a false false × IsCountOf known add a at × (at < shape.size)
 StandsAtStage shape known amid add a (Sampling sampling) =
@@ -193,7 +192,7 @@ StandsAtStage shape known amid add a Noting = MayTurn a × HasEntry known amid a
 StandsAtStage shape known amid add a stage =
     (has_buckets known.spec ≡ true) × HasEntry known amid add a false false × StandsBefore shape known add a stage
 
--- Its actor knows the histogram, which alone has its reference there, takes nothing, and holds the units of the call.
+-- Its actor knows the histogram, as the only one with its reference, takes nothing, and holds the units of the call.
 pub record IsAdd (shape : Dimensions) (known : Known) (amid : Amid) (add : Add) (a : Actor) : Type 0 where
   pub counting : IsCounting shape known add
   pub segment : a.segment.shape ≡ shape
@@ -208,8 +207,8 @@ pub record IsAdd (shape : Dimensions) (known : Known) (amid : Amid) (add : Add) 
 
 -- ---- what a step makes of its actor
 
--- What it leaves as it was: its role, its segment, its deltas, and the names that it was answered with. Of the chain and of the words of
--- records it has seen no less.
+-- What it leaves unchanged of its actor: the role, the segment, the deltas, and the known names. Of the chain and of the words of records
+-- its actor has seen no less.
 pub record FrameOfAdd (a b : Actor) : Type 0 where
   pub role : b.role ≡ a.role
   pub segment : b.segment ≡ a.segment
@@ -227,12 +226,12 @@ abbrev pub serves_counted : Known → Add → Actor → SharedEffect → Type 0
 serves_counted known add a (links made) = made ≡ Sample add.histogram add.value
 serves_counted known add a (raises words) = (words ≡ block_words known) × NeedsBlock known (add.value, add.units) a
 
--- while it goes on: units and log are as before
+-- while it runs: units and log are unchanged
 abbrev pub StaysOpen : Actor → Actor → Type 0
 StaysOpen a b = (b.units ≡ a.units) × (b.entries ≡ record a.entries { running = b.entries.running })
 
--- What a step says: it goes on; all of its entry has happened; or the block that it needs is refused, and nothing has happened.
--- Its actor may turn to another entry or another call then.
+-- What a step says: it continues; its entry has ended; or the block that it needs is refused, and nothing is counted. Its actor may turn to
+-- another entry or another call then.
 abbrev pub AddGives : Dimensions → Known → Amid → Add → AddStep → Actor → Actor → Type 0
 AddGives shape known amid new More a b = FrameOfAdd a b × StaysOpen a b × DoesOnly false false (serves_counted known new a) a b × IsAdd shape known amid new b
 AddGives shape known amid new Done a b = FrameOfAdd a b × StaysOpen a b × DoesOnly false false (serves_counted known new a) a b × IsFree b × EntryHasEnded known amid new b
@@ -240,28 +239,29 @@ AddGives shape known amid new (Refused cause) a b =
     FrameOfAdd a b × StaysOpen a b × DoesOnly false (is_full cause) (serves_counted known new a) a b × IsFree b × IsCause cause (block_words known) a b
     × HasEntry known amid new b false false × NeedsBlock known (new.value, new.units) b
 
--- what a step makes of the words, and of whatever actor stands so
+-- what a step makes of the words, and of any actor that runs the call
 abbrev pub AddSteps : Add → List ℕ → Add → List ℕ → AddStep → Type 0
 AddSteps old words new new_words said = (shape : Dimensions) (known : Known) (amid : Amid) (a : Actor) → length words ≡ shape.size
     → IsAdd shape known amid old a → StepsBy shape.size old.version a words new_words (AddGives shape known amid new said a)
 
--- an `add` that stands so somewhere, in so many words
+-- an `add` that some actor runs, in a segment of `n` words
 abbrev pub IsSomeAdd : ℕ → Add → Type 0
 IsSomeAdd n add = (shape : Dimensions) × (known : Known) × (amid : Amid) × (a : Actor) × (n ≡ shape.size) × IsAdd shape known amid add a
 
--- one that stands so does this next
+-- an `add` that some actor runs is at this stage
 pub record IsAtStage (stage : AddStage) (n : ℕ) (add : Add) : Type 0 where
   pub next : add.stage ≡ stage
   pub stands : ∥ IsSomeAdd n add ∥₁
   pub inside : LiesWithin n add.histogram
 
--- what it does behind the event that counts its units: it adds its amount, where that is not 0
+-- what it does after the event that counts its units: it adds its amount, if that is not 0
 abbrev pub behind_count : ℤ → AddStage
 behind_count amount = if int_eq amount (pos 0) then Noting else Summing
 
 -- ---- what it does next
 
--- what a single word leads to: the counts, where they are in use; else a word with its units more, or none where no word packs them
+-- what a single word leads to: the counts, if they are in use; else a word that packs its units too or, if no word does, the search for
+-- counts
 abbrev pub IsBehindSingle : Add → ℕ → AddStage → Type 0
 IsBehindSingle add word LoadingCounts = is_off word ≡ true
 IsBehindSingle add word (Packing old new) =
@@ -280,7 +280,7 @@ abbrev pub IsAllocating : AddStage → Type 0
 IsAllocating (Allocating allocation) = ⊤
 IsAllocating _ = ⊥
 
--- what becomes of it by what a step of its allocation said: it goes on, or mounts the counts in its block, or is refused
+-- what a step of its allocation leads to: it continues, or mounts the counts in its block, or is refused
 abbrev pub IsAllocated : Add → AllocStep → Add → AddStep → Type 0
 IsAllocated old said.More new result = (new ≡ old) × (result ≡ More)
 IsAllocated old (said.Done at) new result = (new ≡ record old { stage = Mounting at }) × (result ≡ More)
@@ -292,17 +292,17 @@ abbrev pub IsSearching : AddStage → Type 0
 IsSearching (Sampling sampling) = ⊤
 IsSearching _ = ⊥
 
--- what becomes of it by what a step of its search said: it goes on, or counts in the sample, or is refused
+-- what a step of its search leads to: it continues, or counts in the sample, or is refused
 abbrev pub IsSampled : Add → SamplingStep → Add → AddStep → Type 0
 IsSampled old found.More new result = (new ≡ old) × (result ≡ More)
 IsSampled old (found.Found sample) new result = (new ≡ record old { stage = Counting ((sample + SAMPLE_COUNT) % 2 ^ 64) }) × (result ≡ More)
 IsSampled old (found.Refused cause) new result = (new ≡ old) × (result ≡ Refused cause)
 
--- where the count of its value stands among counts
+-- where the count of its value is among counts
 abbrev pub count_in : Add → ℕ → ℕ
 count_in add counts = (counts + (BLOCK_HEADER + add.bucket)) % 2 ^ 64
 
--- what it does behind the event that disables a word: in version 1 it moves the units that the word had
+-- what it does after the event that disables a word: in version 1 it moves the units that the word had
 abbrev pub behind_disabling : Add → ℕ → ℕ → AddStage
 behind_disabling add counts old =
     if (add.version == 1) && nat_lt 0 old then Moving counts (old / 2 ^ 32) (old % 2 ^ 32) else Counting (count_in add counts)

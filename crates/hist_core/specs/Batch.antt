@@ -1,4 +1,4 @@
--- A `batch` that is going on.
+-- A running `batch`.
 use Rattle.std.specs.Prelude.{◌≡◌, true, false, ◌⊎◌, ◌&&◌, Some, ◌==◌, if◌then◌else◌, ℕ, ◌+◌, ◌-◌, ◌≤◌, ◌<◌, ⊤, ℤ, pos, List, [], ◌∷◌, ◌++◌, length, map, take, drop, sum_by, vec_len}
 use Rattle.std.specs.List.{All, Contains}
 use mathlib.Core.Option.{some}
@@ -36,7 +36,7 @@ sample_of item = (item.value, item.units)
 abbrev pub units_among : List Add → ℕ
 units_among items = sum_by (λ item. item.units) items
 
--- the entry of its sum, which is left out where that is 0
+-- the entry of its sum, which is left out if that is 0
 abbrev pub sum_entries : List ℕ → ℤ → List Entry
 sum_entries name sum = if int_eq sum (pos 0) then [] else sum_entry name sum ∷ []
 
@@ -62,9 +62,9 @@ pub record IsItem (shape : Dimensions) (version : ℕ) (known : Known) (item : A
 abbrev pub ItemWaits : Dimensions → Known → Add → Type 0
 ItemWaits shape known item = OpensWith shape known item item.stage
 
--- ---- where it stands
+-- ---- where it is
 
--- the entries about that of an item: of those before it all has happened, of those behind it and of the sum nothing has
+-- the entries around that of an item: those before it have ended, and of those after it and of the sum nothing is counted
 abbrev pub amid_of : Known → Batch → List Add → List Add → Amid
 amid_of known batch done rest = record {
   before = map (ended_entry known) done;
@@ -72,7 +72,7 @@ amid_of known batch done rest = record {
   cost = batch.cost;
 }
 
--- an item is counted, those before it are, and those behind it have not begun
+-- an item is being counted, those before it are counted, and those after it have not begun
 pub record CountsItem (shape : Dimensions) (known : Known) (batch : Batch) (a : Actor) : Type 0 where
   pub done : List Add
   pub item : Add
@@ -90,8 +90,8 @@ pub record SumsUp (known : Known) (batch : Batch) (a : Actor) : Type 0 where
   pub some : int_eq batch.sum (pos 0) ≡ false
   pub runs : a.entries.running ≡ map (ended_entry known) batch.items.items ++ fresh (sum_entry known.name batch.sum) ∷ []
 
--- Its actor knows the histogram, whose record lies in the segment and which alone has its reference there, and has met it on the list. It
--- takes nothing, and holds the units, of which the items have no more.
+-- Its actor knows the histogram, as the only one with its reference, and has visited its record, which lies in the segment, on the list. It
+-- takes nothing, and holds the units of the call, which are enough for the items.
 pub record IsBatch (shape : Dimensions) (known : Known) (batch : Batch) (a : Actor) : Type 0 where
   pub reference : known.reference ≡ batch.histogram
   pub within : batch.histogram + HISTOGRAM_NAME ≤ shape.size
@@ -113,11 +113,11 @@ pub record IsBatch (shape : Dimensions) (known : Known) (batch : Batch) (a : Act
 abbrev pub RunsEntries : List Entry → Actor → Type 0
 RunsEntries entries a = map (λ c. c.entry) a.entries.running ≡ entries
 
--- all has happened of them
+-- they have ended
 abbrev pub EntriesHaveEnded : List Entry → Actor → Type 0
 EntriesHaveEnded entries a = RunsEntries entries a × All (λ c. has_ended c ≡ true) a.entries.running
 
--- all has happened of the first ones, of which none has added an amount, and nothing of the others
+-- the first ones have ended, and none of these has added an amount; the others are untouched
 pub record IsCutAt (added : ℕ) (entries : List Entry) (a : Actor) : Type 0 where
   pub runs : RunsEntries entries a
   pub ended : All (λ c. has_ended c ≡ true) (take added a.entries.running)
@@ -130,12 +130,12 @@ serves_counted known batch a (links made) = (sample : ℤ × ℕ) × Contains (m
 serves_counted known batch a (raises words) =
     (words ≡ block_words known) × ((sample : ℤ × ℕ) × Contains (map sample_of batch.items.items) sample × NeedsBlock known sample a)
 
--- the item behind so many needs a block
+-- the item after this many needs a block
 abbrev pub NextNeedsBlock : Known → Batch → ℕ → Actor → Type 0
 NextNeedsBlock known batch added a = (sample : ℤ × ℕ) × (get_elem? (map sample_of batch.items.items) added ≡ some sample) × NeedsBlock known sample a
 
--- What a step says: it goes on; all of it is counted; or the block that its next item needs is refused. Its actor may turn to another call
--- then.
+-- What a step says: it continues; all of it is counted; or the block that its next item needs is refused. Its actor may turn to another
+-- call then.
 abbrev pub BatchGives : Dimensions → Known → Batch → BatchStep → Actor → Actor → Type 0
 BatchGives shape known new More a b = FrameOfAdd a b × StaysOpen a b × DoesOnly false false (serves_counted known new a) a b × IsBatch shape known new b
 BatchGives shape known new Done a b = FrameOfAdd a b × StaysOpen a b × DoesOnly false false (serves_counted known new a) a b × IsFree b × EntriesHaveEnded (counted_entries known new) b
@@ -143,17 +143,17 @@ BatchGives shape known new (Refused refusal) a b =
     FrameOfAdd a b × StaysOpen a b × DoesOnly false (is_full refusal.why) (serves_counted known new a) a b × IsFree b × IsCause refusal.why (block_words known) a b × IsCutAt refusal.added (counted_entries known new) b
     × (refusal.added ≤ length new.items.items) × (new.left + units_among (take refusal.added new.items.items) ≡ new.cost) × NextNeedsBlock known new refusal.added b
 
--- what a step makes of the words, and of whatever actor stands so
+-- what a step makes of the words, and of any actor that runs the call
 abbrev pub BatchSteps : Batch → List ℕ → Batch → List ℕ → BatchStep → Type 0
 BatchSteps old words new new_words said = (shape : Dimensions) (known : Known) (a : Actor) → length words ≡ shape.size
     → IsBatch shape known old a → StepsBy shape.size a.segment.version a words new_words (BatchGives shape known new said a)
 
--- a `batch` that stands so somewhere, in so many words
+-- a `batch` that some actor runs, in a segment of `n` words
 abbrev pub IsSomeBatch : ℕ → Batch → Type 0
 IsSomeBatch n batch = (shape : Dimensions) × (known : Known) × (a : Actor) × (n ≡ shape.size) × IsBatch shape known batch a
 
--- What becomes of it by what a step of its next item said: it goes on; the item is counted, and with the last one it has ended where no
--- sum is to be added; or it is refused behind the items that are counted.
+-- What a step of its next item leads to: it continues; the item is counted, and with the last one it has ended if no sum is to be added; or
+-- it is refused after the items that are counted.
 abbrev pub IsItemSaid : Batch → AddStep → ℕ → Batch → BatchStep → Type 0
 IsItemSaid old said.More units new result = (new ≡ old) × (result ≡ More)
 IsItemSaid old said.Done units new result =
@@ -161,12 +161,12 @@ IsItemSaid old said.Done units new result =
     × (result ≡ (if (old.added + 1 == vec_len old.items) && int_eq old.sum (pos 0) then Done else More))
 IsItemSaid old (said.Refused why) units new result = (new ≡ old) × (result ≡ Refused (record { added = old.added; why = why }))
 
--- it is refused where that many items are counted, which are not all, and no more units are spent
+-- if it is refused, it says how many items are counted, which are not all, and no more units are spent
 abbrev pub IsRefusedAt : Batch → Batch → BatchStep → Type 0
 IsRefusedAt old new (Refused refusal) = (refusal.added ≡ old.added) × (refusal.added < vec_len old.items) × (new.left ≡ old.left)
 IsRefusedAt old new said = ⊤
 
--- the items that are counted where it is refused
+-- how many items are counted when it is refused
 abbrev pub added_of : BatchStep → ℕ
 added_of (Refused refusal) = refusal.added
 added_of said = 0

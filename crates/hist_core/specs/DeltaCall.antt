@@ -1,4 +1,4 @@
--- A delta that is going on.
+-- A running delta.
 use Rattle.std.specs.Prelude.{◌≡◌, ◌==◌, true, false, nat_lt, nat_eq, int_lt, ℕ, suc, ◌+◌, ◌-◌, ◌/◌, ◌<◌, ◌≤◌, ◌⊎◌, ℤ, pos, List, [], ◌∷◌, ◌++◌, length, slice_index, vec_capacity, if◌then◌else◌, Some, None, ⊤}
 use Rattle.std.specs.List.{Contains, insert}
 use Rattle.std.specs.Option.{option_eq}
@@ -38,18 +38,18 @@ use Rattle.hist_core.specs.Walk.{HasReachedEnd, HasSetOut, MetSample, WalksAt}
 
 -- ---- what is taken
 
--- before how many of these keys one is to stand: the first that is not less
+-- the place of a key among these: that of the first one that is not less
 abbrev pub place_of : ℤ → List (ℤ × ℕ) → ℕ
 place_of key [] = 0
 place_of key (count ∷ rest) = if int_lt count.0 key then suc (place_of key rest) else 0
 
--- with units of a key more, which stand there
+-- these with units of one more key, at its place
 abbrev pub insert_by_key : ℤ × ℕ → List (ℤ × ℕ) → List (ℤ × ℕ)
 insert_by_key one counts = insert counts (place_of one.0 counts) one
 
--- ---- where it stands
+-- ---- where it is
 
--- It has begun: it is the last of what its actor's deltas took, behind those before it, and has taken the units that it lists of each key.
+-- It has begun: it is the last of what its actor's deltas took, after the earlier ones, and has taken the units that it lists of each key.
 pub record IsUnderWay (known : Known) (earlier : List Taken) (delta_call : DeltaCall) (a : Actor) : Type 0 where
   pub taking : a.deltas.taking ≡ true
   pub last : Taken
@@ -91,19 +91,19 @@ TookEach known delta_call a = ((has_buckets known.spec ≡ true) × TookBuckets 
 abbrev pub IsBeforeAll : List Taken → DeltaCall → Actor → Type 0
 IsBeforeAll earlier delta_call a = (a.deltas.taking ≡ false) × (a.deltas.taken ≡ earlier) × (delta_call.counts.items ≡ [])
 
--- with a walk that has not set out it is before its first event
+-- if its walk has not set out, it is before its first event; else it has begun
 abbrev pub TakesOnWalk : Known → List Taken → DeltaCall → Actor → SampleWalk → Type 0
 TakesOnWalk known earlier delta_call a walk =
     ((walk ≡ LoadingFirst) × IsBeforeAll earlier delta_call a) ⊎ (HasSetOut walk × IsUnderWay known earlier delta_call a)
 
--- so is what it saw of the buckets before one, and it lists units of these alone
+-- what it saw of the buckets before one is taken, and it lists units of these alone
 pub record HasDrawn (known : Known) (delta_call : DeltaCall) (bucket : ℕ) (a : Actor) : Type 0 where
   pub took : (i : ℕ) → i < bucket → TookBucket a known i
   pub below : AreBelow known bucket delta_call.counts.items
   pub few : length delta_call.counts.items ≤ bucket
   pub inside : bucket < buckets_of known.spec
 
--- Where its actor stands.
+-- Where its actor is.
 abbrev pub StandsAtStage : Dimensions → Known → List Taken → DeltaCall → Actor → DeltaStage → Type 0
 StandsAtStage shape known earlier delta_call a LoadingSingle =
     (a.deltas.taking ≡ false) × (a.deltas.taken ≡ earlier) × (delta_call.counts.items ≡ []) × HasRoomForBuckets known delta_call
@@ -131,7 +131,7 @@ StandsAtStage shape known earlier delta_call a LoadingSum = IsUnderWay known ear
 StandsAtStage shape known earlier delta_call a (Swapping sum) =
     IsUnderWay known earlier delta_call a × TookEach known delta_call a × (a.hand.place ≡ SumLoaded known.reference sum)
 
--- Its actor is a recorder that knows the histogram, which alone has its reference there, and counts nothing. Its deltas took these before.
+-- Its actor is a recorder that knows the histogram, as the only one with its reference, and counts nothing. Its deltas took these before.
 pub record IsDeltaCall (shape : Dimensions) (known : Known) (earlier : List Taken) (delta_call : DeltaCall) (a : Actor) : Type 0 where
   pub segment : a.segment.shape ≡ shape
   pub version : a.segment.version ≡ delta_call.version
@@ -148,12 +148,12 @@ pub record IsDeltaCall (shape : Dimensions) (known : Known) (earlier : List Take
   pub units : AreUnits delta_call.counts.items
   pub stands : StandsAtStage shape known earlier delta_call a delta_call.stage
 
--- It begins with the single word where the histogram has buckets, and with a walk where it is sparse. There is room for all keys.
+-- It begins with the single word if the histogram has buckets, and with a walk if it is sparse. There is room for all keys.
 abbrev pub OpensWith : Dimensions → Known → DeltaCall → DeltaStage → Type 0
 OpensWith shape known delta_call stage =
     ((stage ≡ LoadingSingle) × HasRoomForBuckets known delta_call) ⊎ ((stage ≡ Walking LoadingFirst) × (known.spec ≡ Sparse) × HoldsValues shape delta_call)
 
--- it has taken nothing
+-- it begins: it has taken nothing
 pub record IsStarted (shape : Dimensions) (version : ℕ) (known : Known) (delta_call : DeltaCall) : Type 0 where
   pub versioned : delta_call.version ≡ version
   pub reference : delta_call.histogram ≡ known.reference
@@ -163,8 +163,8 @@ pub record IsStarted (shape : Dimensions) (version : ℕ) (known : Known) (delta
 
 -- ---- what a step makes of its actor
 
--- What it leaves as it was: its role, its segment, its units and entries, the names that it was answered with, its snapshots, and what it has
--- done to the segment for all to see. Of the chain and of the words of records it has seen no less.
+-- What it leaves unchanged of its actor: the role, the segment, the units, the entries, the known names, the snapshots, and what it has
+-- done to the segment that others can see. Of the chain and of the words of records its actor has seen no less.
 pub record FrameOfDelta (a b : Actor) : Type 0 where
   pub role : b.role ≡ a.role
   pub segment : b.segment ≡ a.segment
@@ -190,22 +190,22 @@ pub record DeltaHasEnded (known : Known) (earlier : List Taken) (delta_call : De
   pub all : TookAll a known
   pub units : AreUnits delta_call.counts.items
 
--- What a step says: it goes on, and may have taken units; or it has ended, and its actor may turn to another call.
+-- What a step says: it continues, and may have taken units; or it has ended, and its actor may turn to another call.
 abbrev pub DeltaCallGives : Dimensions → Known → List Taken → DeltaCall → DeltaCallStep → Actor → Actor → Type 0
 DeltaCallGives shape known earlier new (Done sum) a b = FrameOfDelta a b × IsFree b × DeltaHasEnded known earlier new sum b
 DeltaCallGives shape known earlier new said a b = FrameOfDelta a b × IsDeltaCall shape known earlier new b
 
--- what a step makes of the words, and of whatever actor stands so
+-- what a step makes of the words, and of any actor that runs the call
 abbrev pub DeltaCallSteps : DeltaCall → List ℕ → DeltaCall → List ℕ → DeltaCallStep → Type 0
 DeltaCallSteps old words new new_words said = (shape : Dimensions) (known : Known) (earlier : List Taken) (a : Actor) → length words ≡ shape.size
     → WalksInOrder a → IsDeltaCall shape known earlier old a → StepsBy shape.size old.version a words new_words (DeltaCallGives shape known earlier new said a)
 
--- a delta that stands so somewhere, in so many words
+-- a delta that some actor runs, in a segment of `n` words
 abbrev pub IsSomeDeltaCall : ℕ → DeltaCall → Type 0
 IsSomeDeltaCall n delta_call =
     (shape : Dimensions) × (known : Known) × (earlier : List Taken) × (a : Actor) × (n ≡ shape.size) × IsDeltaCall shape known earlier delta_call a
 
--- what it lists behind a step: the units that it took, where it took some, beside those before
+-- what it lists after a step: what it listed before, with the units that the step took, if any
 abbrev pub Lists : DeltaCall → DeltaCall → DeltaCallStep → Type 0
 Lists old new (Took key units) = new.counts.items ≡ insert_by_key (key, units) old.counts.items
 Lists old new said = new.counts.items ≡ old.counts.items
@@ -216,17 +216,18 @@ HasBegun LoadingSingle = ⊥
 HasBegun (Walking walk) = HasSetOut walk
 HasBegun stage = ⊤
 
--- it stands before that
+-- it is before its first event
 abbrev pub IsFirstStage : DeltaStage → Type 0
 IsFirstStage stage = (stage ≡ LoadingSingle) ⊎ (stage ≡ Walking LoadingFirst)
 
--- a delta that stands so somewhere does this next
+-- a delta that some actor runs is at this stage
 pub record IsAtStage (stage : DeltaStage) (n : ℕ) (delta_call : DeltaCall) : Type 0 where
   pub next : delta_call.stage ≡ stage
   pub stands : ∥ IsSomeDeltaCall n delta_call ∥₁
   pub inside : LiesWithin n delta_call.histogram
 
--- What a step leaves of the call: it lists what it took, with room as before, its first event has happened, and it takes of the same histogram.
+-- What holds of the call after a step: it lists what the step took, its room is unchanged, its first event has happened, and its histogram
+-- is the same.
 pub record HasGoneOn (old new : DeltaCall) (said : DeltaCallStep) : Type 0 where
   pub lists : Lists old new said
   pub room : vec_capacity new.counts ≡ vec_capacity old.counts
@@ -235,7 +236,7 @@ pub record HasGoneOn (old new : DeltaCall) (said : DeltaCallStep) : Type 0 where
 
 -- ---- what it does next
 
--- what a single word leads to: the counts, where they are in use; else the packed units, or the sum where there are none
+-- what a single word leads to: the counts, if they are in use; else the packed units, or the sum if there are none
 abbrev pub IsBehindSingle : DeltaCall → ℕ → DeltaStage → Type 0
 IsBehindSingle delta_call word (LoadingCounts packed kept) =
     (is_off word ≡ true) × SaysPacked delta_call.version (length delta_call.ranges - 1) word packed kept × (kept ≤ 65535)
@@ -244,27 +245,27 @@ IsBehindSingle delta_call word (TakingPacked bucket units) =
 IsBehindSingle delta_call word LoadingSum = (is_off word ≡ false) × (packed_bucket (single_of delta_call.version (length delta_call.ranges - 1) word) ≡ None)
 IsBehindSingle delta_call word _ = ⊥
 
--- behind a bucket comes the next, and behind the last one the sum
+-- after a bucket comes the next, and after the last one the sum
 abbrev pub behind_bucket : DeltaCall → Mounted → ℕ → DeltaStage
 behind_bucket delta_call mounted bucket = if nat_lt (bucket + 1) (length delta_call.ranges - 1) then LoadingCount mounted (bucket + 1) else LoadingSum
 
--- behind what its walk met comes its next event, the count of a sample, or at the end of the list the sum
+-- after a step of its walk comes the next step, the count of a sample, or at the end of the list the sum
 abbrev pub behind_walk : Met → DeltaStage
 behind_walk (Nothing walk) = Walking walk
 behind_walk (Sample at value) = LoadingSample at value
 behind_walk End = LoadingSum
 
--- behind the count of a sample its mark is raised, where it has units
+-- after the count of a sample its mark is raised, if it has units
 abbrev pub behind_sample : ℕ → ℤ → ℕ → DeltaStage
 behind_sample at value count = if count == 0 then Walking (LoadingNext at) else RaisingSample at value count
 
--- where the mark of a bucket stands
+-- where the mark of a bucket is
 abbrev pub mark_of : DeltaCall → Mounted → ℕ → ℕ
 mark_of delta_call mounted bucket =
     if option_eq nat_eq mounted.packed (Some bucket) then delta_call.histogram + HISTOGRAM_SINGLE_MARK
     else mounted.counts + BLOCK_HEADER + (length delta_call.ranges - 1) + bucket
 
--- it lists the units of a key that stood between a mark and what that was raised to
+-- it lists the units of a key by which its total is above its mark
 abbrev pub TakesUnits : ℤ → ℕ → ℕ → DeltaCall → DeltaCall → DeltaCallStep → Type 0
 TakesUnits of total mark old new More = (total ≤ mark) × (new ≡ old)
 TakesUnits of total mark old new (Took key units) =
@@ -272,6 +273,6 @@ TakesUnits of total mark old new (Took key units) =
     × (new.counts.items ≡ insert_by_key (key, units) old.counts.items) × (vec_capacity new.counts ≡ vec_capacity old.counts)
 TakesUnits of total mark old new (Done sum) = ⊥
 
--- of a bucket
+-- it lists the units of a bucket by which its total is above its mark
 abbrev pub TakesBucket : ℕ → ℕ → ℕ → DeltaCall → DeltaCall → DeltaCallStep → Type 0
 TakesBucket bucket total mark old new said = TakesUnits (pos (slice_index old.ranges bucket)) total mark old new said

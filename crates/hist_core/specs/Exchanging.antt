@@ -1,4 +1,4 @@
--- The exchange that the next event of an actor is, where it is one.
+-- The exchange that the next event of an actor is, if it is one.
 use Rattle.std.specs.Prelude.{ℕ, ◌+◌, Option, Some, None}
 use mathlib.Core.Option as maybe
 use mathlib.Core.Option.{some, none}
@@ -24,19 +24,20 @@ use Rattle.hist_core.specs.declared.actor_run.Running.TheVariants as runs
 use Rattle.hist_core.specs.declared.actor_run.ActorRun.{ActorRun}
 use Rattle.hist_core.specs.declared.world_state.WorldState.{WorldState}
 
--- Of a record that is being made: of the free pointer, where it claims its words; of a next or of the tail, where it goes on the list
+-- the exchange that is the next event of the making of a record: of the free pointer, when its words are claimed; of a next or of the tail,
+-- when it is put on the list
 abbrev pub making_attempt : MakingStage → Option Attempt
 making_attempt (making.Allocating allocation) = attempt_of (alloc.next_event allocation)
 making_attempt (making.Filling at index) = None
 making_attempt (making.Publishing publishing) = attempt_of (publish.next_event publishing)
 
--- a search for a sample: where it makes one
+-- the exchange that is the next event of a search for a sample: one of the making of a sample
 abbrev pub sampling_attempt : SamplingStage → Option Attempt
 sampling_attempt (sampling.Making m) = making_attempt m.stage
 sampling_attempt _ = None
 
--- an `add`: of the single word, where it packs its units there or disables it; of the counts reference, where it mounts counts; or where it
--- claims words
+-- the exchange that is the next event of an `add`: of the single word, when it packs its units there or disables it; of the counts
+-- reference, when it mounts counts; or one of its claim or of its search for a sample
 abbrev pub add_attempt : Add → AddStage → Option Attempt
 add_attempt add (adding.Packing old new) = attempt_of (Some (exchange (add.histogram + HISTOGRAM_SINGLE) old new))
 add_attempt add (adding.Mounting at) = attempt_of (Some (exchange (add.histogram + HISTOGRAM_COUNTS) 0 at))
@@ -45,28 +46,28 @@ add_attempt add (adding.Allocating allocation) = attempt_of (alloc.next_event al
 add_attempt add (adding.Sampling s) = sampling_attempt s.stage
 add_attempt add _ = None
 
--- a `hist`: where it makes its record
+-- the exchange that is the next event of a `hist`: one of the making of its record
 abbrev pub hist_attempt : HistStage → Option Attempt
 hist_attempt (asking.Making m) = making_attempt m.stage
 hist_attempt _ = None
 
--- a `batch`: that of the item which it counts next
+-- the exchange that is the next event of a `batch`: that of the item that it counts next
 abbrev pub item_attempt : maybe.Option Add → Option Attempt
 item_attempt none = None
 item_attempt (some add) = add_attempt add add.stage
 
--- a running call
+-- the exchange that is the next event of a running call
 abbrev pub running_attempt : Option Running → Option Attempt
 running_attempt (Some (runs.Hist hist)) = hist_attempt hist.stage
 running_attempt (Some (runs.Add add)) = add_attempt add add.stage
 running_attempt (Some (runs.Batch batch)) = item_attempt (get_elem? batch.items.items batch.added)
 running_attempt _ = None
 
--- an actor; one that is not there does nothing
+-- the exchange that is the next event of an actor; one that is not there has none
 abbrev pub run_attempt : maybe.Option ActorRun → Option Attempt
 run_attempt none = None
 run_attempt (some actor_run) = running_attempt actor_run.running
 
--- of an actor of a world: the word, and what is wanted there
+-- the exchange that is the next event of an actor of a world: the word, and the value that is expected there
 abbrev pub next_attempt : WorldState → ℕ → Option Attempt
 next_attempt world_state actor = run_attempt (get_elem? world_state.actor_runs.items actor)

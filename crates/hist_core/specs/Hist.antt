@@ -1,4 +1,4 @@
--- A `hist` that is going on.
+-- A running `hist`.
 use Rattle.std.specs.Prelude.{◌≡◌, ◌≢◌, ◌⊎◌, ℕ, ◌+◌, ◌-◌, ◌*◌, ◌<◌, ◌≤◌, ◌==◌, nat_lt, true, false, List, [], ◌∷◌, ◌++◌, length, slice_index, ⊤, Some, None, if◌then◌else◌}
 use Rattle.std.specs.List.{All}
 use Rattle.bucket_ranges.specs.Ranges.{boundaries_of}
@@ -43,12 +43,12 @@ asked_of h = record { name = h.asked.name.items; spec = h.asked.spec; reference 
 abbrev pub made_of : Hist → Made
 made_of h = Histogram h.asked.name.items h.asked.spec
 
--- the record that it makes where there is none of the name
+-- the record that it makes if there is none of the name
 abbrev pub wanted_of : Hist → Wanted
 wanted_of h = record { made = made_of h; room = length h.payload.items; payload = h.payload.items }
 
--- Its name and its spec are lawful, its record and its counts fit in a page, and it has the ranges of its spec and the words of its
--- payload, of which the last is not 0.
+-- Its name and its spec are valid, its record and its counts fit in a page, and it has the ranges of its spec and the words of its payload,
+-- of which the last is not 0.
 pub record IsAsking (shape : Dimensions) (h : Hist) : Type 0 where
   pub shaped : h.shape ≡ shape
   pub name : is_name h.asked.name.items ≡ true
@@ -65,7 +65,7 @@ pub record IsAsking (shape : Dimensions) (h : Hist) : Type 0 where
 -- ---- what it compares
 
 -- The words of a record that it compares with its own, in this order: the type; then, by their places in the payload, the length of the
--- name, the words of the name, the four numbers of the spec, and the ranges behind the name.
+-- name, the words of the name, the four numbers of the spec, and the ranges, which follow the name.
 abbrev pub compared_place : ℕ → ℕ → ℕ
 compared_place letters k =
     if k == 1 then 10
@@ -75,46 +75,46 @@ compared_place letters k =
 abbrev pub compared_index : ℕ → ℕ → ℕ
 compared_index letters k = if k == 0 then BLOCK_TYPE else BLOCK_HEADER + compared_place letters k
 
--- what stands there in a record of the wanted name and spec
+-- the value of that word in a record of the wanted name and spec
 abbrev pub compared_word : Hist → ℕ → ℕ
 compared_word h k = if k == 0 then TYPE_HISTOGRAM else slice_index h.payload.items (compared_place h.letters k)
 
--- so many were the same
+-- the first `k` of them were the same
 abbrev pub AreSame : Seen → Hist → ℕ → Type 0
 AreSame seen h k = (j : ℕ) → j < k → word_seen seen.words (h.reference + compared_index h.letters j) ≡ Some (compared_word h j)
 
--- all that tell it from others, and with them its spec
+-- how many words are compared in all
 abbrev pub comparisons : Hist → ℕ
 comparisons h = length h.payload.items - 5
 
--- where the words of a record end at the earliest, as so many that were the same tell it: the type has the fixed words behind it, the
--- length of the name its words, the number of ranges the ranges
+-- how far a record reaches at least, if the first `k` words are the same: after the type come the fixed words, with the length of the name
+-- its words, and with the number of ranges the ranges
 pub record Reaches (size : ℕ) (h : Hist) (k : ℕ) : Type 0 where
   pub header : h.reference + BLOCK_LEAST ≤ size
   pub fixed : 0 < k → h.reference + HISTOGRAM_NAME ≤ size
   pub name : 1 < k → h.reference + (HISTOGRAM_NAME + h.letters) ≤ size
   pub ranges : h.letters + 5 < k → h.reference + (BLOCK_HEADER + length h.payload.items) ≤ size
 
--- a word more was the same: it compares the next, or all were
+-- one more word was the same: it compares the next, or all were the same
 abbrev pub IsMatched : Hist → ℕ → Hist → HistStep → Type 0
 IsMatched old k new More = (k + 1 < comparisons old) × (new ≡ record old { stage = Comparing (k + 1) })
 IsMatched old k new Done = (comparisons old ≤ k + 1) × (new ≡ old)
 IsMatched old k new (Refused why) = ⊥
 
--- it is another: of the type or the name, so that the walk goes on, or of the spec
+-- the word differs: in the type or the name, so that the walk continues, or in the spec
 abbrev pub IsDifferent : Hist → ℕ → Hist → HistStep → Type 0
 IsDifferent old k new More = (k < old.letters + 2) × (new ≡ record old { stage = Walking })
 IsDifferent old k new Done = ⊥
 IsDifferent old k new (Refused cause) = (old.letters + 2 ≤ k) × (new ≡ old) × (cause ≡ why.OtherSpec)
 
--- ---- where it stands
+-- ---- where it is
 
 -- none of these records has its name
 abbrev pub HaveOtherNames : Hist → Actor → List ℕ → Type 0
 HaveOtherNames h a records = All (SawOtherName a.seen h.asked.name.items) records
 
--- Where its actor stands, whose walk has given these records: none of them has the name, but for the last while it is compared. While it
--- makes its record these are all that it has met, up to the end of the list.
+-- Where its actor is, whose walk has given these records: none of them has the name; of the last one it is not known while that is
+-- compared. While it makes its record, these are all that its actor has visited, up to the end of the list.
 abbrev pub StandsAtStage : Dimensions → Hist → Actor → List ℕ → HistStage → Type 0
 StandsAtStage shape h a given Walking = IsFree a × HaveOtherNames h a given
 StandsAtStage shape h a given (Comparing same) =
@@ -142,24 +142,24 @@ HasOtherSpec name spec seen =
 abbrev pub SawNoName : List ℕ → Seen → Type 0
 SawNoName name seen = All (SawOtherName seen name) seen.chain × SawEnd seen
 
--- No record of a name is on the list, and that of the name and a spec is refused, which has so many words.
+-- No record of a name is on the list, and the block for the record of the name and a spec is refused.
 abbrev pub LacksRecord : List ℕ → Spec → Refusal → Actor → Actor → Type 0
 LacksRecord name spec cause a b =
     SawNoName name b.seen × (letters : List ℕ) × AreNameWords name letters × making.IsCause cause (BLOCK_HEADER + length (payload_words name spec letters)) a b
 
--- why a `hist` of a name and a spec is refused: for that, or for what refuses its record
+-- why a `hist` of a name and a spec is refused: there is no record of the name and no block for one, or the first one has another spec
 abbrev pub IsHistCause : List ℕ → Spec → Refusal → Actor → Actor → Type 0
 IsHistCause name spec cause a b = LacksRecord name spec cause a b ⊎ ((cause ≡ why.OtherSpec) × HasOtherSpec name spec b.seen)
 
--- what it may do: it makes the record of the name and the spec that it asks for, where its actor has seen none of the name
+-- what it may do: it makes the record of the name and the spec that it asks for, if its actor has seen that there is none of the name
 abbrev pub serves_asked : Hist → Actor → SharedEffect → Type 0
 serves_asked h a (links made) = made ≡ made_of h
 serves_asked h a (raises words) =
     SawNoName h.asked.name.items a.seen
     × ((letters : List ℕ) × AreNameWords h.asked.name.items letters × (words ≡ BLOCK_HEADER + length (payload_words h.asked.name.items h.asked.spec letters)))
 
--- What a step says: it goes on; the record that was compared last, which lies in the segment, is the one that is asked for; or the call is
--- refused, and its actor may turn to another.
+-- What a step says: it continues; the record that was compared last, which lies in the segment, is the one that is asked for; or the call
+-- is refused, and its actor may turn to another.
 abbrev pub HistGives : Dimensions → Hist → HistStep → Actor → Actor → Type 0
 HistGives shape new More a b = FrameOfStep a b × DoesOnly false false (serves_asked new a) a b × IsHist shape new b
 HistGives shape new Done a b =
@@ -167,12 +167,12 @@ HistGives shape new Done a b =
 HistGives shape new (Refused cause) a b =
     FrameOfStep a b × DoesOnly false (is_full cause) (serves_asked new a) a b × IsFree b × IsHistCause new.asked.name.items new.asked.spec cause a b
 
--- what a step makes of the words, and of whatever actor stands so
+-- what a step makes of the words, and of any actor that runs the call
 abbrev pub HistSteps : Hist → List ℕ → Hist → List ℕ → HistStep → Type 0
 HistSteps old words new new_words said = (shape : Dimensions) (version : ℕ) (a : Actor) → length words ≡ shape.size → IsHist shape old a
     → StepsBy shape.size version a words new_words (HistGives shape new said a)
 
--- a `hist` that stands so somewhere, in so many words
+-- a `hist` that some actor runs, in a segment of `n` words
 abbrev pub IsSomeHist : ℕ → Hist → Type 0
 IsSomeHist n h = (shape : Dimensions) × (a : Actor) × (n ≡ shape.size) × IsHist shape h a
 
@@ -181,13 +181,13 @@ abbrev pub IsMakingRecord : HistStage → Type 0
 IsMakingRecord (Making making) = ⊤
 IsMakingRecord _ = ⊥
 
--- what becomes of it by what a step of the making of its record said: it goes on, or the same walk does, or it is refused
+-- what a step of making its record leads to: it continues, walks on from where it was, or is refused
 abbrev pub IsMade : Hist → MakingStep → Hist → HistStep → Type 0
 IsMade old made.More new result = (new ≡ old) × (result ≡ More)
 IsMade old made.Done new result = (new ≡ record old { stage = Walking }) × (result ≡ More)
 IsMade old (made.Refused cause) new result = (new ≡ old) × (result ≡ Refused cause)
 
--- It begins: it walks from the start of the list for a record of what is asked, where an actor may turn to it.
+-- It begins: it walks from the start of the list for a record of what is asked, and any free actor may turn to it.
 pub record IsHistBegun (shape : Dimensions) (asked : Asked) (new : Hist) : Type 0 where
   pub named : new.asked.name ≡ asked.name
   pub specified : new.asked.spec ≡ asked.spec

@@ -1,4 +1,4 @@
--- The word that the next event of an actor loads, where it is a load.
+-- The word that the next event of an actor loads, if it is a load.
 use Rattle.std.specs.Prelude.{ℕ, ◌+◌, ◌^◌, ◌&&◌, nat_lt, if◌then◌else◌, Option, Some, None}
 use mathlib.Core.Option as maybe
 use mathlib.Core.Option.{some, none}
@@ -34,13 +34,14 @@ use Rattle.hist_core.specs.Walk.{spot_of}
 abbrev pub loads : ℕ → Option ℕ
 loads at = load_of (Some (load at))
 
--- of a record that is being made: where it claims its words, and where it goes on the list
+-- the word that the making of a record loads next, when its words are claimed or when it is put on the list
 abbrev pub making_load : MakingStage → Option ℕ
 making_load (making.Allocating allocation) = load_of (alloc.next_event allocation)
 making_load (making.Filling at index) = None
 making_load (making.Publishing publishing) = load_of (publish.next_event publishing)
 
--- a search for a sample: the next of where its walk stands; the type, the histogram and the value of the record there; or where it makes one
+-- the word that a search for a sample loads next: the next of the block where its walk is; the type, the histogram or the value of a
+-- record; or a word for the sample that it makes
 abbrev pub sampling_load : Sampling → SamplingStage → Option ℕ
 sampling_load s sampling.Walking = loads (s.walk + BLOCK_NEXT)
 sampling_load s (sampling.LoadingType at) = loads (at + BLOCK_TYPE)
@@ -48,7 +49,7 @@ sampling_load s (sampling.LoadingHistogram at) = loads (at + SAMPLE_HISTOGRAM)
 sampling_load s (sampling.LoadingValue at of) = loads (at + SAMPLE_VALUE)
 sampling_load s (sampling.Making m) = making_load m.stage
 
--- an `add`: the single word, the counts reference, or where it claims words or looks for a sample
+-- the word that an `add` loads next: the single word, the counts reference, or a word of its claim or of its search for a sample
 abbrev pub add_load : Add → AddStage → Option ℕ
 add_load add adding.LoadingSingle = loads (add.histogram + HISTOGRAM_SINGLE)
 add_load add adding.LoadingCounts = loads (add.histogram + HISTOGRAM_COUNTS)
@@ -58,18 +59,20 @@ add_load add (adding.Allocating allocation) = load_of (alloc.next_event allocati
 add_load add (adding.Sampling s) = sampling_load s s.stage
 add_load add _ = None
 
--- the word of a record that is compared as number k; no record has so many that a number or a name has 2^60 words
+-- the word of a record that is compared as number k, if k and the words of the name are below 2^60, as in every record
 abbrev pub compared_load : Hist → ℕ → Option ℕ
 compared_load hist k =
     if nat_lt k (2 ^ 60) && nat_lt hist.letters (2 ^ 60) then loads (hist.reference + compared_index hist.letters k) else None
 
--- a `hist`: the next of where its walk stands, a word of the record there, or where it makes its record
+-- the word that a `hist` loads next: the next of the block where its walk is, a word of the record there, or a word for the record that it
+-- makes
 abbrev pub hist_load : Hist → HistStage → Option ℕ
 hist_load hist asking.Walking = loads (hist.walk + BLOCK_NEXT)
 hist_load hist (asking.Comparing same) = compared_load hist same
 hist_load hist (asking.Making m) = making_load m.stage
 
--- a `delta` of a histogram: the single word, the counts reference, a count, the words of its walk, the count of a sample, or the sum
+-- the word that a `delta` of a histogram loads next: the single word, the counts reference, a count, a word of its walk, the count of a
+-- sample, or the sum
 abbrev pub delta_load : ℕ → DeltaStage → Option ℕ
 delta_load histogram taking.LoadingSingle = loads (histogram + HISTOGRAM_SINGLE)
 delta_load histogram (taking.LoadingCounts packed kept) = loads (histogram + HISTOGRAM_COUNTS)
@@ -79,7 +82,8 @@ delta_load histogram (taking.LoadingSample at value) = loads (at + SAMPLE_COUNT)
 delta_load histogram taking.LoadingSum = loads (histogram + HISTOGRAM_SUM)
 delta_load histogram _ = None
 
--- a `snapshot` of a histogram: the same, and the redundant count
+-- the word that a `snapshot` of a histogram loads next: the single word, the counts reference, a count, a word of its walk, the count of a
+-- sample, the sum, or the redundant count
 abbrev pub snapshot_load : ℕ → SnapshotStage → Option ℕ
 snapshot_load histogram viewing.LoadingSingle = loads (histogram + HISTOGRAM_SINGLE)
 snapshot_load histogram (viewing.LoadingCounts packed kept) = loads (histogram + HISTOGRAM_COUNTS)
@@ -89,12 +93,12 @@ snapshot_load histogram (viewing.LoadingSample at value) = loads (at + SAMPLE_CO
 snapshot_load histogram viewing.LoadingSum = loads (histogram + HISTOGRAM_SUM)
 snapshot_load histogram (viewing.LoadingRedundant sum) = loads (histogram + HISTOGRAM_REDUNDANT)
 
--- a `batch`: that of the item which it counts next
+-- the word that a `batch` loads next: that of the item that it counts next
 abbrev pub item_load : maybe.Option Add → Option ℕ
 item_load none = None
 item_load (some add) = add_load add add.stage
 
--- a running call
+-- the word that a running call loads next
 abbrev pub running_load : Option Running → Option ℕ
 running_load (Some (runs.Hist hist)) = hist_load hist hist.stage
 running_load (Some (runs.Add add)) = add_load add add.stage
@@ -104,11 +108,11 @@ running_load (Some (runs.Snapshot snapshot_call)) = snapshot_load snapshot_call.
 running_load (Some runs.SetCorrupt) = None
 running_load None = None
 
--- an actor; one that is not there does nothing
+-- the word that an actor loads next; one that is not there loads none
 abbrev pub run_load : maybe.Option ActorRun → Option ℕ
 run_load none = None
 run_load (some actor_run) = running_load actor_run.running
 
--- of an actor of a world: the word
+-- the word that an actor of a world loads next
 abbrev pub next_load : WorldState → ℕ → Option ℕ
 next_load world_state actor = run_load (get_elem? world_state.actor_runs.items actor)

@@ -33,14 +33,15 @@ abbrev pub tag_of : Made → ℕ
 tag_of (Histogram name spec) = TYPE_HISTOGRAM
 tag_of (Sample histogram value) = TYPE_SAMPLE
 
--- A record is wanted: what it is to hold, how many words it has behind its header, and those of them that are stored, but for zeros.
+-- A record that is wanted: what it is to hold, how many words it has after its header, and the first of these, which are stored unless they
+-- are 0.
 pub record Wanted : Type 0 where
   pub made : Made
   pub room : ℕ
   pub payload : List ℕ
 
--- An actor may make it: its first word is not 0, and it fits in a page. Whichever front of it leaves out zeros alone says what the record
--- is to hold, and a block of its own that has the room may be published so.
+-- An actor may make it: its first word is not 0, and it fits in a page. Any front of it that leaves out only zeros says what the record is
+-- to hold, and a block of its own that has the room may be published so.
 pub record MayMake (shape : Dimensions) (wanted : Wanted) (a : Actor) : Type 0 where
   pub some : 0 < length wanted.payload
   pub first : slice_index wanted.payload 0 ≢ 0
@@ -51,7 +52,7 @@ pub record MayMake (shape : Dimensions) (wanted : Wanted) (a : Actor) : Type 0 w
 
 -- ---- what it stores
 
--- the front of a payload, up to its last word that was stored, while the words before an index are stored: those that are 0 are not
+-- the front of a payload, up to its last word that was stored, once the words before an index are stored: those that are 0 are not
 pub record IsFilledTo (payload : List ℕ) (index : ℕ) (front : List ℕ) : Type 0 where
   pub short : length front ≤ index
   pub words : front ++ replicate (index - length front) 0 ≡ take index payload
@@ -69,9 +70,9 @@ HasRecordBlock wanted at a own =
     (own_at a.hand.own at ≡ Some own) × (own.next ≡ 0) × (own.made ≡ Some wanted.made) × (own.tag ≡ tag_of wanted.made)
     × (BLOCK_HEADER + wanted.room ≤ own.size)
 
--- ---- where it stands
+-- ---- where it is
 
--- where its actor stands
+-- where its actor is
 abbrev pub StandsAtStage : Dimensions → Wanted → Actor → MakingStage → Type 0
 StandsAtStage shape wanted a (Allocating allocation) =
     FollowsAllocation a allocation × (is_some (alloc.next_event allocation) ≡ true) × (allocation.tag ≡ tag_of wanted.made)
@@ -91,9 +92,9 @@ pub record IsMaking (shape : Dimensions) (wanted : Wanted) (m : Making) (a : Act
   pub draft : MayMake shape wanted a
   pub stands : StandsAtStage shape wanted a m.stage
 
--- Why a block of so many words is refused, as the last event of the call makes it: the actor stood at a free pointer from which the words
--- pass the end of the segment, and has set the full flag for that; or it has loaded flags with the corrupt one. It has claimed and
--- published nothing by that.
+-- Why a block of this many words is refused, by the last event of the call: the actor held a free pointer from which the words pass the end
+-- of the segment, and has set the full flag for that; or it has loaded flags with the corrupt one. The event has claimed and published
+-- nothing.
 abbrev pub IsCause : Refusal → ℕ → Actor → Actor → Type 0
 IsCause why.Full words a b =
     (free : ℕ) × (a.hand.place ≡ FreeLoaded free) × (a.segment.shape.size < free + words)
@@ -106,24 +107,24 @@ abbrev pub is_full : Refusal → Bool
 is_full why.Full = true
 is_full cause = false
 
--- what it may do: it links the record, and raises the free pointer for the block of that
+-- what it may do: it links the record, and raises the free pointer for its block
 abbrev pub serves_wanted : Wanted → SharedEffect → Type 0
 serves_wanted wanted (links made) = made ≡ wanted.made
 serves_wanted wanted (raises words) = words ≡ BLOCK_HEADER + wanted.room
 
--- what a step says: it goes on; the record is on the list; or it is refused. Its actor may turn to another call then
+-- what a step says: it continues; the record is on the list; or it is refused. Its actor may turn to another call then
 abbrev pub MakingGives : Dimensions → Wanted → Making → MakingStep → Actor → Actor → Type 0
 MakingGives shape wanted new More a b = FrameOfStep a b × DoesOnly false false (serves_wanted wanted) a b × SeesNoMore a b × IsMaking shape wanted new b
 MakingGives shape wanted new Done a b = FrameOfStep a b × DoesOnly false false (serves_wanted wanted) a b × IsFree b
 MakingGives shape wanted new (Refused cause) a b =
     FrameOfStep a b × DoesOnly false (is_full cause) (serves_wanted wanted) a b × SeesNoMore a b × IsFree b × IsCause cause (BLOCK_HEADER + wanted.room) a b
 
--- what a step makes of the words, and of whatever actor stands so
+-- what a step makes of the words, and of any actor that makes the record
 abbrev pub MakingSteps : List ℕ → Making → List ℕ → Making → List ℕ → MakingStep → Type 0
 MakingSteps payload old words new new_words said = (shape : Dimensions) (version : ℕ) (wanted : Wanted) (a : Actor) → length words ≡ shape.size
     → wanted.payload ≡ payload → IsMaking shape wanted old a → StepsBy shape.size version a words new_words (MakingGives shape wanted new said a)
 
--- a record that is being made somewhere, in so many words
+-- a record that some actor makes, in a segment of `n` words
 abbrev pub IsSomeMaking : ℕ → List ℕ → Making → Type 0
 IsSomeMaking n payload m = (shape : Dimensions) × (wanted : Wanted) × (a : Actor) × (n ≡ shape.size) × (wanted.payload ≡ payload) × IsMaking shape wanted m a
 
@@ -138,7 +139,7 @@ abbrev pub IsAllocating : MakingStage → Type 0
 IsAllocating (Allocating allocation) = ⊤
 IsAllocating _ = ⊥
 
--- what becomes of it by what a step of its allocation said: it goes on, or stores the payload in its block, or is refused
+-- what a step of its allocation leads to: it continues, or stores the payload in its block, or is refused
 abbrev pub IsAllocated : Making → AllocStep → Making → MakingStep → Type 0
 IsAllocated old said.More new result = (new ≡ old) × (result ≡ More)
 IsAllocated old (said.Done at) new result = (new ≡ record { stage = Filling at 0 }) × (result ≡ More)

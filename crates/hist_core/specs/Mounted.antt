@@ -35,12 +35,12 @@ pub record HasWord (known : Known) (word : ℕ) (a : Actor) : Type 0 where
 abbrev pub look_at : Known → Mounted → ℕ → Look
 look_at known mounted word = record { histogram = known.reference; single = Some word; counts = mounted.counts }
 
--- it stands at the counts: before them, or at one of them
+-- it is at the counts: before them, or at one of them
 abbrev pub StandsAt : Actor → Look → Known → Type 0
 StandsAt a look known =
     LooksOff a look known ⊎ ((bucket count : ℕ) × (a.hand.place ≡ CountLoaded look bucket count) × Buckets a look.histogram known)
 
--- It has loaded the counts reference too, since the single word is off, and stands at the counts.
+-- It has loaded the counts reference too, since the single word is off, and is at the counts.
 pub record AreMounted (known : Known) (mounted : Mounted) (word : ℕ) (a : Actor) : Type 0 where
   pub began : BeganBefore a
   pub saw : SawSingle a (known.reference + HISTOGRAM_SINGLE) word
@@ -52,7 +52,7 @@ pub record AreMounted (known : Known) (mounted : Mounted) (word : ℕ) (a : Acto
   pub used : mounted.counts ≢ 0
   pub within : mounted.counts + (BLOCK_HEADER + 2 * buckets_of known.spec) ≤ a.segment.shape.size
 
--- it has loaded the count of a bucket, which has so many units
+-- it has loaded the count of a bucket, which has this many units
 abbrev pub HasLoaded : Known → Mounted → ℕ → ℕ → ℕ → Actor → Type 0
 HasLoaded known mounted word bucket total a =
     ((count : ℕ) × (a.hand.place ≡ CountLoaded (look_at known mounted word) bucket count)

@@ -21,7 +21,7 @@ pub record IsBegun (actor : ℕ) (call : Call) (old new : WorldState) (said : Be
   pub says : BeginSays actor call old new said
   pub leads : (start : Start) (state : State) → IsReachedAs start old state → BeginsFrom start state actor new
 
--- an actor goes on with its call by one event, and the call says this: nothing is wrong with it, and all other actors stay
+-- an actor performs the next event of its call, and the call says this: nothing is wrong with it, and all other actors stay
 pub record IsStepped (actor : ℕ) (old new : WorldState) (said : Stepped) : Type 0 where
   pub lawful : first_fault (step_checks old actor) ≡ None
   pub others : OthersStay actor old new
@@ -60,20 +60,20 @@ LeadsTo size page id actors version moves last =
     (first_fault (world_checks size page actors version) ≡ None)
     × ((first : WorldState) × IsNewWorldState (record { size = size; page = page }) version id actors first × MakesAll moves first last)
 
--- The first fault: that of the new world, or that there was no memory for it; or that of a move, where the moves before it have none.
+-- The first fault: that of the new world, or that there was no memory for it; or that of a move, if the moves before it have none.
 abbrev pub MovesStopWith : (size page id actors version : ℕ) → List Move → WorldFault → Type 0
 MovesStopWith size page id actors version moves fault = MatchOption (first_fault (world_checks size page actors version))
     ((fault ≡ NoMemory) ⊎ ((first : WorldState) × IsNewWorldState (record { size = size; page = page }) version id actors first × StopsAtMove moves first fault))
     (λ why. fault ≡ why)
 
--- ---- from an image on
+-- ---- continued from an image
 
--- the moves lead from a world that goes on with an image to a last one
+-- the moves lead from a world that continues from an image to a last one
 abbrev pub LeadsOn : (words : List ℕ) (actors : ℕ) → List Move → WorldState → Type 0
 LeadsOn words actors moves last =
     (first_fault (actor_checks actors) ≡ None) × ((first : WorldState) × IsAdoptedWorldState words actors first × MakesAll moves first last)
 
--- The first fault: that of the actors, of the image, or that there was no memory; or that of a move, where the moves before it have none.
+-- The first fault: that of the actors, of the image, or that there was no memory; or that of a move, if the moves before it have none.
 abbrev pub StopsOn : (words : List ℕ) (actors : ℕ) → List Move → WorldFault → Type 0
 StopsOn words actors moves fault = MatchOption (first_fault (actor_checks actors))
     (IsAdoptFault words fault ⊎ ((first : WorldState) × IsAdoptedWorldState words actors first × StopsAtMove moves first fault))

@@ -1,4 +1,4 @@
--- The search for the sample of a value of a sparse histogram: a walk on from the histogram's record, which makes a sample where there is none.
+-- The search for the sample of a value of a sparse histogram: a walk from the histogram's record, which makes a sample if there is none.
 use Rattle.std.specs.Prelude.{◌≡◌, ◌≢◌, ◌⊎◌, ◌==◌, Bool, true, false, ℕ, ◌+◌, ◌≤◌, ℤ, List, [], ◌∷◌, ◌++◌, length, if◌then◌else◌, Some, ⊤}
 use Rattle.std.specs.Int.{w64, cast_unsigned}
 use Rattle.std.specs.List.{All}
@@ -25,19 +25,19 @@ use Rattle.hist_core.specs.StepsBy.{SharedEffect, links, raises, DoesOnly, Frame
 use Rattle.hist_core.specs.Walk.{SawSampleRecord}
 use Rattle.hist_core.specs.Making.{IsCause, IsMaking, Wanted, is_full}
 
--- ---- what it makes where there is none
+-- ---- what it makes if there is none
 
 -- the sample of its value, with a count and a mark of 0
 abbrev pub wanted_of : Sampling → Wanted
 wanted_of s = record { made = Sample s.histogram s.value; room = 4; payload = s.histogram ∷ cast_unsigned w64 s.value ∷ [] }
 
--- ---- where it stands
+-- ---- where it is
 
 -- none of these records is a sample of its value
 abbrev pub HaveOthers : Sampling → Actor → List ℕ → Type 0
 HaveOthers s a records = All (SawOther a.seen s.histogram s.value) records
 
--- It stands at a record behind the histogram's, within the segment. None of those between is a sample of its value.
+-- It is at a record after the histogram's, within the segment. None of those between is a sample of its value.
 pub record StandsAtRecord (shape : Dimensions) (s : Sampling) (at : ℕ) (a : Actor) (behind : List ℕ) : Type 0 where
   pub free : IsFree a
   pub passed : List ℕ
@@ -45,7 +45,7 @@ pub record StandsAtRecord (shape : Dimensions) (s : Sampling) (at : ℕ) (a : Ac
   pub others : HaveOthers s a passed
   pub within : at + BLOCK_LEAST ≤ shape.size
 
--- Where its actor stands, whose walk has given these records behind the histogram's.
+-- Where its actor is, whose walk has given these records after the histogram's.
 abbrev pub StandsAtStage : Dimensions → Sampling → Actor → List ℕ → SamplingStage → Type 0
 StandsAtStage shape s a behind Walking = IsFree a × HaveOthers s a behind
 StandsAtStage shape s a behind (LoadingType at) = StandsAtRecord shape s at a behind
@@ -59,8 +59,8 @@ abbrev pub IsMakingSample : SamplingStage → Type 0
 IsMakingSample (Making making) = ⊤
 IsMakingSample _ = ⊥
 
--- Its actor knows a sparse histogram there. Its walk has given the front of the chain that its actor has seen, on to the histogram's record
--- and behind it. While it makes its sample that is all that its actor has met, up to the end of the list.
+-- Its actor knows a sparse histogram there. Its walk has given the front of the chain that its actor has seen, up to the histogram's record
+-- and after it. While it makes its sample, these are all that its actor has visited, up to the end of the list.
 pub record IsSampling (shape : Dimensions) (s : Sampling) (a : Actor) : Type 0 where
   pub shaped : s.shape ≡ shape
   pub segment : a.segment.shape ≡ shape
@@ -76,7 +76,7 @@ pub record IsSampling (shape : Dimensions) (s : Sampling) (a : Actor) : Type 0 w
   pub whole : IsMakingSample s.stage → (front ++ s.histogram ∷ behind ≡ a.seen.chain) × SawEnd a.seen
   pub stands : StandsAtStage shape s a behind s.stage
 
--- it has seen the list to its end, and that no record behind that of a histogram is a sample of a value
+-- it has seen the list to its end, and that no record after that of a histogram is a sample of a value
 abbrev pub SawNoSample : ℕ → ℤ → Seen → Type 0
 SawNoSample histogram value seen =
     (front behind : List ℕ) × (seen.chain ≡ front ++ histogram ∷ behind) × All (SawOther seen histogram value) behind × SawEnd seen
@@ -86,7 +86,7 @@ abbrev pub serves_sample : Sampling → Actor → SharedEffect → Type 0
 serves_sample s a (links made) = made ≡ Sample s.histogram s.value
 serves_sample s a (raises words) = (words ≡ SAMPLE_LEAST) × SawNoSample s.histogram s.value a.seen
 
--- What a step says: it goes on; the first sample of the value stands there, within the segment; or it is refused. Its actor may turn to
+-- What a step says: it continues; the first sample of the value is there, within the segment; or it is refused. Its actor may turn to
 -- something else then.
 abbrev pub SamplingGives : Dimensions → Sampling → SamplingStep → Actor → Actor → Type 0
 SamplingGives shape new More a b = FrameOfStep a b × DoesOnly false false (serves_sample new a) a b × IsSampling shape new b
@@ -96,12 +96,12 @@ SamplingGives shape new (Refused cause) a b =
     FrameOfStep a b × DoesOnly false (is_full cause) (serves_sample new a) a b × IsFree b × IsCause cause SAMPLE_LEAST a b
     × SawNoSample new.histogram new.value b.seen
 
--- what a step makes of the words, and of whatever actor stands so
+-- what a step makes of the words, and of any actor that runs the search
 abbrev pub SamplingSteps : Sampling → List ℕ → Sampling → List ℕ → SamplingStep → Type 0
 SamplingSteps old words new new_words said = (shape : Dimensions) (version : ℕ) (a : Actor) → length words ≡ shape.size
     → IsSampling shape old a → StepsBy shape.size version a words new_words (SamplingGives shape new said a)
 
--- a search that stands so somewhere, in so many words
+-- a search that some actor runs, in a segment of `n` words
 abbrev pub IsSomeSampling : ℕ → Sampling → Type 0
 IsSomeSampling n s = (shape : Dimensions) × (a : Actor) × (n ≡ shape.size) × IsSampling shape s a
 
@@ -124,7 +124,7 @@ abbrev pub IsIts : Sampling → ℕ → ℕ → Bool → Type 0
 IsIts s of word true = (of ≡ s.histogram) × (word ≡ cast_unsigned w64 s.value)
 IsIts s of word false = (of ≢ s.histogram) ⊎ (word ≢ cast_unsigned w64 s.value)
 
--- what becomes of it by what a step of the making of its sample said: it goes on, or the same walk does, or it is refused
+-- what a step of making its sample leads to: it continues, walks on from where it was, or is refused
 abbrev pub IsMade : Sampling → MakingStep → Sampling → SamplingStep → Type 0
 IsMade old made.More new result = (new ≡ old) × (result ≡ More)
 IsMade old made.Done new result = (new ≡ record old { stage = Walking }) × (result ≡ More)

@@ -1,4 +1,4 @@
--- A snapshot that is going on.
+-- A running snapshot.
 use Rattle.std.specs.Prelude.{◌≡◌, ◌≢◌, ◌⊎◌, ◌==◌, true, false, nat_lt, ℕ, ◌+◌, ◌-◌, ◌/◌, ◌<◌, ◌≤◌, ℤ, List, [], ◌∷◌, ◌++◌, map, length, if◌then◌else◌, Some, None, vec_capacity}
 use Rattle.std.specs.List.{All, Contains, range_with_len}
 use mathlib.Core.Option.{some}
@@ -40,19 +40,19 @@ use Rattle.hist_core.specs.Walk.{IsSampleWalkProgress, MetSample, WalksAt}
 abbrev pub SawTotalsBefore : Known → List (ℤ × ℕ) → ℕ → Actor → Type 0
 SawTotalsBefore known totals bucket a = (i : ℕ) (total : ℤ × ℕ) → i < bucket → get_elem? totals i ≡ some total → SawBucket a known i total.1
 
--- of all buckets
+-- its actor saw these totals of all buckets
 abbrev pub SawTotals : Known → List (ℤ × ℕ) → Actor → Type 0
 SawTotals known totals a = (i : ℕ) (total : ℤ × ℕ) → get_elem? totals i ≡ some total → SawBucket a known i total.1
 
--- ---- where it stands
+-- ---- where it is
 
--- of a histogram with buckets it has a total for each of them, beside its key
+-- of a histogram with buckets it has a total for each of them, with its key
 pub record HasKeys (known : Known) (snapshot_call : SnapshotCall) : Type 0 where
   pub bucketed : has_buckets known.spec ≡ true
   pub keys : map (λ total. total.0) snapshot_call.totals.items ≡ map (bucket_key (Some known)) (range_with_len 0 (buckets_of known.spec))
   pub buckets : length snapshot_call.totals.items ≡ buckets_of known.spec
 
--- it saw the count of a sample, and has listed its value where that is not 0
+-- it saw the count of a sample, and has listed its value if that count is not 0
 abbrev pub HasListed : List (ℤ × ℕ) → Actor → ℤ → ℕ → Type 0
 HasListed listed a value sample =
     (count : ℕ) × SawCount a (sample + SAMPLE_COUNT) count × ((count ≡ 0) ⊎ Contains (map (λ count. count.0) listed) value)
@@ -86,7 +86,7 @@ abbrev pub SawTotalsOf : Known → SnapshotCall → Actor → Type 0
 SawTotalsOf known snapshot_call a =
     (HasKeys known snapshot_call × SawTotals known snapshot_call.totals.items a) ⊎ HasSeenAll known snapshot_call.totals.items a
 
--- Where its actor stands.
+-- Where its actor is.
 abbrev pub StandsAtStage : Dimensions → Known → SnapshotCall → Actor → SnapshotStage → Type 0
 StandsAtStage shape known snapshot_call a LoadingSingle = HasKeys known snapshot_call × All (λ total. total.1 ≡ 0) snapshot_call.totals.items
 StandsAtStage shape known snapshot_call a (LoadingCounts packed kept) =
@@ -100,7 +100,7 @@ StandsAtStage shape known snapshot_call a LoadingSum = SawTotalsOf known snapsho
 StandsAtStage shape known snapshot_call a (LoadingRedundant sum) =
     SawTotalsOf known snapshot_call a × BeganBefore a × (a.hand.place ≡ SumLoaded known.reference sum)
 
--- Its actor is a recorder that knows the histogram, which alone has its reference there, and counts and takes nothing.
+-- Its actor is a recorder that knows the histogram, as the only one with its reference, and counts and takes nothing.
 pub record IsSnapshotCall (shape : Dimensions) (known : Known) (snapshot_call : SnapshotCall) (a : Actor) : Type 0 where
   pub segment : a.segment.shape ≡ shape
   pub version : a.segment.version ≡ snapshot_call.version
@@ -136,14 +136,14 @@ HasJustBegun stage = (stage ≡ LoadingSingle) ⊎ (stage ≡ Walking LoadingFir
 
 -- ---- what a step makes of its actor
 
--- Its first event looks anew: what its actor saw before counts no more. No other event of it changes since when it looks.
+-- Its first event sets since when it looks: what its actor saw before no longer counts. No other event changes that.
 abbrev pub LooksAnew : SnapshotStage → Actor → Actor → Type 0
 LooksAnew LoadingSingle a b = b.since ≡ (looking a).since
 LooksAnew (Walking LoadingFirst) a b = b.since ≡ (looking a).since
 LooksAnew stage a b = b.since ≡ a.since
 
 -- It has ended: what its actor saw of the histogram since it began is its answer, and the last of its actor's snapshots; the values of a
--- sparse histogram ascend, each with units. Else an event has left all as it was.
+-- sparse histogram ascend, each with units. For the rest it leaves unchanged what every event does (`FrameOfStep`).
 pub record SnapshotHasEnded (known : Known) (snapshot_call : SnapshotCall) (sum : ℤ) (redundant : ℕ) (a b : Actor) : Type 0 where
   pub beside : FrameOfStep a (record b { deltas = a.deltas })
   pub answered : Answered
@@ -155,21 +155,22 @@ pub record SnapshotHasEnded (known : Known) (snapshot_call : SnapshotCall) (sum 
   pub saw : SawAll b known answered
   pub values : known.spec ≡ Sparse → AreUnits snapshot_call.totals.items
 
--- What a step says: it goes on; or it has ended, and its actor may turn to another call. It does nothing to the segment for all to see.
+-- What a step says: it continues; or it has ended, and its actor may turn to another call. It does nothing to the segment that others can
+-- see.
 abbrev pub SnapshotCallGives : Dimensions → Known → SnapshotStage → SnapshotCall → SnapshotCallStep → Actor → Actor → Type 0
 SnapshotCallGives shape known stage new More a b = FrameOfStep a b × (b.done ≡ a.done) × LooksAnew stage a b × IsSnapshotCall shape known new b
 SnapshotCallGives shape known stage new (Done sum redundant) a b = IsFree b × (b.done ≡ a.done) × LooksAnew stage a b × SnapshotHasEnded known new sum redundant a b
 
--- what a step makes of the words, and of whatever actor stands so
+-- what a step makes of the words, and of any actor that runs the call
 abbrev pub SnapshotCallSteps : SnapshotCall → List ℕ → SnapshotCall → List ℕ → SnapshotCallStep → Type 0
 SnapshotCallSteps old words new new_words said = (shape : Dimensions) (known : Known) (a : Actor) → length words ≡ shape.size
     → WalksInOrder a → IsSnapshotCall shape known old a → StepsBy shape.size old.version a words new_words (SnapshotCallGives shape known old.stage new said a)
 
--- a snapshot that stands so somewhere, in so many words
+-- a snapshot that some actor runs, in a segment of `n` words
 abbrev pub IsSomeSnapshotCall : ℕ → SnapshotCall → Type 0
 IsSomeSnapshotCall n snapshot_call = (shape : Dimensions) × (known : Known) × (a : Actor) × (n ≡ shape.size) × IsSnapshotCall shape known snapshot_call a
 
--- a snapshot that stands so somewhere does this next
+-- a snapshot that some actor runs is at this stage
 pub record IsAtStage (stage : SnapshotStage) (n : ℕ) (snapshot_call : SnapshotCall) : Type 0 where
   pub next : snapshot_call.stage ≡ stage
   pub stands : ∥ IsSomeSnapshotCall n snapshot_call ∥₁
@@ -177,7 +178,7 @@ pub record IsAtStage (stage : SnapshotStage) (n : ℕ) (snapshot_call : Snapshot
 
 -- ---- what it does next
 
--- the total of a bucket is another, and all else is as it was
+-- the total of a bucket is this now, and all else is unchanged
 pub record IsTotalPut (bucket total : ℕ) (old new : SnapshotCall) : Type 0 where
   pub same : new ≡ record old { totals = new.totals }
   pub long : length new.totals.items ≡ length old.totals.items
@@ -193,7 +194,7 @@ pub record ArePackedTotals (version word : ℕ) (old new : List (ℤ × ℕ)) : 
       → (x.1 ≡ units_packed (single_of version (length old) word) i)
       ⊎ ((packed_bucket (single_of version (length old) word) ≢ Some i) × (get_elem? old i ≡ some x))
 
--- what a single word leads to: the counts, where they are in use; else the sum, with the units that the word holds
+-- what a single word leads to: the counts, if they are in use; else the sum, with the units that the word holds
 abbrev pub IsBehindSingle : SnapshotCall → ℕ → SnapshotCall → SnapshotStage → Type 0
 IsBehindSingle old word new (LoadingCounts packed kept) =
     (is_off word ≡ true) × SaysPacked old.version (length old.totals.items) word packed kept × (kept ≤ 65535)
@@ -203,17 +204,18 @@ IsBehindSingle old word new LoadingSum =
     × (new ≡ record old { totals = new.totals; stage = LoadingSum })
 IsBehindSingle old word new _ = ⊥
 
--- behind a bucket comes the next, and behind the last one the sum
+-- after a bucket comes the next, and after the last one the sum
 abbrev pub behind_bucket : ℕ → Mounted → ℕ → SnapshotStage
 behind_bucket buckets mounted bucket = if nat_lt (bucket + 1) buckets then LoadingCount mounted (bucket + 1) else LoadingSum
 
--- What its walk met leads to: it goes on, or to the count of a sample; at the end of the list the totals are sorted, and the sum comes.
+-- What a step of its walk leads to: the next step, or the count of a sample; at the end of the list the totals are sorted, and the sum is
+-- next.
 abbrev pub IsBehindWalk : SnapshotCall → Met → SnapshotCall → Type 0
 IsBehindWalk old (Nothing walk) new = new ≡ record old { stage = Walking walk }
 IsBehindWalk old (Sample at value) new = new ≡ record old { stage = LoadingSample at value }
 IsBehindWalk old End new = AreSorted old.totals.items new.totals.items × (new ≡ record old { totals = new.totals; stage = LoadingSum })
 
--- the units of a value are listed, where it has some
+-- the units of a value are listed, if it has some
 pub record IsValueListed (value : ℤ) (count : ℕ) (old new : SnapshotCall) : Type 0 where
   pub same : new ≡ record old { totals = new.totals }
   pub items : new.totals.items ≡ old.totals.items ++ listed_of (if count == 0 then None else Some (value, count))

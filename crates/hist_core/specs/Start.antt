@@ -1,4 +1,4 @@
--- What a world starts with: a new segment, or an image that goes on.
+-- What a world starts with: a new segment, or an image that is continued.
 use Rattle.std.specs.Prelude.{◌≡◌, ◌⊎◌, ℕ, List, [], ◌∷◌}
 use Rattle.segment_image.specs.declared.layout.TheConstants.{VERSION_FROZEN}
 use Rattle.segment_image.specs.Head.{head_of}
@@ -19,7 +19,7 @@ pub record Start : Type 0 where
   pub words : List ℕ
   pub opener : Actor
 
--- its state: the opener stands alone, and there are no shared cursors
+-- its state: the opener is the only actor, and there are no shared cursors
 abbrev pub start_state : Start → State
 start_state start = record { words = start.words; cursors = []; actors = start.opener ∷ [] }
 
@@ -31,8 +31,8 @@ new_start shape version id = record {
   opener = opener_of shape version 0;
 }
 
--- The words of an image that may be adopted, with the references on its list: the opener stands for what they read as along it. The
--- blocks are those of the words, with which they are kept.
+-- The words of an image that may be adopted, with the references on its list: the opener stands for what they read as along it. The blocks
+-- are those of the words, and the invariant holds of them.
 pub record IsImageStart (words references : List ℕ) (start : Start) : Type 0 where
   pub listed : IsListed words (head_of words) references
   pub adoptable : IsAdoptable words references (reading_along words (head_of words) references)
@@ -43,7 +43,7 @@ pub record IsImageStart (words references : List ℕ) (start : Start) : Type 0 w
   pub kept : Invariant (head_of words).shape start.opened (start_state start)
   pub opens : IsOpening (head_of words).shape start.opened
 
--- a lawful shape and version, and a new segment of these
+-- a valid shape and version, and a new segment of these
 abbrev pub IsNewStart : Dimensions → ℕ → Start → Type 0
 IsNewStart shape version start = (id : ℕ) × IsShape shape × ((version ≡ 1) ⊎ (version ≡ 2)) × (start ≡ new_start shape version id)
 

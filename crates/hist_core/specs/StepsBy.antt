@@ -1,4 +1,4 @@
--- How an actor goes on by one event.
+-- How an actor performs one event.
 use Rattle.std.specs.Prelude.{◌≡◌, ◌≢◌, ◌≤◌, Bool, true, false, ◌||◌, ℕ, ◌+◌, List, ◌++◌}
 use Rattle.std.specs.List.{All, Contains}
 use Rattle.segment_image.specs.Words.{word_at}
@@ -20,8 +20,8 @@ use Rattle.segment_machine.specs.Taking.{is_looking}
 use Rattle.segment_promises.specs.Calls.{SamplesStandBehind}
 use Rattle.segment_promises.specs.Values.{NoRepeats}
 
--- What an event leaves as it was: its role, its segment, its units and entries, its deltas, and the names that it was answered with.
--- Of the chain and of the words of records it has seen no less.
+-- What an event leaves unchanged of its actor: the role, the segment, the units, the entries, the deltas, and the known names. Of the chain
+-- and of the words of records its actor has seen no less.
 pub record FrameOfStep (a b : Actor) : Type 0 where
   pub role : b.role ≡ a.role
   pub segment : b.segment ≡ a.segment
@@ -32,31 +32,31 @@ pub record FrameOfStep (a b : Actor) : Type 0 where
   pub chain : IsPrefix a.seen.chain b.seen.chain
   pub words : (more : List Sighting) × (b.seen.words ≡ a.seen.words ++ more)
 
--- What an event may do to the segment for all to see, besides setting a flag: it links a record that is to hold this, or raises the free
--- pointer for a block that wants so many words.
+-- What an event may do to the segment that others can see, except for setting a flag: it links a record that is to hold this, or raises the
+-- free pointer for a block of this many words.
 pub data SharedEffect : Type 0 where
   links : Made → SharedEffect
   raises : ℕ → SharedEffect
 
--- What an event does to the segment for all to see: it sets the corrupt flag and the full one where that is said and not else, and it links
--- no record and raises the free pointer for no block but as it may.
+-- What an event does to the segment that others can see: it sets the corrupt flag and the full one exactly if `corrupt` and `full` say so,
+-- and it links a record or raises the free pointer for a block only as it may.
 pub record DoesOnly (corrupt full : Bool) (may : SharedEffect → Type 0) (a b : Actor) : Type 0 where
   pub spoiled : b.done.spoiled ≡ (corrupt || a.done.spoiled)
   pub filled : b.done.filled ≡ (full || a.done.filled)
   pub linked : (more : List Published) × (b.done.published ≡ a.done.published ++ more) × All (λ (p : Published). may (links p.made)) more
   pub raised : (more : List Rise) × (b.done.raised ≡ a.done.raised ++ more) × All (λ (r : Rise). may (raises r.wanted)) more
 
--- On the list as far as it walked no block stands twice, and each sample stands behind the record of its histogram.
+-- On the list, as far as it has walked, no block comes twice, and each sample comes after the record of its histogram.
 pub record IsInOrder (a : Actor) : Type 0 where
   pub once : NoRepeats a.seen.chain
   pub behind : SamplesStandBehind a
 
--- so it is for who has not been joined
+-- an actor that has not been joined has walked in order
 abbrev pub WalksInOrder : Actor → Type 0
 WalksInOrder a = a.hand.place ≢ Spent → IsInOrder a
 
--- An actor goes on by one event in words of a segment: it does an event that it may do, with notes before it and, once it has learned of
--- the number that was found, behind it; the words become what the event makes of them; and then something holds of it.
+-- An actor performs one event on the words of a segment: it does an event for which it is ready, with notes before it and, once it has
+-- learned the number that was found, after it; the words become what the event makes of them; and then `holds` is true of it.
 pub record StepsBy (size version : ℕ) (a : Actor) (words new_words : List ℕ) (holds : Actor → Type 0) : Type 0 where
   pub before : List Note
   pub at : Actor
@@ -68,12 +68,12 @@ pub record StepsBy (size version : ℕ) (a : Actor) (words new_words : List ℕ)
       → WalksInOrder (next at event (word_at words (spot size event)))
       → (behind : List Note) × (then_is : Actor) × Notes (next at event (word_at words (spot size event))) behind then_is × holds then_is
 
--- it has loaded a free pointer, and has not gone on from there
+-- it holds a free pointer that it has loaded
 abbrev pub has_pointer : Place → Bool
 has_pointer (FreeLoaded free) = true
 has_pointer place = false
 
--- in the midst of a part of a call, at the single word or the counts of a histogram, or at a free pointer
+-- in the middle of a part of a call: at the single word or the counts of a histogram, or at a free pointer
 abbrev pub is_tied : Place → Bool
 is_tied place = is_bound place || (is_looking place || has_pointer place)
 
@@ -81,20 +81,20 @@ is_tied place = is_bound place || (is_looking place || has_pointer place)
 abbrev pub IsFree : Actor → Type 0
 IsFree a = is_tied a.hand.place ≡ false
 
--- it has met the record of each histogram that it knows
+-- it has visited the record of each histogram that it knows
 abbrev pub HasMetKnown : Actor → Type 0
 HasMetKnown a = (known : Known) → Contains a.answers.names known → Contains a.seen.chain known.reference
 
--- It has seen the list to its end: the next of the last record that it has met on it, or of the queue block where it has met none, was the
--- end of the list when it loaded that.
+-- It has seen the list to its end: the next of the last record that it has visited on it, or of the queue block if it has visited none, was
+-- the end of the list when it loaded that.
 abbrev pub SawEnd : Seen → Type 0
 SawEnd seen = Contains seen.ends (stands_behind seen.chain + BLOCK_NEXT)
 
--- of the list and of single words it has seen as much as before
+-- of the list and of single words it has seen no more than before
 abbrev pub SeesNoMore : Actor → Actor → Type 0
 SeesNoMore a b = (b.seen.chain ≡ a.seen.chain) × (b.seen.ends ≡ a.seen.ends) × (b.seen.singles ≡ a.seen.singles)
 
--- the record of a histogram lies in so many words, which are few
+-- the record of a histogram lies within `n` words, which are at most 2^20
 pub record LiesWithin (n histogram : ℕ) : Type 0 where
   pub within : histogram + HISTOGRAM_NAME ≤ n
   pub few : n ≤ 1048576

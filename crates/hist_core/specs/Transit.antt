@@ -19,7 +19,7 @@ CountsInRecord histogram (Some (Add add)) = add.histogram ≡ histogram
 CountsInRecord histogram (Some (Batch batch)) = batch.histogram ≡ histogram
 CountsInRecord histogram running = ⊥
 
--- An actor that has disabled a single word, and has its units to move, runs a call that counts in just that histogram.
+-- An actor that has disabled a single word, and has its units to move, runs a call that counts in that same histogram.
 abbrev pub MoveTheirOwn : WorldState → Type 0
 MoveTheirOwn world_state = (start : Start) (state : State) → IsReachedAs start world_state state → (actor : ℕ) (actor_run : ActorRun) (recorder : Actor)
     → get_elem? world_state.actor_runs.items actor ≡ some actor_run → get_elem? state.actors (actor + 1) ≡ some recorder

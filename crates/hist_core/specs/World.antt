@@ -1,4 +1,4 @@
--- What a world shows, and why it takes no move.
+-- What a world shows, and why it does not make a move.
 use Rattle.std.specs.List.{list_any}
 use Rattle.std.specs.Str.{bytes_eq}
 use Rattle.hist_core.specs.declared.hist.KnownHist.{KnownHist}
@@ -23,9 +23,9 @@ use Rattle.hist_core.specs.declared.call.Begun.{Begun}
 use Rattle.segment_calls.specs.declared.call.Call.{Call}
 use Rattle.segment_calls.specs.declared.call.Call.TheVariants.{Hist, Add, Delta, Snapshot, Batch, SetCorrupt}
 
--- ---- what it shows of an actor, where that is there
+-- ---- what it shows of an actor, if that is there
 
--- a list that is shown of an actor; none is shown where there is no such actor
+-- a list that is shown of an actor; none is shown if there is no such actor
 abbrev pub of_actor : {X : Type 0} → (ActorRun → List X) → Option ActorRun → List X
 of_actor shown none = []
 of_actor shown (some actor_run) = shown actor_run
@@ -44,7 +44,7 @@ taken_of world_state actor = of_actor (λ actor_run. actor_run.taken.items) (get
 
 -- ---- what can be wrong
 
--- with a new world: its page, its size, the number of its actors, its version
+-- what can be wrong with a new world: its page, its size, the number of its actors, its version
 abbrev pub world_checks : ℕ → ℕ → ℕ → ℕ → List (Bool × WorldFault)
 world_checks size page actors version =
     (not (is_page page), BadShape)
@@ -53,11 +53,11 @@ world_checks size page actors version =
     ∷ (not (version == 1) && not (version == 2), BadShape)
     ∷ []
 
--- with a world that goes on with an image, before that is looked at: the number of its actors
+-- what can be wrong with a world that continues from an image, before the image is checked: the number of its actors
 abbrev pub actor_checks : ℕ → List (Bool × WorldFault)
 actor_checks actors = ((actors == 0) || nat_lt 64 actors, BadShape) ∷ []
 
--- Why an image is not gone on with: the first fault of it that holds, or there was no memory.
+-- Why an image is not continued: the first fault of it that holds, or there was no memory.
 abbrev pub IsAdoptFault : List ℕ → WorldFault → Type 0
 IsAdoptFault words NoMemory = ⊤
 IsAdoptFault words (Adopt adopt.NoMemory) = ⊥
@@ -74,7 +74,7 @@ abbrev pub rests : Option ActorRun → Bool
 rests none = false
 rests (some actor_run) = not (is_some actor_run.running)
 
--- the name of the histogram that a call is of, where its actor has to know that
+-- the name of the histogram that a call is of, if its actor has to know that
 abbrev pub named_by : Call → Option (List ℕ)
 named_by (Add name value count) = some name.items
 named_by (Delta name) = some name.items
@@ -83,21 +83,22 @@ named_by (Batch name items sum) = some name.items
 named_by (Hist name spec) = none
 named_by SetCorrupt = none
 
--- an actor that is there does not know the histogram of that name
+-- none of these known histograms has that name, if a name is given
 abbrev pub lacks_name : List KnownHist → Option (List ℕ) → Bool
 lacks_name list none = false
 lacks_name list (some name) = not (list_any (λ known. bytes_eq known.name.items name) list)
 
--- the same of an actor, if it is there
+-- an actor that is there knows no histogram of that name, if a name is given
 abbrev pub lacks : Option ActorRun → Option (List ℕ) → Bool
 lacks none name = false
 lacks (some actor_run) name = lacks_name actor_run.known.items name
 
--- with the begin of any call: there is no such actor, or a call of it is going on
+-- what can be wrong with the begin of any call: there is no such actor, or a call of it is running
 abbrev pub rest_checks : WorldState → ℕ → List (Bool × WorldFault)
 rest_checks world_state actor = (nat_le (vec_len world_state.actor_runs) actor, NoActor) ∷ (runs (get_elem? world_state.actor_runs.items actor), Busy) ∷ []
 
--- where it is of the histogram of a name, also: it does not know that
+-- what can be wrong with the begin of a call of the histogram of a name, or of none: there is no such actor, a call of it is running, or it
+-- does not know that histogram
 abbrev pub name_checks : WorldState → ℕ → Option (List ℕ) → List (Bool × WorldFault)
 name_checks world_state actor name =
     (nat_le (vec_len world_state.actor_runs) actor, NoActor)
@@ -109,13 +110,13 @@ name_checks world_state actor name =
 abbrev pub begin_checks : WorldState → ℕ → Call → List (Bool × WorldFault)
 begin_checks world_state actor call = name_checks world_state actor (named_by call)
 
--- with a step: there is no such actor, or it runs no call
+-- what can be wrong with a step: there is no such actor, or it runs no call
 abbrev pub step_checks : WorldState → ℕ → List (Bool × WorldFault)
 step_checks world_state actor = (nat_le (vec_len world_state.actor_runs) actor, NoActor) ∷ (rests (get_elem? world_state.actor_runs.items actor), Idle) ∷ []
 
 -- ---- the begin of a call
 
--- a call for whose begin there may be no memory
+-- a call whose begin takes memory, which can run out
 abbrev pub TakesMemory : Call → Type 0
 TakesMemory (Hist name spec) = ⊤
 TakesMemory (Add name value count) = ⊤
@@ -124,7 +125,7 @@ TakesMemory (Snapshot name) = ⊤
 TakesMemory (Batch name items sum) = ⊤
 TakesMemory call = ⊥
 
--- what the begin of a call says: it goes on, or it is answered at once
+-- what the begin of a call says: it runs, or it returns at once
 abbrev pub BeginSays : ℕ → Call → WorldState → WorldState → Begun → Type 0
 BeginSays actor (Hist name spec) old new said = HistBegins actor name.items spec old new (Ok said)
 BeginSays actor (Add name value count) old new said = AddBegins actor name.items value count old new said
@@ -133,9 +134,9 @@ BeginSays actor (Snapshot name) old new said = SnapshotBegins actor name.items o
 BeginSays actor (Batch name items sum) old new said = BatchBegins actor name.items items.items sum old new said
 BeginSays actor SetCorrupt old new said = SetCorruptBegins actor new said
 
--- What the begin of a call comes to, which is of the histogram of a name, or of none. Its fault is that of the first check, or there was no
--- memory where it takes some; then all is as it was. It takes its units from the pool, and changes no word and no other actor. Its actor held no
--- free pointer. It says this.
+-- What the begin of a call of the histogram of a name, or of none, leads to. Its fault is that of the first check, or there was no memory
+-- if it takes some; then all is unchanged. It takes its units from the pool, and changes no word and no other actor. Its actor held no free
+-- pointer. If it succeeds, `says` holds of what it says.
 pub record BeginsCall (actor : ℕ) (name : Option (List ℕ)) (takes : Type 0) (says : Begun → Type 0) (old : WorldState) (result : Result Begun WorldFault)
     (new : WorldState) : Type 0 where
   pub faults : MatchOption (first_fault (name_checks old actor name)) (IfErr result (λ fault. (fault ≡ NoMemory) × takes)) (λ fault. result ≡ Err fault)
@@ -147,6 +148,6 @@ pub record BeginsCall (actor : ℕ) (name : Option (List ℕ)) (takes : Type 0) 
 
 -- ---- a step
 
--- at most one word is another than before
+-- at most one word has changed
 abbrev pub ChangesOneWord : List ℕ → List ℕ → Type 0
 ChangesOneWord old new = (at word : ℕ) × (new ≡ slice_set old at word)

@@ -1,4 +1,4 @@
--- Why a world takes no move.
+-- Why a world does not make a move.
 use Rattle.std.specs.Prelude.{ℕ}
 use Rattle.hist_core.specs.declared.fault.WorldFault.{WorldFault}
 use Rattle.hist_core.specs.declared.fault.WorldFault.TheVariants.{BadShape, NoActor, Busy, Idle, Unknown, NoMemory, Adopt}
@@ -15,7 +15,7 @@ world_fault_number Unknown = 5
 world_fault_number NoMemory = 6
 world_fault_number (Adopt fault) = 7
 
--- what a fault of an image comes to: want of memory is none of it
+-- what a fault of a check of an image becomes: `NoMemory` is no fault of the image
 abbrev pub fault_of_adoption : AdoptFault → WorldFault
 fault_of_adoption adopt.NoMemory = NoMemory
 fault_of_adoption fault = Adopt fault

@@ -52,7 +52,7 @@ use Rattle.hist_core.specs.StepsBy.{has_pointer}
 use Rattle.segment_calls.specs.declared.refusal.Refusal.{Refusal}
 use Rattle.bucket_ranges.specs.Ranges.{boundaries_of}
 
--- a new segment with so many actors, which have done nothing
+-- a new segment with this many actors, which have done nothing
 pub record IsNewWorldState (shape : Dimensions) (version id actors : ℕ) (world_state : WorldState) : Type 0 where
   pub shaped : world_state.shape ≡ shape
   pub versioned : world_state.version ≡ version
@@ -61,7 +61,7 @@ pub record IsNewWorldState (shape : Dimensions) (version id actors : ℕ) (world
   pub rest : All IsFreshRun world_state.actor_runs.items
   pub units : world_state.units ≡ 4294967295
 
--- an image that may be adopted, with so many actors, which have done nothing; the pool has the units that the image has not used
+-- an image that may be adopted, with this many actors, which have done nothing; the pool has the units that the image has not used
 pub record IsAdoptedWorldState (words : List ℕ) (actors : ℕ) (world_state : WorldState) : Type 0 where
   pub references : List ℕ
   pub listed : IsListed words (head_of words) references
@@ -96,8 +96,8 @@ pub record Shows (world_state : WorldState) (state : State) : Type 0 where
   pub pool : opener.units.share ≡ world_state.units
   pub runs : AreRun world_state.shape world_state.version world_state.actor_runs.items recorders
 
--- A state that the machine reaches from a start, and that these words and actors stand for. Its opener has accepted, taken and been
--- answered what it had at the start, and nothing since.
+-- A state that the machine reaches from a start, and that these words and actors stand for. Its opener's entries, deltas and answers are
+-- those that it had at the start, and no more.
 pub record IsReachedAs (start : Start) (world_state : WorldState) (state : State) : Type 0 where
   pub starts : MayStart world_state.shape world_state.version start
   pub reached : machine.IsReached world_state.version (start_state start) state
@@ -110,22 +110,22 @@ pub record IsReachedAs (start : Start) (world_state : WorldState) (state : State
 abbrev pub IsReachedFrom : Start → WorldState → Type 0
 IsReachedFrom start world_state = (state : State) × IsReachedAs start world_state state
 
--- it reaches one from some start
+-- the machine reaches such a state from some start
 abbrev pub IsReachable : WorldState → Type 0
 IsReachable world_state = (start : Start) × (state : State) × IsReachedAs start world_state state
 
--- it reaches one from a new segment of a shape, a version and an id
+-- the machine reaches such a state from a new segment of a shape, a version and an id
 abbrev pub IsReachedFromNew : Dimensions → ℕ → ℕ → WorldState → Type 0
 IsReachedFromNew shape version id world_state = IsReachedFrom (new_start shape version id) world_state
 
--- it reaches one from an image
+-- the machine reaches such a state from an image
 abbrev pub IsReachedFromImage : List ℕ → WorldState → Type 0
 IsReachedFromImage words world_state =
     (references : List ℕ) × (start : Start) × IsImageStart words references start × IsReachedFrom start world_state
 
 -- ---- the actors
 
--- a call of an actor is going on
+-- a call of an actor is running
 abbrev pub IsBusy : WorldState → ℕ → Type 0
 IsBusy world_state actor = (actor_run : ActorRun) → get_elem? world_state.actor_runs.items actor ≡ some actor_run → IsSome actor_run.running
 
@@ -137,12 +137,12 @@ LendsOrNothing actor old new = (new ≡ old) ⊎ ((units : ℕ) × IsLent old 0 
 abbrev pub GivesBack : ℕ → State → State → Type 0
 GivesBack actor old new = (new ≡ old) ⊎ ((units : ℕ) × IsReturned old 0 (actor + 1) units new)
 
--- the begin of a call takes its units from the pool, where it has any; no word changes
+-- the begin of a call takes its units from the pool, if it has any; no word changes
 abbrev pub BeginsFrom : Start → State → ℕ → WorldState → Type 0
 BeginsFrom start state actor new = (then_is : State) × LendsOrNothing actor state then_is × IsReachedAs start new then_is
 
--- A snapshot of the histogram of a record is what its actor saw since it began. Of each key it has at least the units that the actor
--- had accepted and those that it had seen before; so has its redundant count, with what an image had.
+-- A snapshot of the histogram of a record is what its actor saw since it began. Of each key it has at least the units that the actor had
+-- accepted and those that it had seen before; so has its redundant count, together with what an image had.
 pub record HasSeenEnough (actor histogram : ℕ) (snapshot : SnapshotAnswer) (start : Start) (world_state : WorldState) (state : State)
     (reach : IsReachedAs start world_state state) : Type 0 where
   pub recorder : Actor
@@ -154,7 +154,7 @@ pub record HasSeenEnough (actor histogram : ℕ) (snapshot : SnapshotAnswer) (st
   pub rising : (count : ℕ) → Contains (take recorder.since.counts recorder.seen.counts) (record { at = histogram + HISTOGRAM_REDUNDANT; word = count })
       → count ≤ snapshot.redundant
 
--- A delta of the histogram of a record took all that its actor saw since it began. With it all deltas together took, of each key, at least
+-- A delta of the histogram of a record took all that its actor saw since it began. Together with it, all deltas took of each key at least
 -- the units that the actor had accepted and those that it had seen before.
 pub record HasTakenEnough (actor histogram : ℕ) (delta : DeltaAnswer) (start : Start) (world_state : WorldState) (state : State)
     (reach : IsReachedAs start world_state state) : Type 0 where
@@ -170,7 +170,7 @@ IsFlagSet refusal.Full words = bit_and (word_at words FLAGS_WORD) FLAG_FULL ≡ 
 IsFlagSet refusal.Corrupt words = bit_and (word_at words FLAGS_WORD) FLAG_CORRUPT ≡ FLAG_CORRUPT
 IsFlagSet cause words = ⊤
 
--- A running call is refused for what its last event has told its actor; of a full or a corrupt segment the words show it.
+-- A running call is refused for what its last event has shown its actor; if that is `Full` or `Corrupt`, the words have the flag.
 pub record IsDue (actor : ℕ) (running : Option Running) (cause : Refusal) (state : State) (world_state : WorldState) (last : State) : Type 0 where
   pub before : Actor
   pub was : get_elem? state.actors (actor + 1) ≡ some before
@@ -188,7 +188,7 @@ abbrev pub ClaimsNothing : ℕ → State → State → Type 0
 ClaimsNothing actor state last = (a b : Actor) → get_elem? state.actors (actor + 1) ≡ some a → get_elem? last.actors (actor + 1) ≡ some b
     → a.done.spoiled ≡ true → (b.done.spoiled ≡ true) × (b.done.claimed ≡ a.done.claimed)
 
--- Where the recorder of the actor stands at a free pointer behind an event, it stood there before, or has loaded that from the words.
+-- If the recorder of the actor holds a free pointer after an event, it held that before, or has loaded it from the words.
 abbrev pub LoadsPointer : ℕ → List ℕ → State → State → Type 0
 LoadsPointer actor words state last = (a b : Actor) → get_elem? state.actors (actor + 1) ≡ some a → get_elem? last.actors (actor + 1) ≡ some b
     → (free : ℕ) → b.hand.place ≡ FreeLoaded free → (a.hand.place ≡ FreeLoaded free) ⊎ (word_at words FREE_WORD ≡ free)
@@ -199,7 +199,7 @@ abbrev pub DoesOnlySo : WorldState → ℕ → State → Stepped → State → T
 DoesOnlySo old actor state said last = (before : ActorRun) (a b : Actor) → get_elem? old.actor_runs.items actor ≡ some before
     → get_elem? state.actors (actor + 1) ≡ some a → get_elem? last.actors (actor + 1) ≡ some b → DoesAsSaid before.running said a b
 
--- what an answer promises of the states before and behind it, by what the call was to do
+-- what an answer promises of the states before and after it, by what the call was to do
 abbrev pub IsPromised : WorldState → ℕ → State → Stepped → (start : Start) (new : WorldState) (last : State) → IsReachedAs start new last → Type 0
 IsPromised old actor state (Done (answer.Delta delta)) start new last reach =
     (before : ActorRun) → get_elem? old.actor_runs.items actor ≡ some before → HasTakenEnough actor (looked_by before.running) delta start new last reach
@@ -212,14 +212,14 @@ IsPromised old actor state (Done (answer.BatchRefused refused)) start new last r
 IsPromised old actor state (Done answer.Flagged) start new last reach = HasSpoiled actor last
 IsPromised old actor state said start new last reach = ⊤
 
--- since when the actor looks whose running call is a snapshot, in a state and behind an event of it
+-- since when an actor looks whose running call is a snapshot, before and after an event of it
 abbrev pub LooksFrom : WorldState → ℕ → State → State → Type 0
 LooksFrom old actor state last = (before : ActorRun) (a b : Actor) → get_elem? old.actor_runs.items actor ≡ some before
     → get_elem? state.actors (actor + 1) ≡ some a → get_elem? last.actors (actor + 1) ≡ some b → LooksSince before.running a b
 
--- One event of the actor leads from a state to another; then the units of a call that is refused come back. What the call says is as it
--- promises, of the state that it leads to. A snapshot looks since its first event. Behind its own corrupt flag an actor claims nothing, and
--- it stands at no free pointer that it has not loaded. It sets a flag only as the call says, and links what the call is for alone.
+-- One event of the actor leads from a state to another; then the units of a call that is refused come back. What the call says is as
+-- promised, of the state that it leads to. A snapshot looks since its first event. After it has set the corrupt flag an actor claims
+-- nothing, and it holds no free pointer that it has not loaded. It sets a flag only as the call says, and links only what the call is for.
 abbrev pub StepsTo : WorldState → ℕ → Start → State → WorldState → Stepped → Type 0
 StepsTo old actor start state new said =
     (event : Event) × (then_is : State) × IsStep old.version state (actor + 1) event then_is
@@ -234,7 +234,7 @@ pub record OthersStay (actor : ℕ) (old new : WorldState) : Type 0 where
   pub count : vec_len new.actor_runs ≡ vec_len old.actor_runs
   pub others : (other : ℕ) → other ≢ actor → get_elem? new.actor_runs.items other ≡ get_elem? old.actor_runs.items other
 
--- all is as it was, but for the room for entries, for histograms that actors may know, and for deltas
+-- all is unchanged, except for the room for entries, for histograms that actors may know, and for deltas
 pub record IsAsBefore (old new : WorldState) : Type 0 where
   pub units : new.units ≡ old.units
   pub shape : new.shape ≡ old.shape
@@ -246,7 +246,7 @@ pub record IsAsBefore (old new : WorldState) : Type 0 where
 
 -- ---- the begin of a call
 
--- The actor holds no free pointer. So where a call of it stands at one, it has loaded that itself (`LoadsPointer`).
+-- The actor holds no free pointer. So if a call of it holds one later, it has loaded that itself (`LoadsPointer`).
 abbrev pub HoldsNoPointer : ℕ → WorldState → Type 0
 HoldsNoPointer actor world_state =
     (start : Start) (state : State) → IsReachedAs start world_state state → (recorder : Actor) → get_elem? state.actors (actor + 1) ≡ some recorder → has_pointer recorder.hand.place ≡ false
@@ -258,13 +258,13 @@ pub record IsThere (world_state : WorldState) (actor : ℕ) (actor_run : ActorRu
   pub near : actor < vec_len world_state.actor_runs
   pub at : get_elem? world_state.actor_runs.items actor ≡ some actor_run
 
--- it rests
+-- an actor that is there and rests
 pub record IsResting (world_state : WorldState) (actor : ℕ) (actor_run : ActorRun) : Type 0 where
   pub near : actor < vec_len world_state.actor_runs
   pub at : get_elem? world_state.actor_runs.items actor ≡ some actor_run
   pub rests : actor_run.running ≡ None
 
--- it knows the histogram of a name, at a place
+-- an actor that rests knows the histogram of a name, at this place
 pub record KnowsHistAt (world_state : WorldState) (actor : ℕ) (name : List ℕ) (place : ℕ) : Type 0 where
   pub actor_run : ActorRun
   pub resting : IsResting world_state actor actor_run
@@ -274,12 +274,12 @@ pub record KnowsHistAt (world_state : WorldState) (actor : ℕ) (name : List ℕ
 
 -- ---- how a `hist` begins
 
--- a histogram may be asked for in a segment of a shape: name and spec are lawful, and its record and its counts fit in a page
+-- a histogram may be asked for in a segment of a shape: name and spec are valid, and its record and its counts fit in a page
 abbrev pub MayBeAsked : Dimensions → List ℕ → Spec → Type 0
 MayBeAsked shape name spec = (is_name name ≡ true) × (spec_fault spec ≡ None) × ¬ (IsTooLarge shape.page name spec)
 
--- What it is answered without an event, and why: the name or the spec is unlawful, or a record or its counts would be too large; or it may
--- be asked for, and the actor knows a histogram of that name, with the same spec or with another.
+-- What it returns without an event, and why: the name or the spec is not valid, or a record or its counts would be too large; or it may be
+-- asked for, and the actor knows a histogram of that name, with the same spec or with another.
 abbrev pub IsAnsweredAtOnce : Dimensions → List KnownHist → List ℕ → Spec → Answer → Type 0
 IsAnsweredAtOnce shape known name spec (answer.Refused refusal.OtherSpec) =
     IsKnownAnswer known name spec (answer.Refused refusal.OtherSpec) × MayBeAsked shape name spec
@@ -292,7 +292,7 @@ abbrev pub RunsHistOf : List ℕ → Spec → Option Running → Type 0
 RunsHistOf name spec (Some (Hist hist)) = (hist.asked.name.items ≡ name) × (hist.asked.spec ≡ spec)
 RunsHistOf name spec running = ⊥
 
--- It goes on, asking for the histogram; or it is answered at once; or there was no memory.
+-- It runs, asking for the histogram; or it returns at once; or there was no memory.
 abbrev pub HistBegins : ℕ → List ℕ → Spec → WorldState → WorldState → Result Begun AllocError → Type 0
 HistBegins actor name spec old new (Ok Going) = (actor_run : ActorRun) × (get_elem? new.actor_runs.items actor ≡ some actor_run) × RunsHistOf name spec actor_run.running
 HistBegins actor name spec old new (Ok (Ended answered)) =
@@ -301,13 +301,13 @@ HistBegins actor name spec old new (Err error) = IsAsBefore old new
 
 -- ---- how an `add` begins
 
--- a running call counts so many units of a value
+-- a running call counts `units` units of a value
 abbrev pub CountsValue : ℤ → ℕ → Option Running → Type 0
 CountsValue value units (Some (Add add)) = (add.value ≡ value) × (add.units ≡ units)
 CountsValue value units running = ⊥
 
--- A call of a histogram of this name goes on that is to count entries, which its boundaries determine: its units are out of the pool, and
--- the entries are pending, of which nothing has begun.
+-- A call of a histogram of this name runs that is to count entries, which its boundaries determine: its units are out of the pool, and the
+-- entries are pending, none of which has begun.
 pub record IsCountBegun (actor : ℕ) (name : List ℕ) (cost : ℕ) (entries : List ℕ → List MachineEntry) (runs : Option Running → Type 0) (old new : WorldState)
     : Type 0 where
   pub words : new.words ≡ old.words
@@ -329,7 +329,7 @@ abbrev pub IsAddBegun : ℕ → List ℕ → ℤ → ℕ → WorldState → Worl
 IsAddBegun actor name value units old new =
     IsCountBegun actor name units (λ boundaries. sample_entry name boundaries (value, units) ∷ []) (CountsValue value units) old new
 
--- What the begin of an `add` says: it goes on; or it is refused at once, and then all is as it was.
+-- What the begin of an `add` says: it runs; or it is refused at once, and then all is unchanged.
 abbrev pub AddBegins : ℕ → List ℕ → ℤ → ℕ → WorldState → WorldState → Begun → Type 0
 AddBegins actor name value units old new Going = (0 < units) × (units ≤ old.units) × IsAddBegun actor name value units old new
 AddBegins actor name value units old new (Ended (answer.Refused refusal.ZeroCount)) = IsAsBefore old new × (units ≡ 0)
@@ -362,8 +362,8 @@ IsTooMuch old items sum refusal.ZeroCount = ¬ (AreSome items)
 IsTooMuch old items sum refusal.NoUnits = AreSome items × (old.units < batch_cost items sum)
 IsTooMuch old items sum why = ⊥
 
--- What the begin of a `batch` says: it goes on; or it counts nothing, and has ended; or it is refused at once, with no item counted. Then all
--- is as it was.
+-- What the begin of a `batch` says: it runs; or it counts nothing, and has ended; or it is refused at once, with no item counted. If it
+-- does not run, all is unchanged.
 abbrev pub BatchBegins : ℕ → List ℕ → List (ℤ × ℕ) → ℤ → WorldState → WorldState → Begun → Type 0
 BatchBegins actor name items sum old new Going =
     AreSome items × (¬ (IsNothingToCount items sum)) × (batch_cost items sum ≤ old.units) × IsBatchBegun actor name items sum old new
@@ -384,7 +384,7 @@ abbrev pub BeginsSnapshotOf : ℕ → Option Running → Type 0
 BeginsSnapshotOf reference (Some (Snapshot snapshot_call)) = (snapshot_call.histogram ≡ reference) × HasJustBegun snapshot_call.stage
 BeginsSnapshotOf reference running = ⊥
 
--- It goes on with a histogram of the name that the actor knows. No word has changed, and what the actor's deltas took is shown as before.
+-- It runs, with a histogram of the name that the actor knows. No word has changed, nor has what is shown of the actor's deltas.
 abbrev pub GoesWith : (ℕ → Option Running → Type 0) → ℕ → List ℕ → WorldState → WorldState → Begun → Type 0
 GoesWith IsOf actor name old new Going =
     (new.words ≡ old.words) × ((before behind : ActorRun) × (get_elem? old.actor_runs.items actor ≡ some before) × (get_elem? new.actor_runs.items actor ≡ some behind)
@@ -402,7 +402,7 @@ SnapshotBegins = GoesWith BeginsSnapshotOf
 
 -- ---- how a call that sets the corrupt flag begins
 
--- it runs
+-- a call that sets the corrupt flag runs
 abbrev pub SetCorruptBegins : ℕ → WorldState → Begun → Type 0
 SetCorruptBegins actor new Going = (actor_run : ActorRun) × (get_elem? new.actor_runs.items actor ≡ some actor_run) × (actor_run.running ≡ Some SetCorrupt)
 SetCorruptBegins actor new (Ended answered) = ⊥
@@ -416,27 +416,28 @@ Says actor old new said = (before behind : ActorRun) → get_elem? old.actor_run
 
 -- ---- at any moment
 
--- each state is consistent, in all eight parts, beside the words of its start and the blocks that were claimed there
+-- each state is consistent, in all eight parts, relative to the words of its start and the blocks that were claimed there
 abbrev pub IsConsistentAs : WorldState → Type 0
 IsConsistentAs world_state = (start : Start) (state : State) → IsReachedAs start world_state state
     → IsConsistent (opening_of world_state.shape start.opened) state
 
--- Stopped here, the words read back as exactly the histograms that were published, each once, every bucket holding no unit that was not
--- begun and all ended ones but those in transit. An image's are there too, and what it counted is begun and ended.
+-- If all stops here, the words read back as exactly the histograms that were published, each once. No bucket holds a unit that was not
+-- begun, and each holds all ended units except those in transit. The histograms of an image are there too, and what it counted is begun and
+-- ended.
 abbrev pub ReadsBack : WorldState → Type 0
 ReadsBack world_state = (start : Start) (state : State) → IsReachedAs start world_state state → (kept : Invariant world_state.shape start.opened state)
     × ((reading : Reading) → IsReading state.words (head_of state.words) reading
     → HasNoFault reading × ReadsHead start.opened state reading × ReadsNames kept.anatomy.records reading
     × ((h : Histogram) → Contains reading.hists h → ReadsUnits world_state.version state h × ReadsAmounts start.opened state h))
 
--- the words of version 2 may be adopted, unless the corrupt flag is set: any stop can be gone on from
+-- the words of version 2 may be adopted, unless the corrupt flag is set: any stop can be continued
 abbrev pub MayBeAdopted : WorldState → Type 0
 MayBeAdopted world_state = world_state.version ≡ VERSION_FROZEN → (head_of world_state.words.items).corrupt ≡ false
     → (references : List ℕ) → IsListed world_state.words.items (head_of world_state.words.items) references
     → ∥ IsAdoptable world_state.words.items references (reading_along world_state.words.items (head_of world_state.words.items) references) ∥₁
 
--- Each histogram that a resting actor knows, since a `hist` was answered with it, is the first of its name on the list, and the spec of its
--- record is the same.
+-- Each histogram that a resting actor knows, because a `hist` returned it, is the first of its name on the list, and the spec of its record
+-- is the same.
 abbrev pub AreKnownFirst : WorldState → Type 0
 AreKnownFirst world_state = (chain : List ℕ) → IsChain world_state.words.items (head_of world_state.words.items) chain
     → (i : ℕ) (actor_run : ActorRun) (known : KnownHist) → get_elem? world_state.actor_runs.items i ≡ some actor_run → actor_run.running ≡ None → Contains actor_run.known.items known

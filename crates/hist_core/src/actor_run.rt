@@ -18,7 +18,7 @@ use segment_image::Shape;
 use segment_image::layout::{FLAG_CORRUPT, FLAGS_WORD};
 use std::alloc::{AllocError, Global};
 
-/// A call that is going on, with what it does next.
+/// A running call, with what it does next.
 #[derive(Debug, Drop)]
 pub(crate) enum Running {
     /// It sets the corrupt flag.
@@ -27,9 +27,9 @@ pub(crate) enum Running {
     Hist(Hist),
     /// It counts a value.
     Add(Add),
-    /// It takes of a histogram; until its first event with what it is to be shown as.
+    /// It takes a delta of a histogram. Until its first event it holds what it will be shown as.
     Delta(DeltaCall, Option<Taken>),
-    /// It looks at a histogram.
+    /// It takes a snapshot of a histogram.
     Snapshot(SnapshotCall),
     /// It counts the items of a batch.
     Batch(Batch),
@@ -43,9 +43,9 @@ pub(crate) struct ActorRun {
     // How many of these are of ended calls, and how many have begun.
     pub(crate) ended: usize,
     pub(crate) begun: usize,
-    // What its deltas took; a running one stands last, from its first event on. Until then there is room for it.
+    // What its deltas took; a running one is last, from its first event on. Until then there is room for it.
     pub(crate) taken: Vec<Taken>,
-    // The histograms that its `hist` was answered with. Where one is going on, there is room for one more.
+    // The histograms that its calls of `hist` returned. While one is running, there is room for one more.
     pub(crate) known: Vec<KnownHist>,
     pub(crate) running: Option<Running>,
 }
@@ -97,7 +97,7 @@ impl ActorRun {
         None
     }
 
-    // What a `hist` of a histogram that it knows is answered.
+    // What a `hist` of a histogram that it knows returns.
     fn known_answer(&self, i: usize, asked: &Asked) -> Answer
         requires { IsKnownAt self.now.known.items i asked.now.name.items }
         ensures { IsKnownAnswer self.now.known.items asked.now.name.items asked.now.spec result }
@@ -121,7 +121,7 @@ impl ActorRun {
         &self.known[i]
     }
 
-    // It begins to ask for a histogram, or is answered at once where it knows one of that name.
+    // It begins to ask for a histogram. If it knows one of that name, the call returns at once.
     pub(crate) fn begin_hist(&mut self, shape: Shape, asked: Asked) -> Result<Begun, AllocError>
         ensures { BeginsHist shape asked self.old self.new result }
     {
@@ -146,7 +146,7 @@ impl ActorRun {
         }
     }
 
-    // It begins to count so many units of a value in a histogram that it knows.
+    // It begins to count `units` units of a value in a histogram that it knows.
     pub(crate) fn begin_add(
         &mut self,
         alloc: Global,
@@ -199,7 +199,7 @@ impl ActorRun {
         Ok(())
     }
 
-    // What becomes of it by what a step of its `add` said.
+    // How a step of its `add` changes it.
     fn after_add(&mut self, said: AddStep) -> Stepped
         requires within { self.old.ended ≤ vec_len self.old.entries }
         ensures { IsAddAnnounced self.old said self.new result }
@@ -221,7 +221,7 @@ impl ActorRun {
         }
     }
 
-    // What becomes of it by what a step of its `batch` said.
+    // How a step of its `batch` changes it.
     fn after_batch(&mut self, said: BatchStep) -> Stepped
         requires within { self.old.ended + added_of said ≤ vec_len self.old.entries }
         ensures { IsBatchAnnounced self.old said self.new result }
@@ -274,7 +274,7 @@ impl ActorRun {
         Stepped::Done(Answer::Hist(reference))
     }
 
-    // What becomes of it by what a step of its `hist` said.
+    // How a step of its `hist` changes it.
     fn after_hist(&mut self, said: HistStep) -> Stepped
         requires room { HasRoomForHist self.old.running (vec_len self.old.known) (vec_capacity self.old.known) }
         requires asks { AsksForOne self.old.running }
@@ -290,7 +290,7 @@ impl ActorRun {
         }
     }
 
-    // It begins to take of a histogram that it knows.
+    // It begins to take a delta of a histogram that it knows.
     pub(crate) fn begin_delta(
         &mut self,
         alloc: Global,
@@ -314,7 +314,7 @@ impl ActorRun {
         Ok(())
     }
 
-    // Its running delta stands last in what its deltas took, from its first event on.
+    // From its first event on, its running delta is the last of what its deltas took.
     fn show(&mut self)
         requires room { (delta_call : DeltaCall) (fresh : Taken) → self.old.running ≡ Some (runs.Delta delta_call (Some fresh)) → vec_len self.old.taken < vec_capacity self.old.taken }
         ensures { (delta_call : DeltaCall) (fresh : Option Taken) → self.old.running ≡ Some (runs.Delta delta_call fresh) → IsNowShown delta_call fresh self.old self.new }
@@ -326,7 +326,7 @@ impl ActorRun {
         }
     }
 
-    // Its delta has ended, with this of the sum, and is answered with what it listed.
+    // Its delta has ended, with this of the sum, and returns what it listed.
     fn end_delta(&mut self, sum: i64) -> Stepped
         requires takes { TakesOfOne self.old.running }
         requires some { 0 < vec_len self.old.taken }
@@ -340,7 +340,7 @@ impl ActorRun {
         Stepped::Done(Answer::Delta(Delta { counts, sum }))
     }
 
-    // What becomes of it by what a step of its `delta` said.
+    // How a step of its `delta` changes it.
     fn after_delta(&mut self, said: DeltaCallStep) -> Stepped
         requires place { HasDraftRoom said self.old.running self.old.taken }
         ensures { (delta_call : DeltaCall) (fresh : Option Taken) → self.old.running ≡ Some (runs.Delta delta_call fresh) → IsDeltaAnnounced delta_call fresh self.old said self.new result }
@@ -356,7 +356,7 @@ impl ActorRun {
         }
     }
 
-    // It begins to look at a histogram that it knows.
+    // It begins to take a snapshot of a histogram that it knows.
     pub(crate) fn begin_snapshot(
         &mut self,
         alloc: Global,
@@ -373,7 +373,7 @@ impl ActorRun {
         Ok(())
     }
 
-    // What becomes of it by what a step of its `snapshot` said.
+    // How a step of its `snapshot` changes it.
     fn after_snapshot(&mut self, said: SnapshotCallStep) -> Stepped
         requires looks { LooksAtOne self.old.running }
         ensures { IsSnapshotAnnounced self.old said self.new result }
@@ -392,7 +392,7 @@ impl ActorRun {
         }))
     }
 
-    // The exchange that is the next event of the running call, where that is one.
+    // The exchange that the next event of the running call is, if it is one.
     pub(crate) fn next_exchange(&self) -> Option<Attempt>
         ensures { result ≡ running_attempt self.now.running }
     {
@@ -404,7 +404,7 @@ impl ActorRun {
         }
     }
 
-    // The word that the next event of the running call loads, where that is a load.
+    // The word that the next event of the running call loads, if it is a load.
     pub(crate) fn next_load(&self) -> Option<usize>
         ensures { result ≡ running_load self.now.running }
     {
@@ -418,7 +418,7 @@ impl ActorRun {
         }
     }
 
-    // Goes on by one event, which is the next of the running call.
+    // Performs the next event of the running call.
     pub(crate) fn advance(&mut self, words: &mut [u64]) -> Stepped
         requires runs { IsSome self.old.running }
         requires stands { ∥ IsSomeRun (length words.old) self.old ∥₁ }

@@ -33,11 +33,11 @@ pub(crate) enum AddStage {
     Allocating {
         alloc: Alloc,
     },
-    /// It stores the reference of the counts that it has claimed, where there is none.
+    /// It stores the reference of the counts that it has claimed, if there is none yet.
     Mounting {
         at: u64,
     },
-    /// It marks the block that it has claimed as of no use: `counts` were there before.
+    /// It marks the block that it has claimed as purged, since `counts` were there before.
     Purging {
         at: u64,
         counts: u64,
@@ -74,7 +74,7 @@ pub(crate) enum AddStage {
 /// What a step of an `add` says.
 #[derive(Clone, Copy, Debug, PartialEq, Eq)]
 pub(crate) enum AddStep {
-    /// It goes on.
+    /// It continues.
     More,
     /// The units are counted, the amount is in the sum, and the units are in the redundant count.
     Done,
@@ -82,7 +82,7 @@ pub(crate) enum AddStep {
     Refused(Refusal),
 }
 
-/// An `add` that is going on.
+/// A running `add`.
 #[derive(Debug, Drop)]
 pub(crate) struct Add {
     pub(crate) shape: Shape,
@@ -110,8 +110,8 @@ impl Add {
     ghost use Rattle.hist_core.specs.declared.add.AddStage.TheVariants.{LoadingSingle, Packing, LoadingCounts, SeekingCounts, Mounting, Purging, LoadingAgain, Disabling, Moving, Counting, Summing, Noting};
     ghost use Rattle.hist_core.specs.Add.{IsAtStage, IsSomeAdd, AddSteps, IsBehindSingle, BeginsToAllocate, IsAllocating, IsAllocated, IsSampled, IsSearching, IsStarted, behind_count, behind_disabling, count_in};
 
-    // It begins to count so many units of a value in a known histogram, and an amount: it loads the single word, or, where the
-    // histogram is sparse, it looks for the sample of the value.
+    // It begins to count `units` units of a value in a known histogram, and an amount: it loads the single word or, if
+    // the histogram is sparse, it looks for the sample of the value.
     pub(crate) fn start(
         shape: Shape,
         version: u64,
@@ -151,7 +151,7 @@ impl Add {
         }
     }
 
-    // Its units are counted: it adds its amount next, where that is not 0.
+    // Its units are counted: it adds its amount next, if that is not 0.
     fn counted(&mut self)
         ensures { self.new ≡ record self.old { stage = behind_count self.old.amount } }
     {
@@ -187,7 +187,7 @@ impl Add {
         AddStep::More
     }
 
-    // It packs its units, where the single word is as it was; else it loads that anew.
+    // It packs its units if the single word is unchanged; else it loads it again.
     fn pack(&mut self, words: &mut [u64], old: u64, new: u64) -> AddStep
         requires { IsAtStage (Packing old new) (length words.old) self.old }
         ensures steps { AddSteps self.old words.old self.new words.new result }
@@ -215,7 +215,7 @@ impl Add {
         AddStep::More
     }
 
-    // It loads the counts reference, to put the counts in use. Where there are none yet, it claims words for them.
+    // It loads the counts reference, to put the counts in use. If there are none yet, it claims words for them.
     fn seek_counts(&mut self, words: &[u64]) -> AddStep
         requires { IsAtStage SeekingCounts (length words.now) self.old }
         ensures steps { AddSteps self.old words.now self.new words.now result }
@@ -229,7 +229,7 @@ impl Add {
         AddStep::More
     }
 
-    // There are no counts so far.
+    // There are no counts yet: it begins to claim words for them.
     fn begin_allocating(&mut self) -> AddStep
         requires lawful { IsShape self.old.shape }
         requires one_page { BLOCK_HEADER + 2 * self.old.buckets ≤ self.old.shape.page }
@@ -244,7 +244,7 @@ impl Add {
         }
     }
 
-    // What becomes of it by what a step of its allocation said.
+    // What a step of its allocation leads to.
     fn allocated(&mut self, said: AllocStep) -> AddStep
         ensures { IsAllocated self.old said self.new result }
     {
@@ -259,7 +259,7 @@ impl Add {
         }
     }
 
-    // It goes on with claiming the words of the counts.
+    // It continues to claim the words of the counts.
     fn allocate(&mut self, words: &mut [u64]) -> AddStep
         requires allocates { IsAllocating self.old.stage }
         requires stands { ∥ IsSomeAdd (length words.old) self.old ∥₁ }
@@ -275,7 +275,7 @@ impl Add {
         }
     }
 
-    // It stores the reference of its block, where there are no counts yet; else its block is of no use.
+    // It stores the reference of its block if there are no counts yet; else its block is purged next.
     fn mount(&mut self, words: &mut [u64], at: u64) -> AddStep
         requires { IsAtStage (Mounting at) (length words.old) self.old }
         ensures steps { AddSteps self.old words.old self.new words.new result }
@@ -291,7 +291,7 @@ impl Add {
         AddStep::More
     }
 
-    // It marks its block as of no use.
+    // It marks its block as purged.
     fn purge(&mut self, words: &mut [u64], at: u64, counts: u64) -> AddStep
         requires { IsAtStage (Purging at counts) (length words.old) self.old }
         ensures steps { AddSteps self.old words.old self.new words.new result }
@@ -302,7 +302,7 @@ impl Add {
         AddStep::More
     }
 
-    // Where the count of its value stands, among counts that lie within the segment.
+    // Where the count of its value is, among counts that lie within the segment.
     fn count_in(&self, counts: u64) -> u64
         requires { self.now.bucket ≤ 65535 }
         ensures { result ≡ count_in self.now counts }
@@ -310,7 +310,7 @@ impl Add {
         counts.wrapping_add((BLOCK_HEADER + self.bucket) as u64)
     }
 
-    // It loads the single word once more. It counts where that is off, and else disables it.
+    // It loads the single word once more. If that is off, it counts next; else it disables it.
     fn load_again(&mut self, words: &[u64], counts: u64) -> AddStep
         requires { IsAtStage (LoadingAgain counts) (length words.now) self.old }
         ensures steps { AddSteps self.old words.now self.new words.now result }
@@ -345,7 +345,7 @@ impl Add {
         }
     }
 
-    // It disables the single word, where that is as it was; else it loads it anew.
+    // It disables the single word if it is unchanged; else it loads it again.
     fn disable(&mut self, words: &mut [u64], counts: u64, old: u64) -> AddStep
         requires { IsAtStage (Disabling counts old) (length words.old) self.old }
         ensures steps { AddSteps self.old words.old self.new words.new result }
@@ -374,7 +374,8 @@ impl Add {
         AddStep::More
     }
 
-    // What becomes of it by what a step of its search said: it goes on, or counts in the sample, which lies within the segment.
+    // What a step of its search leads to: it continues, counts in the sample, which lies within the segment, or is
+    // refused.
     fn sampled(&mut self, said: SamplingStep) -> AddStep
         ensures { IsSampled self.old said self.new result }
     {
@@ -389,7 +390,7 @@ impl Add {
         }
     }
 
-    // It goes on with its search for the sample of its value.
+    // It continues its search for the sample of its value.
     fn sample(&mut self, words: &mut [u64]) -> AddStep
         requires samples { IsSearching self.old.stage }
         requires stands { ∥ IsSomeAdd (length words.old) self.old ∥₁ }
@@ -428,7 +429,7 @@ impl Add {
         AddStep::More
     }
 
-    // It adds its units to the redundant count, and all has happened.
+    // It adds its units to the redundant count, and has ended.
     fn note(&mut self, words: &mut [u64]) -> AddStep
         requires { IsAtStage Noting (length words.old) self.old }
         ensures steps { AddSteps self.old words.old self.new words.new result }
@@ -439,7 +440,7 @@ impl Add {
         AddStep::Done
     }
 
-    // The exchange that is its next event, where that is one.
+    // The exchange that its next event is, if it is one.
     pub(crate) fn next_exchange(&self) -> Option<Attempt>
         ensures { result ≡ add_attempt self.now self.now.stage }
     {
@@ -458,7 +459,7 @@ impl Add {
         }
     }
 
-    // The word that its next event loads, where that is a load.
+    // The word that its next event loads, if it is a load.
     pub(crate) fn next_load(&self) -> Option<usize>
         ensures { result ≡ add_load self.now self.now.stage }
     {
@@ -475,7 +476,7 @@ impl Add {
         }
     }
 
-    // Goes on by one event.
+    // Performs its next event.
     pub(crate) fn step(&mut self, words: &mut [u64]) -> AddStep
         requires stands { ∥ IsSomeAdd (length words.old) self.old ∥₁ }
         requires inside { LiesWithin (length words.old) self.old.histogram }

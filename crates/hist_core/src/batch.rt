@@ -1,4 +1,4 @@
-//! A `batch` that is going on: it counts its items one after the other, and then adds its sum.
+//! A running `batch`: it counts its items one after the other, and then adds its sum.
 
 ghost use Rattle.std.specs.Prelude.{◌≡◌, length};
 
@@ -11,7 +11,7 @@ use segment_image::layout::HISTOGRAM_SUM;
 /// What a step of a `batch` says.
 #[derive(Clone, Copy, Debug, PartialEq, Eq)]
 pub(crate) enum BatchStep {
-    /// It goes on.
+    /// It continues.
     More,
     /// Its items are counted, and its sum is added.
     Done,
@@ -19,7 +19,7 @@ pub(crate) enum BatchStep {
     Refused(BatchRefusal),
 }
 
-/// A `batch` that is going on.
+/// A running `batch`.
 #[derive(Debug, Drop)]
 pub(crate) struct Batch {
     // The histogram's record.
@@ -27,7 +27,7 @@ pub(crate) struct Batch {
     // Its items, and how many of them are counted.
     pub(crate) items: Vec<Add>,
     pub(crate) added: usize,
-    // What it adds to the sum behind its items.
+    // What it adds to the sum after its items.
     pub(crate) sum: i64,
     // The units that it costs, and those of them that no counted item has spent.
     pub(crate) cost: u32,
@@ -42,7 +42,7 @@ impl Batch {
     ghost use Rattle.hist_core.specs.declared.batch.BatchStep.TheVariants.{Done};
     ghost use Rattle.hist_core.specs.Batch.{BatchSteps, IsItemSaid, IsRefusedAt, IsSameBatch, IsSomeBatch};
 
-    // What becomes of it by what a step of its next item said, which has so many units.
+    // What a step of its next item, which has this many units, leads to.
     fn item_said(&mut self, said: AddStep, units: u32) -> BatchStep
         requires near { self.old.added < vec_len self.old.items }
         requires few { units ≤ self.old.left }
@@ -66,7 +66,7 @@ impl Batch {
         }
     }
 
-    // It goes on with its next item.
+    // It continues with its next item.
     fn count(&mut self, words: &mut [u64]) -> BatchStep
         requires near { self.old.added < vec_len self.old.items }
         requires stands { ∥ IsSomeBatch (length words.old) self.old ∥₁ }
@@ -93,7 +93,7 @@ impl Batch {
         BatchStep::Done
     }
 
-    // The exchange that is its next event, where that is one.
+    // The exchange that its next event is, if it is one.
     pub(crate) fn next_exchange(&self) -> Option<Attempt>
         ensures { result ≡ item_attempt (get_elem? self.now.items.items self.now.added) }
     {
@@ -103,7 +103,7 @@ impl Batch {
         self.items[self.added].next_exchange()
     }
 
-    // The word that its next event loads, where that is a load.
+    // The word that its next event loads, if it is a load.
     pub(crate) fn next_load(&self) -> Option<usize>
         ensures { result ≡ item_load (get_elem? self.now.items.items self.now.added) }
     {
@@ -113,7 +113,7 @@ impl Batch {
         self.items[self.added].next_load()
     }
 
-    // Goes on by one event.
+    // Performs its next event.
     pub(crate) fn step(&mut self, words: &mut [u64]) -> BatchStep
         requires stands { ∥ IsSomeBatch (length words.old) self.old ∥₁ }
         ensures steps { BatchSteps self.old words.old self.new words.new result }

@@ -1,8 +1,8 @@
-//! What the calls of a world's actors answer, and the moves that they are made of.
+//! What the calls of a world's actors return, and the moves of which they are made.
 
 use segment_calls::{BatchRefusal, Call, Delta, Refusal, Snapshot};
 
-/// What a call answers.
+/// What a call returns.
 #[derive(Debug, Drop)]
 pub enum Answer {
     /// The reference of the histogram's record.
@@ -15,7 +15,7 @@ pub enum Answer {
     Snapshot(Snapshot),
     /// The corrupt flag is set.
     Flagged,
-    /// Why the call is refused, which is no batch.
+    /// Why the call, which is not a batch, is refused.
     Refused(Refusal),
     /// How much of the batch is counted, and why the rest is refused.
     BatchRefused(BatchRefusal),
@@ -26,14 +26,14 @@ pub enum Answer {
 pub enum Move {
     /// An actor begins a call.
     Begin(usize, Call),
-    /// An actor goes on with its call by one event.
+    /// An actor performs the next event of its call.
     Step(usize),
 }
 
 /// What the begin of a call says.
 #[derive(Debug, Drop)]
 pub enum Begun {
-    /// The call goes on, an event a step.
+    /// The call runs, one event a step.
     Going,
     /// The call needs no event, and has ended.
     Ended(Answer),
@@ -42,7 +42,7 @@ pub enum Begun {
 /// What a step says.
 #[derive(Debug, Drop)]
 pub enum Stepped {
-    /// The call goes on.
+    /// The call continues.
     More,
     /// The call has ended.
     Done(Answer),
@@ -52,7 +52,7 @@ impl Stepped {
     ghost use Rattle.std.specs.Prelude.{◌≡◌, ◌≤◌};
     ghost use Rattle.hist_core.specs.ActorRun.{returned_by};
 
-    // The units that come back of those that the call had: all of them where it is refused.
+    // The units that come back of those that the call held: all of them if it is refused, and else none.
     pub(crate) fn returned(&self, held: u64) -> u64
         ensures units { result ≡ returned_by self.now held }
         ensures few { result ≤ held }

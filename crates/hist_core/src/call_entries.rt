@@ -34,7 +34,7 @@ pub(crate) fn entry_of(
     })
 }
 
-// The entries of a batch: one for each item, then one for its sum, where that is not 0.
+// The entries of a batch: one for each item, then one for its sum, if that is not 0.
 pub(crate) fn batch_entries(
     alloc: Global,
     known: &KnownHist,
@@ -81,7 +81,8 @@ pub(crate) fn are_some(items: &[(i32, u32)]) -> bool
     items.iter().all(|item| item.1 != 0)
 }
 
-// The units that a batch costs, where they are fewer than 2^64: those of its items, and no fewer than its sum has times 2^31.
+// The units that a batch costs, or 2^64 - 1 if that is less: those of its items, or the size of its sum divided by 2^31
+// and rounded up, if that is more.
 pub(crate) fn batch_cost(items: &[(i32, u32)], sum: i64) -> u64
     ensures { result ≡ min (cost_of_batch items.now sum) 18446744073709551615 }
 {

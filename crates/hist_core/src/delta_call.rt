@@ -1,5 +1,5 @@
-//! A delta that is going on: it takes of each bucket or sample of a histogram the units that no delta has taken yet, and of the sum what
-//! is new.
+//! A running delta: of each bucket or sample of a histogram it takes the units that no delta has taken yet, and of the
+//! sum what is new.
 
 use crate::hist::KnownHist;
 use crate::mounted::Mounted;
@@ -67,23 +67,23 @@ pub(crate) enum DeltaStage {
 /// What a step of a delta says.
 #[derive(Clone, Copy, Debug, PartialEq, Eq)]
 pub(crate) enum DeltaCallStep {
-    /// It goes on.
+    /// It continues.
     More,
-    /// It has taken so many units of a key, and goes on.
+    /// It has taken this many units of this key, and continues.
     Took(i32, u64),
     /// It has taken this of the sum, and has ended.
     Done(i64),
 }
 
-/// A delta that is going on.
+/// A running delta.
 #[derive(Debug, Drop)]
 pub(crate) struct DeltaCall {
     pub(crate) version: u64,
     // The histogram's record, and the ranges of its buckets.
     pub(crate) histogram: u64,
     pub(crate) ranges: Ranges,
-    // The keys of which it took units so far, each with how many. There is room for all buckets, or for as many values as fit in the
-    // segment.
+    // The keys of which it took units so far, each with how many. There is room for all buckets, or for as many values
+    // as fit in the segment.
     pub(crate) counts: Vec<(i32, u64)>,
     pub(crate) stage: DeltaStage,
 }
@@ -97,8 +97,8 @@ impl DeltaCall {
     ghost use Rattle.hist_core.specs.declared.delta_call.DeltaStage.TheVariants.{LoadingSingle, TakingPacked, LoadingCounts, LoadingCount, Raising, Walking, LoadingSample, RaisingSample, LoadingSum, Swapping};
     ghost use Rattle.hist_core.specs.DeltaCall.{IsSomeDeltaCall, IsStarted, IsAtStage, DeltaCallSteps, HasGoneOn, IsBehindSingle, behind_bucket, behind_sample, behind_walk, TakesBucket, TakesUnits, mark_of};
 
-    // It begins to take of a known histogram: it loads the single word, or, where the histogram is sparse, the next of its record. There
-    // is room for all keys.
+    // It begins to take a delta of a known histogram: it loads the single word or, if the histogram is sparse, the next
+    // of its record. There is room for all keys.
     pub(crate) fn start(
         alloc: Global,
         shape: Shape,
@@ -163,7 +163,7 @@ impl DeltaCall {
         DeltaCallStep::More
     }
 
-    // It lists the units of a key that stood between a mark and what that was raised to.
+    // It lists the units of a key by which its total is above its mark.
     fn take(&mut self, key: i32, total: u64, mark: u64) -> DeltaCallStep
         requires { vec_len self.old.counts < vec_capacity self.old.counts }
         ensures { TakesUnits key total mark self.old self.new result }
@@ -175,7 +175,7 @@ impl DeltaCall {
         DeltaCallStep::Took(key, total - mark)
     }
 
-    // Those of a bucket.
+    // The same for a bucket.
     fn take_bucket(&mut self, bucket: usize, total: u64, mark: u64) -> DeltaCallStep
         requires inside { bucket + 1 < length self.old.ranges }
         requires room { vec_len self.old.counts < vec_capacity self.old.counts }
@@ -213,7 +213,7 @@ impl DeltaCall {
         DeltaCallStep::More
     }
 
-    // What it does behind a bucket: it goes on to the next, or to the sum.
+    // What it does after a bucket: it loads the count of the next one, or the sum.
     fn behind_bucket(&self, mounted: Mounted, bucket: usize) -> DeltaStage
         requires { bucket ≤ 65535 }
         ensures { result ≡ behind_bucket self.now mounted bucket }
@@ -228,7 +228,7 @@ impl DeltaCall {
         }
     }
 
-    // It loads the count of a bucket, and raises its mark next where the bucket has units.
+    // It loads the count of a bucket, and raises its mark next if the bucket has units.
     fn load_count(&mut self, words: &[u64], mounted: Mounted, bucket: usize) -> DeltaCallStep
         requires { IsAtStage (LoadingCount mounted bucket) (length words.now) self.old }
         ensures steps { DeltaCallSteps self.old words.now self.new words.now result }
@@ -248,7 +248,7 @@ impl DeltaCall {
         DeltaCallStep::More
     }
 
-    // Where the mark of a bucket stands: the packed one has the single mark, each other its own behind the counts.
+    // Where the mark of a bucket is: the packed one has the single mark, each other one its own after the counts.
     fn mark_of(&self, mounted: Mounted, bucket: usize) -> usize
         requires few { (length self.now.ranges ≤ 65535) × (bucket ≤ 65535) }
         requires inside { (self.now.histogram ≤ 1048576) × (mounted.counts ≤ 1048576) }
@@ -278,7 +278,7 @@ impl DeltaCall {
         self.take_bucket(bucket, total, mark)
     }
 
-    // What its walk met leads to: it goes on, or to the count of a sample, or at the end of the list to the sum.
+    // What a step of its walk leads to: the next step, the count of a sample, or at the end of the list the sum.
     fn behind_walk(met: Met) -> DeltaStage
         ensures { result ≡ behind_walk met }
     {
@@ -300,7 +300,7 @@ impl DeltaCall {
         DeltaCallStep::More
     }
 
-    // What the count of a sample leads to: its mark is raised next where it has units.
+    // What the count of a sample leads to: its mark is raised next if it has units.
     fn behind_sample(at: u64, value: i32, count: u64) -> DeltaStage
         ensures { result ≡ behind_sample at value count }
     {
@@ -359,7 +359,7 @@ impl DeltaCall {
         DeltaCallStep::Done(sum.wrapping_sub(mark.cast_signed()))
     }
 
-    // The word that its next event loads, where that is a load.
+    // The word that its next event loads, if it is a load.
     pub(crate) fn next_load(&self) -> Option<usize>
         ensures { result ≡ delta_load self.now.histogram self.now.stage }
     {
@@ -375,7 +375,7 @@ impl DeltaCall {
         }
     }
 
-    // Goes on by one event.
+    // Performs its next event.
     pub(crate) fn step(&mut self, words: &mut [u64]) -> DeltaCallStep
         requires stands { ∥ IsSomeDeltaCall (length words.old) self.old ∥₁ }
         requires inside { LiesWithin (length words.old) self.old.histogram }

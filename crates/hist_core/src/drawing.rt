@@ -1,4 +1,4 @@
-//! What a delta that is going on is shown as, which stands last of what its actor's deltas took.
+//! How a running delta is shown: as the last of what its actor's deltas took.
 
 ghost use Rattle.std.specs.Prelude.{◌<◌, vec_len, vec_capacity};
 ghost use Rattle.hist_core.specs.declared.entry.Taken.{Taken};
@@ -8,7 +8,7 @@ ghost use Rattle.hist_core.specs.ActorRun.{IsLast, LastBecomes};
 use crate::entry::Taken;
 use crate::samples::list_by_key;
 
-// The last has taken so many units of a key too. There is room for them.
+// The last has also taken these units of a key. There is room for them.
 pub(crate) fn draw(taken: &mut Vec<Taken>, key: i32, units: u64)
     requires some { 0 < vec_len taken.old }
     requires room { (last : Taken) → IsLast taken.old.items last → vec_len last.counts < vec_capacity last.counts }

@@ -1,7 +1,7 @@
 //! What calls have counted and taken, as a world shows it.
 
-/// Units of one key of a histogram, and an amount of its sum: what an accepted call counts. The key of a bucket is its least
-/// value; that of a sparse sample is its value.
+/// Units of one key of a histogram, and an amount of its sum: what an accepted call counts. The key of a bucket is its
+/// least value; that of a sparse sample is its value.
 #[derive(Debug, Drop)]
 pub struct Entry {
     /// The name of the histogram.
@@ -14,7 +14,7 @@ pub struct Entry {
     pub amount: i64,
 }
 
-/// What a delta took, so far as it went.
+/// What a delta took; of a running one, what it has taken so far.
 #[derive(Debug, Drop)]
 pub struct Taken {
     /// The name of the histogram.

@@ -1,31 +1,32 @@
-//! Why a world takes no move.
+//! Why a world does not make a move.
 
 use segment_calls::AdoptFault;
 use std::alloc::AllocError;
 use thiserror::Error;
 
-/// Why a world takes no move, or is not made. The first of these that holds is answered, and the world is as it was.
+/// Why a world does not make a move, or cannot be made. The first of these that holds is returned, and the world is
+/// unchanged.
 #[derive(Clone, Copy, Debug, PartialEq, Eq, Error)]
 pub enum WorldFault {
-    /// The shape is unlawful, the actors are not 1 to 64, or the version is neither 1 nor 2.
+    /// The shape is not valid, the actors are not 1 to 64, or the version is neither 1 nor 2.
     #[error("BadShape")]
     BadShape,
     /// There is no such actor.
     #[error("NoActor")]
     NoActor,
-    /// A call of this actor is going on.
+    /// A call of this actor is running.
     #[error("Busy")]
     Busy,
-    /// No call of this actor is going on.
+    /// No call of this actor is running.
     #[error("Idle")]
     Idle,
-    /// No `hist` of this actor was answered with a histogram of that name.
+    /// No `hist` of this actor returned a histogram of that name.
     #[error("Unknown")]
     Unknown,
-    /// There was no memory.
+    /// Memory ran out.
     #[error("NoMemory")]
     NoMemory,
-    /// The image that is to be gone on with has this fault, which is never want of memory.
+    /// The image from which to continue has this fault, which is never `NoMemory`.
     #[error("Adopt {0}")]
     Adopt(AdoptFault),
 }

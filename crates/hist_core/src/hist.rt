@@ -1,4 +1,4 @@
-//! A `hist` that is going on: it walks the list for the first record of its name, and makes one where there is none.
+//! A running `hist`: it walks the list to the first record of its name, and makes one if there is none.
 
 ghost use Rattle.std.specs.Prelude.{◌≡◌, ◌≢◌, ◌≤◌, ◌<◌, ℕ, List, length};
 
@@ -10,7 +10,7 @@ use segment_calls::{Asked, Refusal};
 use segment_image::Shape;
 use segment_image::layout::{BLOCK_HEADER, BLOCK_TYPE, HISTOGRAM_NAME_LENGTH, TYPE_HISTOGRAM};
 
-// No record and no name has so many words.
+// More words than any record or name has.
 const MOST_WORDS: usize = 1 << 60;
 
 /// A histogram that an actor knows, or asks for.
@@ -26,9 +26,9 @@ pub(crate) struct KnownHist {
 /// What a `hist` does next.
 #[derive(Debug, Drop)]
 pub(crate) enum HistStage {
-    /// It loads the next of where the walk stands.
+    /// It loads the next of the block where the walk is.
     Walking,
-    /// It loads a word of the record where the walk stands. So many before it were as they are to be.
+    /// It loads a word of the record where the walk is. `same` words before it were as wanted.
     Comparing { same: usize },
     /// It makes its record.
     Making { making: Making },
@@ -37,20 +37,20 @@ pub(crate) enum HistStage {
 /// What a step of a `hist` says.
 #[derive(Clone, Copy, Debug, PartialEq, Eq)]
 pub(crate) enum HistStep {
-    /// It goes on.
+    /// It continues.
     More,
-    /// The record where the walk stands is the first of its name, and has the same spec.
+    /// The record that the walk has reached is the first of its name, and has the same spec.
     Done,
     /// It is refused.
     Refused(Refusal),
 }
 
-/// A `hist` that is going on.
+/// A running `hist`.
 #[derive(Debug, Drop)]
 pub(crate) struct Hist {
     pub(crate) shape: Shape,
     pub(crate) asked: KnownHist,
-    // What its record has behind its header, and how many words of that are the name's.
+    // The words of its record after the header, and how many of them are the name's.
     pub(crate) payload: Vec<u64>,
     pub(crate) letters: usize,
     pub(crate) walk: Walk,
@@ -87,8 +87,8 @@ impl Hist {
         }
     }
 
-    // The place in the payload of the word that is compared k-th, from 1 on: the length of the name, the name, the spec, and
-    // the ranges behind the name.
+    // The place in the payload of the word that is compared k-th, from 1 on: the length of the name, the name, the
+    // spec, and the ranges, which follow the name.
     fn compared_place(&self, k: usize) -> usize
         requires small { (k < 2 ^ 60) × (self.now.letters < 2 ^ 60) }
         ensures { result ≡ compared_place self.now.letters k }
@@ -105,7 +105,7 @@ impl Hist {
         }
     }
 
-    // The place in the record of that word, from 0 on: the type first.
+    // The place in the record of the word that is compared k-th, from 0 on: the type comes first.
     fn compared_index(&self, k: usize) -> usize
         requires small { (k < 2 ^ 60) × (self.now.letters < 2 ^ 60) }
         ensures { result ≡ compared_index self.now.letters k }
@@ -117,7 +117,7 @@ impl Hist {
         }
     }
 
-    // What that word of its own record is to be.
+    // The value of that word in a record that is as wanted.
     fn compared_word(&self, k: usize) -> u64
         requires small { (k < 2 ^ 60) × (self.now.letters < 2 ^ 60) }
         requires inside { 0 < k → compared_place self.now.letters k < vec_len self.now.payload }
@@ -130,7 +130,7 @@ impl Hist {
         }
     }
 
-    // One word more was as it is to be.
+    // One more word was as wanted.
     fn matched(&mut self, same: usize) -> HistStep
         requires { same < vec_len self.old.payload }
         ensures { IsMatched self.old same self.new result }
@@ -143,7 +143,7 @@ impl Hist {
         }
     }
 
-    // The word is another: the record has another name, or the name and another spec.
+    // The word differs: the record has another name, or the same name and another spec.
     fn differed(&mut self, same: usize) -> HistStep
         requires { self.old.letters < 2 ^ 60 }
         ensures { IsDifferent self.old same self.new result }
@@ -156,7 +156,7 @@ impl Hist {
         }
     }
 
-    // It loads one more word of the record where the walk stands.
+    // It loads one more word of the record where the walk is.
     fn compare(&mut self, words: &[u64], same: usize) -> HistStep
         requires compares { self.old.stage ≡ Comparing same }
         requires stands { ∥ IsSomeHist (length words.now) self.old ∥₁ }
@@ -171,7 +171,7 @@ impl Hist {
         }
     }
 
-    // It loads the next of where the walk stands.
+    // It loads the next of the block where the walk is.
     fn walk_on(&mut self, words: &[u64]) -> HistStep
         requires walks { self.old.stage ≡ Walking }
         requires stands { ∥ IsSomeHist (length words.now) self.old ∥₁ }
@@ -194,7 +194,7 @@ impl Hist {
         }
     }
 
-    // What becomes of it by what a step of the making of its record said: it goes on, or the same walk does.
+    // What a step of making its record leads to: it continues, walks on from where it was, or is refused.
     fn made(&mut self, said: MakingStep) -> HistStep
         ensures { IsMade self.old said self.new result }
     {
@@ -208,7 +208,7 @@ impl Hist {
         }
     }
 
-    // It goes on with making its record.
+    // It continues to make its record.
     fn make(&mut self, words: &mut [u64]) -> HistStep
         requires makes { IsMakingRecord self.old.stage }
         requires stands { ∥ IsSomeHist (length words.old) self.old ∥₁ }
@@ -224,7 +224,7 @@ impl Hist {
         }
     }
 
-    // The exchange that is its next event, where that is one.
+    // The exchange that its next event is, if it is one.
     pub(crate) fn next_exchange(&self) -> Option<Attempt>
         ensures { result ≡ hist_attempt self.now.stage }
     {
@@ -234,7 +234,7 @@ impl Hist {
         }
     }
 
-    // The word of its record that is compared as number k.
+    // The word of the record that is compared as number k.
     fn compared_load(&self, k: usize) -> Option<usize>
         ensures { result ≡ compared_load self.now k }
     {
@@ -246,7 +246,7 @@ impl Hist {
         }
     }
 
-    // The word that its next event loads, where that is a load.
+    // The word that its next event loads, if it is a load.
     pub(crate) fn next_load(&self) -> Option<usize>
         ensures { result ≡ hist_load self.now self.now.stage }
     {
@@ -257,7 +257,7 @@ impl Hist {
         }
     }
 
-    // Goes on by one event.
+    // Performs its next event.
     pub(crate) fn step(&mut self, words: &mut [u64]) -> HistStep
         requires stands { ∥ IsSomeHist (length words.old) self.old ∥₁ }
         ensures steps { HistSteps self.old words.old self.new words.new result }

@@ -1,4 +1,4 @@
-//! The calls on a segment as plain data that runs, one event a step. What they answer are the types of `segment_calls`, as of
+//! The calls on a segment as plain data, which runs one event a step. They return the types of `segment_calls`, as in
 //! every crate that runs a segment.
 #![tactic(auto)]
 

@@ -23,7 +23,7 @@ pub(crate) enum MakingStage {
 /// What a step of a making says.
 #[derive(Clone, Copy, Debug, PartialEq, Eq)]
 pub(crate) enum MakingStep {
-    /// It goes on.
+    /// It continues.
     More,
     /// The record is on the list.
     Done,
@@ -45,7 +45,7 @@ impl Making {
     ghost use Rattle.hist_core.specs.declared.making.MakingStage.TheVariants.{Filling};
     ghost use Rattle.hist_core.specs.Making.{IsSomeMaking, MakingSteps, IsStarted, IsAllocated, IsAllocating, IsPublished, IsPublishing, IsNextFilled, IsPayloadFilled};
 
-    // It begins to claim words for a record: so many behind the header, which fit in a page.
+    // It begins to claim words for a record: `room` words after the header, which fit in a page.
     pub(crate) fn start(shape: Shape, room: u64, tag: u64) -> Making
         requires lawful { IsShape shape }
         requires one_page { BLOCK_HEADER + room ≤ shape.page }
@@ -59,7 +59,7 @@ impl Making {
         }
     }
 
-    // The next word of the payload from an index on that is not 0, or the end.
+    // The first word of the payload, from an index on, that is not 0; or the end.
     fn next_filled(payload: &[u64], from: usize) -> usize
         requires { from ≤ length payload.now }
         ensures { IsNextFilled payload.now from result }
@@ -86,7 +86,7 @@ impl Making {
         };
     }
 
-    // What becomes of it by what a step of its allocation said.
+    // What a step of its allocation leads to.
     fn allocated(&mut self, said: AllocStep) -> MakingStep
         ensures { IsAllocated self.old said self.new result }
     {
@@ -101,7 +101,7 @@ impl Making {
         }
     }
 
-    // It goes on with claiming the words of the record.
+    // It continues to claim the words of the record.
     fn allocate(&mut self, words: &mut [u64], payload: &[u64]) -> MakingStep
         requires allocates { IsAllocating self.old.stage }
         requires stands { ∥ IsSomeMaking (length words.old) payload.now self.old ∥₁ }
@@ -127,7 +127,7 @@ impl Making {
         MakingStep::More
     }
 
-    // What becomes of it by what a step of its publish said.
+    // What a step of its publish leads to.
     fn published(said: PubStep) -> MakingStep
         ensures { IsPublished said result }
     {
@@ -138,7 +138,7 @@ impl Making {
         }
     }
 
-    // It goes on with putting the record on the list.
+    // It continues to put the record on the list.
     fn publish(&mut self, words: &mut [u64], payload: &[u64]) -> MakingStep
         requires publishes { IsPublishing self.old.stage }
         requires stands { ∥ IsSomeMaking (length words.old) payload.now self.old ∥₁ }
@@ -153,7 +153,7 @@ impl Making {
         }
     }
 
-    // The exchange that is its next event, where that is one.
+    // The exchange that its next event is, if it is one.
     pub(crate) fn next_exchange(&self) -> Option<Attempt>
         ensures { result ≡ making_attempt self.now.stage }
     {
@@ -164,7 +164,7 @@ impl Making {
         }
     }
 
-    // The word that its next event loads, where that is a load.
+    // The word that its next event loads, if it is a load.
     pub(crate) fn next_load(&self) -> Option<usize>
         ensures { result ≡ making_load self.now.stage }
     {
@@ -175,7 +175,7 @@ impl Making {
         }
     }
 
-    // Goes on by one event.
+    // Performs its next event.
     pub(crate) fn step(&mut self, words: &mut [u64], payload: &[u64]) -> MakingStep
         requires stands { ∥ IsSomeMaking (length words.old) payload.now self.old ∥₁ }
         ensures { MakingSteps payload.now self.old words.old self.new words.new result }

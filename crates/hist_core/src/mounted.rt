@@ -8,9 +8,9 @@ use segment_image::layout::BLOCK_HEADER;
 /// The counts of a histogram, as they were found in use.
 #[derive(Clone, Copy, Debug, PartialEq, Eq)]
 pub(crate) struct Mounted {
-    // Where they stand.
+    // Where they are.
     pub(crate) counts: u64,
-    // The bucket whose units were packed, where there was one, and the units of it that the single word keeps.
+    // The packed bucket, if there is one, and the units of it that the single word keeps.
     pub(crate) packed: Option<usize>,
     pub(crate) kept: u64,
 }
@@ -27,7 +27,7 @@ impl Mounted {
         (self.counts as usize).wrapping_add(place)
     }
 
-    // The units of a bucket whose count this is: those of the packed bucket are also the ones that the single word keeps.
+    // The units of a bucket with this count: for the packed bucket, also those that the single word keeps.
     pub(crate) fn total(self, bucket: usize, count: u64) -> u64
         ensures { result ≡ total_at self bucket count }
     {

@@ -1,4 +1,4 @@
-//! The key that the units of a sample have, and keys with units in the order of the keys.
+//! The key that the units of a sample have, and lists of keys with units, in the order of the keys.
 
 ghost use Rattle.std.specs.Prelude.{◌≡◌, ◌<◌, ◌≤◌, length, vec_len, vec_capacity};
 ghost use Rattle.bucket_ranges.specs.Ranges.{AreBoundaries};
@@ -7,7 +7,7 @@ ghost use Rattle.hist_core.specs.DeltaCall.{insert_by_key, place_of as place_of_
 
 use bucket_ranges::Ranges;
 
-// Before how many of these keys one is to stand: the first that is not less.
+// The place of a key among these: that of the first one that is not less.
 fn place_of(counts: &[(i32, u64)], key: i32) -> usize
     ensures within { result ≤ length counts.now }
     ensures place { result ≡ place_of_key key counts.now }
@@ -20,7 +20,7 @@ fn place_of(counts: &[(i32, u64)], key: i32) -> usize
     counts.len()
 }
 
-// Lists units of a key too, in the order of the keys. There is room for them.
+// Adds units of a key to a list, in the order of the keys. There is room for them.
 pub(crate) fn list_by_key(counts: &mut Vec<(i32, u64)>, key: i32, units: u64)
     requires { vec_len counts.old < vec_capacity counts.old }
     ensures items { counts.new.items ≡ insert_by_key (key, units) counts.old.items }
@@ -30,7 +30,7 @@ pub(crate) fn list_by_key(counts: &mut Vec<(i32, u64)>, key: i32, units: u64)
     counts.insert(place, (key, units)).unwrap();
 }
 
-// The key of a value: the least value of its bucket, or the value itself where there are no buckets.
+// The key of a value: the least value of its bucket, or the value itself if there are no buckets.
 pub(crate) fn key_of(ranges: &Ranges, value: i32) -> i32
     requires { AreBoundaries ranges.now }
     ensures { result ≡ key_of_value ranges.now value }

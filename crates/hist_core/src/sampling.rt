@@ -1,5 +1,5 @@
-//! The search for the sample of a value of a sparse histogram: a walk on from the histogram's record, which makes a sample where there is
-//! none.
+//! The search for the sample of a value of a sparse histogram: a walk from the histogram's record, which makes a sample
+//! if there is none.
 
 ghost use Rattle.std.specs.Prelude.{◌≡◌, length};
 ghost use Rattle.hist_core.specs.Sampling.{behind_type};
@@ -16,7 +16,7 @@ use segment_image::layout::{
 /// What a search for a sample does next.
 #[derive(Debug, Drop)]
 pub(crate) enum SamplingStage {
-    /// It loads the next of where the walk stands.
+    /// It loads the next of the block where the walk is.
     Walking,
     /// It loads the type of the record that the walk gave last.
     LoadingType { at: u64 },
@@ -31,15 +31,15 @@ pub(crate) enum SamplingStage {
 /// What a step of a search for a sample says.
 #[derive(Clone, Copy, Debug, PartialEq, Eq)]
 pub(crate) enum SamplingStep {
-    /// It goes on.
+    /// It continues.
     More,
-    /// The first sample of the value stands there.
+    /// The first sample of the value is there.
     Found(u64),
     /// It is refused: there is none, and none could be made.
     Refused(Refusal),
 }
 
-/// A search for the sample of a value that is going on.
+/// A running search for the sample of a value.
 #[derive(Debug, Drop)]
 pub(crate) struct Sampling {
     pub(crate) shape: Shape,
@@ -68,7 +68,7 @@ impl Sampling {
     ghost use Rattle.hist_core.specs.declared.sampling.SamplingStage.TheVariants.{Walking, LoadingType, LoadingHistogram, LoadingValue};
     ghost use Rattle.hist_core.specs.Sampling.{IsSomeSampling, SamplingSteps, IsStarted, IsIts, IsMade, IsMakingSample};
 
-    // It begins to walk on from the histogram's record.
+    // It begins to walk from the histogram's record.
     pub(crate) fn start(shape: Shape, histogram: u64, value: i32) -> Sampling
         ensures { IsStarted shape histogram value result }
     {
@@ -88,7 +88,7 @@ impl Sampling {
         i64::from(self.value).cast_unsigned()
     }
 
-    // It loads the next of where the walk stands. At the end of the list it begins to make a sample.
+    // It loads the next of the block where the walk is. At the end of the list it begins to make a sample.
     fn walk_on(&mut self, words: &[u64]) -> SamplingStep
         requires walks { self.old.stage ≡ Walking }
         requires stands { ∥ IsSomeSampling (length words.now) self.old ∥₁ }
@@ -138,7 +138,7 @@ impl Sampling {
         of == self.histogram && word == self.value_word()
     }
 
-    // It loads the value of a sample: that is the one, or the walk goes on.
+    // It loads the value of a sample: that is the one, or the walk continues.
     fn load_value(&mut self, words: &[u64], at: u64, of: u64) -> SamplingStep
         requires loads { self.old.stage ≡ LoadingValue at of }
         requires stands { ∥ IsSomeSampling (length words.now) self.old ∥₁ }
@@ -153,7 +153,7 @@ impl Sampling {
         SamplingStep::More
     }
 
-    // What becomes of it by what a step of the making of its sample said: it goes on, or the same walk does.
+    // What a step of making its sample leads to: it continues, walks on from where it was, or is refused.
     fn made(&mut self, said: MakingStep) -> SamplingStep
         ensures { IsMade self.old said self.new result }
     {
@@ -167,7 +167,7 @@ impl Sampling {
         }
     }
 
-    // It goes on with making its sample.
+    // It continues to make its sample.
     fn make(&mut self, words: &mut [u64]) -> SamplingStep
         requires makes { IsMakingSample self.old.stage }
         requires stands { ∥ IsSomeSampling (length words.old) self.old ∥₁ }
@@ -184,7 +184,7 @@ impl Sampling {
         }
     }
 
-    // The exchange that is its next event, where that is one.
+    // The exchange that its next event is, if it is one.
     pub(crate) fn next_exchange(&self) -> Option<Attempt>
         ensures { result ≡ sampling_attempt self.now.stage }
     {
@@ -194,7 +194,7 @@ impl Sampling {
         }
     }
 
-    // The word that its next event loads, where that is a load.
+    // The word that its next event loads, if it is a load.
     pub(crate) fn next_load(&self) -> Option<usize>
         ensures { result ≡ sampling_load self.now self.now.stage }
     {
@@ -211,7 +211,7 @@ impl Sampling {
         }
     }
 
-    // Goes on by one event.
+    // Performs its next event.
     pub(crate) fn step(&mut self, words: &mut [u64]) -> SamplingStep
         requires stands { ∥ IsSomeSampling (length words.old) self.old ∥₁ }
         ensures steps { SamplingSteps self.old words.old self.new words.new result }

@@ -1,4 +1,4 @@
-//! A snapshot that is going on: it looks at all that is counted of a histogram, and changes nothing.
+//! A running snapshot: it looks at all that is counted of a histogram, and changes nothing.
 
 use crate::hist::KnownHist;
 use crate::mounted::Mounted;
@@ -35,20 +35,20 @@ pub(crate) enum SnapshotStage {
 /// What a step of a snapshot says.
 #[derive(Clone, Copy, Debug, PartialEq, Eq)]
 pub(crate) enum SnapshotCallStep {
-    /// It goes on.
+    /// It continues.
     More,
     /// It has ended, with this sum and this redundant count.
     Done { sum: i64, redundant: u64 },
 }
 
-/// A snapshot that is going on.
+/// A running snapshot.
 #[derive(Debug, Drop)]
 pub(crate) struct SnapshotCall {
     pub(crate) version: u64,
     // The histogram's record.
     pub(crate) histogram: u64,
-    // The key of each bucket, in order, with the units that it saw there, 0 so far as it did not look. Of a sparse histogram the values
-    // that it met with units, in the order of the list; at its end they are sorted.
+    // The key of each bucket, in order, with the units that it saw there: 0 if it has not looked yet. Of a sparse
+    // histogram the values that it found with units, in the order of the list; at its end they are sorted.
     pub(crate) totals: Vec<(i32, u64)>,
     pub(crate) stage: SnapshotStage,
 }
@@ -63,7 +63,8 @@ impl SnapshotCall {
     ghost use Rattle.hist_core.specs.declared.snapshot_call.SnapshotStage.TheVariants.{LoadingSingle, LoadingCounts, LoadingCount, Walking, LoadingSample, LoadingSum, LoadingRedundant};
     ghost use Rattle.hist_core.specs.SnapshotCall.{IsAtStage, IsSomeSnapshotCall, IsStarted, SnapshotCallSteps, IsTotalPut, IsBehindSingle, IsBehindWalk, IsValueListed, behind_bucket};
 
-    // It begins to look at a known histogram: it loads the single word, or, where the histogram is sparse, the next of its record.
+    // It begins to look at a known histogram: it loads the single word or, if the histogram is sparse, the next of its
+    // record.
     pub(crate) fn start(
         alloc: Global,
         shape: Shape,
@@ -93,7 +94,7 @@ impl SnapshotCall {
         })
     }
 
-    // The units of a bucket that it saw.
+    // It puts down the units that it saw of a bucket.
     fn put(&mut self, bucket: usize, total: u64)
         requires { bucket < length self.old.totals.items }
         ensures { IsTotalPut bucket total self.old self.new }
@@ -101,7 +102,7 @@ impl SnapshotCall {
         self.totals[bucket].1 = total;
     }
 
-    // What a single word leads to. Its units are all that there are, where the counts are not in use.
+    // What a single word leads to. If the counts are not in use, its units are all that there are.
     fn behind_single(&mut self, word: u64)
         requires { length self.old.totals.items ≤ 65535 }
         ensures { IsBehindSingle self.old word self.new self.new.stage }
@@ -144,7 +145,7 @@ impl SnapshotCall {
         SnapshotCallStep::More
     }
 
-    // What it does behind a bucket: it goes on to the next, or to the sum.
+    // What it does after a bucket: it loads the count of the next one, or the sum.
     fn behind_bucket(&self, mounted: Mounted, bucket: usize) -> SnapshotStage
         requires { bucket ≤ 65535 }
         ensures { result ≡ behind_bucket (length self.now.totals.items) mounted bucket }
@@ -171,7 +172,7 @@ impl SnapshotCall {
         SnapshotCallStep::More
     }
 
-    // What its walk met leads to: it goes on, or to the count of a sample, or at the end of the list to the sum.
+    // What a step of its walk leads to: the next step, the count of a sample, or at the end of the list the sum.
     fn meet(&mut self, met: Met)
         ensures { IsBehindWalk self.old met self.new }
     {
@@ -196,7 +197,7 @@ impl SnapshotCall {
         SnapshotCallStep::More
     }
 
-    // The units of a value that it met, where it has some.
+    // It lists the units of a value that it found, if there are some.
     fn list(&mut self, value: i32, count: u64)
         requires { vec_len self.old.totals < vec_capacity self.old.totals }
         ensures { IsValueListed value count self.old self.new }
@@ -261,7 +262,7 @@ impl SnapshotCall {
         }
     }
 
-    // Goes on by one event.
+    // Performs its next event.
     pub(crate) fn step(&mut self, words: &[u64]) -> SnapshotCallStep
         requires stands { ∥ IsSomeSnapshotCall (length words.now) self.old ∥₁ }
         requires inside { LiesWithin (length words.now) self.old.histogram }

@@ -1,4 +1,4 @@
-//! A walk along the samples of a sparse histogram, which stand behind its record on the list.
+//! A walk along the samples of a sparse histogram, which come after its record on the list.
 
 ghost use Rattle.std.specs.Prelude.{◌≡◌};
 ghost use Rattle.hist_core.specs.Walk.{IsBehindValue, behind_next, behind_type};
@@ -12,20 +12,20 @@ use segment_image::layout::{
 pub(crate) enum SampleWalk {
     /// It loads the next of the histogram's record.
     LoadingFirst,
-    /// It loads the type of a record that it met behind the histogram's.
+    /// It loads the type of a record that it found after the histogram's.
     LoadingType { at: u64 },
     /// It loads the histogram of a sample.
     LoadingHistogram { at: u64 },
     /// It loads the value of a sample.
     LoadingValue { at: u64, of: u64 },
-    /// It loads the next of a record behind the histogram's.
+    /// It loads the next of a record after the histogram's.
     LoadingNext { at: u64 },
 }
 
-/// What a step of a walk met.
+/// What a step of a walk found.
 #[derive(Clone, Copy, Debug, PartialEq, Eq)]
 pub(crate) enum Met {
-    /// Nothing yet, and it goes on.
+    /// Nothing yet, and it continues.
     Nothing(SampleWalk),
     /// A sample of its histogram.
     Sample { at: u64, value: i32 },
@@ -55,7 +55,7 @@ fn behind_type(at: u64, tag: u64) -> SampleWalk
     }
 }
 
-// What the value of a sample leads to: that sample, where it is one of this histogram, or else its next.
+// What the value of a sample leads to: that sample, if it is one of this histogram, or else its next.
 fn behind_value(histogram: u64, at: u64, of: u64, word: u64) -> Met
     ensures { IsBehindValue histogram at of word result }
 {
@@ -115,7 +115,7 @@ impl SampleWalk {
         }
     }
 
-    // Goes on by one event, behind the record of a histogram.
+    // Performs the next event of a walk from the record of a histogram.
     pub(crate) fn step(self, histogram: u64, words: &[u64]) -> Met
         requires within { spot_of histogram self < length words.now }
         requires few { length words.now ≤ 1048576 }

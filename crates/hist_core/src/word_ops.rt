@@ -11,7 +11,7 @@ pub(crate) fn fetch_add(words: &mut [u64], at: usize, amount: u64)
     words[at] = words[at].wrapping_add(amount);
 }
 
-// Raises the word `at` to a number where it is below that. It gives the number that was there.
+// Raises the word `at` to a number if it is below that, and returns the number that was there.
 pub(crate) fn fetch_max(words: &mut [u64], at: usize, least: u64) -> u64
     requires { at < length words.old }
     ensures words { words.new ≡ slice_set words.old at (max (word_at words.old at) least) }
@@ -22,7 +22,7 @@ pub(crate) fn fetch_max(words: &mut [u64], at: usize, least: u64) -> u64
     found
 }
 
-// Puts a number in the place of the word `at`. It gives the number that was there.
+// Stores a number in the word `at`, and returns the number that was there.
 pub(crate) fn swap(words: &mut [u64], at: usize, value: u64) -> u64
     requires { at < length words.old }
     ensures words { words.new ≡ slice_set words.old at value }

@@ -14,7 +14,7 @@ use std::alloc::{AllocError, Global};
 /// The most actors of a world.
 pub const MAX_ACTORS: usize = 64;
 
-/// A segment with its actors. Each has one call at most that goes on, and each step is one event of it. So a world can be
+/// A segment with its actors. Each actor runs at most one call, and each step is one event of it. So a world can be
 /// looked at after any event of any interleaving: what it shows is a state that the machine reaches.
 #[derive(Debug, Drop)]
 pub struct World {
@@ -41,10 +41,10 @@ impl World {
     ghost use Rattle.hist_core.specs.Moves.{Makes, MakesAll, FaultsAt, StopsAtMove};
     ghost use Rattle.hist_core.specs.World.{actor_checks, world_checks, IsAdoptFault, begin_checks, TakesMemory, BeginSays, step_checks, ChangesOneWord, ended_of, begun_of, taken_of};
 
-    /// Returns a world with a new segment of `size` words in pages of `page` words, of version 1 or 2, and so many
-    /// actors that have done nothing. Or the first fault, `BadShape`, where page or size is not valid, the actors are
-    /// not 1 to 64, or the version is another; or `NoMemory` [world]. The machine reaches this world from a new
-    /// segment [starts].
+    /// Returns a world with a new segment of `size` words in pages of `page` words, of version 1 or 2, and `actors`
+    /// actors that have done nothing. Or the first fault: `BadShape` if page or size is not valid, the actors are not 1
+    /// to 64, or the version is another; or `NoMemory` [world]. The machine reaches this world from a new segment
+    /// [starts].
     pub fn new(
         alloc: Global,
         size: u64,
@@ -68,7 +68,7 @@ impl World {
         World::open(alloc, shape, id, actors, version).map_err(|_| WorldFault::NoMemory)
     }
 
-    // The world that is made so.
+    // The world of a new segment of this shape.
     fn open(
         alloc: Global,
         shape: Shape,
@@ -87,12 +87,12 @@ impl World {
         })
     }
 
-    /// Returns a world that continues from the words of an image, with so many actors that have done nothing and know
+    /// Returns a world that continues from the words of an image, with `actors` actors that have done nothing and know
     /// no histogram. Its names, counts, sums, marks and free space are the image's, as are its shape and its version,
-    /// and its pool has the units that the image has not used. Or the first fault: `BadShape` where the actors are
-    /// not 1 to 64; then `Adopt` with the first fault of the image, in the order of `AdoptFault`; or `NoMemory`, also
-    /// where memory ran out before all was looked at [world]. The machine reaches this world from the image: its
-    /// opener stands for all that the image counts [starts].
+    /// and its pool has the units that the image has not used. Or the first fault: `BadShape` if the actors are not 1
+    /// to 64; then `Adopt` with the first fault of the image, in the order of `AdoptFault`; or `NoMemory`, also if
+    /// memory ran out before all was checked [world]. The machine reaches this world from the image: its opener stands
+    /// for all that the image counts [starts].
     ///
     /// - `words`: those of an image of version 2. They are copied, and may be any.
     pub fn adopt(alloc: Global, words: &[u64], actors: usize) -> Result<World, WorldFault>
@@ -106,7 +106,7 @@ impl World {
         World::open_image(alloc, words, &adoptable, actors).map_err(|_| WorldFault::NoMemory)
     }
 
-    // The world that goes on with an image.
+    // The world that continues from an image.
     fn open_image(
         alloc: Global,
         words: &[u64],
@@ -125,9 +125,9 @@ impl World {
 
     /// Returns the words of the segment [words]. Their header has no fault [header].
     ///
-    /// - The machine reaches the world from a new segment, or from an image that may be adopted; there the opener has
-    ///   accepted, taken and been answered what it had at the start [reached].
-    /// - Each state that the words stand for is consistent in all eight parts, beside the words of the start
+    /// - The machine reaches the world from a new segment, or from an image that may be adopted; the opener's entries,
+    ///   deltas and answers are still those of the start [reached].
+    /// - Each state that the words stand for is consistent in all eight parts, relative to the words of the start
     ///   [consistent].
     /// - The words read back as exactly the published histograms, each once. No bucket holds a unit that was not
     ///   begun. A bucket holds every unit of ended calls, except, in version 1, units that are just being moved out
@@ -173,17 +173,17 @@ impl World {
         &actor_run.entries[..actor_run.ended]
     }
 
-    /// An actor begins a call, which asks for a histogram, counts a value or a batch, takes of a histogram or looks
-    /// at it, or marks the segment as corrupt.
+    /// An actor begins a call, which asks for a histogram, counts a value or a batch, takes a delta or a snapshot of a
+    /// histogram, or marks the segment as corrupt.
     ///
-    /// `NoActor` where there is no such actor, then `Busy` where a call of it is running, then `Unknown` where the
-    /// call is of a histogram and no `Hist` of the actor returned one of that name; only for these causes. Then the
-    /// one fault is `NoMemory`, and never of a `SetCorrupt` [faults]. After a fault the world is unchanged; only its
-    /// lists may have more room [fault].
+    /// `NoActor` if there is no such actor, then `Busy` if a call of it is running, then `Unknown` if the call is of a
+    /// histogram and no `Hist` of the actor returned one of that name; only for these causes. The one other fault is
+    /// `NoMemory`, and never of a `SetCorrupt` [faults]. After a fault the world is unchanged; only its lists may have
+    /// more room [fault].
     ///
     /// No word of the segment changes [words], and no other actor [others]. The world stands for the same state as
     /// before, or for one in which the opener has lent the actor the units of its call [begins]. The actor holds no
-    /// free pointer: where its call stands at one, it has loaded that itself [loads].
+    /// free pointer: one that its call holds later was loaded by that call [loads].
     ///
     /// What a begin says [says]:
     ///
@@ -191,15 +191,15 @@ impl World {
     ///   with what the actor knows of the name: its reference, or `OtherSpec`.
     /// - An `Add` runs: its entry is pending, nothing of it has begun, and its units are out of the pool. Or it is
     ///   refused: `ZeroCount` if it has no units, `NoUnits` if it has more than the pool.
-    /// - A `Batch` runs in the same way, with an entry for each item and one for the sum, or is refused so with no
-    ///   item counted. It costs the units of its items, or the size of its sum divided by 2^31 and rounded up, if
-    ///   that is more. A batch of no items and sum 0 has ended, `Added`, and no other has.
+    /// - A `Batch` runs in the same way, with an entry for each item and one for the sum, or is refused in the same
+    ///   way, with no item counted. It costs the units of its items, or the size of its sum divided by 2^31 and rounded
+    ///   up, if that is more. A batch of no items and sum 0 has ended, `Added`, and no other has.
     /// - A `Delta` and a `Snapshot` run, with a histogram of the name that the actor knows. A snapshot has done no
     ///   event yet.
-    /// - A `SetCorrupt` runs, and nothing else can come of it.
+    /// - A `SetCorrupt` runs, and never returns at once.
     ///
-    /// All actors draw on one pool of 4,294,967,295 units: a call takes its units when it begins, and gives them back
-    /// where it is refused later.
+    /// All actors draw on one pool, of 4,294,967,295 units in a new segment: a call takes its units when it begins, and
+    /// if it is refused later, it gives back those that it has not spent.
     pub fn begin(&mut self, actor: usize, call: &Call) -> Result<Begun, WorldFault>
         ensures faults { MatchOption (first_fault (begin_checks self.old.world_state actor call.now)) (IfErr result (λ fault. (fault ≡ WorldFault.NoMemory) × TakesMemory call.now)) (λ fault. result ≡ Err fault) }
         ensures fault { OnErr result (IsAsBefore self.old.world_state self.new.world_state) }
@@ -212,62 +212,62 @@ impl World {
         self.world_state.begin(actor, call)
     }
 
-    /// Returns the exchange that the next event of an actor's call is, if it is one: of which word, and what is
-    /// wanted there. The stage at which the call stands says so; of an allocation and of a publish their own next
-    /// event does. An actor that is not there, or that runs no call, has none.
+    /// Returns the exchange that the next event of an actor's call is, if it is one: its word, and the value that it
+    /// expects there. It follows from the stage of the call and, in an allocation or a publish, from their own next
+    /// event. An actor that is not there, or that runs no call, has none.
     pub fn next_exchange(&self, actor: usize) -> Option<Attempt>
         ensures { result ≡ next_attempt self.now.world_state actor }
     {
         self.world_state.run(actor)?.next_exchange()
     }
 
-    /// Returns the word that the next event of an actor's call loads, if it is a load. The stage at which the call
-    /// stands says so; of an allocation, a publish and a walk their own next event does. An actor that is not there,
-    /// or that runs no call, has none.
+    /// Returns the word that the next event of an actor's call loads, if it is a load. It follows from the stage of the
+    /// call and, in an allocation, a publish or a walk, from their own next event. An actor that is not there, or that
+    /// runs no call, has none.
     pub fn next_load(&self, actor: usize) -> Option<usize>
         ensures { result ≡ next_load self.now.world_state actor }
     {
         self.world_state.run(actor)?.next_load()
     }
 
-    /// An actor performs the next event of its call. `NoActor` where there is no such actor, then `Idle` where no
-    /// call of it is running, only for these causes; else it succeeds [faults]. After a fault the world is unchanged
-    /// [fault]. It takes no memory.
+    /// An actor performs the next event of its call. `NoActor` if there is no such actor, then `Idle` if no call of it
+    /// is running, only for these causes; else it succeeds [faults]. After a fault the world is unchanged [fault]. It
+    /// takes no memory.
     ///
     /// It is one event of the machine; if the call was refused, the units that it has not spent go back to the pool
-    /// after that event. What the call answers is as promised [steps]:
+    /// after that event. What the call returns is as promised [steps]:
     ///
-    /// - A `Snapshot` has what the actor saw since its first event, which looks anew; no later event of it changes
-    ///   since when. The values of a sparse histogram ascend, each with a count above 0.
+    /// - A `Snapshot` has what the actor saw since the first event of the call. That event sets where this begins, and
+    ///   no later event of the call changes it. The values of a sparse histogram ascend, each with a count above 0.
     /// - A `Delta` took all that the actor saw since the call began. Of each key the snapshot, or all deltas
     ///   together, have at least what the actor had accepted and seen before, with the one exception of version 1
     ///   that `deltas_take_accepted` names.
-    /// - If the actor stands at a free pointer after the event, it stood there before, or the event has loaded it
-    ///   from the segment. So each at which a call stands was loaded by that call.
-    /// - `Full`: the actor stood at a free pointer from which the block that the call needs passes the end of the
-    ///   segment, and has set the full flag for that with this event. The block is the record of a `Hist`; of an
-    ///   `Add` or a `Batch` the counts of the histogram, or the sample of a value. `Corrupt`: with this event it has
-    ///   loaded flags with the corrupt one. With neither it has claimed or published anything, and the flag is set.
-    ///   What an earlier call saw or set is no cause. `OtherSpec`: the actor has seen that the first record of the
-    ///   name has another spec.
+    /// - If the actor holds a free pointer after the event, it held the same one before, or the event has loaded it
+    ///   from the segment. So each free pointer that a call holds was loaded by that call.
+    /// - `Full`: the actor held a free pointer from which the block that the call needs passes the end of the segment,
+    ///   and has set the full flag for that with this event. The block is the record of a `Hist`; of an `Add` or a
+    ///   `Batch` the counts of the histogram, or the sample of a value. `Corrupt`: with this event it has loaded flags
+    ///   with the corrupt one. In neither case has the event claimed or published anything, and the flag is set.
+    ///   Nothing that an earlier call saw or set is a cause. `OtherSpec`: the actor has seen that the first record of
+    ///   the name has another spec.
     /// - A `Hist` that is refused `Full` or `Corrupt` has seen the list to its end: the next of the last record that
     ///   its actor has visited was the end of the list when the actor loaded it. No record of the list has the name.
     /// - A refused `Add`, or the next item of a refused `Batch`, needed its block. With buckets: its actor has seen a
     ///   single word that is not off and cannot take the units, and has loaded a counts reference that was 0. Sparse:
     ///   its actor has seen the list to its end, and no record of it after the histogram's is a sample of the value.
-    /// - A refused `Add` or `Batch` has moved no units of other calls. They are moved only after the actor has met
-    ///   counts, and of its histogram, if that has buckets, its actor has met none.
+    /// - A refused `Add` or `Batch` has moved no units of other calls. They are moved only after the actor has found
+    ///   counts, and of its histogram, if that has buckets, the actor has found none.
     /// - `Flagged`: the actor has set the corrupt flag. Once it has, no event of it claims a block.
     /// - No event sets the corrupt flag except that of a `SetCorrupt`, and none sets the full flag except one that
     ///   ends with the refusal `Full`. So by `consistent` of [`World::words`] the flags in the words change with
     ///   these alone.
     /// - A record that an event links holds what the call is for: the name and the spec with which a `Hist` began, or
     ///   a value that an `Add` or a `Batch` counts in its sparse histogram. The other calls link none.
-    /// - An event raises the free pointer only for the block that its call needs, of just as many words: the record
-    ///   of a `Hist`; of an `Add` or a `Batch` the counts of its histogram, or a sample. The actor has seen before
-    ///   that it needs it, as one whose call is refused that block. By the rules of the machine the event claims the
-    ///   block, or wastes the rest of a page that is too short for it: no page is passed over that has room for it.
-    ///   The other calls do not raise it.
+    /// - An event raises the free pointer only for the block that its call needs, of exactly that many words: the
+    ///   record of a `Hist`; of an `Add` or a `Batch` the counts of its histogram, or a sample. The actor has seen
+    ///   before that it needs that block, just like an actor whose call is refused it. By the rules of the machine the
+    ///   event claims the block, or wastes the rest of a page that is too short for it: no page is passed over that has
+    ///   room for it. The other calls do not raise it.
     ///
     /// At most one word changes [word], and no other actor [others].
     ///
@@ -278,7 +278,7 @@ impl World {
     ///   Nothing else changes `ended`.
     /// - From its first event on a delta is last in `taken`. It lists what its events take, and in the end it is what
     ///   the call returns. Nothing else changes `taken`.
-    /// - A `Hist` that is answered is known from then on. `Flagged` has set the corrupt flag.
+    /// - A histogram that a `Hist` returns is known from then on. `Flagged` has set the corrupt flag.
     /// - A `SetCorrupt` ends with its first event, as `Flagged`, which nothing else does. Only a `Hist` or an `Add`
     ///   ends as `Refused`, and only a `Batch` as `BatchRefused`. No `Snapshot` and no `Delta` is refused.
     pub fn step(&mut self, actor: usize) -> Result<Stepped, WorldFault>
@@ -298,7 +298,7 @@ impl World {
         Ok(self.world_state.step(actor))
     }
 
-    // Makes a move: an actor begins a call, or goes on with it by one event.
+    // Makes a move: an actor begins a call, or performs the next event of its call.
     fn make(&mut self, step: &Move) -> Result<(), WorldFault>
         ensures makes { OnOk result (Makes step.now self.old.world_state self.new.world_state) }
         ensures faults { IfErr result (FaultsAt step.now self.old.world_state) }
@@ -325,8 +325,9 @@ impl World {
         Ok(())
     }
 
-    /// Returns what an actor's deltas took, in order [items]. A running one is last from its first event on, as far
-    /// as it is. The keys of each ascend, at every moment [ascending]. An actor that is not there took nothing.
+    /// Returns what an actor's deltas took, in order [items]. A running one is last from its first event on, with what
+    /// it has taken so far. The keys of each ascend, at every moment [ascending]. An actor that is not there took
+    /// nothing.
     pub fn taken(&self, actor: usize) -> &[Taken]
         ensures items { result.now ≡ taken_of self.now.world_state actor }
         ensures ascending { ∥ All (λ taken. AreUnits taken.counts.items) result.now ∥₁ }

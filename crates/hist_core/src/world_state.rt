@@ -39,7 +39,7 @@ fn new_words(alloc: Global, shape: Shape, version: u64, id: u64) -> Result<Vec<u
     Ok(words)
 }
 
-// So many actors that have done nothing.
+// This many actors that have done nothing.
 fn new_actor_runs(alloc: Global, actors: usize) -> Result<Vec<ActorRun>, AllocError>
     ensures count { IfOk result (λ actor_runs. vec_len actor_runs ≡ actors) }
     ensures new { IfOk result (λ actor_runs. All IsFreshRun actor_runs.items) }
@@ -51,7 +51,7 @@ fn new_actor_runs(alloc: Global, actors: usize) -> Result<Vec<ActorRun>, AllocEr
     Ok(actor_runs)
 }
 
-// The answer to a batch of which nothing is counted.
+// The answer of a batch of which nothing is counted.
 fn refused_batch(why: Refusal) -> Answer
     ensures { result ≡ BatchRefused (record { added = 0; why = why }) }
 {
@@ -68,7 +68,7 @@ impl WorldState {
     ghost use Rattle.hist_core.specs.WorldState.{IsAdoptedWorldState, IsNewWorldState, IsReachable, IsReachedAs, StepsTo, IsBusy, KnowsHistAt, IsResting, IsThere, OthersStay, HistBegins, AddBegins, BatchBegins, DeltaBegins, SnapshotBegins, SetCorruptBegins, Says};
     ghost use Rattle.hist_core.specs.World.{BeginsCall, BeginSays, TakesMemory, name_checks, named_by, rest_checks};
 
-    // A new segment with so many actors.
+    // A new segment with this many actors.
     pub(crate) fn new(
         alloc: Global,
         shape: Shape,
@@ -88,7 +88,7 @@ impl WorldState {
         })
     }
 
-    // An image that may be adopted, with so many actors.
+    // An image that may be adopted, with this many actors.
     pub(crate) fn adopt(
         alloc: Global,
         words: &[u64],
@@ -147,7 +147,7 @@ impl WorldState {
         Ok(place)
     }
 
-    // An actor begins a call, or the call is answered at once.
+    // An actor begins a call, or the call returns at once.
     pub(crate) fn begin(&mut self, actor: usize, call: &Call) -> Result<Begun, WorldFault>
         requires reached { ∥ IsReachable self.old ∥₁ }
         ensures { BeginsCall actor (named_by call.now) (TakesMemory call.now) (BeginSays actor call.now self.old self.new) self.old result self.new }
@@ -189,7 +189,7 @@ impl WorldState {
         }
     }
 
-    // It counts so many units of a value in a histogram that it knows. They are taken from the pool.
+    // It counts `count` units of a value in a histogram that it knows. They are taken from the pool.
     fn begin_add(
         &mut self,
         actor: usize,
@@ -249,7 +249,7 @@ impl WorldState {
         Ok(Begun::Going)
     }
 
-    // It looks at a histogram that it knows.
+    // It takes a snapshot of a histogram that it knows.
     fn begin_snapshot(&mut self, actor: usize, name: &[u8]) -> Result<Begun, WorldFault>
         requires reached { ∥ IsReachable self.old ∥₁ }
         ensures { BeginsCall actor (some name.now) ⊤ (SnapshotBegins actor name.now self.old self.new) self.old result self.new }
@@ -260,7 +260,7 @@ impl WorldState {
         Ok(Begun::Going)
     }
 
-    // It takes of a histogram that it knows.
+    // It takes a delta of a histogram that it knows.
     fn begin_delta(&mut self, actor: usize, name: &[u8]) -> Result<Begun, WorldFault>
         requires reached { ∥ IsReachable self.old ∥₁ }
         ensures { BeginsCall actor (some name.now) ⊤ (DeltaBegins actor name.now self.old self.new) self.old result self.new }
@@ -271,7 +271,7 @@ impl WorldState {
         Ok(Begun::Going)
     }
 
-    // An actor goes on with its call by one event.
+    // An actor performs the next event of its call.
     pub(crate) fn step(&mut self, actor: usize) -> Stepped
         requires reached { ∥ IsReachable self.old ∥₁ }
         requires near { actor < vec_len self.old.actor_runs }

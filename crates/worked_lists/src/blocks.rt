@@ -19,7 +19,7 @@ pub(crate) struct Allocating {
 }
 
 impl Allocating {
-    /// An allocation of a payload of so many words, before its first event.
+    /// An allocation of a payload of this many words, before its first event.
     pub(crate) fn start(payload: u64) -> Result<Allocating, Fail> {
         let shape = Shape::of(128, 64)?;
         Ok(Allocating {
@@ -37,7 +37,7 @@ impl Allocating {
         }
     }
 
-    /// What it is after so many events, or how it has ended before.
+    /// What it is after this many events, or how it has ended before that.
     pub(crate) fn steps(
         self,
         rt: &impl Abort,
@@ -52,7 +52,7 @@ impl Allocating {
     }
 }
 
-/// How an allocation ends that has few events left.
+/// How an allocation that has few events left ends.
 pub(crate) fn end_of(
     rt: &impl Abort,
     allocation: Allocating,
@@ -64,7 +64,7 @@ pub(crate) fn end_of(
 // One allocation: its payload, how it ends, and words that are known then.
 type Row<'a> = (u64, AllocStep, &'a [(usize, u64)]);
 
-// That allocations one after the other end as rows say.
+// Checks that allocations, one after the other, end as the rows say.
 fn expect_rows(rt: &impl Abort, words: &mut Words, rows: &[Row<'_>]) -> Result<(), Fail> {
     for (payload, ended, known) in rows {
         assert_eq!(rt;
@@ -122,7 +122,7 @@ fn block_of_a_page(rt: HostRuntime) -> Result<(), Fail> {
     expect_rows(&rt, &mut words, &[whole])
 }
 
-// Both have loaded the flags and the free pointer before either exchanges it.
+// Both have loaded the flags and the free pointer before either exchanges the free pointer.
 #[test]
 fn claims_that_cross(rt: HostRuntime) -> Result<(), Fail> {
     let mut words = blank(rt.alloc())?;

@@ -1,7 +1,7 @@
-//! Worked examples by their words and answers: new segments, blocks, the list and its cursors, and boundaries. They are small runs
-//! through public calls, each a few lines over a table of what the format gives.
+//! Worked examples, with their words and answers: new segments, blocks, the list and its cursors, and boundaries. They
+//! are small runs through public calls, each a few lines over a table of what the format gives.
 //!
-//! They stand above the libraries that they try, so that none of these is proved once more for its tests.
+//! They depend on the libraries that they test, so that none of these is proved once more for its tests.
 #![tactic(auto)]
 
 #[cfg(test)]

@@ -51,7 +51,7 @@ impl Publishing {
         }
     }
 
-    // What it is after so many events, or how it has ended before.
+    // What it is after this many events, or how it has ended before that.
     fn steps(self, rt: &impl Abort, words: &mut [u64], events: u32) -> Result<Publishing, PubStep> {
         let mut running = self;
         for _ in 0..events {
@@ -61,14 +61,14 @@ impl Publishing {
     }
 }
 
-// Publishes the record at a reference, which nobody interferes with.
+// Publishes the record at a reference; nobody interferes.
 fn publish(rt: &impl Abort, words: &mut [u64], reference: u64) {
     let ended = Publishing::start(rt, reference).steps(rt, words, 4).err();
     assert_eq!(rt; ended, Some(PubStep::Done));
 }
 
-// The tail and the nexts of the queue block and of the first record after each event of the second publisher, which finds the
-// record of one that stopped after its link.
+// The tail and the nexts of the queue block and of the first record after each event of the second publisher, which
+// finds the record of one that stopped after its link.
 #[test]
 fn stopped_after_the_link(rt: HostRuntime) -> Result<(), Fail> {
     let mut words = three_blocks(&rt, rt.alloc())?;
@@ -108,7 +108,7 @@ struct Walking {
     ghost reach: { is_reference size walk ≡ true },
 }
 
-// That a walk says so, one after the other.
+// Checks that a walk says these, one after the other.
 fn expect_walk(rt: &impl Abort, walking: &mut Walking, words: &[u64], said: &[WalkStep]) {
     for step in said {
         assert_eq!(rt; words.len(), walking.size);
@@ -157,7 +157,7 @@ impl Sharing {
 // What a cursor says at its next steps, and what the shared word is after each.
 type Said<'a> = &'a [(CursorStep, u64)];
 
-// That a cursor says so, one after the other.
+// Checks that a cursor says these, one after the other.
 fn expect_cursor(
     rt: &impl Abort,
     sharing: &mut Sharing,

@@ -36,8 +36,8 @@ fn scale_lists(rt: HostRuntime) -> Result<(), Fail> {
     Ok(())
 }
 
-// From 1 to the last number of a scale below 2^31: errors of 1/8, 1/16 and 1/32 take so many values. Up to the greatest
-// value there is one more, which is that value.
+// How many values errors of 1/8, 1/16 and 1/32 take, from 1 to the last number of a scale below 2^31. Up to the
+// greatest value there is one more, which is that value.
 #[test]
 fn scale_lengths(rt: HostRuntime) -> Result<(), Fail> {
     for (max, bits, expected) in [

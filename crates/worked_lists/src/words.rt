@@ -39,7 +39,7 @@ pub(crate) fn stand(words: &[u64], from: usize, wanted: &[u64]) -> bool {
     }
 }
 
-/// That words have these values at these indexes.
+/// Checks that words have these values at these indexes.
 pub(crate) fn expect_words(rt: &impl Abort, words: &[u64], known: &[(usize, u64)]) {
     for (at, value) in known {
         assert_eq!(rt; words.get(*at), Some(value), "word {at}");

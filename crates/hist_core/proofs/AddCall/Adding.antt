@@ -1,4 +1,4 @@
--- An `add` of an actor goes on: what becomes of its entry and its units.
+-- An `add` of an actor continues: what becomes of its entry and its units.
 use Rattle.segment_invariant.proofs.Prelude.Std.{◌≡◌, ℕ, Bool, true, false, not, pos, List, [], ◌∷◌, ◌++◌, map, length, take, drop, All, inl, inr, refl, sym, ap, subst, ◌∙◌, arith, Option, Some, Contains, int_eq, take-append-drop, All-nil, All-cons}
 use Rattle.segment_invariant.proofs.Prelude.Machine.{Dimensions, Actor, EntryProgress, has_ended, tally_noted, Note, Notes, is_untouched, noted, Refusal}
 use Rattle.std.proofs.lemmas.List.{take-take, take_all}
@@ -31,7 +31,7 @@ use Rattle.hist_core.proofs.Parts.Claims.{goes_noting}
 use Rattle.hist_core.proofs.Worlds.Quiet.{takes_none, takes_not}
 use Rattle.hist_core.proofs.AddCall.GhostNotes.{Counts, goes_from, counts_somewhere, still_counts, has_counted, is_cut}
 
--- its entry is there, whatever has happened of it
+-- its entry is there, however far it is
 pub has_entry : (shape : Dimensions) (known : MachineKnown) (amid : Amid) (add : AddCall) (a : Actor) (at : AddStage) → StandsAtStage shape known amid add a at
     → (counted summed : Bool) × HasEntry known amid add a counted summed
 has_entry shape known amid add a stage.LoadingSingle stands = (false, false, stands.1)
@@ -75,7 +75,7 @@ module _ (shape : Dimensions) (version : ℕ) (old : ActorRun) (add : AddCall) (
       abbrev now : AddCall
       now = record add { stage = at }
 
-      -- it goes on
+      -- it continues
       goes_on : (b : Actor) → AddGives shape known (alone add) now More a b
           → IsActorRunOf shape version (record old { begun = length old.entries.items; running = Some (Add now) }) b
       goes_on b (aside, stays, does, counting) =
@@ -92,7 +92,7 @@ module _ (shape : Dimensions) (version : ℕ) (old : ActorRun) (add : AddCall) (
             (All-cons (λ c. has_ended c ≡ true) (ended_entry known add) [] (ended_is_over known add) (All-nil (λ c. has_ended c ≡ true))),
       )
 
-      -- nothing has happened of it
+      -- nothing of it is counted
       nothing_yet : (b : Actor) → HasEntry known (alone add) now b false false → IsCutAt 0 entries b
       nothing_yet b has =
           let none : take 0 b.entries.running ≡ [] = ap (take 0) has in record {
@@ -137,7 +137,7 @@ module _ (shape : Dimensions) (version : ℕ) (old : ActorRun) (add : AddCall) (
           subst (λ (v : ℕ). StepsBy shape.size v a words new_words (AddGives shape known (alone add) now said a))
           (sym counts.counting.version ∙ ap (λ s. s.version) counts.run.segment) (steps shape known (alone add) a long counts.counting)
 
-  -- what the machine's actor does, and what becomes of that at run time
+  -- what the machine's actor does, and what that is at run time
   module _ (a : Actor) (run : IsActorRunOf shape version old a) (at : AddStage) (words new_words : List ℕ) (long : length words ≡ shape.size) (new : ActorRun) where
     abbrev its : MachineKnown
     its = (adding a run).0
@@ -177,14 +177,14 @@ module _ (shape : Dimensions) (version : ℕ) (old : ActorRun) (add : AddCall) (
       goes_so a run now.stage words new_words long new said result (subst (λ (n : AddCall). AddSteps add words n new_words said) same steps)
       (subst (λ (n : AddCall). IsAddAnnounced (record old { running = Some (Add n) }) said new result) same is_said)
 
-  -- it is one that goes on somewhere
+  -- it is an `add` that some actor runs
   pub some_add : (n : ℕ) (a : Actor) (run : IsActorRunOf shape version old a) → n ≡ shape.size → IsSomeAdd n add
   some_add n a run long =
       let known = (adding a run).0 in
       let there = counts_somewhere shape version old known.name add.units (entries known) (standing known) (runs known) (into known) a run (adding a run).1 in
       (shape, known, alone add, there.0, long, there.1.counting)
 
--- ---- what is answered
+-- ---- what is returned
 
 abbrev added_by : AddCall → Option Running → AddCall
 added_by d (Some (Add x)) = x

@@ -13,7 +13,7 @@ use Rattle.hist_core.proofs.Parts.Deeds.{does_nothing}
 use Rattle.hist_core.proofs.AddCall.Entries.{still_open, only_open, only_changed, counting_of}
 use Rattle.segment_machine.specs.Packing.{CountsIn}
 
--- it counts the same at whatever stage
+-- it counts the same at any stage
 pub counts_on : (shape : Dimensions) (known : Known) (add : Add) (stage : AddStage) → IsCounting shape known add → IsCounting shape known (record add { stage = stage })
 counts_on shape known add stage counting = record {
   shaped = counting.shaped;
@@ -37,7 +37,7 @@ behind_stands shape known amid add b turns has = by (int_eq add.amount (pos 0)) 
     by false e = (turns, has, e)
 
 module _ (shape : Dimensions) (known : Known) (amid : Amid) (add : Add) (a : Actor) (is : IsAdd shape known amid add a) (counted summed : Bool) (has : HasEntry known amid add a counted summed) where
-  -- its entry goes on
+  -- its entry has not ended
   goes_on : has_ended (counting_of known add counted summed) ≡ false
   goes_on = still_open (counting_of known add counted summed) refl is.counting.some
 
@@ -128,7 +128,7 @@ module _ (shape : Dimensions) (known : Known) (amid : Amid) (add : Add) (a : Act
           },
         ))
 
--- the record of an `add` that stands somewhere lies in so many words, which are few
+-- the record of an `add` that some actor runs lies within the words, which are at most 2^20
 pub lies_within : (add : Add) (words : List ℕ) → ∥ IsSomeAdd (length words) add ∥₁ → LiesWithin (length words) add.histogram
 lies_within add words stands = ∥∥₁_elim stands (hlevel props) (λ (shape, known, amid, a, long, is).
     let inside = is_inside shape known amid add a words is long in record { within = inside.0; few = inside.1 })

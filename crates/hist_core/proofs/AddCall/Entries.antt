@@ -15,11 +15,11 @@ falls false false z is = refl
 pub still_open : (c : EntryProgress) → c.noted ≡ false → (c.entry.units == 0) ≡ false → has_ended c ≡ false
 still_open c noted some = falls (is_counted c) (is_summed c) (is_noted c) (ap (λ (b : Bool). b || (c.entry.units == 0)) noted ∙ some)
 
--- it has ended once all three have happened
+-- it has ended once all three are done
 pub is_over : (c : EntryProgress) → is_counted c ≡ true → is_summed c ≡ true → is_noted c ≡ true → has_ended c ≡ true
 is_over c counted summed noted = λ i. counted i && summed i && noted i
 
--- it stands behind entries of which all has happened, and has not ended: it is next, and goes on
+-- it comes after entries that have ended, and has not ended itself: it is next
 module _ (c : EntryProgress) (behind : List EntryProgress) (goes : has_ended c ≡ false) where
   pub only_open : (before : List EntryProgress) → All (λ x. has_ended x ≡ true) before
       → filter (λ x. not (has_ended x)) (before ++ c ∷ behind) ≡ c ∷ filter (λ x. not (has_ended x)) behind
@@ -36,11 +36,11 @@ module _ (c : EntryProgress) (behind : List EntryProgress) (goes : has_ended c �
       ap (λ (b : Bool). cond (not b) (f x ∷ (before ++ c ∷ behind)) (x ∷ change_next f (before ++ c ∷ behind))) (All-head (λ y. has_ended y ≡ true) x before over)
       ∙ ap (λ (l : List EntryProgress). x ∷ l) (only_changed f before (All-tail (λ y. has_ended y ≡ true) x before over))
 
--- the entry of an `add`, of which these have happened
+-- the entry of an `add` that is counted and summed, or not
 abbrev pub counting_of : Known → Add → Bool → Bool → EntryProgress
 counting_of known add counted summed = record { entry = counted_entry known add; counted = counted; summed = summed; noted = false }
 
--- once all has happened of it, it has ended
+-- once all of it is done, it has ended
 pub ended_is_over : (known : Known) (add : Add) → has_ended (ended_entry known add) ≡ true
 ended_is_over known add = is_over (ended_entry known add) refl (by (int_eq add.amount (pos 0))) refl
   where

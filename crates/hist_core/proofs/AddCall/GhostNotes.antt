@@ -1,4 +1,4 @@
--- A call that counts goes on: what becomes of its entries and its units.
+-- A call that counts continues: what becomes of its entries and its units.
 use Rattle.segment_invariant.proofs.Prelude.Std.{◌≡◌, ◌≤◌, ◌+◌, ◌-◌, ℕ, false, List, [], ◌∷◌, ◌++◌, map, length, take, inr, refl, sym, ap, subst, ◌∙◌, arith, length-append, ⊎_elim, Some, None, vec_len, vec_capacity, map-append, take-append-drop, length-map, append-nil}
 use Rattle.segment_invariant.proofs.Prelude.Machine.{Dimensions, Actor, Cost, EntryProgress, cost_total, is_opener, fresh, tally_noted, Note, Notes, noted, begins}
 use Rattle.std.proofs.Math.Seq.{take-append-add}
@@ -18,7 +18,7 @@ use Rattle.hist_core.proofs.AddCall.Refusals.{HasOnlyNoted}
 use Rattle.hist_core.proofs.Worlds.Free.{free_turns}
 use Rattle.hist_core.proofs.Worlds.Quiet.{met_on, not_spent, started, logged}
 
--- an actor that notes something first goes on as it does then
+-- an actor that notes something first takes the step that it takes after the note
 pub goes_after : {size version : ℕ} {a : Actor} {words new_words : List ℕ} {holds : Actor → Type 0} (note : Note) → MayNote a note
     → StepsBy size version (noted a note) words new_words holds → StepsBy size version a words new_words holds
 goes_after note may go = record {
@@ -38,7 +38,7 @@ fresh_are (e ∷ entries) = ap (λ (l : List MachineEntry). e ∷ l) (fresh_are 
 
 -- ---- from its first event on
 
--- A call that counts these entries, costs this, and stands so from its first event on.
+-- A call that counts these entries, costs this, and is in this state from its first event on.
 module _ (shape : Dimensions) (version : ℕ) (old : ActorRun) (name : List ℕ) (cost : ℕ) (entries : List MachineEntry) (standing : Actor → Type 0)
     (runs : (a : Actor) → standing a → RunsEntries entries a)
     (into : (a : Actor) → IsGhostNoting (pending_by old) name cost entries standing a → StandsIn shape old.known.items (pending_by old) old.running a) where
@@ -54,7 +54,7 @@ module _ (shape : Dimensions) (version : ℕ) (old : ActorRun) (name : List ℕ)
     pub run : IsActorRunOf shape version going a
 
   module _ (a : Actor) (run : IsActorRunOf shape version old a) (telling : IsGhostNoting (pending_by old) name cost entries standing a) where
-    -- so many entries more than have ended are there
+    -- there are this many more entries than have ended
     more : length old.entries.items ≡ old.ended + length entries
     more =
         let rest : length old.entries.items - old.ended ≡ length entries =
@@ -96,7 +96,7 @@ module _ (shape : Dimensions) (version : ℕ) (old : ActorRun) (name : List ℕ)
         none : a.units.share - cost ≡ 0
         none = let share = before.share in omega (arith, share)
 
-    -- behind that all of its entries have begun already
+    -- after that all of its entries have begun
     behind_that : (a.units.share ≡ 0) × standing a → Counts a
     behind_that (share, counting) = record {
       pending_are = telling.pending_are;
@@ -112,7 +112,7 @@ module _ (shape : Dimensions) (version : ℕ) (old : ActorRun) (name : List ℕ)
             let ended = logged shape version old a run in let begun = started shape version old a run in let within = more in
             omega (arith, many, both, ended, begun, within)
 
-    -- it goes on from there
+    -- it continues from there
     pub goes_from : {words new_words : List ℕ} {holds : Actor → Type 0} → ((b : Actor) → HasOnlyNoted a b → Counts b → StepsBy shape.size version b words new_words holds)
         → StepsBy shape.size version a words new_words holds
     goes_from go = ⊎_elim
@@ -120,7 +120,7 @@ module _ (shape : Dimensions) (version : ℕ) (old : ActorRun) (name : List ℕ)
         (λ behind. go a (refl, refl, refl, refl) (behind_that behind))
         telling.stands
 
-    -- it stands so somewhere
+    -- some actor is there
     pub counts_somewhere : (b : Actor) × Counts b
     counts_somewhere = ⊎_elim (λ before. (noted a (begins name cost entries), before_that before)) (λ behind. (a, behind_that behind)) telling.stands
 
@@ -139,7 +139,7 @@ module _ (shape : Dimensions) (version : ℕ) (old : ActorRun) (name : List ℕ)
       log_is : b.entries.log ≡ a.entries.log
       log_is = ap (λ (e : Entries). e.log) open_still.1
 
-      -- it goes on
+      -- it continues
       pub still_counts : (running : Running) → RunsEntries entries b → StandsIn shape old.known.items (pending_by old) (Some running) b
           → HasRoomForHist (Some running) (vec_len old.known) (vec_capacity old.known) → HasDraft (Some running) old.taken → IsActorRunOf shape version (record going { running = Some running }) b
       still_counts running its stands room draft = record {
@@ -200,7 +200,7 @@ module _ (shape : Dimensions) (version : ℕ) (old : ActorRun) (name : List ℕ)
               },
             )
 
-        -- it is refused behind its first entries: these have ended, and what they have not spent of its units comes back
+        -- it is refused after its first entries: these have ended, and what they have not spent of its units comes back
         module _ (held : a.units.held ≡ record { name = name; units = cost } ∷ []) (added units : ℕ) (few : added ≤ length entries) (cut : IsCutAt added entries b)
             (left : units ≡ cost - tally_noted (take added entries) name) (new : ActorRun) (ended : ℕ) (ended_is : ended ≡ old.ended + added)
             (new_is : new ≡ record old { entries = new.entries; begun = ended; ended = ended; running = None })
@@ -280,6 +280,6 @@ module _ (shape : Dimensions) (version : ℕ) (old : ActorRun) (name : List ℕ)
             }),
           )
 
-          -- what its actor has done and seen is as before
+          -- what its actor has done and seen is unchanged
           pub is_cut : (holds : Actor → Type 0) → holds c → (notes : List Note) × (d : Actor) × Notes b notes d × (LandsBack shape version units new d × holds d)
           is_cut holds its = (refused added ∷ [], c, ((free_turns b.hand.place turns, cut.ended, cut.untouched, cut.unsummed), refl), (lands_cut, its))

@@ -1,4 +1,4 @@
--- An `add` goes on by one event of its actor.
+-- An `add` performs one event of its actor.
 use Rattle.segment_invariant.proofs.Prelude.Std.{◌≡◌, ℕ, Bool, true, false, ◌==◌, List, [], refl, sym, ap, ◌∙◌, ◌++◌, subst, append-nil, Contains}
 use Rattle.segment_invariant.proofs.Prelude.Machine.{Dimensions, word_at, Actor, Known, sight_counts, spot, next, Ready, Learned, packing_event, Event, load_single, pack, mount_counts, purge_block, disable, add_moved, after_pack, after_mount, after_disable, known_at}
 use Rattle.segment_machine.specs.Event.{after}
@@ -12,9 +12,9 @@ use Rattle.hist_core.specs.Add.{Amid, FrameOfAdd, StaysOpen, StandsAtStage, IsAd
 use Rattle.hist_core.proofs.Parts.Deeds.{does_nothing}
 use Rattle.hist_core.proofs.AddCall.Counts.{counts_on}
 
--- ---- what stays as it was
+-- ---- what stays unchanged
 
--- where it has seen no more of the chain and of the words of records
+-- if it has seen no more of the chain and of the words of records
 pub aside_still : (a b : Actor) → b.role ≡ a.role → b.segment ≡ a.segment → b.deltas ≡ a.deltas → b.answers.names ≡ a.answers.names
     → b.seen.chain ≡ a.seen.chain → b.seen.words ≡ a.seen.words → FrameOfAdd a b
 aside_still a b role segment deltas names chain words = record {
@@ -26,7 +26,7 @@ aside_still a b role segment deltas names chain words = record {
   words = ([], words ∙ sym (append-nil a.seen.words));
 }
 
--- where it has seen a counts reference
+-- if it has seen a counts reference
 pub aside_counts : (a b : Actor) (histogram found : ℕ) → b.role ≡ a.role → b.segment ≡ a.segment → b.deltas ≡ a.deltas → b.answers.names ≡ a.answers.names
     → b.seen.chain ≡ a.seen.chain → b.seen.words ≡ a.seen.words ++ sight_counts histogram found → FrameOfAdd a b
 aside_counts a b histogram found role segment deltas names chain words = record {
@@ -38,7 +38,7 @@ aside_counts a b histogram found role segment deltas names chain words = record 
   words = (sight_counts histogram found, words);
 }
 
--- packing leaves aside what no call of `add` changes
+-- packing leaves what no call of `add` changes
 pub packing_aside : (a : Actor) (e : PackingEvent) (found : ℕ) → FrameOfAdd a (next a (packing_event e) found) × StaysOpen a (next a (packing_event e) found) × ((next a (packing_event e) found).done ≡ a.done)
 packing_aside a (load_single histogram) found = (aside_still a (next a (packing_event (load_single histogram)) found) refl refl refl refl refl refl, (refl, refl), refl)
 packing_aside a (pack histogram old new) found = by (found == old)
@@ -66,7 +66,7 @@ packing_aside a (add_moved counts bucket units) found =
 -- ---- a step
 
 module _ (shape : Dimensions) (known : Known) (amid : Amid) (add : Add) (a : Actor) (is : IsAdd shape known amid add a) (stage : AddStage) where
-  -- it goes on from another stage
+  -- it continues at another stage
   pub goes_still : (b : Actor) → FrameOfAdd a b → StaysOpen a b → DoesOnly false false (serves_counted known add a) a b → StandsAtStage shape known amid (record add { stage = stage }) b stage
       → AddGives shape known amid (record add { stage = stage }) More a b
   goes_still b beside (units, entries) does stands = (

@@ -1,4 +1,4 @@
--- An `add` puts the counts in use: it loads their reference, claims a block for them, and mounts it, or marks it as of no use.
+-- An `add` puts the counts in use: it loads their reference, claims a block for them, and mounts it, or marks it as purged.
 use Rattle.segment_invariant.proofs.Prelude.Std.{◌≡◌, ◌≢◌, ◌≤◌, ℕ, ◌+◌, ◌*◌, ◌==◌, Bool, true, false, true≢false, List, [], length, ◌++◌, refl, sym, ap, subst, ◌∙◌, arith, None, if◌then◌else◌, max, Contains, set-get_or, append-nil, Contains-push, eq-eqb}
 use Rattle.segment_invariant.proofs.Prelude.Machine.{IsShape, buckets_of, Dimensions, word_at, Actor, Known, Looking, Sighting, has_buckets, is_bound, word_seen, Buckets, look_of, sight_counts, back, load_counts, Event, next, counting_event, packing_event, Note, Notes, mount_counts, purge_block, after_mount, Refusal}
 use Rattle.std.specs.Prelude.{is_some}
@@ -83,7 +83,7 @@ module _ (shape : Dimensions) (known : Known) (amid : Amid) (add : Add) (a : Act
           ),
         )))
 
-    -- where there are none it has met none
+    -- if there are none, it has found none
     none_met : sought ≡ 0 → CountsStay a.seen known.reference sought → HasMetNoCounts known loaded
     none_met none stays bucketed counts seen =
         let same : loaded.seen.words ≡ a.seen.words = ap (λ (n : ℕ). a.seen.words ++ sight_counts known.reference n) none ∙ append-nil a.seen.words in
@@ -156,11 +156,11 @@ module _ (shape : Dimensions) (known : Known) (amid : Amid) (add : Add) (a : Act
           subst (λ (n : ℕ). StepsBy n add.version a words new_words (λ b. FrameOfStep a b × DoesOnly false (is_full_end says) (serves_counted known add a) a b × AreOwnBlocksApart b × FollowsAllocation b y × (b.seen.words ≡ a.seen.words) × SeesNoMore a b × IsEnd says x.size a b)) size
           (allocates_on (serves_counted known add a) add.version a x y words new_words says stood_allocating.2.0 (its_words, needs_here) (long ∙ sym size) step)
 
-      -- its entry is as it was
+      -- its entry is unchanged
       entry_still : (b : Actor) → FrameOfStep a b → HasEntry known amid add b false false
       entry_still b beside = ap (λ e. e.running) beside.entries ∙ stood_allocating.1
 
-      -- it needs counts still
+      -- it still needs counts
       needs_still : (b : Actor) → b.seen.words ≡ a.seen.words → SeesNoMore a b → NeedsCounts known (add.value, add.units) b
       needs_still b same (chain, ends, singles) =
           let (claims_so, more, tag, size, ((word, saw, on, packs), none, met_none)) = stood_allocating.2 in (
@@ -180,7 +180,7 @@ module _ (shape : Dimensions) (known : Known) (amid : Amid) (add : Add) (a : Act
       still b beside does stage stands =
           goes_still shape known amid add a is stage b (beside_aside a b beside) (beside.units, beside.entries ∙ ap (λ e. record a.entries { running = e.running }) (sym beside.entries)) does stands
 
-      -- it goes on
+      -- it continues
       still_claims : says ≡ said.More → is_some (alloc.next_event y) ≡ true → StepsBy shape.size add.version a words new_words (AddGives shape known amid (record add { stage = Allocating y }) More a)
       still_claims goes_on more = goes_noting claims (λ b (beside, does, apart, goes, same, list, ends). (
         [],
@@ -233,7 +233,7 @@ module _ (shape : Dimensions) (known : Known) (amid : Amid) (add : Add) (a : Act
     needed : (why : Refusal) (b : Actor) → IsCause why x.size a b → IsCause why (block_words known) a b
     needed why b = subst (λ (n : ℕ). IsCause why n a b) its_words
 
-    -- whatever the allocation says
+    -- for each result of a step of the allocation
     pub allocates_so : length words ≡ shape.size → (y : Allocation) (new_words : List ℕ) (says : AllocStep) (new : Add) (result : AddStep) → alloc.IsStep x words y new_words says
         → (says ≡ said.More → is_some (alloc.next_event y) ≡ true) → IsAllocated (record add { stage = Allocating y }) says new result
         → StepsBy shape.size add.version a words new_words (AddGives shape known amid new result a)

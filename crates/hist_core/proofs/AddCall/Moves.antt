@@ -28,7 +28,7 @@ module _ (shape : Dimensions) (known : Known) (amid : Amid) (add : Add) (a : Act
 
   -- where it counts: the word is off
   module _ (has : has_buckets known.spec ≡ true) (entry : HasEntry known amid add a false false) (counts : ℕ) (there : CountsLieWithin shape add counts) where
-    -- where its count stands
+    -- where its count is
     pub inside_counts : (bucket : ℕ) → bucket < add.buckets → counts + 4 + bucket < shape.size
     inside_counts bucket inside = let ends = there.1 in omega (arith, inside, ends)
 
@@ -132,7 +132,7 @@ module _ (shape : Dimensions) (known : Known) (amid : Amid) (add : Add) (a : Act
     abbrev off_look : Look
     off_look = look_at (Some (off_word add.version old)) counts
 
-    -- the place behind that
+    -- the place after that
     place_is : after_disabling a.segment.version (look_of a.hand.place known.reference) old (form_seen a known.reference old)
         ≡ after_disabling add.version (look_at (Some old) counts) old (single_of add.version add.buckets old)
     place_is i = after_disabling (is.version i) (looked i) old (form_here i)

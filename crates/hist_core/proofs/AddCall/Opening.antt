@@ -36,7 +36,7 @@ use Rattle.hist_core.proofs.Worlds.Quiet.{not_spent, all_ended, met_split}
 
 -- ---- what an actor knows
 
--- a name stands once
+-- a name is there once
 own_one : (list : List KnownHist) → HaveOwnNames list → (i j : ℕ) (x y : KnownHist) → get_elem? list i ≡ some x → get_elem? list j ≡ some y → x.name.items ≡ y.name.items
     → x ≡ y
 own_one [] own i j x y here there same = absurd (some-ne-none x (sym here))
@@ -72,7 +72,7 @@ module _ (shape : Dimensions) (opened : Anatomy) (state : State) (kept : Invaria
       let (k, at_k, k_is) = from_map known_of list j found (ap (λ (l : List MachineKnown). get_elem? l j) names ∙ at_j) in
       is ∙ ap Some (sym k_is ∙ ap known_of (own_one list own j i k known at_k at (ap (λ (m : MachineKnown). m.name) k_is ∙ same)))
 
--- a record that it has met is one that a list can have
+-- a record that it has visited is one that a list can have
 pub reference_there : (shape : Dimensions) (opened : Anatomy) (state : State) (kept : Invariant shape opened state) (id : ℕ) (a : Actor)
     → get_elem? state.actors id ≡ some a → a.hand.place ≢ Spent → (at : ℕ) → Contains a.seen.chain at → is_reference shape.size at ≡ true
 reference_there shape opened state kept id a mine lives at met =
@@ -83,7 +83,7 @@ reference_there shape opened state kept id a mine lives at met =
 
 -- ---- it begins
 
--- a call of an actor that rests, which counts entries: they are pending, and it stands for the same actor with the units of it
+-- a call of an actor that rests, which counts entries: they are pending, and it stands for the same actor, with the units of the call
 module _ (shape : Dimensions) (version : ℕ) (old new : ActorRun) (entries : List MachineEntry) (running : Running) (starts : BeginsToCount entries running old new)
     (rests : old.running ≡ None) (a : Actor) (run : IsActorRunOf shape version old a) where
   pub stands : IsFree a × CountsNoEntries (pending_by old) a
@@ -96,7 +96,7 @@ module _ (shape : Dimensions) (version : ℕ) (old new : ActorRun) (entries : Li
     has_units : (getter a cost).units.share ≡ cost
     has_units = let none = stands.1.share in omega (arith, none)
 
-    -- it may begin to count them, where they are within its cost
+    -- it may begin to count them, if they are within its cost
     pub before_it : (known : MachineKnown) → Contains a.answers.names known → AreWithin known.name cost entries → (standing : Actor → Type 0)
         → standing (noted (getter a cost) (begins known.name cost entries)) → IsGhostNoting starts.pending known.name cost entries standing (getter a cost)
     before_it known inside within standing is = record {

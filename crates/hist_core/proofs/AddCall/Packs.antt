@@ -62,7 +62,7 @@ module _ (shape : Dimensions) (known : Known) (amid : Amid) (add : Add) (a : Act
         by (inl none) = inl none
         by (inr units) = inr units.some
 
-    -- where it goes on to a stage of which nothing has happened yet
+    -- when it continues to a stage at which nothing is counted yet
     module _ (entry : HasEntry known amid add a false false) where
       stood : (stage : AddStage) → IsBehindSingle add found stage → IsSingleOf a known.reference found → StandsAtStage shape known amid (record add { stage = stage }) looking stage
       stood LoadingCounts off learned = (has, entry, (found, (look_of a.hand.place known.reference).counts, looks_then, seen_then, off))
@@ -121,7 +121,7 @@ module _ (shape : Dimensions) (known : Known) (amid : Amid) (add : Add) (a : Act
     abbrev pack_them : PackingEvent
     pack_them = pack known.reference old new
 
-    -- it stands where the word was as it was, or was not
+    -- where it is after the exchange, which has succeeded or failed
     stands_packed : (same : Bool) → let b = after_pack same a known.reference new found in let stage = if same then behind_count add.amount else LoadingSingle in
         StandsAtStage shape known amid (record add { stage = stage }) b stage
     stands_packed true = behind_stands shape known amid add (after_pack true a known.reference new found) refl (changed_is shape known amid add a is false false stood_to_pack.1 (λ c. record c { counted = true }))
@@ -147,7 +147,7 @@ module _ (shape : Dimensions) (known : Known) (amid : Amid) (add : Add) (a : Act
         (λ learned. subst (λ (b : Bool). StandsAtStage shape known amid (record add { stage = stage }) (after_pack b a known.reference new found) stage)
         (sym (ap (λ (r : ℕ). word_at words (r + 9) == old) is.counting.reference ∙ is_same)) (stands_packed same))
 
--- the bucket of an `add` that stands somewhere, in a histogram with buckets, is one of at most 1,000
+-- the bucket of an `add` that some actor runs, in a histogram with buckets, is one of at most 1,000
 pub small_bucket : (add : Add) (n : ℕ) → ((shape : Dimensions) (known : Known) (amid : Amid) (a : Actor) → IsAdd shape known amid add a → has_buckets known.spec ≡ true)
     → ∥ IsSomeAdd n add ∥₁ → add.bucket < 1000
 small_bucket add n has stands =

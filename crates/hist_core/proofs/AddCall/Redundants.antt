@@ -1,4 +1,4 @@
--- An `add` adds its units to the redundant count, and all of its entry has happened.
+-- An `add` adds its units to the redundant count, and its entry has ended.
 use Rattle.segment_invariant.proofs.Prelude.Std.{◌≡◌, ℕ, ◌+◌, ◌%◌, ◌^◌, pos, Bool, true, false, not, List, refl, subst, ◌||◌, slice_set, int_eq}
 use Rattle.segment_invariant.proofs.Prelude.Machine.{Dimensions, word_at, Actor, Known, Event, next, counting_event}
 use Rattle.segment_machine.specs.Counting.{add_redundant}

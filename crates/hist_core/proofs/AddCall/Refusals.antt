@@ -13,7 +13,7 @@ use Rattle.hist_core.specs.Making.{IsCause, is_full}
 use Rattle.hist_core.specs.Sampling.{SawNoSample}
 use Rattle.hist_core.proofs.AddCall.Entries.{counting_of}
 
--- what is beside leaves aside what no call of `add` changes
+-- a step that leaves its frame leaves what no call of `add` changes
 pub beside_aside : (a b : Actor) → FrameOfStep a b → FrameOfAdd a b
 beside_aside a b beside = record { role = beside.role; segment = beside.segment; deltas = beside.deltas; names = beside.names; chain = beside.chain; words = beside.words }
 
@@ -30,7 +30,7 @@ refuses shape known amid add new a entry b beside why does met same turns cause 
   met,
 )
 
--- who has seen the same needs the same block
+-- an actor that has seen the same needs the same block
 pub needs_still : (known : Known) (sample : ℤ × ℕ) (a b : Actor) → b.seen ≡ a.seen → NeedsBlock known sample a → NeedsBlock known sample b
 needs_still known sample a b seen needs = record {
   counts = λ bucketed.
@@ -44,11 +44,11 @@ needs_still known sample a b seen needs = record {
 
 -- ---- why
 
--- it stands where it stood, and has done and seen the same
+-- it is where it was, and has done and seen the same
 abbrev pub HasOnlyNoted : Actor → Actor → Type 0
 HasOnlyNoted a b = (b.segment ≡ a.segment) × (b.hand ≡ a.hand) × (b.done ≡ a.done) × (b.seen ≡ a.seen)
 
--- why a block is refused does not hang on what is noted before and behind
+-- why a block is refused does not depend on what is noted before and after
 pub cause_noted : (cause : Refusal) (words : ℕ) (a b c d : Actor) → HasOnlyNoted a b → d.done ≡ c.done → d.seen ≡ c.seen → IsCause cause words b c → IsCause cause words a d
 cause_noted why.Full words a b c d (segment, hand, done, seen) then_done then_seen (free, at, beyond, is) = (
   free,

@@ -23,7 +23,7 @@ use Rattle.hist_core.proofs.AddCall.Searches.{begins_at}
 
 -- ---- it begins
 
--- an actor that is free, knows the histogram and has met its record stands where an `add` begins
+-- an actor that is free, knows the histogram and has visited its record is where an `add` begins
 pub stands_first : (shape : Dimensions) (known : Known) (amid : Amid) (add : Add) (a : Actor) (at : AddStage) → OpensWith shape known add at → a.segment.shape ≡ shape
     → IsShape shape → Contains a.answers.names known → is_reference shape.size known.reference ≡ true
     → (front behind : List ℕ) × (a.seen.chain ≡ front ++ known.reference ∷ behind) → HasEntry known amid add a false false → IsFree a
@@ -57,7 +57,7 @@ module _ (shape : Dimensions) (known : Known) (amid : Amid) (add : Add) (a : Act
   pub stood_sampling : StandsAtStage shape known amid add a (stage.Sampling s)
   stood_sampling = subst (StandsAtStage shape known amid add a) samples is.stands
 
-  -- what an event beside leaves open
+  -- an event that leaves its frame leaves this open
   still_open : (b : Actor) → FrameOfStep a b → StaysOpen a b
   still_open b beside = (beside.units, beside.entries ∙ ap (λ e. record a.entries { running = e.running }) (sym beside.entries))
 
@@ -68,7 +68,7 @@ module _ (shape : Dimensions) (known : Known) (amid : Amid) (add : Add) (a : Act
   has_still : (b : Actor) → FrameOfStep a b → HasEntry known amid add b false false
   has_still b beside = ap (λ e. e.running) beside.entries ∙ stood_sampling.0
 
-  -- where it has seen no sample of its value, it needs one
+  -- if it has seen no sample of its value, it needs one
   needs_sample : (x : Sampling) → x ≡ record s { walk = x.walk; stage = x.stage } → (b : Actor) → SawNoSample x.histogram x.value b.seen
       → NeedsBlock known (add.value, add.units) b
   needs_sample x same b none = record {
@@ -88,7 +88,7 @@ module _ (shape : Dimensions) (known : Known) (amid : Amid) (add : Add) (a : Act
           ((ap (λ (y : Sampling). y.value) same ∙ stood_sampling.3) i))
       so (raises words) (it, none) = (it ∙ sym words_are, needs_sample x same a none)
 
-  -- whatever the step of the search says
+  -- for each result of a step of the search
   pub samples_so : (x : Sampling) → x ≡ record s { walk = x.walk; stage = x.stage } → (new_words : List ℕ) (says : SamplingStep) (new : Add) (result : AddStep)
       → StepsBy shape.size add.version a words new_words (SamplingGives shape x says a) → IsSampled (record add { stage = stage.Sampling x }) says new result
       → StepsBy shape.size add.version a words new_words (AddGives shape known amid new result a)

@@ -32,11 +32,11 @@ use Rattle.hist_core.proofs.Walks.Walking.{walk_beside}
 
 -- ---- it begins
 
--- a walk that has given a record stands there
+-- a walk that has given a record is there
 stands_last : (front : List ℕ) (at : ℕ) → at ≡ stands_behind (front ++ at ∷ [])
 stands_last front at = let long = length_push front at in sym (get_or_push (stops front) at 0 (length (front ++ at ∷ [])) (omega (arith, long)))
 
--- an actor that may turn to it begins at the record of a sparse histogram that it knows and has met
+-- an actor that may turn to it begins at the record of a sparse histogram that it knows and has visited
 pub begins_at : (shape : Dimensions) (histogram : ℕ) (value : ℤ) (s : Sampling) (a : Actor) → IsStarted shape histogram value s → a.segment.shape ≡ shape
     → IsShape shape → IsFree a → (known : Known) × Sparse a histogram known → is_i32 value ≡ true → histogram ≢ 0 → is_reference shape.size histogram ≡ true
     → (front behind : List ℕ) × (a.seen.chain ≡ front ++ histogram ∷ behind) → IsSampling shape s a
@@ -66,7 +66,7 @@ module _ (shape : Dimensions) (version : ℕ) (s : Sampling) (a : Actor) (words 
   others_on : (b : Actor) → FrameOfStep a b → (records : List ℕ) → HaveOthers s a records → HaveOthers s b records
   others_on b beside records others = others_still a.seen b.seen beside.words s.histogram s.value records others
 
-  -- it goes on, where its walk may have gone on too
+  -- it continues, and so may its walk
   goes_further : (walk : ℕ) (behind : List ℕ) (stage : SamplingStage) (b : Actor) → FrameOfStep a b → walk ≡ stands_behind (is.front ++ s.histogram ∷ behind)
       → is_reference shape.size walk ≡ true → IsPrefix (is.front ++ s.histogram ∷ behind) b.seen.chain
       → (IsMakingSample stage → (is.front ++ s.histogram ∷ behind ≡ b.seen.chain) × SawEnd b.seen)
@@ -103,7 +103,7 @@ module _ (shape : Dimensions) (version : ℕ) (s : Sampling) (a : Actor) (words 
         → StepsBy shape.size version a words words (λ b. FrameOfStep a b × (b.done ≡ a.done) × EndsWith given said b × IsFree b × IsPrefix (given_after given said) b.seen.chain)
     loads = walks_saying shape version a given words s.walk is.segment long is.walk stood.0 is.chain
 
-    -- it met a record, whose type it loads next
+    -- it found a record, whose type it loads next
     pub meets : (reference walk : ℕ) → Record reference ≡ said_of (length words) (word_at words (s.walk + 3))
         → walk ≡ stands_behind (given ++ reference ∷ []) → is_reference (length words) walk ≡ true → walk ≡ reference
         → StepsBy shape.size version a words words (SamplingGives shape (record s { walk = walk; stage = LoadingType reference }) More a)
@@ -118,7 +118,7 @@ module _ (shape : Dimensions) (version : ℕ) (s : Sampling) (a : Actor) (words 
               (record { free = free; passed = is.behind; are = refl; others = others_on b beside is.behind stood.1; within = within }),
         ))
 
-    -- a word that no list has: it stands where it stood
+    -- a word that no list has: it is where it was
     pub strays : (walk : ℕ) → Stray ≡ said_of (length words) (word_at words (s.walk + 3)) → walk ≡ s.walk
         → StepsBy shape.size version a words words (SamplingGives shape (record s { walk = walk }) More a)
     strays walk says here = goes_with (loads Stray says) (λ b (beside, done, ends_so, free, front). (
@@ -154,10 +154,10 @@ module _ (shape : Dimensions) (version : ℕ) (s : Sampling) (a : Actor) (words 
       ),
     ))
 
-  -- ---- a record that it met
+  -- ---- a record that it found
 
   module _ (at : ℕ) (met : StandsAtRecord shape s at a is.behind) where
-    -- it stands on the chain that its actor has seen
+    -- it is on the chain that its actor has seen
     chain_is : (rest : List ℕ) × (a.seen.chain ≡ is.front ++ s.histogram ∷ (met.passed ++ at ∷ rest))
     chain_is = let (rest, chain) = is.chain in (
       rest,
@@ -197,7 +197,7 @@ module _ (shape : Dimensions) (version : ℕ) (s : Sampling) (a : Actor) (words 
       seen_still : (other word : ℕ) → word_seen a.seen.words other ≡ Some word → word_seen acted.seen.words other ≡ Some word
       seen_still other word saw = still a.seen.words acted.seen.words beside.words other word saw
 
-      -- it stands there still
+      -- it is still there
       met_still : (stage : SamplingStage) → StandsAtRecord shape (record s { stage = stage }) at acted is.behind
       met_still stage = record { free = met.free; passed = met.passed; are = met.are; others = others_on acted beside met.passed met.others; within = met.within }
 
@@ -319,7 +319,7 @@ module _ (shape : Dimensions) (version : ℕ) (s : Sampling) (a : Actor) (words 
           met_value.1.1,
         ))
 
-    -- it is none of the value, and the walk goes on
+    -- it is none of the value, and the walk continues
     pub other_so : IsIts s of word false → StepsBy shape.size version a words words (SamplingGives shape (record s { stage = Walking }) More a)
     other_so other =
         let met = met_value.0 in
@@ -343,7 +343,7 @@ module _ (shape : Dimensions) (version : ℕ) (s : Sampling) (a : Actor) (words 
     pub stood_making : StandsAtStage shape s a is.behind (Making m)
     stood_making = subst (StandsAtStage shape s a is.behind) makes is.stands
 
-    -- its actor has seen the end of the list still
+    -- its actor has still seen the end of the list
     whole_still : (b : Actor) → SeesNoMore a b → (given ≡ b.seen.chain) × SawEnd b.seen
     whole_still b (chain, ends, singles) =
         let (whole, saw) = is.whole (subst IsMakingSample (sym makes) tt) in (
@@ -361,7 +361,7 @@ module _ (shape : Dimensions) (version : ℕ) (s : Sampling) (a : Actor) (words 
             let (whole, saw) = is.whole (subst IsMakingSample (sym makes) tt) in
             (it, (is.front, is.behind, sym whole, stood_making.0, saw))
 
-    -- whatever the step of the making says
+    -- for each result of a step of the making
     pub makes_so : (x : MakingOf) (new_words : List ℕ) (says : MakingStep) (new : Sampling) (result : SamplingStep)
         → StepsBy shape.size version a words new_words (MakingGives shape (wanted_of s) x says a) → IsMade (record s { stage = Making x }) says new result
         → StepsBy shape.size version a words new_words (SamplingGives shape new result a)

@@ -69,7 +69,7 @@ module _ (name boundaries : List ℕ) where
     abbrev cost : ℕ
     cost = batch_cost items sum
 
-    -- with its sum, where that is not 0
+    -- with its sum, if that is not 0
     with_sum : (sums : List MachineEntry) → All (λ entry. entry.name ≡ name) sums → tally_noted sums name ≡ 0
         → length (filter (λ entry. not (int_eq entry.amount (pos 0))) sums) ≤ 1 → unsigned_abs (tally_sum sums name) ≤ 2147483648 * cost
         → AreWithin name cost (map of_item items ++ sums)

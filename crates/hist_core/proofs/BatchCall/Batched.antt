@@ -1,4 +1,4 @@
--- What becomes of an actor by what its `batch` says.
+-- How an actor changes by what its `batch` says.
 use Rattle.segment_invariant.proofs.Prelude.Std.{◌≡◌, ◌≤◌, ◌+◌, ◌-◌, ℕ, ℤ, List, ◌++◌, map, length, take, inr, refl, sym, ap, subst, ◌∙◌, arith, length-append, Option, Some, vec_len, length-map, take-append-drop, some, get_elem?, Contains}
 use Rattle.segment_invariant.proofs.Prelude.Machine.{Dimensions, Actor, Note, Notes, noted, tally_noted, Refusal}
 use Rattle.std.proofs.lemmas.List.{length-drop, take-take, take_all, drop-take}
@@ -53,7 +53,7 @@ module _ (shape : Dimensions) (version : ℕ) (old : ActorRun) (batch : BatchCal
     -- ---- what a step makes of it
 
     module _ (now : BatchCall) (same : IsSameBatch batch now) (same_entries : counted_entries known now ≡ entries) (a : Actor) (counts : Tells a) where
-      -- it goes on
+      -- it continues
       goes_on : (b : Actor) → BatchGives shape known now More a b → IsActorRunOf shape version (record old { begun = length old.entries.items; running = Some (Batch now) }) b
       goes_on b (aside, stays, does, counting) =
           still_counts shape version old known.name batch.cost entries standing runs into a counts b aside stays (Batch now)
@@ -61,7 +61,7 @@ module _ (shape : Dimensions) (version : ℕ) (old : ActorRun) (batch : BatchCal
           (known, record { pending_are = counts.pending_are ∙ sym same_entries; stands = inr (ap (λ u. u.share) stays.0 ∙ counts.share, counting) })
           tt tt
 
-      -- it counts the same still
+      -- it still counts the same
       same_counted : (deed : SharedEffect) → serves_counted known now a deed → serves_counted known batch a deed
       same_counted (links made) (sample, inside, it) =
           (sample, subst (λ (l : List (ℤ × ℕ)). Contains l sample) same.samples inside, it ∙ ap (λ (histogram : ℕ). Sample histogram sample.0) same.histogram)
@@ -109,7 +109,7 @@ module _ (shape : Dimensions) (version : ℕ) (old : ActorRun) (batch : BatchCal
   entries_same : (known : MachineKnown) (now : BatchCall) → IsSameBatch batch now → counted_entries known now ≡ entries known
   entries_same known now same i = same.entries known i ++ sum_entries known.name (same.sum i)
 
-  -- as many entries more than have ended are there
+  -- there are as many more entries than have ended
   pub pending_there : (a : Actor) → IsActorRunOf shape version old a → old.ended + vec_len batch.items ≤ length old.entries.items
   pending_there a run =
       let (known, telling) = batching a run in
@@ -119,7 +119,7 @@ module _ (shape : Dimensions) (version : ℕ) (old : ActorRun) (batch : BatchCal
       let items = length-map batch.items.items (counted_entry known) in let ok = batch.items.ok.0 in let within = run.within in
       omega (arith, rest, both, items, ok, within)
 
-  -- what the machine's actor does, and what becomes of that at run time
+  -- what the machine's actor does, and what that is at run time
   module _ (a : Actor) (run : IsActorRunOf shape version old a) (now : BatchCall) (same : IsSameBatch batch now) (words new_words : List ℕ) (long : length words ≡ shape.size)
       (new : ActorRun) where
     abbrev its : MachineKnown
@@ -170,20 +170,20 @@ module _ (shape : Dimensions) (version : ℕ) (old : ActorRun) (batch : BatchCal
             ap (λ (l : List MachineEntry). tally_noted (take refusal.added l) its.name) (sym still_same) in
             let cost = same.cost in let left = at.2 in omega (arith, first, there, cost, spent, left)
 
-  -- it is one that goes on somewhere
+  -- it is a `batch` that some actor runs
   pub some_batch : (n : ℕ) (a : Actor) (run : IsActorRunOf shape version old a) → n ≡ shape.size → IsSomeBatch n batch
   some_batch n a run long =
       let known = (batching a run).0 in
       let there = counts_somewhere shape version old known.name batch.cost (entries known) (standing known) (runs known) (into known) a run (batching a run).1 in
       (shape, known, there.0, long, there.1.counting)
 
--- no more are counted where it is refused than there are
+-- when it is refused, no more are counted than there are
 pub added_few : (old new : BatchCall) (said : BatchStep) → IsRefusedAt old new said → added_of said ≤ vec_len old.items
 added_few old new More at = omega arith
 added_few old new Done at = omega arith
 added_few old new (Refused refusal) at = let less = at.1 in omega (arith, less)
 
--- ---- what is answered
+-- ---- what is returned
 
 abbrev batch_by : BatchCall → Option Running → BatchCall
 batch_by d (Some (Batch x)) = x

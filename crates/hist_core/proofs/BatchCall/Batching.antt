@@ -1,4 +1,4 @@
--- A `batch` of an actor goes on: what becomes of its entries and its units.
+-- A `batch` of an actor continues: what becomes of its entries and its units.
 use Rattle.segment_invariant.proofs.Prelude.Std.{◌≡◌, ◌≤◌, ◌<◌, ◌+◌, ◌-◌, ℕ, Bool, true, false, pos, List, [], ◌∷◌, ◌++◌, map, length, take, set, refl, sym, ap, subst, ◌∙◌, arith, length-append, ⊎_elim, vec_len, ◌&&◌, ◌==◌, if◌then◌else◌, int_eq, props, ∥∥₁_elim, length-map, map-append, sum_by-append, sum_by-cons, some, some-injective, get_elem?, bytes_eq-Decides}
 use Rattle.segment_invariant.proofs.Prelude.Machine.{Dimensions, Actor, EntryProgress, fresh, tally_noted}
 use Rattle.std.proofs.lemmas.List.{take-append-le, take-map, map-set}
@@ -29,7 +29,7 @@ module _ (shape : Dimensions) (known : MachineKnown) (batch : Batch) (a : Actor)
   below : CountsItem shape known batch a → batch.added < length batch.items.items
   below c = let whole = ap length c.are ∙ length-append c.done (c.item ∷ c.rest) in let added = c.added in omega (arith, whole, added)
 
-  -- where all items are counted, the sum is next
+  -- if all items are counted, the sum is next
   pub sums_there : batch.added ≡ vec_len batch.items → SumsUp known batch a
   sums_there all = ⊎_elim (λ c. absurd (let less = below c in let ok = batch.items.ok.0 in omega (arith, less, ok, all))) (λ sums. sums) is.stands
 
@@ -64,14 +64,14 @@ first_units known batch added few =
 
 -- ---- a step of an item
 
--- what stands behind a front
+-- what comes after a front
 at_behind : {X : Type 0} (xs : List X) (x : X) (ys : List X) → get_elem? (xs ++ x ∷ ys) (length xs) ≡ some x
 at_behind [] x ys = refl
 at_behind (y ∷ xs) x ys = at_behind xs x ys
 
 module _ (shape : Dimensions) (known : MachineKnown) (batch : Batch) (a : Actor) (is : IsBatch shape known batch a) (less : batch.added < vec_len batch.items) (x : Add)
     (at : get_elem? batch.items.items batch.added ≡ some x) where
-  -- that is the item which is counted
+  -- that is the item that is counted
   item_is : (item_there shape known batch a is less).item ≡ x
   item_is =
       let c = item_there shape known batch a is less in
@@ -97,7 +97,7 @@ module _ (shape : Dimensions) (known : MachineKnown) (batch : Batch) (a : Actor)
       (subst (λ (p : Add × Add). AddSteps p.0 words p.1 new_words says) (λ i. (sym item_is i, then_is i)) steps) new result
       (subst (λ (p : Batch × ℕ). IsItemSaid p.0 says p.1 new result) (λ i. (mid_is i, (sym item_is i).units)) is_said)
 
--- it counts the same whatever its item said
+-- it counts the same, whatever its item said
 pub same_on : (batch : Batch) (x y : Add) → get_elem? batch.items.items batch.added ≡ some x → y ≡ record x { stage = y.stage } → (mid : Batch)
     → mid ≡ record batch { items = mid.items } → mid.items.items ≡ set batch.items.items batch.added y → (says : AddStep) (units : ℕ) (new : Batch) (result : BatchStep)
     → IsItemSaid mid says units new result → IsSameBatch batch new
@@ -124,7 +124,7 @@ same_on batch x y at same mid mid_is stored says units new result is_said = by s
     by said.Done (new_is, result_is) = subst (IsSameBatch batch) (sym new_is) (so (batch.added + 1) (batch.left - units))
     by (said.Refused why) (new_is, result_is) = subst (IsSameBatch batch) (sym new_is) (so batch.added batch.left)
 
--- it is refused where an item is not counted
+-- it is refused at an item that is not counted
 pub refused_on : (batch mid new : Batch) (says : AddStep) (units : ℕ) (result : BatchStep) → mid.added ≡ batch.added → mid.left ≡ batch.left
     → batch.added < vec_len batch.items → IsItemSaid mid says units new result → IsRefusedAt batch new result
 refused_on batch mid new said.More units result same left less (new_is, result_is) = subst (IsRefusedAt batch new) (sym result_is) tt

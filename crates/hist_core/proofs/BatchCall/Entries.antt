@@ -8,7 +8,7 @@ use Rattle.hist_core.specs.Batch.{sum_entries, units_among}
 use Rattle.hist_core.proofs.AddCall.Entries.{ended_is_over}
 
 module _ (known : Known) where
-  -- the entries of items of which all has happened
+  -- the entries of items that have ended
   pub ended_are : (items : List Add) → map (λ (c : EntryProgress). c.entry) (map (ended_entry known) items) ≡ map (counted_entry known) items
   ended_are [] = refl
   ended_are (x ∷ items) = ap (λ (l : List Entry). counted_entry known x ∷ l) (ended_are items)
@@ -17,7 +17,7 @@ module _ (known : Known) where
   all_over [] = All-nil (λ c. has_ended c ≡ true)
   all_over (x ∷ items) = All-cons (λ c. has_ended c ≡ true) (ended_entry known x) (map (ended_entry known) items) (ended_is_over known x) (all_over items)
 
-  -- where none has an amount, none has added one
+  -- if none has an amount, none has added one
   pub none_summed : (items : List Add) → All (λ (x : Add). x.amount ≡ pos 0) items → All (λ (c : EntryProgress). c.summed ≡ false) (map (ended_entry known) items)
   none_summed [] none = All-nil (λ (c : EntryProgress). c.summed ≡ false)
   none_summed (x ∷ items) none = All-cons (λ (c : EntryProgress). c.summed ≡ false) (ended_entry known x) (map (ended_entry known) items)
@@ -31,7 +31,7 @@ module _ (known : Known) where
       sum_by-cons noted (counted_entry known x) (map (counted_entry known) items)
       ∙ ((λ i. (if same i then x.units else 0) + noted_are items same i) ∙ sym (sum_by-cons (λ (y : Add). y.units) x items))
 
--- those that begin are the entries, and nothing has happened of them
+-- those that begin are the entries, and nothing of them is counted
 pub fresh_are : (entries : List Entry) → map (λ (c : EntryProgress). c.entry) (map fresh entries) ≡ entries
 fresh_are [] = refl
 fresh_are (e ∷ entries) = ap (λ (l : List Entry). e ∷ l) (fresh_are entries)
@@ -40,7 +40,7 @@ pub all_untouched : (entries : List Entry) → All (λ c. is_untouched c ≡ tru
 all_untouched [] = All-nil (λ c. is_untouched c ≡ true)
 all_untouched (e ∷ entries) = All-cons (λ c. is_untouched c ≡ true) (fresh e) (map fresh entries) refl (all_untouched entries)
 
--- the sum is one entry, where it is not 0
+-- the sum is one entry, if it is not 0
 pub one_sum : (name : List ℕ) (sum : ℤ) → int_eq sum (pos 0) ≡ false → sum_entries name sum ≡ sum_entry name sum ∷ []
 one_sum name sum some = ap (λ (none : Bool). if none then [] else sum_entry name sum ∷ []) some
 

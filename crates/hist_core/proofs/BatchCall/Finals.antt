@@ -28,7 +28,7 @@ module _ (shape : Dimensions) (known : Known) (batch : Batch) (a : Actor) (words
   abbrev before : List EntryProgress
   before = map (ended_entry known) batch.items.items
 
-  -- of its entry nothing has happened
+  -- nothing of its entry is done
   waits : has_ended its ≡ false
   waits = ap (λ (b : Bool). b && true) sums.some
 

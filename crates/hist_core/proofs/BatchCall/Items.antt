@@ -27,7 +27,7 @@ use Rattle.hist_core.proofs.AddCall.Samples.{stands_first}
 use Rattle.hist_core.proofs.Worlds.Quiet.{met_split}
 use Rattle.hist_core.proofs.BatchCall.Entries.{ended_are, fresh_are, all_over, all_untouched, none_summed, one_sum, no_sum}
 
--- a front of a list, and what is behind it
+-- a front of a list, and what is after it
 module _ {X : Type 0} where
   pub front_is : (xs ys : List X) → take (length xs) (xs ++ ys) ≡ xs
   front_is [] ys = refl
@@ -41,7 +41,7 @@ module _ {X : Type 0} where
   set_behind [] x y ys = refl
   set_behind (z ∷ xs) x y ys = ap (λ (l : List X). z ∷ l) (set_behind xs x y ys)
 
--- what stands behind a front
+-- what comes after a front
 at_front : {X : Type 0} (xs : List X) (x : X) (ys : List X) → get_elem? (xs ++ x ∷ ys) (length xs) ≡ some x
 at_front [] x ys = refl
 at_front (y ∷ xs) x ys = at_front xs x ys
@@ -112,11 +112,11 @@ module _ (shape : Dimensions) (known : Known) (batch : Batch) (a : Actor) (is : 
       so (raises words) (it, needs) = (it, (sample_of item, inside, needs))
 
   module _ (b : Actor) (aside : FrameOfAdd a b) (stays : StaysOpen a b) where
-    -- it has met the histogram's record
+    -- it has visited the histogram's record
     met_now : Contains b.seen.chain known.reference
     met_now = subst (λ (l : List ℕ). Contains l known.reference) (sym aside.chain.1) (Contains-append_left a.seen.chain aside.chain.0 known.reference is.met)
 
-    -- it is a batch still, which stands so
+    -- it is still a batch, in this state
     still_batch : (added left : ℕ) → let new : Batch = record now { added = added; left = left } in CountsItem shape known new b ⊎ SumsUp known new b
         → IsBatch shape known new b
     still_batch added left stands = record {
@@ -136,7 +136,7 @@ module _ (shape : Dimensions) (known : Known) (batch : Batch) (a : Actor) (is : 
       stands = stands;
     }
 
-    -- the item goes on
+    -- the item continues
     pub still_counted : DoesOnly false false (add_serves known item a) a b → IsAdd shape known (amid_of known batch c.done c.rest) item b → BatchGives shape known now More a b
     still_counted does counting = (
       aside,
@@ -153,7 +153,7 @@ module _ (shape : Dimensions) (known : Known) (batch : Batch) (a : Actor) (is : 
       abbrev behind : List Add → List EntryProgress
       behind rest = map fresh (map (counted_entry known) rest ++ sum_entries known.name batch.sum)
 
-      -- all of it has happened, behind what there was
+      -- it has ended, after those before it
       ended_now : (rest : List EntryProgress) → map (ended_entry known) c.done ++ ended_entry known item ∷ rest ≡ map (ended_entry known) (c.done ++ item ∷ []) ++ rest
       ended_now rest = sym (ap (λ (l : List EntryProgress). l ++ rest) (map-append (ended_entry known) c.done (item ∷ []))
           ∙ append_assoc (map (ended_entry known) c.done) (ended_entry known item ∷ []) rest)
@@ -167,7 +167,7 @@ module _ (shape : Dimensions) (known : Known) (batch : Batch) (a : Actor) (is : 
           let parts = ap units_among c.are ∙ (sum_by-append (λ (x : Add). x.units) c.done (c.item ∷ c.rest) ∙ ap (λ n. units_among c.done + n) (sum_by-cons (λ (x : Add). x.units) c.item c.rest)) in
           let enough = is.enough in omega (arith, more, left, parts, enough)
 
-      -- so many items there are
+      -- how many items there are
       count_is : vec_len mid.items ≡ batch.added + 1 + length c.rest
       count_is =
           let ok = mid.items.ok.0 in let whole = ap length there ∙ length-append c.done (item ∷ c.rest) in let added = c.added in omega (arith, ok, whole, added)
@@ -232,7 +232,7 @@ module _ (shape : Dimensions) (known : Known) (batch : Batch) (a : Actor) (is : 
             subst (All (λ x. has_ended x ≡ true)) (sym ends) (all_over known mid.items.items),
           )
 
-      -- what that says
+      -- what a counted item leads to
       pub counted_so : (result : BatchStep) → result ≡ (if (batch.added + 1 == vec_len mid.items) && int_eq batch.sum (pos 0) then Done else More)
           → BatchGives shape known next result a b
       counted_so result result_is = by c.rest refl
@@ -296,7 +296,7 @@ module _ (shape : Dimensions) (known : Known) (batch : Batch) (a : Actor) (is : 
         others_are : drop batch.added b.entries.running ≡ others
         others_are = (λ i. drop (long i) (has i)) ∙ behind_is (map (ended_entry known) c.done) others
 
-  -- whatever a step of the item says
+  -- for each result of a step of the item
   pub item_goes : (words new_words : List ℕ) (says : AddStep) → length words ≡ shape.size → AddSteps c.item words item new_words says → (new : Batch) (result : BatchStep)
       → IsItemSaid now says c.item.units new result → StepsBy shape.size a.segment.version a words new_words (BatchGives shape known new result a)
   item_goes words new_words says long steps new result is_said = by says (its says steps) is_said

@@ -35,7 +35,7 @@ is_other packed bucket is same = true≢false (sym (ap (λ (p : Option ℕ). opt
 
 -- ---- words that were seen
 
--- the first word seen at a place is the last where none was there before, or the same was
+-- the word that was seen last at a place is the first one there, if none was seen there before, or the same was
 seen_now : (list : List Sighting) (at word : ℕ) → ((other : ℕ) → word_seen list at ≡ Some other → word ≡ other)
     → word_seen (list ++ sight at word) at ≡ Some word
 seen_now [] at word same = ap (λ (b : Bool). if b then Some word else None) (eq-eqb at at refl)
@@ -57,13 +57,13 @@ counts_there words histogram found used same =
     ap (λ (b : Bool). word_seen (words ++ (if b then [] else sight (histogram + 8) found)) (histogram + 8)) (ne_eqb found 0 used)
     ∙ seen_now words (histogram + 8) found same
 
--- what stands behind the front of a list stands in it
+-- what comes after the front of a list is in the list
 behind_front : (n : ℕ) (list : List Sighting) (x : Sighting) → Contains (drop n list) x → Contains list x
 behind_front n list x has = subst (λ (l : List Sighting). Contains l x) (take-append-drop n list) (Contains-append_right (take n list) (drop n list) x has)
 
 -- ---- the counts reference is loaded
 
--- by whoever has loaded a single word that is off
+-- by an actor that has loaded a single word that is off
 module _ (known : Known) (word : ℕ) (a : Actor) (loaded : HasWord known word a) (off : is_off word ≡ true) (knows : Buckets a known.reference known)
     (found : ℕ) (packed : Option ℕ) (kept : ℕ) (says : SaysPacked a.segment.version (buckets_of known.spec) word packed kept) (few_kept : kept ≤ 65535) where
   abbrev mounted : Mounted
@@ -96,7 +96,7 @@ module _ (known : Known) (word : ℕ) (a : Actor) (loaded : HasWord known word a
 
 -- ---- a count is loaded
 
--- by whoever stands at the counts
+-- by an actor that is at the counts
 module _ (known : Known) (mounted : Mounted) (word : ℕ) (a : Actor) (are : AreMounted known mounted word a) (bucket : ℕ) (below : bucket < buckets_of known.spec) (found : ℕ) where
   abbrev at : ℕ
   at = mounted.counts + 4 + bucket
@@ -160,7 +160,7 @@ some_buckets spec split = by (buckets_of spec) refl split.first split.last
     by (suc n) e first last = omega arith
 
 module _ (shape : Dimensions) (known : Known) (earlier : List Taken) (delta_call : DeltaCall) (a : Actor) (words : List ℕ) (is : IsDeltaCall shape known earlier delta_call a) where
-  -- behind a bucket
+  -- after a bucket
   pub stands_behind : (mounted : Mounted) (word bucket : ℕ) (new : DeltaCall) (b : Actor) → new.ranges ≡ delta_call.ranges → new.stage ≡ behind_bucket delta_call mounted bucket
       → IsUnderWay known earlier new b → bucket < buckets_of known.spec → ((i : ℕ) → i < bucket + 1 → TookBucket b known i)
       → AreBelow known (bucket + 1) new.counts.items → length new.counts.items ≤ bucket + 1 → AreMounted known mounted word b → HasRoomForBuckets known new
@@ -305,11 +305,11 @@ some_count delta_call words mounted bucket loads stands = ∥∥₁_elim stands 
     let many = is.lawful_shape.many in
     (inside.0, omega (arith, long, many), inside.1))
 
--- where the count of a bucket stands
+-- where the count of a bucket is
 pub where_count : (words : List ℕ) (counts bucket : ℕ) → word_at words (counts + (4 + bucket)) ≡ word_at words (counts + 4 + bucket)
 where_count words counts bucket = let same : counts + (4 + bucket) ≡ counts + 4 + bucket = omega arith in ap (word_at words) same
 
--- whatever it finds, it goes on
+-- whatever it finds, it continues
 module _ (shape : Dimensions) (known : Known) (earlier : List Taken) (delta_call : DeltaCall) (a : Actor) (words : List ℕ) (is : IsDeltaCall shape known earlier delta_call a)
     (mounted : Mounted) (bucket : ℕ) (loads : delta_call.stage ≡ LoadingCount mounted bucket) (total : ℕ)
     (is_total : total ≡ total_at mounted bucket (word_at words (mounted.counts + (4 + bucket)))) where

@@ -1,4 +1,4 @@
--- A `delta` of an actor goes on, what it is shown as, and what it is answered with.
+-- A `delta` of an actor continues: what it is shown as, and what it returns.
 use Rattle.segment_invariant.proofs.Prelude.Std.{◌≡◌, ◌⊎◌, inl, inr, ⊎_elim, ◌<◌, ◌≤◌, ◌+◌, ◌-◌, ℕ, zero, suc, ℤ, pos, arith, set, List, [], ◌∷◌, ◌++◌, length, map, take, refl, sym, ap, subst, ◌∙◌, vec_len, Option, Some, None, slice_set, vec_capacity, All, Contains, props, ∥∥₁_elim, append-nil, length_push, some, some-injective, some-ne-none, get_elem?}
 use Rattle.segment_invariant.proofs.Prelude.Machine.{IsShape, Dimensions, Actor, is_opener, known_at, units_listed, State}
 use Rattle.std.specs.Prelude.{option_to_list, slice_index_or}
@@ -60,11 +60,11 @@ last_there before last =
     there [] last = refl
     there (x ∷ before) last = there before last
 
--- what stands last is what was put there
+-- the last one is what was put there
 pub last_alone : (before : List Taken) (last other : Taken) → IsLast (before ++ last ∷ []) other → last ≡ other
 last_alone before last other is = some-injective last other (sym (last_there before last) ∙ is)
 
--- in place of what stands last another may be set
+-- another may be set in place of the last one
 last_set : {A : Type 0} (l : List A) (n : ℕ) (x y : A) → length l ≡ n + 1 → get_elem? l n ≡ some x
     → (before : List A) × (l ≡ before ++ x ∷ []) × (set l n y ≡ before ++ y ∷ [])
 last_set [] n x y long at = absurd (omega (arith, long))
@@ -123,7 +123,7 @@ taken_ascends world_state reached i r at = ∥∥₁_elim reached (hlevel props)
     let a : Actor = run.0 in
     ∣ all_from (λ (taken : Taken). AreUnits taken.counts.items) r.taken.items (shown_units r.taken.items a.deltas.taken run.1.taken) ∣₁)
 
--- ---- it goes on
+-- ---- it continues
 
 -- once its first event has happened it is under way
 way_of : (shape : Dimensions) (known : MachineKnown) (earlier : List MachineTaken) (delta_call : DeltaCall) (a : Actor) (stage : DeltaStage) → HasBegun stage
@@ -151,7 +151,7 @@ some_delta_call n actor_run delta_call fresh is (shape, version, a, long, wide, 
     let stands = subst (λ running. StandsIn shape actor_run.known.items (pending_by actor_run) running a) is run.stands in
     (shape, stands.1.0, stands.1.1, a, long, stands.1.2)
 
--- what stands last behind a first event lists what the call has taken
+-- the last one after a first event lists what the call has taken
 pub drafted : (actor_run : ActorRun) (delta_call : DeltaCall) (fresh : Option Taken) → HasDraft (Some (Delta delta_call fresh)) actor_run.taken → (before : List Taken) (last : Taken)
     → actor_run.taken.items ++ option_to_list fresh ≡ before ++ last ∷ [] → IsDeltaDraft delta_call last
 drafted actor_run delta_call (Some fresh) (room, draft) before last same = subst (IsDeltaDraft delta_call) (same_from_push actor_run.taken.items before fresh last same).1 draft
@@ -163,7 +163,7 @@ pub some_draft : (n : ℕ) (actor_run : ActorRun) (delta_call : DeltaCall) (fres
 some_draft n actor_run delta_call fresh is before last same (shape, version, a, long, wide, run) =
     drafted actor_run delta_call fresh (subst (λ running. HasDraft running actor_run.taken) is run.draft) before last same
 
--- what it is shown as behind a step of the call
+-- what it is shown as after a step of the call
 draft_on : (delta_call now : DeltaCall) (said : DeltaCallStep) (last then_is : Taken) → IsDeltaDraft delta_call last → Lists delta_call now said
     → vec_capacity now.counts ≡ vec_capacity delta_call.counts → Becomes said last then_is → (then_is.name ≡ last.name) × (then_is.counts.items ≡ now.counts.items)
 draft_on delta_call now More last then_is draft lists room same =
@@ -219,7 +219,7 @@ module _ (shape : Dimensions) (version : ℕ) (old : ActorRun) (a : Actor) (run 
       takes = refl;
     }
 
-    -- it goes on, or has ended, and stands there
+    -- it continues, or has ended, and is there
     runs_so : (new : ActorRun) (running : Option Running) → new ≡ record old { taken = new.taken; running = running } → AreDeltasShown new.taken.items b.deltas.taken
         → StandsIn shape old.known.items (pending_by old) running b → HasDraft running new.taken → ((n m : ℕ) → HasRoomForHist running n m) → IsActorRunOf shape version new b
     runs_so new running new_is shown stands_there draft has_room = subst (λ (r : ActorRun). IsActorRunOf shape version r b) (sym new_is) (record {
@@ -294,7 +294,7 @@ module _ (shape : Dimensions) (version : ℕ) (old : ActorRun) (a : Actor) (run 
   its_steps : (said : DeltaCallStep) → DeltaCallSteps delta_call words now new_words said → StepsBy shape.size version a words new_words (DeltaCallGives shape known earlier now said a)
   its_steps said steps = subst (λ (v : ℕ). StepsBy shape.size v a words new_words (DeltaCallGives shape known earlier now said a)) one_version (steps shape known earlier a long order takes)
 
-  -- what the machine's actor does, and what becomes of that at run time
+  -- what the machine's actor does, and what that is at run time
   pub delta_goes : (said : DeltaCallStep) (new : ActorRun) (result : Stepped) → DeltaCallSteps delta_call words now new_words said → Lists delta_call now said
       → IsDeltaAnnounced now fresh (record old { running = Some (Delta now fresh) }) said new result → Landing shape version old words new new_words result a
   delta_goes More new result steps lists ((before, last, then_is, shown, taken, becomes), new_is, result_is) =
@@ -339,7 +339,7 @@ fits delta_call now (Took key units) last (counts, capacity, sum) lists room =
     omega (arith, longer, its, last_ok, same, capacity, room)
 fits delta_call now (Done sum) last draft lists room = tt
 
--- what a running delta is shown as, of an actor that stands for one somewhere
+-- what a running delta is shown as, of an actor that stands for some actor of the machine
 draft_in : (n : ℕ) (r : ActorRun) (delta_call : DeltaCall) (fresh : Option Taken) → r.running ≡ Some (Delta delta_call fresh) → IsSomeRun n r → HasDraft (Some (Delta delta_call fresh)) r.taken
 draft_in n r delta_call fresh is (shape, version, a, long, wide, run) = subst (λ running. HasDraft running r.taken) is run.draft
 
@@ -365,7 +365,7 @@ placed said (Some (Snapshot snapshot_call)) taken place = absurd place
 placed said (Some (Batch batch)) taken place = absurd place
 placed said None taken place = absurd place
 
--- and once that is shown there is room in what stands last
+-- and once that is shown, there is room in the last one
 pub last_fits : (said : DeltaCallStep) (delta_call : DeltaCall) (fresh : Option Taken) (taken : Vec Taken Global) (shown : List Taken)
     → HasDraftRoom said (Some (Delta delta_call fresh)) taken → shown ≡ taken.items ++ option_to_list fresh → (0 < length shown) × ((last : Taken) → IsLast shown last → HasRoomForStep said last)
 last_fits said delta_call (Some t) taken shown (near, fit) is = (
@@ -378,7 +378,7 @@ last_fits said delta_call None taken shown (some_there, fit) is =
       λ last there. fit last (subst (λ l. IsLast l last) same there),
     )
 
--- ---- what is answered
+-- ---- what is returned
 
 abbrev pub taken_by : DeltaCall → Option Running → DeltaCall
 taken_by d (Some (Delta delta_call fresh)) = delta_call
@@ -397,7 +397,7 @@ ended_before list delta_call None before last same =
 module _ (old : ActorRun) (delta_call now : DeltaCall) (fresh : Option Taken) (is : old.running ≡ Some (Delta delta_call fresh)) (same : now.histogram ≡ delta_call.histogram)
     (words new_words : List ℕ) (all : length old.entries.items ≡ old.ended) (unbegun : old.begun ≡ old.ended)
     (drafts : (before : List Taken) (last : Taken) → old.taken.items ++ option_to_list fresh ≡ before ++ last ∷ [] → IsDeltaDraft delta_call last) where
-  -- it goes on
+  -- it continues
   goes_answered : (new : ActorRun) (last : Taken) (before : List Taken) → new ≡ record old { taken = new.taken; running = Some (Delta now None) }
       → new.taken.items ≡ before ++ last ∷ [] → before ≡ ended_deltas (Some (Delta delta_call fresh)) old.taken.items → last.sum ≡ pos 0
       → (last.counts.items ≡ delta_call.counts.items) ⊎ ((one : ℤ × ℕ) × (last.counts.items ≡ insert_by_key one delta_call.counts.items)) → Answers old words new new_words stepped.More
@@ -454,7 +454,7 @@ opens_first : (shape : Dimensions) (known : MachineKnown) (delta_call : DeltaCal
 opens_first _ _ _ stage (inl opens) = inl opens.0
 opens_first _ _ _ stage (inr opens) = inr opens.0
 
--- who rests begins it, which is no event
+-- an actor that rests begins it, which is not an event
 module _ (shape : Dimensions) (version : ℕ) (known : KnownHist) (old new : ActorRun) (starts : BeginsDelta shape version known old new) (i : ℕ)
     (at : get_elem? old.known.items i ≡ some known) (rests : old.running ≡ None) where
   module _ (a : Actor) (run : IsActorRunOf shape version old a) (lawful : IsShape shape) (alone : known_at a.answers.names known.reference ≡ Some (known_of known)) where
@@ -470,7 +470,7 @@ module _ (shape : Dimensions) (version : ℕ) (known : KnownHist) (old new : Act
     knows : Contains a.answers.names (known_of known)
     knows = subst (λ (l : List MachineKnown). Contains l (known_of known)) run.names (contains_map known_of old.known.items known (contains_at old.known.items i known at))
 
-    -- of a histogram with buckets it stands before the single word, of a sparse one at the record
+    -- of a histogram with buckets it is before the single word, of a sparse one at the record
     stands_first : (stage : DeltaStage) → OpensWith shape (known_of known) delta_call stage → StandsAtStage shape (known_of known) a.deltas.taken delta_call a stage
     stands_first stage (inl (is, has)) = subst (StandsAtStage shape (known_of known) a.deltas.taken delta_call a) (sym is) (stood.1.takes, refl, starts.started.none, has)
     stands_first stage (inr (is, sparse, room)) = subst (StandsAtStage shape (known_of known) a.deltas.taken delta_call a) (sym is) (
@@ -513,7 +513,7 @@ module _ (shape : Dimensions) (version : ℕ) (known : KnownHist) (old new : Act
         roomy : ActorRun
         roomy = record old { taken = new.taken }
 
--- on a world_state
+-- on a `WorldState`
 module _ (old new : WorldState) (actor : ℕ) (name : List ℕ) (place : ℕ) (r now : ActorRun) (its : IsPlaced old actor name place r) (turned : IsTurned old new actor now)
     (starts : BeginsDelta old.shape old.version its.known r now) (pooled : new.units ≡ old.units) where
   pub delta_begins : (start : Start) (state : State) → IsReachedAs start old state → BeginsFrom start state actor new

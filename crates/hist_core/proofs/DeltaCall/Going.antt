@@ -1,4 +1,4 @@
--- A delta goes on by one event of its actor.
+-- A delta performs one event of its actor.
 use Rattle.segment_invariant.proofs.Prelude.Std.{◌≡◌, ℕ, ◌+◌, ◌-◌, ◌≤◌, true, true≢false, List, length, refl, sym, ap, ◌∙◌, subst, arith, None, vec_capacity, props, ∥∥₁_elim, Contains, [], ◌++◌, append-nil}
 use Rattle.segment_invariant.proofs.Prelude.Machine.{boundaries_of, buckets_of, spec_fault, Spec, Dimensions, word_at, Actor, Known, Taken, Buckets, has_buckets, is_opener, known_at, units_listed, MayTurn, sight, Event, spot, next, Ready, Learned, taking_event, load_count, raise_mark, raise_single_mark, load_sum, swap_sum_mark, load_redundant, Sighting}
 use Rattle.bucket_ranges.specs.Ranges.{SplitsValues}
@@ -15,7 +15,7 @@ use Rattle.hist_core.specs.declared.delta_call.DeltaCall.{DeltaCall}
 use Rattle.hist_core.specs.StepsBy.{StepsBy, LiesWithin}
 use Rattle.hist_core.specs.DeltaCall.{IsSomeDeltaCall, IsDeltaCall, IsUnderWay, StandsAtStage, FrameOfDelta}
 
--- ---- what stays as it was
+-- ---- what stays unchanged
 
 pub delta_beside : (a b : Actor) → b.role ≡ a.role → b.segment ≡ a.segment → b.units ≡ a.units → b.entries ≡ a.entries → b.answers.names ≡ a.answers.names
     → b.deltas.snapshots ≡ a.deltas.snapshots → b.deltas.first_taken ≡ a.deltas.first_taken → b.seen.chain ≡ a.seen.chain
@@ -66,7 +66,7 @@ same_way known earlier old new a same way = record {
   sum = way.sum;
 }
 
--- it takes of the same histogram, with as much room
+-- it takes a delta of the same histogram, with as much room
 pub record IsSame (old new : DeltaCall) : Type 0 where
   pub version : new.version ≡ old.version
   pub histogram : new.histogram ≡ old.histogram
@@ -96,7 +96,7 @@ module _ (shape : Dimensions) (known : Known) (earlier : List Taken) (delta_call
   pub takes_it : IsUnderWay known earlier delta_call a → Takes a known.reference known
   takes_it way = (way.taking, is.knows, refl, (earlier, way.last, way.taken, way.name))
 
-  -- it goes on from another stage, and may have taken more
+  -- it continues at another stage, and may have taken more
   pub goes_still : (new : DeltaCall) (b : Actor) → IsSame delta_call new → FrameOfDelta a b → MayTurn b → AreUnits new.counts.items
       → StandsAtStage shape known earlier new b new.stage → IsDeltaCall shape known earlier new b
   goes_still new b same aside turns units stands = record {
@@ -134,7 +134,7 @@ module _ (shape : Dimensions) (known : Known) (earlier : List Taken) (delta_call
         are
         (λ learned apart ordered. (taking_aside a e found, goes_still new acted same (taking_aside a e found) turns units (stands learned)))
 
--- the boundaries of a lawful spec are few
+-- the boundaries of a valid spec are few
 few_of : (s : Spec) → spec_fault s ≡ None → has_buckets s ≡ true → length (boundaries_of s) ≤ 1001
 few_of s lawful bucketed =
     let count = (boundaries_of-split s lawful (λ sparse. true≢false (sym bucketed ∙ ap has_buckets sparse))).count in
@@ -146,7 +146,7 @@ few_boundaries (spec.Linear min max n) lawful = few_of (spec.Linear min max n) l
 few_boundaries spec.Boolean lawful = few_of spec.Boolean lawful refl
 few_boundaries (spec.Custom values) lawful = few_of (spec.Custom values) lawful refl
 
--- the record of a delta that stands somewhere lies in so many words, which are few
+-- the record of a delta that some actor runs lies within the words, which are at most 2^20
 pub lies_within : (delta_call : DeltaCall) (words : List ℕ) → ∥ IsSomeDeltaCall (length words) delta_call ∥₁ → LiesWithin (length words) delta_call.histogram
 lies_within delta_call words stands = ∥∥₁_elim stands (hlevel props) (λ (shape, known, earlier, a, long, is).
     let inside = is_inside shape known earlier delta_call a is (length words) long in record { within = inside.0; few = inside.1 })
@@ -156,7 +156,7 @@ pub some_ranges : (delta_call : DeltaCall) (n : ℕ) → ∥ IsSomeDeltaCall n d
 some_ranges delta_call n stands = ∥∥₁_elim stands (hlevel props) (λ (shape, known, earlier, a, long, is).
     let ranges = ap length is.ranges in let some = few_boundaries known.spec is.lawful in omega (arith, ranges, some))
 
--- it goes on with another stage, with what it lists as it was or with more
+-- it continues at another stage, with what it listed or with more
 pub same_still : (old : DeltaCall) (stage : DeltaStage) (new : DeltaCall) → new ≡ record old { stage = stage } → IsSame old new
 same_still old stage new same = record {
   version = ap (λ (t : DeltaCall). t.version) same;

@@ -63,7 +63,7 @@ module _ (known : Known) (split : SplitsValues (buckets_of known.spec) (boundari
 
 -- ---- as the machine has it
 
--- the units of each key are those that are listed, wherever they stand
+-- the units of each key are those that are listed, wherever they are
 abbrev SameUnits : List (ℤ × ℕ) → List (ℤ × ℕ) → Type 0
 SameUnits xs ys = (key : ℤ) → units_listed xs key ≡ units_listed ys key
 
@@ -77,7 +77,7 @@ same_more xs ys one same key =
     let last = sum_by-append (units_at key) ys (one ∷ []) in
     let rest = same key in omega (arith, moved, first, last, rest)
 
--- units between a mark and what it was raised to
+-- units between a mark and what the mark was raised to
 abbrev units_between : ℤ → ℕ → ℕ → List (ℤ × ℕ)
 units_between key found least = if nat_lt found least then (key, least - found) ∷ [] else []
 

@@ -67,7 +67,7 @@ module _ (shape : Dimensions) (known : Known) (earlier : List Taken) (delta_call
         omega (arith, listed, inside, room),
       )
 
-  -- a mark is raised, wherever it stands
+  -- a mark is raised, wherever it is
   module _ (e : TakingEvent) (at found : ℕ) (key : ℤ) (new : DeltaCall) (said : DeltaCallStep) where
     abbrev acted : Actor
     acted = next a (taking_event e) found
@@ -168,7 +168,7 @@ module _ (shape : Dimensions) (known : Known) (earlier : List Taken) (delta_call
         raised_so e (known.reference + 10) found (single_key a a.hand.place) new said refl refl refl refl refl key_packed there same.ranges stage same.room
         (inl (word, are.saw, holds, refl)))
 
-  -- each other has its own behind the counts
+  -- each other one has its own after the counts
   module _ (apart : mounted.packed ≢ Some bucket) where
     other : packed_bucket held ≢ Some bucket
     other e = apart (are.says.0 ∙ e)

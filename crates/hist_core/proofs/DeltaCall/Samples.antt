@@ -36,7 +36,7 @@ use Rattle.hist_core.proofs.Walks.Walking.{began_before, few_passed, spot_inside
 
 -- ---- its first event has happened
 
--- whatever its walk met
+-- whatever its walk found
 pub begun_behind : (walk : SampleWalk) (histogram word : ℕ) (met : Met) → Meets walk histogram word met → HasBegun (behind_walk met)
 begun_behind LoadingFirst histogram word met is = subst (λ (m : Met). HasBegun (behind_walk m)) (sym is) (by (word == 12))
   where
@@ -83,7 +83,7 @@ way_beside known earlier delta_call a b deltas way = record {
   sum = way.sum;
 }
 
--- where it stands that has loaded the count of a sample
+-- where an actor is that has loaded the count of a sample
 at_sample : (p : Place) (at found : ℕ) → is_looking p ≡ false → at_count p at found ≡ place.SampleLoaded (at - 6) found
 at_sample (place.Looking look) at found apart = absurd (cc apart)
 at_sample (place.CountLoaded look bucket count) at found apart = absurd (cc apart)
@@ -95,7 +95,7 @@ module _ (shape : Dimensions) (known : Known) (earlier : List Taken) (delta_call
   abbrev behind : Met → DeltaCall
   behind met = record delta_call { stage = behind_walk met }
 
-  -- what its walk met leads it on
+  -- it continues from what its walk found
   stands_behind : (met : Met) (b : Actor) → IsUnderWay known earlier delta_call b → HoldsValues shape delta_call → HasComeTo shape known (ListsTaken known delta_call) met b
       → StandsAtStage shape known earlier (behind met) b (behind_walk met)
   stands_behind (Nothing walk) b way room (set_out, stands) =
@@ -107,7 +107,7 @@ module _ (shape : Dimensions) (known : Known) (earlier : List Taken) (delta_call
   stands_behind End b way room all =
       (same_way known earlier delta_call (behind End) b refl way, inr (record { passed = all.passed; way = all.way; lists = all.lists }))
 
-  -- what a walk leaves as it was, from where its call has begun
+  -- what a walk leaves unchanged, from where its call has begun
   aside_of : (begun b : Actor) → record begun { since = a.since; deltas = a.deltas } ≡ a → begun.deltas.snapshots ≡ a.deltas.snapshots
       → begun.deltas.first_taken ≡ a.deltas.first_taken → FrameOfStep begun b → b.done ≡ begun.done → FrameOfDelta a b
   aside_of begun b same snapshots first beside done = record {
@@ -132,7 +132,7 @@ module _ (shape : Dimensions) (known : Known) (earlier : List Taken) (delta_call
           (stands_behind met b way room comes),
     )
 
-    -- behind its first event
+    -- after its first event
     further : (walk : SampleWalk) → IsUnderWay known earlier delta_call a → WalksAt shape known (ListsTaken known delta_call) walk a → HoldsValues shape delta_call → HasSetOut walk
         → Meets walk known.reference (word_at words (spot_of known.reference walk)) met
         → StepsBy shape.size delta_call.version a words words (DeltaCallGives shape known earlier (behind met) More a)

@@ -1,4 +1,4 @@
--- A delta begins: it loads the single word, and takes the packed units where the counts are not in use.
+-- A delta begins: it loads the single word, and takes the packed units if the counts are not in use.
 use Rattle.segment_invariant.proofs.Prelude.Std.{◌≡◌, ◌≢◌, ℕ, ◌+◌, ◌-◌, ◌<◌, ◌≤◌, ℤ, pos, max, Bool, false, true≢false, if◌then◌else◌, List, [], ◌∷◌, ◌++◌, length, slice_index, Option, Some, None, inl, inr, ⊎_elim, refl, sym, ap, subst, ◌∙◌, arith, slice_set, unwrap_or, vec_capacity, props, ∥∥₁_elim, ne_eqb, append-nil, length-append, set-get_or, dite, ℕ_discrete}
 use Rattle.segment_invariant.proofs.Prelude.Machine.{buckets_of, single_of, packed_bucket, units_packed, SingleWord, Empty, Packed, Disabled, FrozenEmpty, Frozen, Dimensions, word_at, Actor, Known, Taken, Place, Looking, bucket_key, is_bound, known_at, units_listed, back, look_of, sight, Event, next, packing_event, taking_event, noted, load_single, raise_single_mark}
 use Rattle.segment_invariant.proofs.Consistency.Keys.{packed_within}
@@ -34,7 +34,7 @@ none_packed (Some (Disabled packed)) bucket apart = refl
 none_packed (Some FrozenEmpty) bucket apart = refl
 none_packed (Some (Frozen b units)) bucket apart = ap (λ (t : Bool). if t then units else 0) (ne_eqb b bucket (λ same. apart (ap Some same)))
 
--- where a single word is on, a bucket that it does not name has no units
+-- if a single word is not off, a bucket that it does not name has no units
 pub took_else : (known : Known) (word bucket : ℕ) (a : Actor) → SawSingle a (known.reference + 9) word → is_off word ≡ false
     → packed_bucket (single_of a.segment.version (buckets_of known.spec) word) ≢ Some bucket → TookBucket a known bucket
 took_else known word bucket a saw on apart =
@@ -249,7 +249,7 @@ packed_room delta_call words bucket units packs stands = ∥∥₁_elim stands (
     let room = stood.3.1 in
     (omega (arith, inside, ranges), omega (arith, none, room, inside)))
 
--- whatever it took of them, it goes on
+-- whatever it took of them, it continues
 module _ (shape : Dimensions) (known : Known) (earlier : List Taken) (delta_call : DeltaCall) (a : Actor) (words : List ℕ) (is : IsDeltaCall shape known earlier delta_call a)
     (bucket units : ℕ) (packs : delta_call.stage ≡ TakingPacked bucket units) where
   pub gives_packed : (new : DeltaCall) (said : DeltaCallStep) (mark : ℕ) → TakesBucket bucket units mark (record delta_call { stage = LoadingSum }) new said

@@ -36,7 +36,7 @@ module _ (shape : Dimensions) (known : Known) (earlier : List Taken) (delta_call
     abbrev summed : Actor
     summed = next a (taking_event (load_sum known.reference)) (word_at words (known.reference + 11))
 
-    -- what it took it has taken still
+    -- what it took is still taken
     took_still : (sum : ℤ) → TookEach known delta_call a → TookEach known (record delta_call { stage = Swapping sum }) summed
     took_still sum (inl took) = inl took
     took_still sum (inr all) = inr (record {

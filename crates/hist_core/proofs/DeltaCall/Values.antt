@@ -25,7 +25,7 @@ use Rattle.hist_core.proofs.Walks.Walking.{GoesAlong}
 
 -- ---- one key more
 
--- it stands among the others
+-- it is among the others
 pub moved_in : (one : ℤ × ℕ) (counts : List (ℤ × ℕ)) → IsPermutation (counts ++ one ∷ []) (insert_by_key one counts)
 moved_in one counts =
     IsPermutation-trans (counts ++ one ∷ []) (one ∷ counts) (insert_by_key one counts) (IsPermutation-append_comm counts (one ∷ []))
@@ -34,7 +34,7 @@ moved_in one counts =
 less_so : (x y : ℤ) → int_lt x y ≡ true → int_cmp x y ≡ Less
 less_so x y e = ap (λ (t : Bool). if t then Less else (if int_lt y x then Greater else Equal)) e
 
--- of two keys that differ, where one is not less the other is
+-- of two keys that differ, if one is not less, the other is
 above : (x y : ℤ) → int_lt x y ≡ false → x ≢ y → int_cmp y x ≡ Less
 above x y e apart = by (int_lt y x) refl
   where
@@ -86,7 +86,7 @@ sorted_insert one (c ∷ rest) sorted (differs, apart) = by (int_lt c.0 one.0) r
     by true e behind = behind_insert one c rest (less_so c.0 one.0 e) sorted behind
     by false e behind = front_insert one c rest (above c.0 one.0 e differs) sorted
 
--- how often a key stands among them
+-- how often a key is among them
 abbrev times : ℤ → ℤ × ℕ → ℕ
 times key count = if int_eq count.0 key then 1 else 0
 
@@ -140,7 +140,7 @@ taken_along known delta_call = record {
       lists_on (λ value sample. TookSample a sample) (λ sample units. 1 ≤ units) known.reference a.seen passed delta_call.counts.items lists at (inr none);
 }
 
--- at the end of the list it has taken what it saw of each sample that it met
+-- at the end of the list it has taken what it saw of each sample that it found
 pub took_samples : (known : Known) (delta_call : DeltaCall) (a : Actor) → IsInOrder a → HasReachedEnd known (ListsTaken known delta_call) a → (value : ℤ) (sample : ℕ)
     → Contains a.seen.chain sample → SawSample a.seen known.reference value sample → TookSample a sample
 took_samples known delta_call a order all value sample met saw =

@@ -1,4 +1,4 @@
--- A `hist` of an actor goes on, and what its actor knows then.
+-- A `hist` of an actor continues, and what its actor knows then.
 use Rattle.segment_invariant.proofs.Prelude.Std.{◌≡◌, ◌≢◌, ◌<◌, ◌+◌, ℕ, zero, suc, ◌≤◌, List, [], ◌∷◌, ◌++◌, length, map, take, drop, All, inl, inr, ⊎_elim, refl, sym, ap, subst, ◌∙◌, vec_len, arith, Option, Some, None, Ok, vec_capacity, map-append, Contains, All-push, Contains-append_cases, Contains-append_right, dite, ℕ_discrete, some, some-injective, some-ne-none, get_elem?}
 use Rattle.segment_invariant.proofs.Prelude.Machine.{Spec, IsShape, Dimensions, Actor, AreNameWords, is_opener, Note, Notes, noted, Refusal}
 use Rattle.std.specs.Prelude.{Result, Err}
@@ -36,7 +36,7 @@ use Rattle.hist_core.proofs.Parts.Claims.{goes_noting}
 
 -- ---- a note more
 
--- an actor that goes on notes one thing more
+-- an actor that performs an event notes one thing more
 notes_one : {size version : ℕ} {a : Actor} {words new_words : List ℕ} {holds then_holds : Actor → Type 0} → StepsBy size version a words new_words holds
     → ((b : Actor) → holds b → (note : Note) × MayNote b note × then_holds (noted b note)) → StepsBy size version a words new_words then_holds
 notes_one go notes = goes_noting go (λ b its. let (note, may, then_is) = notes b its in (note ∷ [], noted b note, (may, refl), then_is))
@@ -56,7 +56,7 @@ one_of : (x y : MachineKnown) → Contains (x ∷ []) y → x ≡ y
 one_of x y (zero, low, is) = is
 one_of x y (suc k, low, is) = absurd (omega (arith, low))
 
--- who may note that it knows a histogram has met its record
+-- an actor that may note that it knows a histogram has visited its record
 met_first : (b : Actor) (known : MachineKnown) → MayNote b (knows known) → Contains b.seen.chain known.reference
 met_first b known ((front, behind, is, others, saw), spelled) =
     subst (λ (l : List ℕ). Contains l known.reference) (sym is) (Contains-append_right front (known.reference ∷ behind) known.reference (0, omega arith, refl))
@@ -143,7 +143,7 @@ module _ (shape : Dimensions) (version : ℕ) (old : ActorRun) (a : Actor) (run 
   refused_by : (cause : Refusal) (b : Actor) → IsHistCause now.asked.name.items now.asked.spec cause a b → IsRefusedBy old.running cause a b
   refused_by cause b its = subst (λ running. IsRefusedBy running cause a b) (sym is) (subst (λ (k : KnownHist). IsHistCause k.name.items k.spec cause a b) same its)
 
-  -- it asks for the same still
+  -- it still asks for the same
   same_asked : (deed : SharedEffect) → serves_asked now a deed → serves_asked h a deed
   same_asked (links made) it = it ∙ ap (λ (k : KnownHist). Histogram k.name.items k.spec) same
   same_asked (raises words) it =
@@ -154,7 +154,7 @@ module _ (shape : Dimensions) (version : ℕ) (old : ActorRun) (a : Actor) (run 
   does_it said b c same_done = does_as_said old.running said (serves_asked now a) a a b c
       (λ deed it. subst (λ running. Serves running a deed) (sym is) (same_asked deed it)) refl same_done
 
-  -- what the machine's actor does, and what becomes of that at run time
+  -- what the machine's actor does, and what that is at run time
   pub hist_goes : (said : HistStep) (new : ActorRun) (result : Stepped) → HistSteps h words now new_words said
       → IsHistAnnounced (record old { running = Some (Hist now) }) said new result → Landing shape version old words new new_words result a
   hist_goes More new result steps (new_is, result_is) =
@@ -186,7 +186,7 @@ module _ (shape : Dimensions) (version : ℕ) (old : ActorRun) (a : Actor) (run 
         does_it (stepped.Done (answer.Refused why)) b b refl does,
       )))
 
--- what is answered
+-- what is returned
 module _ (old : ActorRun) (h now : HistCall) (is : old.running ≡ Some (Hist h)) (same : now.asked ≡ h.asked) (words new_words : List ℕ)
     (all : length old.entries.items ≡ old.ended) (unbegun : old.begun ≡ old.ended) where
   begun_on : (new : ActorRun) → new.entries ≡ old.entries → new.ended ≡ old.ended → new.begun ≡ old.begun → begun_by new ≡ ended_by new
@@ -234,13 +234,13 @@ module _ (old : ActorRun) (h now : HistCall) (is : old.running ≡ Some (Hist h)
 
 -- ---- what it begins with
 
--- what stands at a place stands within the list
+-- what is at a place is within the list
 pub place_below : {A : Type 0} (l : List A) (i : ℕ) (x : A) → get_elem? l i ≡ some x → i < length l
 place_below [] i x at = absurd (some-ne-none x (sym at))
 place_below (y ∷ l) zero x at = omega arith
 place_below (y ∷ l) (suc i) x at = let below = place_below l i x at in omega (arith, below)
 
--- where it is as it was but for room, the machine's actor stands as before
+-- if it is unchanged except for room, so is the machine's actor
 pub as_it_stood : (shape : Dimensions) (version : ℕ) (old new : ActorRun) (a : Actor) → old.running ≡ None → IsAsItWas old new → IsActorRunOf shape version old a
     → IsActorRunOf shape version new a
 as_it_stood shape version old new a rests (new_is, entries, items, taken) run =
@@ -261,7 +261,7 @@ as_it_stood shape version old new a rests (new_is, entries, items, taken) run =
       draft = subst (λ running. HasDraft running new.taken) (sym rests) tt;
     })
 
--- it begins a `hist`, or there was no memory for it: the machine's actor stands as before
+-- it begins a `hist`, or there was no memory for it: the machine's actor is unchanged
 pub begins_hist : (shape : Dimensions) (version : ℕ) (name : List ℕ) (spec : Spec) (asked : Asked) (old new : ActorRun) (result : Result Begun AllocError) (a : Actor)
     → IsAskedFor shape name spec asked → IsShape shape → old.running ≡ None → BeginsHist shape asked old new result → IsActorRunOf shape version old a → IsActorRunOf shape version new a
 begins_hist shape version name spec asked old new (Ok Going) a asks lawful rests (hist, begun, new_is, items, room, none) run =

@@ -39,7 +39,7 @@ module _ (shape : Dimensions) (version : ℕ) (wanted : Wanted) (m : Making) (a 
         subst (λ (n : ℕ). StepsBy n version a words new_words (λ b. FrameOfStep a b × DoesOnly false (is_full_end says) (serves_wanted wanted) a b × AreOwnBlocksApart b × FollowsAllocation b y × (b.seen.words ≡ a.seen.words) × SeesNoMore a b × IsEnd says x.size a b)) size
         (allocates_on (serves_wanted wanted) version a x y words new_words says stands.0 stands.3 (long ∙ sym size) step)
 
-    -- it goes on
+    -- it continues
     still_claims : says ≡ said.More → is_some (alloc.next_event y) ≡ true → StepsBy shape.size version a words new_words (MakingGives shape wanted (record { stage = Allocating y }) More a)
     still_claims goes_on more = goes_with claims (λ b (beside, does, apart, goes, words_same, list, ends). (
       beside,
@@ -115,7 +115,7 @@ module _ (shape : Dimensions) (version : ℕ) (wanted : Wanted) (m : Making) (a 
               ),
             )
 
-  -- whatever the allocation says
+  -- for each result of a step of the allocation
   pub allocates_so : (y : Allocation) (new_words : List ℕ) (says : AllocStep) (new : Making) (result : MakingStep) → alloc.IsStep x words y new_words says
       → (says ≡ said.More → is_some (alloc.next_event y) ≡ true) → IsAllocated (record { stage = Allocating y }) says new result
       → StepsBy shape.size version a words new_words (MakingGives shape wanted new result a)

@@ -7,7 +7,7 @@ use Rattle.hist_core.specs.declared.making.Making.{Making}
 use Rattle.hist_core.specs.StepsBy.{FrameOfStep}
 use Rattle.hist_core.specs.Making.{Wanted, MayMake, IsMaking, IsStarted, StandsAtStage, tag_of}
 
--- a lawful shape has 64 words at least
+-- a valid shape has 64 words at least
 pub is_wide : (shape : Dimensions) → IsShape shape → 64 ≤ shape.size
 is_wide shape lawful = let from = lawful.wide in let to = lawful.one in omega (arith, from, to)
 

@@ -1,4 +1,4 @@
--- The payload of a record that is made is stored, but for the words that are 0.
+-- The payload of a record that is made is stored, except for the words that are 0.
 use Rattle.segment_invariant.proofs.Prelude.Std.{◌≡◌, ℕ, zero, suc, ◌+◌, ◌-◌, ◌<◌, ◌≤◌, ◌==◌, Bool, true, false, List, [], ◌∷◌, ◌++◌, length, take, get_or, replicate, refl, sym, ap, subst, ◌∙◌, arith, append_assoc, eqb-true, Some, if◌then◌else◌, slice_index, nat_lt, Contains, append-nil, ltb-true, ltb-false, some}
 use Rattle.segment_invariant.proofs.Prelude.Machine.{Dimensions, Actor, Own, store_payload, Event, next, allocating_event}
 use Rattle.std.proofs.lemmas.List.{replicate-append-replicate, length-take-le, take_all}
@@ -21,7 +21,7 @@ use Rattle.hist_core.proofs.Parts.Deeds.{stores_payload}
 
 -- ---- the words that are stored
 
--- words that are 0 go on from a front
+-- words that are 0 follow a front
 zeros_behind : (all : List ℕ) (n k : ℕ) → n + k ≤ length all → ((i : ℕ) → n ≤ i → i < n + k → get_or all i 0 ≡ 0) → take n all ++ replicate k 0 ≡ take (n + k) all
 zeros_behind all n zero inside zeros = let none : n ≡ n + zero = omega arith in append-nil (take n all) ∙ ap (λ (m : ℕ). take m all) none
 zeros_behind all n (suc k) inside zeros =
@@ -54,7 +54,7 @@ then_filled all index ends_at inside goes =
 
 -- ---- its own block
 
--- a block that is found stands there
+-- a block that is found is there
 own_there : (list : List Own) (at : ℕ) (x : Own) → own_at list at ≡ Some x → Contains list x × (x.at ≡ at)
 own_there [] at x is = cc is
 own_there (own ∷ rest) at x is = by (own.at == at) refl (own_there rest at x) is
@@ -87,7 +87,7 @@ module _ (shape : Dimensions) (version : ℕ) (wanted : Wanted) (m : Making) (a 
   abbrev acted : Actor
   acted = next a event 0
 
-  -- its block behind that
+  -- its block after that
   abbrev fuller : Own
   fuller = record own { payload = stored own.payload index value }
 

@@ -56,7 +56,7 @@ module _ (shape : Dimensions) (version : ℕ) (wanted : Wanted) (m : Making) (a 
         subst (λ (n : ℕ). StepsBy n version a words new_words (λ b. FrameOfStep a b × DoesOnly false false (serves_wanted wanted) a b × SeesNoMore a b × PublishesAt b y.reference wanted.made y.stage)) size
         (publishes_on (serves_wanted wanted) version a wanted.made x y words new_words says refl stands.0 (long ∙ sym size) step)
 
-    -- it goes on
+    -- it continues
     still_puts : is_some (publish.next_event y) ≡ true → IsReach shape.size y
         → StepsBy shape.size version a words new_words (MakingGives shape wanted (record { stage = Publishing y }) More a)
     still_puts more reach = goes_with puts (λ b (beside, does, list, goes). (
@@ -75,7 +75,7 @@ module _ (shape : Dimensions) (version : ℕ) (wanted : Wanted) (m : Making) (a 
     has_put : (new : Making) → says ≡ put.Done → StepsBy shape.size version a words new_words (MakingGives shape wanted new Done a)
     has_put new done = goes_with puts (λ b (beside, does, list, goes). (beside, does, rests_at b y.reference wanted.made y.stage (sym step.answers ∙ done) goes))
 
-  -- whatever the publish says
+  -- for each result of a step of the publish
   pub publishes_so : (y : PublishingOf) (new_words : List ℕ) (says : PubStep) (result : MakingStep) → publish.IsStep x words y new_words says
       → (says ≡ put.More → is_some (publish.next_event y) ≡ true) → IsReach shape.size y → IsPublished says result
       → StepsBy shape.size version a words new_words (MakingGives shape wanted (record { stage = Publishing y }) result a)

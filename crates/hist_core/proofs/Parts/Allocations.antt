@@ -34,7 +34,7 @@ pub goes_with : {size version : ℕ} {a : Actor} {words new_words : List ℕ} {h
     → ((b : Actor) → holds b → then_holds b) → StepsBy size version a words new_words then_holds
 goes_with go weaker = goes_noting go (λ b its. ([], b, refl, weaker b its))
 
--- what was seen of the chain is the front of what is seen of it behind a next
+-- what was seen of the chain is the front of what is seen of it after a next
 longer : (more : Bool) (chain : List ℕ) (found : ℕ) → IsPrefix chain (if more then chain ++ found ∷ [] else chain)
 longer true chain found = (found ∷ [], refl)
 longer false chain found = ([], sym (append-nil chain))
@@ -44,7 +44,7 @@ extended_behind chain at found = longer ((slice_index (stops chain) (length chai
 
 -- ---- an allocation
 
--- what its events do hangs neither on the size of the segment nor on its version
+-- what its events do depends neither on the size of the segment nor on its version
 allocating_alike : (act : AllocatingEvent) (size version : ℕ) → operation 0 version (allocating_event act) ≡ operation size 1 (allocating_event act)
 allocating_alike load_flags size version = refl
 allocating_alike load_free size version = refl
@@ -115,7 +115,8 @@ publishes_on may version a made old new words new_words said its stands long ste
 
 -- ---- a walk
 
--- A walk that has given these records and finds the end of the list has given all that its actor has met, which it has seen to the end.
+-- A walk that has given these records and finds the end of the list has given all that its actor has visited, and its actor has seen the
+-- list to the end.
 abbrev pub EndsWith : List ℕ → WalkStep → Actor → Type 0
 EndsWith given End b = (given ≡ b.seen.chain) × SawEnd b.seen
 EndsWith given says b = ⊤
@@ -134,7 +135,7 @@ module _ (a : Actor) (given : List ℕ) (walks : Walks a given) (found : ℕ) (l
   abbrev gone : Actor
   gone = next a (walking_event (load_next (stands_behind given))) found
 
-  -- nothing stands behind what it has met
+  -- nothing comes after what it has visited
   same_chain : (found == 12) ≡ true → gone.seen.chain ≡ a.seen.chain
   same_chain is =
       ap (λ (b : Bool). if (slice_index (stops a.seen.chain) (length a.seen.chain) == stands_behind given) && not b then a.seen.chain ++ found ∷ [] else a.seen.chain) is
@@ -159,7 +160,7 @@ module _ (a : Actor) (given : List ℕ) (walks : Walks a given) (found : ℕ) (l
   ends_with false true is = tt
   ends_with false false is = tt
 
--- the next of the record where a walk stands
+-- the next of the record where a walk is
 pub walks_on : (version : ℕ) (a : Actor) (given words : List ℕ) → Walks a given → length words ≡ a.segment.shape.size
     → StepsBy a.segment.shape.size version a words words
     (λ b. FrameOfStep a b × (b.done ≡ a.done) × EndsWith given (said_of (length words) (word_at words (stands_behind given + 3))) b × (IsFree a → IsFree b)
@@ -179,7 +180,7 @@ walks_on version a given words walks long =
       subst (λ (n : ℕ). Walks (next a event found) (given_after given (said_of n found))) (sym long) (agrees.2 found learned),
     ))
 
--- whatever a walk says that stands behind these records
+-- for each result of a step of a walk that has given these records
 pub walks_saying : (shape : Dimensions) (version : ℕ) (a : Actor) (given words : List ℕ) (walk : ℕ) → a.segment.shape ≡ shape → length words ≡ shape.size
     → walk ≡ stands_behind given → IsFree a → IsPrefix given a.seen.chain → (said : WalkStep) → said ≡ said_of (length words) (word_at words (walk + 3))
     → StepsBy shape.size version a words words (λ b. FrameOfStep a b × (b.done ≡ a.done) × EndsWith given said b × IsFree b × IsPrefix (given_after given said) b.seen.chain)

@@ -1,4 +1,4 @@
--- An event of a part of a call: what it is in the words, and what of its actor it leaves as it was.
+-- An event of a part of a call: what it is in the words, and what of its actor it leaves unchanged.
 use Rattle.segment_invariant.proofs.Prelude.Std.{◌≡◌, ◌==◌, ℕ, Bool, true, false, List, [], ◌++◌, refl, sym, ap, ◌∙◌, slice_set, append-nil}
 use Rattle.segment_invariant.proofs.Prelude.Machine.{word_at, Actor, Sighting, Event, Learned, Ready, spot, next, allocating_event, publishing_event, load_flags, load_free, exchange_free, store_size, store_cookie, store_type, store_payload, set_corrupt, set_full, store_own_next, load_tail, link, move_tail, after_link, IsPrefix}
 use Rattle.alloc_core.specs.Event as atomic
@@ -19,7 +19,7 @@ module _ (size version : ℕ) (event : Event) (does : atomic.Access) (acts : ope
   pub makes_so : (words : List ℕ) → after size version event words ≡ atomic.after does words
   makes_so words i = slice_set words (spot_of (acts i)) (change_of (changes i) (word_at words (spot_of (acts i))))
 
--- an actor goes on by an event that it may do, and notes nothing
+-- an actor performs an event for which it is ready, and notes nothing
 pub by_event : {size version : ℕ} {a : Actor} {words new_words : List ℕ} {holds : Actor → Type 0} (event : Event) → Ready a event → new_words ≡ after size version event words
     → (Learned a event (word_at words (spot size event)) → AreOwnBlocksApart (next a event (word_at words (spot size event)))
     → WalksInOrder (next a event (word_at words (spot size event))) → holds (next a event (word_at words (spot size event))))
@@ -62,7 +62,7 @@ pub seen_alike : (a b : Actor) → b.role ≡ a.role → b.segment ≡ a.segment
 seen_alike a b role segment units entries deltas names chain words =
     seen_words a b [] role segment units entries deltas names chain (words ∙ sym (append-nil a.seen.words))
 
--- it stands as it stood
+-- it is unchanged
 pub alike : (a : Actor) → FrameOfStep a a
 alike a = seen_alike a a refl refl refl refl refl refl refl refl
 

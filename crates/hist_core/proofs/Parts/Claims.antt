@@ -79,7 +79,7 @@ notes_append : (a b c : Actor) (first second : List Note) → Notes a first b �
 notes_append a b c [] second is goes = subst (λ (x : Actor). Notes x second c) (sym is) goes
 notes_append a b c (note ∷ first) second (may, rest) goes = (may, notes_append (noted a note) b c first second rest goes)
 
--- an actor goes on, and notes what it knows then
+-- an actor performs an event, and notes what it knows then
 pub goes_noting : {size version : ℕ} {a : Actor} {words new_words : List ℕ} {holds then_holds : Actor → Type 0} → StepsBy size version a words new_words holds
     → ((b : Actor) → holds b → (notes : List Note) × (c : Actor) × Notes b notes c × then_holds c) → StepsBy size version a words new_words then_holds
 goes_noting go then_notes = record {
@@ -94,7 +94,7 @@ goes_noting go then_notes = record {
       (did.0 ++ more.0, more.1, notes_append _ did.1 more.1 did.0 more.0 did.2 more.2, more.3);
 }
 
--- where an allocation has ended, its actor rests
+-- when an allocation has ended, its actor rests
 pub rests_at : (b : Actor) (y : Allocation) (stage : AllocStage) → answer stage ≢ said.More → StandsAtAllocStage b y stage → b.hand.place ≡ Idle
 rests_at b y (Claimed at size) ends stands = stands.0
 rests_at b y Full ends stands = stands.0

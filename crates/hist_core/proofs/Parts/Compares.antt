@@ -1,4 +1,4 @@
--- A `hist` loads one more word of the record where its walk stands, and compares it with its own.
+-- A `hist` loads one more word of the record where its walk is, and compares it with its own.
 use Rattle.segment_invariant.proofs.Prelude.Std.{◌≡◌, ◌≢◌, ◌⊎◌, ℕ, ◌+◌, ◌-◌, ◌<◌, ◌≤◌, ◌^◌, false, List, [], ◌∷◌, ◌++◌, length, inl, inr, refl, sym, ap, subst, ◌∙◌, arith, Some, slice_index, Contains, All-push, Contains-append_left, Contains-append_right, dite, ℕ_discrete, set-get_or}
 use Rattle.segment_invariant.proofs.Prelude.Machine.{Dimensions, word_at, name_words, spec_fields, spec_ranges, Actor, word_seen, sight, Event, next, walking_event, load_published, Refusal}
 use Rattle.segment_machine.specs.Made.{SawOtherName}
@@ -141,7 +141,7 @@ module _ (shape : Dimensions) (h : Hist) (a : Actor) (is : IsHist shape h a) (k 
   letters_are : name_words (length h.asked.name.items) ≡ h.letters
   letters_are = letters_long h.asked.name.items is.asking.letters is.asking.spells ∙ sym is.asking.count
 
-  -- so the record reaches as far as that word says
+  -- so the record reaches as far as that word shows
   module _ (ends : EndsWithin a h.reference (compared_index h.letters k) (compared_word h k)) where
     within_size : (n : ℕ) → n ≤ a.segment.shape.size → n ≤ shape.size
     within_size n = subst (λ (d : Dimensions). n ≤ d.size) is.segment
@@ -265,7 +265,7 @@ module _ (shape : Dimensions) (h : Hist) (a : Actor) (is : IsHist shape h a) (k 
               (is.asking.letters, is.asking.spells, saw_spec shape h is.asking acted.seen (k + 1) then_same all),
             )
 
-        -- the last comparison is behind that of the type
+        -- the last comparison is after that of the type
         there : h.reference + 15 ≤ shape.size
         there = let some = some_to_compare_is shape h is.asking in let long = payload_long shape h is.asking in stands.2.fixed (omega (arith, some, all, long))
     matches_so new (Refused why) same matched = absurd matched

@@ -1,4 +1,4 @@
--- The words of a record that a `hist` compares, and what each of them tells.
+-- The words of a record that a `hist` compares, and what each of them shows.
 use Rattle.segment_invariant.proofs.Prelude.Std.{◌≡◌, ◌≢◌, ◌⊎◌, ℕ, ◌+◌, ◌-◌, ◌<◌, ◌≤◌, ◌==◌, Bool, true, false, List, [], ◌∷◌, ◌++◌, length, inl, inr, refl, sym, ap, ◌∙◌, arith, length-append, eqb-true, ne_eqb, ◌^◌, if◌then◌else◌, slice_index, nat_lt, w64, eqb-false, lt-ltb, le-ltb, ltb-true, ltb-false, get_or_append_left}
 use Rattle.segment_invariant.proofs.Prelude.Machine.{Dimensions, Spec, Linear, Boolean, Custom, Sparse, spec_fields, spec_ranges}
 use Rattle.std.specs.Int.{from_le_bytes}
@@ -16,7 +16,7 @@ pub words_apart : (x y : ℕ) → x < 2 ^ 64 → y < 2 ^ 64 → x ≢ y → byte
 words_apart x y low below apart same =
     apart (sym (from_le_bytes-to_le_bytes_8 x low) ∙ (ap (from_le_bytes w64) same ∙ from_le_bytes-to_le_bytes_8 y below))
 
--- ---- where they stand
+-- ---- where they are
 
 first_of : {A : Type 0} (b : Bool) (x y : A) → b ≡ true → (if b then x else y) ≡ x
 first_of true x y is = refl
@@ -56,7 +56,7 @@ fields_long Boolean = refl
 fields_long (Custom values) = refl
 fields_long Sparse = refl
 
--- it has ranges behind its name where it is a custom one, whose last field is one more than these
+-- it has ranges after its name if it is a custom one, whose last field is one more than their number
 pub ranges_if_custom : (s : Spec) → (length (spec_ranges s) ≡ 0)
     ⊎ ((slice_index (spec_fields s) 0 ≡ 3) × (length (spec_ranges s) ≡ slice_index (spec_fields s) 3 - 1))
 ranges_if_custom (Linear low high n) = inl refl
@@ -80,7 +80,7 @@ module _ (shape : Dimensions) (h : Hist) (asking : IsAsking shape h) where
   abbrev kept : List ℕ
   kept = h.payload.items
 
-  -- so many words it has
+  -- how many words it has
   pub payload_long : length kept ≡ 11 + (h.letters + length ranges)
   payload_long =
       let whole = ap length asking.payload in

@@ -1,4 +1,4 @@
--- What an event does to the segment for all to see.
+-- What an event does to the segment that others can see.
 use Rattle.segment_invariant.proofs.Prelude.Std.{◌≡◌, ℕ, ◌==◌, Bool, true, false, List, [], ◌∷◌, ◌++◌, refl, sym, ap, subst, ◌∙◌, Option, Some, if◌then◌else◌, bit_and, ◌||◌, ◌-◌, append-nil, All-nil, All-cons, All-weaker}
 use Rattle.segment_invariant.proofs.Prelude.Machine.{Actor, Made, Own, Published, load_flags, load_free, exchange_free, store_size, store_cookie, store_type, store_payload, set_full, next, allocating_event, publishing_event, store_own_next, load_tail, link, move_tail, after_link}
 use Rattle.alloc_core.specs.declared.alloc.AllocStep.{AllocStep}
@@ -41,7 +41,7 @@ does_less corrupt full may more a b weaker does = record {
       (list, is, All-weaker (λ (r : Rise). may (raises r.wanted)) (λ (r : Rise). more (raises r.wanted)) (λ r lawful. weaker (raises r.wanted) lawful) list all);
 }
 
--- so it is where its actors have noted something more
+-- the same holds if its actors have noted something more
 pub does_still : (corrupt full : Bool) (may : SharedEffect → Type 0) (a b c d : Actor) → b.done ≡ a.done → d.done ≡ c.done → DoesOnly corrupt full may b c
     → DoesOnly corrupt full may a d
 does_still corrupt full may a b c d first last does = record {
@@ -107,7 +107,7 @@ module _ (may : SharedEffect → Type 0) (a : Actor) where
     stores_cookie at size cookie purpose.Claim = sets_none (store_cookie at cookie) found refl refl refl refl
     stores_cookie at size cookie purpose.Waste = sets_none (store_cookie at cookie) found refl refl refl refl
 
-    -- whatever it is, it sets the full flag where the allocation has ended for that
+    -- whatever it is, it sets the full flag if the allocation has ended for that
     pub stage_does : (stage : AllocStage) (act : AllocatingEvent) → allocates x stage ≡ Some act
         → DoesOnly false (is_full_end (answer (stage_after x found stage))) may a (next a (allocating_event act) found)
     stage_does LoadFlags act is =

@@ -1,4 +1,4 @@
--- What the words of a record that a `hist` compared tell: that it has the name and the spec, or another name, or another spec.
+-- What the words of a record that a `hist` compared show: that it has the name and the spec, or another name, or another spec.
 use Rattle.segment_invariant.proofs.Prelude.Std.{◌≡◌, ◌≢◌, ℕ, ◌+◌, ◌<◌, ◌≤◌, ◌^◌, List, [], ◌∷◌, ◌++◌, length, inl, inr, refl, sym, ap, subst, ◌∙◌, arith, append_assoc, Some, slice_index, All}
 use Rattle.segment_invariant.proofs.Prelude.Machine.{Dimensions, spec_fields, spec_ranges, IsPrefix, Seen, word_seen}
 use Rattle.segment_machine.specs.Made.{IsFirstNamed, SawName, SawOtherName, SawSpec, SawOtherSpec}
@@ -6,7 +6,7 @@ use Rattle.hist_core.specs.declared.hist.Hist.{Hist}
 use Rattle.hist_core.specs.Hist.{IsAsking, AreSame, compared_index, compared_word, comparisons}
 use Rattle.hist_core.proofs.Parts.Comparisons.{Part, part_of, then_length, letter_word, field_word, range_word, compared_all, words_apart}
 
--- ---- what the words that were the same tell
+-- ---- what the words that were the same show
 
 module _ (shape : Dimensions) (h : Hist) (asking : IsAsking shape h) (seen : Seen) (n : ℕ) (same : AreSame seen h n) where
   -- a word that was the same, by its place in the record
@@ -45,7 +45,7 @@ module _ (shape : Dimensions) (h : Hist) (asking : IsAsking shape h) (seen : See
         ∙ saw_word (i + (h.letters + 6)) (omega (arith, all, many, below)) (15 + (h.letters + i)) (slice_index (spec_ranges h.asked.spec) i) is.0 is.1,
   )
 
-  -- it is the first of the name, where none before it has it
+  -- it is the first of the name, if none before it has the name
   pub first_named : (front given : List ℕ) → given ≡ front ++ h.reference ∷ [] → IsPrefix given seen.chain → All (SawOtherName seen h.asked.name.items) front
       → h.letters + 2 ≤ n → IsFirstNamed seen h.asked.name.items h.reference
   first_named front given is (rest, chain) others enough = (
@@ -56,7 +56,7 @@ module _ (shape : Dimensions) (h : Hist) (asking : IsAsking shape h) (seen : See
     saw_name enough,
   )
 
--- a word that is another tells that the record has another name, or that its spec is another
+-- a word that differs shows that the record has another name or another spec
 module _ (shape : Dimensions) (h : Hist) (asking : IsAsking shape h) (seen : Seen) (k found : ℕ) (inside : k < comparisons h)
     (saw : word_seen seen.words (h.reference + compared_index h.letters k) ≡ Some found) (other : found ≢ compared_word h k) where
   -- the word, by its place in the record

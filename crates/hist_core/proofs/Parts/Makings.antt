@@ -22,7 +22,7 @@ module _ (shape : Dimensions) (version : ℕ) (h : Hist) (a : Actor) (words : Li
   pub stood_making : StandsAtStage shape h a is.given (Making m)
   stood_making = subst (StandsAtStage shape h a is.given) makes is.stands
 
-  -- it goes on from another stage
+  -- it continues at another stage
   on : (stage : HistStage) (b : Actor) → FrameOfStep a b → StandsAtStage shape (record h { stage = stage }) b is.given stage → IsHist shape (record h { stage = stage }) b
   on stage b beside stands = record {
     asking = asks_on shape h is.asking h.reference h.walk stage;
@@ -35,7 +35,7 @@ module _ (shape : Dimensions) (version : ℕ) (h : Hist) (a : Actor) (words : Li
     stands = stands;
   }
 
-  -- it has seen the end of the list still
+  -- it has still seen the end of the list
   seen_still : (b : Actor) → b.seen.chain ≡ a.seen.chain → b.seen.ends ≡ a.seen.ends → SawEnd b.seen
   seen_still b chain ends = subst (λ (p : List ℕ × List ℕ). Contains p.0 (stands_behind p.1 + 3)) (λ i. (sym ends i, sym chain i)) stood_making.1
 
@@ -50,7 +50,7 @@ module _ (shape : Dimensions) (version : ℕ) (h : Hist) (a : Actor) (words : Li
         (is.asking.letters, is.asking.spells, it ∙ ap (λ (l : List ℕ). 4 + length l) is.asking.payload),
       )
 
-  -- whatever the step of the making says
+  -- for each result of a step of the making
   pub makes_so : (x : MakingOf) (new_words : List ℕ) (says : MakingStep) (new : Hist) (result : HistStep)
       → StepsBy shape.size version a words new_words (MakingGives shape (wanted_of h) x says a) → IsMade (record h { stage = Making x }) says new result
       → StepsBy shape.size version a words new_words (HistGives shape new result a)

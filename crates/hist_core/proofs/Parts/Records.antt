@@ -1,4 +1,4 @@
--- The record that a `hist` makes where there is none of its name.
+-- The record that a `hist` makes if there is none of its name.
 use Rattle.segment_invariant.proofs.Prelude.Std.{◌≡◌, ◌≢◌, ℕ, zero, suc, ◌+◌, ◌-◌, ◌*◌, ◌<◌, ◌≤◌, List, [], ◌∷◌, ◌++◌, length, replicate, sym, ap, subst, ◌∙◌, arith, append_assoc, length-append, slice_index, append-nil, length_push}
 use Rattle.segment_invariant.proofs.Prelude.Machine.{Dimensions, Spec, buckets_of, spec_fields, Actor}
 use Rattle.std.proofs.lemmas.List.{get_or_push, replicate-append-replicate}
@@ -14,7 +14,7 @@ kind_is spec.Boolean rest is = cc is
 kind_is (spec.Custom values) rest is = cc is
 kind_is spec.Sparse rest is = cc is
 
--- where zeros alone are left out of words of which the last is not 0, nothing is
+-- if only zeros are left out at the end of words of which the last is not 0, nothing is left out
 nothing_out : (all front : List ℕ) (k : ℕ) → front ++ replicate k 0 ≡ all → slice_index all (length all - 1) ≢ 0 → front ≡ all
 nothing_out all front zero is last = sym (append-nil front) ∙ is
 nothing_out all front (suc k) is last =

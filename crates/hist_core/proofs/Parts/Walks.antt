@@ -50,7 +50,7 @@ reference_within n r wide is = by (r == 12) refl is
     by false e within = leb-true (r + 5) n (second_of (nat_le 16 r) (nat_le (r + 5) n) within)
 
 module _ (shape : Dimensions) (h : Hist) (asking : IsAsking shape h) where
-  -- it asks for the same, wherever its walk stands
+  -- it asks for the same, wherever its walk is
   pub asks_on : (reference walk : ℕ) (stage : HistStage) → IsAsking shape (record h { reference = reference; walk = walk; stage = stage })
   asks_on reference walk stage = record {
     shaped = asking.shaped;
@@ -80,7 +80,7 @@ module _ (shape : Dimensions) (version : ℕ) (h : Hist) (a : Actor) (words : Li
   loads : (said : WalkStep) → said ≡ said_of (length words) (word_at words (h.walk + 3)) → StepsBy shape.size version a words words (Walked said)
   loads = walks_saying shape version a is.given words h.walk is.segment long is.walk stands.0 is.front
 
-  -- it met a record, which it compares next
+  -- it found a record, which it compares next
   pub meets : (reference walk : ℕ) → Record reference ≡ said_of (length words) (word_at words (h.walk + 3))
       → walk ≡ stands_behind (is.given ++ reference ∷ []) → is_reference (length words) walk ≡ true → walk ≡ reference
       → StepsBy shape.size version a words words (HistGives shape (record h { reference = reference; walk = walk; stage = Comparing 0 }) More a)
@@ -112,7 +112,7 @@ module _ (shape : Dimensions) (version : ℕ) (h : Hist) (a : Actor) (words : Li
         },
       ))
 
-  -- a word that no list has: it stands where it stood
+  -- a word that no list has: it is where it was
   pub strays : (walk : ℕ) → Stray ≡ said_of (length words) (word_at words (h.walk + 3)) → walk ≡ h.walk
       → StepsBy shape.size version a words words (HistGives shape (record h { walk = walk }) More a)
   strays walk says here =

@@ -26,7 +26,7 @@ use Rattle.hist_core.proofs.DeltaCall.Going.{taking_sees}
 use Rattle.hist_core.proofs.Walks.Passing.{all_still, are_all, are_first, are_once, are_units}
 use Rattle.hist_core.proofs.DeltaCall.Singles.{none_packed}
 
--- it looks at the same histogram, with a total beside each key
+-- it looks at the same histogram, with a total for each key
 record IsSame (old new : SnapshotCall) : Type 0 where
   pub version : new.version ≡ old.version
   pub histogram : new.histogram ≡ old.histogram
@@ -45,7 +45,7 @@ record SawTotalsIn (a : Actor) (known : Known) (answered : Answered) : Type 0 wh
   pub values : known.spec ≡ Sparse → (value : ℤ) (sample : ℕ) → Contains a.seen.chain sample → SawSample a.seen known.reference value sample
       → (count : ℕ) × SawCount a (sample + 6) count × ((count ≡ 0) ⊎ Contains (map (λ count. count.0) answered.counts) value)
 
--- so it has its keys still
+-- so it still has its keys
 keys_still : (known : Known) (old new : SnapshotCall) → IsSame old new → HasKeys known old → HasKeys known new
 keys_still known old new same has = record { bucketed = has.bucketed; keys = same.keys ∙ has.keys; buckets = same.long ∙ has.buckets }
 
@@ -63,7 +63,7 @@ module _ (shape : Dimensions) (known : Known) (snapshot_call : SnapshotCall) (a 
   split : HasKeys known snapshot_call → SplitsValues (buckets_of known.spec) (boundaries_of known.spec)
   split has = boundaries_of-split known.spec is.lawful (λ sparse. true≢false (sym has.bucketed ∙ ap has_buckets sparse))
 
-  -- it goes on from another stage, and may have seen more
+  -- it continues at another stage, and may have seen more
   pub goes_still : (new : SnapshotCall) (b : Actor) → new.version ≡ snapshot_call.version → new.histogram ≡ snapshot_call.histogram → FrameOfStep a b → MayTurn b
       → StandsAtStage shape known new b new.stage → IsSnapshotCall shape known new b
   goes_still new b versioned of beside turns stands = record {
@@ -329,7 +329,7 @@ module _ (shape : Dimensions) (known : Known) (snapshot_call : SnapshotCall) (a 
           ),
         ))
 
-  -- ---- the redundant count is loaded, and the snapshot is answered
+  -- ---- the redundant count is loaded, and the snapshot returns
   module _ (sum : ℤ) (loads : snapshot_call.stage ≡ LoadingRedundant sum) (redundant : ℕ) (is_redundant : redundant ≡ word_at words (snapshot_call.histogram + 13)) where
     before_last : StandsAtStage shape known snapshot_call a (LoadingRedundant sum)
     before_last = subst (StandsAtStage shape known snapshot_call a) loads is.stands
@@ -433,7 +433,7 @@ module _ (shape : Dimensions) (known : Known) (snapshot_call : SnapshotCall) (a 
       );
     }
 
--- the record of a snapshot that stands somewhere lies in so many words, which are few
+-- the record of a snapshot that some actor runs lies within the words, which are at most 2^20
 pub lies_within : (snapshot_call : SnapshotCall) (words : List ℕ) → ∥ IsSomeSnapshotCall (length words) snapshot_call ∥₁ → LiesWithin (length words) snapshot_call.histogram
 lies_within snapshot_call words stands = ∥∥₁_elim stands (hlevel props) (λ (shape, known, a, long, is).
     let inside = is_inside shape known snapshot_call a words is (length words) long in record { within = inside.0; few = inside.1 })

@@ -31,7 +31,7 @@ use Rattle.hist_core.proofs.Worlds.Quiet.{not_spent}
 use Rattle.hist_core.proofs.Walks.Passing.{listed_still, seen_still, total_still, values_still, way_still}
 use Rattle.hist_core.proofs.SnapshotCall.Snapshots.{goes_still, is_inside}
 
--- where it stands that has loaded the count of a sample
+-- where an actor is that has loaded the count of a sample
 at_sample : (p : Place) (at found : ℕ) → is_looking p ≡ false → (is_looking (at_count p at found) ≡ false) × (is_bound (at_count p at found) ≡ false)
 at_sample (place.Looking look) at found apart = absurd (cc apart)
 at_sample (place.CountLoaded look bucket count) at found apart = absurd (cc apart)
@@ -48,7 +48,7 @@ lists_along known snapshot_call = record {
 module _ (shape : Dimensions) (known : Known) (snapshot_call : SnapshotCall) (a : Actor) (words : List ℕ) (is : IsSnapshotCall shape known snapshot_call a) where
   -- ---- a walk
 
-  -- what its walk met leads it on
+  -- it continues from what its walk found
   stands_behind : (met : Met) (new : SnapshotCall) (b : Actor) → HasRoomForValues shape snapshot_call → IsBehindWalk snapshot_call met new → HasComeTo shape known (ListsSeen known snapshot_call) met b
       → (new.version ≡ snapshot_call.version) × (new.histogram ≡ snapshot_call.histogram) × StandsAtStage shape known new b new.stage
   stands_behind (Nothing walk) new b room is_new (set_out, stands) = (
@@ -74,7 +74,7 @@ module _ (shape : Dimensions) (known : Known) (snapshot_call : SnapshotCall) (a 
   )
 
   module _ (met : Met) (new : SnapshotCall) (behind : IsBehindWalk snapshot_call met new) where
-    -- behind its first event
+    -- after its first event
     further : (walk : SampleWalk) → ((b : Actor) → b.since ≡ a.since → LooksAnew (Walking walk) a b) → StandsAtStage shape known snapshot_call a (Walking walk) → HasSetOut walk → Meets walk known.reference (word_at words (spot_of known.reference walk)) met
         → StepsBy shape.size snapshot_call.version a words words (SnapshotCallGives shape known (Walking walk) new More a)
     further walk anew stands set_out meets =
@@ -156,7 +156,7 @@ module _ (shape : Dimensions) (known : Known) (snapshot_call : SnapshotCall) (a 
     abbrev longer : Option (ℤ × ℕ) → List (ℤ × ℕ)
     longer one = snapshot_call.totals.items ++ listed_of one
 
-    -- what it listed before, where it lists this beside
+    -- what it listed before is still listed, now that it lists this too
     lists_before : (one : Option (ℤ × ℕ)) → ListsValues (HasListed (longer one) counted) (HasTotal counted) known.reference its_passed snapshot_call.totals.items counted.seen
     lists_before one = lists_still a.seen counted.seen counted_sees.words known.reference (HasListed snapshot_call.totals.items a) (HasListed (longer one) counted)
         (listed_still known a counted counted_sees its_passed at its_way snapshot_call.totals.items (listed_of one)) (HasTotal a) (HasTotal counted)

@@ -1,4 +1,4 @@
--- A `snapshot` of an actor goes on, and what it is answered with.
+-- A `snapshot` of an actor continues, and what it returns.
 use Rattle.segment_invariant.proofs.Prelude.Std.{◌≡◌, ◌≤◌, ◌+◌, inl, inr, ℕ, ℤ, List, [], length, map, take, All, refl, sym, ap, subst, ◌∙◌, Option, Some, None, Contains, range_with_len, some, get_elem?}
 use Rattle.segment_invariant.proofs.Prelude.Machine.{Dimensions, Actor, IsShape, boundaries_of, buckets_of, State, bucket_key, known_at}
 use Rattle.segment_machine.specs.declared.actor.Known.{Known as MachineKnown}
@@ -109,7 +109,7 @@ module _ (shape : Dimensions) (version : ℕ) (old : ActorRun) (a : Actor) (run 
   looks_since : (b : Actor) → LooksAnew snapshot_call.stage a b → LooksSince old.running a b
   looks_since b anew = subst (λ running. LooksSince running a b) (sym is) anew
 
-  -- what the machine's actor does, and what becomes of that at run time
+  -- what the machine's actor does, and what that is at run time
   pub snapshot_goes : (said : SnapshotCallStep) (new : ActorRun) (result : Stepped) → SnapshotCallSteps snapshot_call words now new_words said
       → IsSnapshotAnnounced (record old { running = Some (Snapshot now) }) said new result → Advances shape version old words new new_words result a
   snapshot_goes More new result steps (new_is, result_is) =
@@ -129,7 +129,7 @@ module _ (shape : Dimensions) (version : ℕ) (old : ActorRun) (a : Actor) (run 
         does_nothing (Serves old.running a) a b done,
       )))
 
--- ---- what is answered
+-- ---- what is returned
 
 module _ (old : ActorRun) (snapshot_call now : SnapshotCall) (is : old.running ≡ Some (Snapshot snapshot_call)) (same : now.histogram ≡ snapshot_call.histogram) (words new_words : List ℕ)
     (all : length old.entries.items ≡ old.ended) (unbegun : old.begun ≡ old.ended) where
@@ -158,7 +158,7 @@ module _ (old : ActorRun) (snapshot_call now : SnapshotCall) (is : old.running �
 
 -- ---- it begins
 
--- who rests begins it, which is no event
+-- an actor that rests begins it, which is not an event
 module _ (shape : Dimensions) (version : ℕ) (known : KnownHist) (old new : ActorRun) (starts : BeginsSnapshot shape version known old new) (i : ℕ)
     (at : get_elem? old.known.items i ≡ some known) (rests : old.running ≡ None) where
   module _ (a : Actor) (run : IsActorRunOf shape version old a) (lawful : IsShape shape) (alone : known_at a.answers.names known.reference ≡ Some (known_of known)) where
@@ -181,7 +181,7 @@ module _ (shape : Dimensions) (version : ℕ) (known : KnownHist) (old new : Act
     knows : Contains a.answers.names (known_of known)
     knows = subst (λ (l : List MachineKnown). Contains l (known_of known)) run.names (contains_map known_of old.known.items known (contains_at old.known.items i known at))
 
-    -- of a histogram with buckets it stands before the single word, of a sparse one at the record
+    -- of a histogram with buckets it is before the single word, of a sparse one at the record
     stands_first : (stage : SnapshotStage) → OpensWith shape (known_of known) snapshot_call stage → StandsAtStage shape (known_of known) snapshot_call a stage
     stands_first stage (inl (is, has, blank)) = subst (StandsAtStage shape (known_of known) snapshot_call a) (sym is)
         (let keys : HasBlanks snapshot_call.totals.items = subst HasBlanks (sym blank) (keys_of_buckets (known_of known) (boundaries_of known.spec) its_known.lawful has refl) in (
@@ -217,7 +217,7 @@ module _ (shape : Dimensions) (version : ℕ) (known : KnownHist) (old new : Act
     begins_with = subst (λ (r : ActorRun). IsActorRunOf shape version r a) (sym starts.2)
         (runs_on shape version old a run a (Some (Snapshot snapshot_call)) (alike a) (stood.1, (known_of known, begins_looking)) tt tt)
 
--- on a world_state
+-- on a `WorldState`
 module _ (old new : WorldState) (actor : ℕ) (name : List ℕ) (place : ℕ) (r now : ActorRun) (its : IsPlaced old actor name place r) (turned : IsTurned old new actor now)
     (pooled : new.units ≡ old.units) where
   abbrev it : KnownHist

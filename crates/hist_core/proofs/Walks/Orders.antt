@@ -1,4 +1,5 @@
--- In a state that is reached nothing that an actor met stands out of order: no block twice, and each sample behind the record of its histogram.
+-- In a state that is reached nothing that an actor visited is out of order: no block is there twice, and each sample comes after the record
+-- of its histogram.
 use Rattle.segment_invariant.proofs.Prelude.Std.{◌≡◌, ℕ, some, get_elem?}
 use Rattle.segment_invariant.proofs.Prelude.Machine.{Dimensions, Actor, State}
 use Rattle.segment_invariant.proofs.Prelude.Invariant.{Anatomy, Invariant}

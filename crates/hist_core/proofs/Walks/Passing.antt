@@ -1,5 +1,5 @@
--- What an actor saw of the samples that it passed behind the record of a sparse histogram it has still seen when it has seen more; and what it
--- lists of all of them is what a snapshot is.
+-- What an actor saw of the samples that it passed after the record of a sparse histogram it has still seen when it has seen more; and what
+-- it lists of all of them is the snapshot.
 use Rattle.segment_invariant.proofs.Prelude.Std.{◌≡◌, ◌⊎◌, ℕ, ◌+◌, ◌*◌, ◌≤◌, ℤ, false, map, List, ◌∷◌, ◌++◌, length, inl, inr, ⊎_elim, sym, ap, subst, ◌∙◌, Some, cast_signed, cast_unsigned, w64, All, Contains, Contains-append_left, map-append, Contains-permutation, some, get_elem?}
 use Rattle.segment_invariant.proofs.Prelude.Machine.{Actor, Known, Seen, SawCount, IsFirstSample, SawSample}
 use Rattle.std.proofs.lemmas.List.Sorted.{All-permutation, IsPermutation-map}
@@ -17,7 +17,7 @@ use Rattle.hist_core.specs.Walk.{IsSampleWalkProgress}
 
 -- ---- it has seen more
 
--- where it has walked no further it stands where it stood
+-- if it has walked no further, it is where it was
 pub comes_still : (histogram : ℕ) (passed : List ℕ) (at : ℕ) (a b : Actor) → b.segment ≡ a.segment → b.seen.chain ≡ a.seen.chain
     → ComesTo histogram passed at a → ComesTo histogram passed at b
 comes_still histogram passed at a b segment chain comes = record {
@@ -95,11 +95,11 @@ module _ (known : Known) (totals : List (ℤ × ℕ)) (a : Actor) (order : IsInO
       let (sample, first, (saw, least)) = all.lists.firsts k d low in
       (sample, (all.way.comes.front, all.passed, whole, first), saw))
 
-  -- no value stands twice
+  -- no value is listed twice
   pub are_once : (i j : ℕ) (x y : ℤ × ℕ) → get_elem? totals i ≡ some x → get_elem? totals j ≡ some y → x.0 ≡ y.0 → i ≡ j
   are_once i j x y here there same = one_place totals (once_still all.listed totals all.sorted.moved all.lists.once) i j x y here there same
 
-  -- each sample that it met has no units, or its value is listed
+  -- each sample that it visited has no units, or its value is listed
   pub are_all : (value : ℤ) (sample : ℕ) → Contains a.seen.chain sample → SawSample a.seen known.reference value sample
       → (count : ℕ) × SawCount a (sample + 6) count × ((count ≡ 0) ⊎ Contains (map (λ (c : ℤ × ℕ). c.0) totals) value)
   are_all value sample met saw =

@@ -20,7 +20,7 @@ use Rattle.hist_core.specs.StepsBy.{FrameOfStep, StepsBy}
 use Rattle.hist_core.specs.Walk.{HasComeTo, HasSetOut, IsBehindValue, IsSampleWalkProgress, MayWalk, Meets, MetRecord, OfPassed, PassedRecord, WalksAt, behind_next, behind_type, spot_of}
 use Rattle.hist_core.proofs.Walks.Passing.{way_still}
 
--- who has loaded a next stands at no single word and no counts where it stood at none
+-- an actor that has loaded a next is at no single word and no counts, if it was at none before
 behind_apart : (p : Place) (at found : ℕ) → is_looking p ≡ false → is_looking (behind p at found) ≡ false
 behind_apart = behind_is is_looking refl (λ cursor from next. refl)
 
@@ -51,7 +51,7 @@ pub record GoesAlong (known : Known) (holds : OfPassed) : Type 0 where
   pub others : (a : Actor) (passed : List ℕ) (at : ℕ) → ((value : ℤ) → is_i32 value ≡ true → SawOther a.seen known.reference value at) → holds passed a
       → holds (passed ++ at ∷ []) a
 
--- who has set out began to look before
+-- an actor that has set out began to look before
 pub began_before : (shape : Dimensions) (known : Known) (holds : OfPassed) (walk : SampleWalk) (a : Actor) → HasSetOut walk → WalksAt shape known holds walk a → BeganBefore a
 began_before shape known holds LoadingFirst a set_out stands = absurd set_out
 began_before shape known holds (LoadingType at) a set_out stands = stands.way.began
@@ -272,6 +272,6 @@ module _ (shape : Dimensions) (version : ℕ) (known : Known) (holds : OfPassed)
   spot_inside (LoadingValue at of) stands within = let low = stands.1.1 in omega (arith, low)
   spot_inside (LoadingNext at) stands within = let low = record_inside at stands.way.comes.within stands.record_there in omega (arith, low)
 
-  -- so many records were passed
+  -- how many records can have been passed
   pub few_passed : (at : ℕ) (it : MetRecord known holds at a) → 5 * (length it.passed + 1) + 16 ≤ shape.size
   few_passed at it = subst (λ (d : Dimensions). 5 * (length it.passed + 1) + 16 ≤ d.size) here (passed_few a known.reference it.passed at it.way.comes it.record_there)

@@ -1,4 +1,4 @@
--- How the running call of an actor goes on, by what its next event is.
+-- How the running call of an actor continues, by what its next event is.
 use Rattle.segment_invariant.proofs.Prelude.Std.{◌≡◌, ◌≤◌, ℕ, List, [], refl, sym, subst, Some, None, append-nil, All-nil}
 use Rattle.segment_invariant.proofs.Prelude.Machine.{Dimensions, word_at, Actor, Published, allocating_event, next, set_corrupt}
 use Rattle.segment_image.specs.declared.layout.TheConstants.{HEADER_WORDS}
@@ -38,7 +38,7 @@ sets_corrupt shape version a old words new_words long run is stored =
       },
     ))
 
--- who rests begins it, which is no event
+-- an actor that rests begins it, which is not an event
 pub begins_set_corrupt : (shape : Dimensions) (version : ℕ) (r : ActorRun) (a : Actor) → r.running ≡ None → IsActorRunOf shape version r a
     → IsActorRunOf shape version (record r { running = Some SetCorrupt }) a
 begins_set_corrupt shape version r a rests run =

@@ -1,4 +1,4 @@
--- A call of a world begins: what has become of the actors, and what is said.
+-- A call of a world begins: how the actors have changed, and what the begin says.
 use Rattle.segment_invariant.proofs.Prelude.Std.{◌≡◌, ◌+◌, ℕ, Bool, false, List, ◌∷◌, ◌++◌, get_or, set, length, inl, ⊎_elim, refl, sym, ap, subst, ◌∙◌, vec_len, arith, length-append, Option, Some, None, Ok, nat_le, if◌then◌else◌, dite, some, none, some-injective, ℕ_discrete, get_elem?, set_else, set_here}
 use Rattle.segment_invariant.proofs.Prelude.Machine.{Spec, Dimensions, spec_fields, spec_ranges, first_fault, Actor, State}
 use Rattle.std.specs.Prelude.{Result, Err, IfErr, MatchOption}
@@ -51,7 +51,7 @@ may_be_asked shape name spec asked asks =
       λ large. ⊎_elim (λ more. omega (arith, more, whole, front, behind, four, named, page)) (λ more. omega (arith, more, fits)) large,
     )
 
--- what a `hist` of a known name is answered, it is answered at once
+-- what a `hist` of a known name returns, it returns at once
 at_once : (shape : Dimensions) (known : List KnownHist) (name : List ℕ) (spec : Spec) (answered : Answer) → MayBeAsked shape name spec → IsKnownAnswer known name spec answered
     → IsAnsweredAtOnce shape known name spec answered
 at_once shape known name spec (answer.Hist reference) may is = (is, may)
@@ -73,7 +73,7 @@ at_once shape known name spec (answer.BatchRefused refused) may is = absurd is
 
 -- ---- one actor becomes another
 
--- of the world nothing else has changed, but for the pool
+-- nothing else of the world has changed, except for the pool
 pub record IsTurned (old new : WorldState) (actor : ℕ) (now : ActorRun) : Type 0 where
   pub shape : new.shape ≡ old.shape
   pub version : new.version ≡ old.version
@@ -94,7 +94,7 @@ module _ (old new : WorldState) (actor : ℕ) (r now : ActorRun) (resting : IsRe
     others = λ other apart. ap (λ (l : List ActorRun). get_elem? l other) turned.actor_runs ∙ set_else old.actor_runs.items actor other now apart;
   }
 
-  -- it stands for the same actor of the machine as before
+  -- it still stands for the same actor of the machine
   pub same_state : new.units ≡ old.units → ((start : Start) (state : State) → IsReachedAs start old state → (a : Actor) → get_elem? state.actors (actor + 1) ≡ some a
       → IsActorRunOf old.shape old.version r a → IsActorRunOf old.shape old.version now a) → (start : Start) (state : State) → IsReachedAs start old state → BeginsFrom start state actor new
   same_state pooled same start state reach = (
@@ -157,7 +157,7 @@ placed old actor name place ready x read =
       named = ready.named;
     }
 
--- so that is lawful
+-- so that is valid
 pub knows_at : (old : WorldState) (actor : ℕ) (name : List ℕ) (place : ℕ) (r : ActorRun) → ∥ IsReachable old ∥₁ → IsPlaced old actor name place r → KnowsAt r place
 knows_at old actor name place r reached its = record {
   near = (let below = place_below r.known.items place its.known its.there in let long = r.known.ok.0 in omega (arith, below, long));
@@ -195,7 +195,7 @@ module _ (actor : ℕ) (name : maybe.Option (List ℕ)) (takes : Type 0) (says :
   })
 
   module _ (passes : first_fault (name_checks old actor name) ≡ None) (r : ActorRun) (resting : IsResting old actor r) where
-    -- it goes on
+    -- it runs
     pub begun : (new : WorldState) (said : Begun) → ((start : Start) (state : State) → IsReachedAs start old state → BeginsFrom start state actor new) → OthersStay actor old new
         → says said → BeginsCall actor name takes says old (Ok said) new
     begun new said begins others its = record {
@@ -207,7 +207,7 @@ module _ (actor : ℕ) (name : maybe.Option (List ℕ)) (takes : Type 0) (says :
       answer = its;
     }
 
-    -- it is answered at once
+    -- it returns at once
     pub answered : (said : Begun) → says said → BeginsCall actor name takes says old (Ok said) old
     answered said its = begun old said (λ start state reach. (state, inl refl, reach)) (record { shape = refl; version = refl; count = refl; others = λ other apart. refl }) its
 

@@ -20,7 +20,7 @@ use Rattle.hist_core.specs.Making.{IsCause}
 use Rattle.hist_core.specs.ActorRun.{IsRefusedBy, LacksBlock}
 use Rattle.hist_core.proofs.AddCall.Refusals.{cause_noted, needs_still}
 
--- who knows, and has done and seen the same, is refused for the same
+-- an actor that knows, has done and has seen the same is refused for the same
 module _ (cause : Refusal) (a b c : Actor) (names : c.answers.names ≡ b.answers.names) (done : c.done ≡ b.done) (seen : c.seen ≡ b.seen) where
   lacks_still : (histogram : ℕ) (sample : ℤ × ℕ) → LacksBlock histogram sample cause a b → LacksBlock histogram sample cause a c
   lacks_still histogram sample (known, knows, reference, is, needs) = (
@@ -95,7 +95,7 @@ flag_set start world_state state reach id b there living why.Corrupt is =
     subst (IsFlagSet why.Corrupt) reach.shows.words (corrupt_there world_state.shape start.opened state (kept_there start world_state state reach) id b there is)
 flag_set start world_state state reach id b there living _ is = tt
 
--- it is set where a call is refused for it
+-- it is set if a call is refused for it
 pub flagged : (start : Start) (world_state : WorldState) (state : State) → IsReachedAs start world_state state → (actor : ℕ) (a b : Actor)
     → get_elem? state.actors (actor + 1) ≡ some b → b.hand.place ≢ Spent → (running : Option Running) (cause : Refusal) → IsRefusedBy running cause a b
     → IsFlagSet cause world_state.words.items

@@ -1,4 +1,4 @@
--- The faults of a world's calls, and the calls that are going on.
+-- The faults of a world's calls, and the calls that are running.
 use Rattle.segment_invariant.proofs.Prelude.Std.{◌≡◌, ◌≤◌, arith, zero, suc, List, [], ◌∷◌, ◌||◌, Bool, true, false, true≢false, refl, sym, subst, ℕ, ap, ◌∙◌, Option, Some, None, not, nat_le, vec_len, Ok, if◌then◌else◌, some, none, some-injective, some-ne-none, get_elem?, bytes_eq, bytes_eq-Decides}
 use Rattle.segment_invariant.proofs.Prelude.Machine.{first_fault}
 use Rattle.std.specs.Prelude.{IsSome, is_some, MatchOption, Result, Err, IfErr, IsErr, IsOk, is_ok}
@@ -72,7 +72,7 @@ err_is (Ok x) e is same = absurd (true≢false (sym is))
 err_is (Err f) e is same = ap Err same
 
 module _ {A : Type 0} (first : Option WorldFault) (result : Result A WorldFault) where
-  -- it is told with the fault of the first check that holds
+  -- it returns the fault of the first check that holds
   pub tells_fault : (fault : WorldFault) → first ≡ Some fault → result ≡ Err fault → MatchOption first (IsOk result) (λ why. result ≡ Err why)
   tells_fault fault is told = subst (λ o. MatchOption o (IsOk result) (λ why. result ≡ Err why)) (sym is) told
 
@@ -80,7 +80,7 @@ module _ {A : Type 0} (first : Option WorldFault) (result : Result A WorldFault)
   pub tells_none : first ≡ None → IsOk result → MatchOption first (IsOk result) (λ why. result ≡ Err why)
   tells_none is fine = subst (λ o. MatchOption o (IsOk result) (λ why. result ≡ Err why)) (sym is) fine
 
--- the fault that it is told with is that of the first check that holds
+-- the fault that it returns is that of the first check that holds
 pub the_fault : {A : Type 0} (first : Option WorldFault) (result : Result A WorldFault) (fault : WorldFault) → result ≡ Err fault
     → MatchOption first (IsOk result) (λ why. result ≡ Err why) → first ≡ Some fault
 the_fault None result fault is fine = absurd (true≢false (sym fine ∙ ap is_ok is))
@@ -91,7 +91,7 @@ pub none_runs : (running : Option Running) → is_some running ≡ false → run
 none_runs (Some running) is = absurd (true≢false is)
 none_runs None is = refl
 
--- of the checks in any order of these, the first that holds is the first still with another behind them
+-- if one of two checks holds, the first that holds is still the first with another check after them
 pub first_still : (a b c : Bool) (fault : WorldFault) → (if a then Some NoActor else (if b then Some Busy else None)) ≡ Some fault
     → (if a then Some NoActor else (if b then Some Busy else (if c then Some Unknown else None))) ≡ Some fault
 first_still true b c fault is = is

@@ -1,4 +1,4 @@
--- Who stands where it may turn to any other call.
+-- Which actor may turn to any other call.
 use Rattle.segment_invariant.proofs.Prelude.Std.{◌≡◌, ℕ, ◌==◌, Bool, true, false, true≢false, refl, ◌||◌, if◌then◌else◌}
 use Rattle.segment_invariant.proofs.Prelude.Machine.{Place, is_bound}
 use Rattle.segment_machine.specs.declared.place.Place.TheVariants as place
@@ -20,6 +20,6 @@ free_apart p free = (neither (is_looking p) (has_pointer p) (neither (is_bound p
 pub free_holds_none : (p : Place) → is_tied p ≡ false → has_pointer p ≡ false
 free_holds_none p free = (neither (is_looking p) (has_pointer p) (neither (is_bound p) (is_looking p || has_pointer p) free).1).1
 
--- so does who has loaded a next there
+-- so may one that has loaded a next there
 pub free_behind : (p : Place) (from found : ℕ) → is_tied p ≡ false → is_tied (behind p from found) ≡ false
 free_behind = behind_is is_tied refl (λ cursor from next. refl)

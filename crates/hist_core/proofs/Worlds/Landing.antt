@@ -15,12 +15,12 @@ use Rattle.hist_core.proofs.Parts.Allocations.{goes_with}
 use Rattle.hist_core.proofs.Parts.Deeds.{does_less, does_still}
 use Rattle.hist_core.proofs.Worlds.Apart.{looks_not}
 
--- it goes on by one event, lands so, and has done what it says
+-- it performs one event, lands there, and has done what it says
 abbrev pub Landing : Dimensions → ℕ → ActorRun → List ℕ → ActorRun → List ℕ → Stepped → Actor → Type 0
 Landing shape version old words new new_words said a =
     StepsBy shape.size version a words new_words (λ b. Lands shape version old new said a b × DoesAsSaid old.running said a b)
 
--- what it has done is so still, whatever is noted before and behind
+-- this still holds of what it has done, whatever is noted before and after
 pub does_as_said : (running : Option Running) (said : Stepped) (may : SharedEffect → Type 0) (a b c d : Actor) → ((deed : SharedEffect) → may deed → Serves running a deed)
     → b.done ≡ a.done → d.done ≡ c.done → DoesOnly (is_flagged said) (lacks_room said) may b c → DoesAsSaid running said a d
 does_as_said running said may a b c d serves first last does =
@@ -40,7 +40,7 @@ pub lands_apart : (shape : Dimensions) (version : ℕ) (old : ActorRun) (words :
     → Landing shape version old words new new_words said a → Advances shape version old words new new_words said a
 lands_apart shape version old words new new_words said a none go = goes_with go (λ b (lands, does). (lands, looks_none old.running a b none, does))
 
--- since when it looks is as before where its actor is
+-- since when it looks is unchanged if its actor is
 anew_still : (stage : SnapshotStage) (a b c : Actor) → c.since ≡ b.since → LooksAnew stage a b → LooksAnew stage a c
 anew_still LoadingSingle a b c same looks = same ∙ looks
 anew_still (Walking LoadingFirst) a b c same looks = same ∙ looks

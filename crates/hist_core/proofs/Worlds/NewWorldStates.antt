@@ -20,7 +20,7 @@ use Rattle.hist_core.proofs.Worlds.Starts.{start_role}
 
 module _ (shape : Dimensions) (version : ℕ) (start : Start) (role : start.opener.role ≡ Opener 0 0 0) (idle : start.opener.hand.place ≡ Idle)
     (segment : start.opener.segment ≡ record { shape = shape; version = version; cursors = 0 }) where
-  -- the opener that has made so many, and the recorder that it makes next
+  -- the opener that has made this many recorders, and the recorder that it makes next
   abbrev opener : ℕ → Actor
   opener n = record start.opener { role = Opener n n 0 }
 
@@ -93,7 +93,7 @@ module _ (shape : Dimensions) (version : ℕ) (start : Start) (role : start.open
   each_new zero i a at = absurd (some-ne-none a (sym at))
   each_new (suc n) i a at = elim (at_snoc (recorders n) (newcomer (opener n)) a i at) [ inl before ↦ each_new n i a before | inr last ↦ (n, sym last) ]
 
--- a world of so many actors that have done nothing is one that the machine reaches from its start
+-- a world of this many actors that have done nothing is one that the machine reaches from its start
 fresh_is_reached : (start : Start) (actors : ℕ) (new : WorldState) → MayStart new.shape new.version start → start.opener.hand.place ≡ Idle
     → start.opener.segment ≡ record { shape = new.shape; version = new.version; cursors = 0 } → new.words.items ≡ start.words → vec_len new.actor_runs ≡ actors
     → All IsFreshRun new.actor_runs.items → start.opener.units.share ≡ new.units → actors ≤ 64 → IsReachedFrom start new
@@ -130,7 +130,7 @@ new_is_reached shape version id actors new made_so lawful versions few = fresh_i
     (subst (λ (p : Dimensions × ℕ). MayStart p.0 p.1 (new_start shape version id)) (λ i. (sym made_so.shaped i, sym made_so.versioned i)) (inl (id, lawful, versions, refl)))
     refl (λ i. record { shape = sym made_so.shaped i; version = sym made_so.versioned i; cursors = 0 }) made_so.words made_so.count made_so.rest (sym made_so.units) few
 
--- and one that goes on with an image from that
+-- and one that continues from an image is reached from that
 pub image_is_reached : (words : List ℕ) (actors : ℕ) (new : WorldState) → IsAdoptedWorldState words actors new → All (λ word. word < 2 ^ 64) words → actors ≤ 64
     → IsReachedFromImage words new
 image_is_reached words actors new goes_on narrow few =

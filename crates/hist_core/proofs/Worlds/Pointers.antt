@@ -1,4 +1,4 @@
--- Where an actor stands at a free pointer.
+-- When an actor holds a free pointer.
 use Rattle.segment_invariant.proofs.Prelude.Std.{◌≡◌, ◌≢◌, ◌⊎◌, ℕ, ◌==◌, ◌&&◌, Bool, true, false, inl, inr, refl, sym, if◌then◌else◌, bit_and, nat_lt}
 use Rattle.segment_invariant.proofs.Prelude.Machine.{Actor, Place, Idle, back, Event, next, allocating_event, publishing_event, walking_event, counting_event, taking_event, packing_event, load_flags, load_free, exchange_free, store_size, store_cookie, store_type, store_payload, set_corrupt, set_full, store_own_next, load_tail, link, move_tail, after_link, load_next, load_published, load_counts, add_count, add_sum, load_count, raise_mark, load_sum, swap_sum_mark, load_redundant, raise_single_mark, load_single, pack, mount_counts, purge_block, disable, add_moved, after_pack, after_mount, after_disable}
 use Rattle.segment_image.specs.declared.layout.TheConstants.{CLAIMED_COOKIE}
@@ -43,7 +43,7 @@ module _ (free : ℕ) where
   -- ---- an event
 
   module _ (a : Actor) where
-    -- it stood there, or has loaded that
+    -- it held that, or has loaded it
     abbrev From : Event → ℕ → Type 0
     From event found = (a.hand.place ≡ FreeLoaded free) ⊎ ((event ≡ allocating_event load_free) × (free ≡ found))
 

@@ -1,4 +1,4 @@
--- Of a call that counts nothing: none of its actor's entries is pending, and what it leaves as it was.
+-- Of a call that counts nothing: none of its actor's entries is pending, and what it leaves unchanged.
 use Rattle.segment_invariant.proofs.Prelude.Std.{◌≡◌, ◌≢◌, ◌≤◌, ◌-◌, false, true≢false, ℕ, List, [], ◌∷◌, ◌++◌, length, take, sym, ap, subst, ◌∙◌, arith, Contains, Contains-append_left, length-map, append-nil, Option, Some, None, ⊤}
 use Rattle.segment_invariant.proofs.Prelude.Machine.{Dimensions, IsPrefix, Actor, Place, Spent, is_bound}
 use Rattle.segment_invariant.proofs.Lists.Elements.{at_from, split_at}
@@ -14,7 +14,7 @@ use Rattle.hist_core.specs.declared.call.Stepped.{Stepped}
 use Rattle.hist_core.specs.StepsBy.{HasMetKnown}
 use Rattle.hist_core.specs.ActorRun.{entry_of, ended_by, begun_by, pending_by, CountsNoEntries, StandsIn, IsActorRunOf, IsSomeRun, TakenGoes}
 
--- it counts nothing still where units, entries and deltas are as before
+-- it still counts nothing if units, entries and deltas are unchanged
 pub quiet_on : (pending : List Entry) (a b : Actor) → b.units ≡ a.units → b.entries ≡ a.entries → b.deltas ≡ a.deltas → CountsNoEntries pending a → CountsNoEntries pending b
 quiet_on pending a b units entries deltas quiet = record {
   none = quiet.none;
@@ -24,13 +24,13 @@ quiet_on pending a b units entries deltas quiet = record {
   takes = ap (λ d. d.taking) deltas ∙ quiet.takes;
 }
 
--- it has met the records of the histograms that it knows, where it knows no more and has seen no less of the chain
+-- it has visited the records of the histograms that it knows, if it knows no more and has seen no less of the chain
 pub met_on : (a b : Actor) → b.answers.names ≡ a.answers.names → IsPrefix a.seen.chain b.seen.chain → HasMetKnown a → HasMetKnown b
 met_on a b names (rest, grown) met known inside =
     subst (λ (l : List ℕ). Contains l known.reference) (sym grown)
     (Contains-append_left a.seen.chain rest known.reference (met known (subst (λ (l : List MachineKnown). Contains l known) names inside)))
 
--- a record that was met stands somewhere on the list
+-- a record that was visited is somewhere on the list
 pub met_split : (chain : List ℕ) (at : ℕ) → Contains chain at → (front behind : List ℕ) × (chain ≡ front ++ at ∷ behind)
 met_split chain at met =
     let (i, there) = at_from chain at met in let (front, behind, is, others) = split_at chain i at there in (front, behind, is)
@@ -39,7 +39,7 @@ met_split chain at met =
 pub not_spent : (place : Place) → is_bound place ≡ false → place ≢ Spent
 not_spent place free spent = true≢false (sym (ap is_bound spent) ∙ free)
 
--- who gives nothing back is as before
+-- an actor that gives nothing back is unchanged
 pub gives_none : (shape : Dimensions) (version : ℕ) (r : ActorRun) (b : Actor) (units : ℕ) → units ≡ 0 → is_bound b.hand.place ≡ false → IsActorRunOf shape version r b
     → (b.hand.place ≢ Spent) × (units ≤ b.units.share) × IsActorRunOf shape version r (giver b units)
 gives_none shape version r b units none free run =
@@ -72,7 +72,7 @@ module _ (shape : Dimensions) (version : ℕ) (r : ActorRun) (a : Actor) (run : 
   none_begun : a.entries.running ≡ [] → r.begun ≡ r.ended
   none_begun none = sym started ∙ (ap (λ l. length (a.entries.log ++ l)) none ∙ (ap length (append-nil a.entries.log) ∙ logged))
 
--- what has begun of it, where it counts nothing: what has ended, and nothing is pending
+-- what has begun if it counts nothing: what has ended, and nothing is pending
 pub begun_there : (r : ActorRun) → length r.entries.items ≡ r.ended → r.begun ≡ r.ended → begun_by r ≡ ended_by r ++ pending_by r
 begun_there r all none =
     ap (λ n. take n r.entries.items) none ∙ sym (ap (λ l. ended_by r ++ l) (drop_all r.ended r.entries.items (omega (arith, all))) ∙ append-nil (ended_by r))

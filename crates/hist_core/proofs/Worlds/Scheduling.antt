@@ -24,7 +24,7 @@ made_next moves i move old mid new near is all one =
     subst (λ (l : List Move). MakesAll l old new) (sym (take_more moves i move near ∙ ap (λ (m : Move). take i moves ++ m ∷ []) (sym is)))
     (makes_more (take i moves) move old mid new all one)
 
--- a list is what stands before an element, it, and what stands behind it
+-- a list is what comes before an element, the element, and what comes after it
 pub split_there : {X : Type 0} (xs : List X) (i : ℕ) (x : X) → i < length xs → x ≡ get_or xs i x → xs ≡ take i xs ++ x ∷ drop (i + 1) xs
 split_there {X} xs i x near is = sym (take-append-drop i xs)
     ∙ ap (λ (l : List X). take i xs ++ l) (drop_more xs i x near ∙ ap (λ (y : X). y ∷ drop (i + 1) xs) (sym is))
@@ -52,7 +52,7 @@ pub is_fine : {A : Type 0} (first : Option WorldFault) (a : A) (fine : Type 0) �
 is_fine None a fine is = is
 is_fine (Some fault) a fine is = absurd (cc is)
 
--- what stops behind a beginning without fault
+-- what stops after a beginning without fault
 pub stops_behind : (first : Option WorldFault) (fault : WorldFault) (Stops : Type 0) → first ≡ None → Stops → MatchOption first Stops (λ why. fault ≡ why)
 stops_behind first fault Stops none stops = subst (λ (f : Option WorldFault). MatchOption f Stops (λ why. fault ≡ why)) (sym none) stops
 
@@ -64,7 +64,7 @@ stops_before (Some why) made fault Fails Stops so is = cc (sym so ∙ is)
 
 -- ---- from an image on
 
--- what a fault of it comes to
+-- what a fault of it becomes
 pub image_faults : (words : List ℕ) (fault : AdoptFault) → IsFaultOf words 0 fault → IsAdoptFault words (fault_of_adoption fault)
 image_faults words (adopt.Image why) is = is
 image_faults words adopt.OldVersion is = is
@@ -76,7 +76,7 @@ image_faults words adopt.NoMemory is = tt
 
 -- ---- results
 
--- what holds of a value that is Ok still holds where it is told with another error
+-- what holds of a value that is Ok still holds if the type of the error is another
 pub ok_still : {A E F : Type 0} (P : A → Type 0) (made : Result A E) (told : Result A F) (Fails : E → Type 0) → IfOk made P
     → MatchResult made (λ x. told ≡ Ok x) Fails → is_ok told ≡ is_ok made → IfOk told P
 ok_still P (Ok x) told Fails holds same alike = subst (λ r. IfOk r P) (sym same) holds

@@ -65,7 +65,7 @@ module _ (start : Start) (world_state : WorldState) (state : State) (reach : IsR
   pub versions_there : (world_state.version ≡ 1) ⊎ (world_state.version ≡ 2)
   versions_there = subst (λ (v : ℕ). (v ≡ 1) ⊎ (v ≡ 2)) (kept_there.same.0 ∙ version_there) kept_there.versions
 
-  -- who has set the corrupt flag has still set it behind a step, which claims nothing
+  -- an actor that has set the corrupt flag has still set it after a step, which claims nothing
   pub spoiled_there : (new : State) (who : ℕ) (event : Event) (step : IsStep world_state.version state who event new) → step.actor.done.spoiled ≡ true
       → (step.then_is.done.spoiled ≡ true) × (step.then_is.done.claimed ≡ step.actor.done.claimed)
   spoiled_there new who event = subst

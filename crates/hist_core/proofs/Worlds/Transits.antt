@@ -41,9 +41,9 @@ use Rattle.hist_core.proofs.Worlds.Free.{free_turns}
 use Rattle.hist_core.proofs.Worlds.WorldStates.{its_recorder}
 
 module _ (a : Actor) (look : Look) (bucket units : ℕ) (at : a.hand.place ≡ Moving look bucket units) where
-  -- ---- where no call stands then
+  -- ---- where no call is then
 
-  -- who may turn does not
+  -- an actor that may turn is not there
   turned : {X : Type 0} → MayTurn a → X
   turned turns = absurd (true≢false (sym (ap is_bound at) ∙ turns))
 
@@ -118,7 +118,7 @@ module _ (a : Actor) (look : Look) (bucket units : ℕ) (at : a.hand.place ≡ M
       (λ counts. sym is.reference ∙ (counts.stands.counting.reference ∙ counts_here shape known (amid_of known call counts.done counts.rest) counts.item counts.stands))
       (λ sums. turned sums.turns) is.stands
 
--- the call of an actor that stands there counts in that histogram
+-- the call of an actor that is there counts in that histogram
 stands_here : (shape : Dimensions) (known : List KnownHist) (pending : List Entry) (running : Option Running) (a : Actor) → StandsIn shape known pending running a
     → (look : Look) (bucket units : ℕ) → a.hand.place ≡ Moving look bucket units → CountsInRecord look.histogram running
 stands_here shape known pending None a stands look bucket units at = freed a look bucket units at stands.0

@@ -66,7 +66,7 @@ module _ (shape : Dimensions) (version : ℕ) where
       (b, refl, subst (λ (y : ActorRun). IsActorRunOf shape version y b) (some-injective x r at) run.0)
   recorder_at (x ∷ actor_runs) (b ∷ recorders) (suc i) r run at = recorder_at actor_runs recorders i r run.1 at
 
-  -- an actor goes on, and its recorder does
+  -- an actor continues, and so does its recorder
   pub one_goes_on : (actor_runs : List ActorRun) (recorders : List Actor) (i : ℕ) (r : ActorRun) (a : Actor) → AreRun shape version actor_runs recorders
       → IsActorRunOf shape version r a → AreRun shape version (set actor_runs i r) (set recorders i a)
   one_goes_on [] [] i r a run goes = run
@@ -75,20 +75,20 @@ module _ (shape : Dimensions) (version : ℕ) where
   one_goes_on (x ∷ actor_runs) (b ∷ recorders) zero r a run goes = (goes, run.1)
   one_goes_on (x ∷ actor_runs) (b ∷ recorders) (suc i) r a run goes = (run.0, one_goes_on actor_runs recorders i r a run.1 goes)
 
--- what is read at a place stands there
+-- what is read at a place is there
 pub is_there : {A : Type 0} (l : List A) (n i : ℕ) (x : A) → n ≡ length l → i < n → x ≡ get_or l i x → get_elem? l i ≡ some x
 is_there l n i x count near read = element_at l i x (omega (arith, count, near)) ∙ ap some (sym read)
 
--- behind the opener
+-- after the opener
 behind_first : {A : Type 0} (x : A) (xs : List A) (i : ℕ) → get_elem? (x ∷ xs) (i + 1) ≡ get_elem? xs i
 behind_first x xs i = ap (get_elem? (x ∷ xs)) (add-one i)
 
 set_behind_first : {A : Type 0} (x : A) (xs : List A) (i : ℕ) (y : A) → set (x ∷ xs) (i + 1) y ≡ x ∷ set xs i y
 set_behind_first x xs i y = ap (λ n. set (x ∷ xs) n y) (add-one i)
 
--- ---- what is answered
+-- ---- what is returned
 
--- what an actor answers of a snapshot is at least what it had accepted and seen
+-- what a snapshot of an actor returns is at least what the actor had accepted and seen
 has_seen : (start : Start) (world_state : WorldState) (state : State) (reach : IsReachedAs start world_state state) (actor : ℕ) (b : Actor)
     → get_elem? state.actors (actor + 1) ≡ some b → is_opener b.role ≡ false → (histogram : ℕ) (snapshot : Snapshot) → IsAnswer histogram snapshot b
     → HasSeenEnough actor histogram snapshot start world_state state reach
@@ -144,7 +144,7 @@ module _ (start : Start) (old : WorldState) (state : State) (reach : IsReachedAs
   becomes : (event : Event) → after (length state.words) old.version event (memory state) ≡ after old.shape.size old.version event words
   becomes event i = after (as_long i) old.version event (in_memory i)
 
-  -- ---- an actor goes on
+  -- ---- an actor continues
 
   module _ (actor : ℕ) (r r' : ActorRun) (new : WorldState) (at : get_elem? old.actor_runs.items actor ≡ some r) (shaped : new.shape ≡ old.shape)
       (versioned : new.version ≡ old.version) (actor_runs : new.actor_runs.items ≡ set old.actor_runs.items actor r') where
@@ -237,7 +237,7 @@ module _ (start : Start) (old : WorldState) (state : State) (reach : IsReachedAs
         subst (λ (p : ActorRun × Actor × Actor). LooksSince p.0.running p.1 p.2)
         (λ i. (some-injective r before (sym at ∙ was) i, some-injective its.0 a (sym there ∙ is_a) i, some-injective b c (sym is_last ∙ is_c) i)) looks
 
-    -- its record before a step and behind it
+    -- its record before a step and after it
     stepped_from : (event : Event) (b : Actor) (step : IsStep old.version state (actor + 1) event (changed b)) (a : Actor) → get_elem? state.actors (actor + 1) ≡ some a
         → (step.actor ≡ a) × (step.then_is ≡ b)
     stepped_from event b step a is_a = (
@@ -247,7 +247,7 @@ module _ (start : Start) (old : WorldState) (state : State) (reach : IsReachedAs
           ∙ (ap (λ l. get_elem? l (actor + 1)) (sym step.actors_are) ∙ set_at state.actors (actor + 1) its.0 b there)),
     )
 
-    -- it stands at no free pointer that it has not loaded
+    -- it holds no free pointer that it has not loaded
     loads_pointer : (event : Event) (b : Actor) → IsStep old.version state (actor + 1) event (changed b) → (last : State) (c : Actor) → get_elem? last.actors (actor + 1) ≡ some c
         → c.hand ≡ b.hand → LoadsPointer actor words state last
     loads_pointer event b step last c is_last hand a d is_a is_d free at =
@@ -271,7 +271,7 @@ module _ (start : Start) (old : WorldState) (state : State) (reach : IsReachedAs
         (ap (λ (x : Actor). x.done.spoiled) first ∙ spoiled) in
         (ap (λ (x : Deeds). x.spoiled) ends ∙ sets, ap (λ (x : Deeds). x.claimed) ends ∙ (claimed ∙ ap (λ (x : Actor). x.done.claimed) first))
 
-    -- what it has done is as its call says
+    -- what it has done agrees with what its call says
     does_so : (said : Stepped) (b : Actor) → DoesAsSaid r.running said its.0 b → (last : State) (c : Actor) → get_elem? last.actors (actor + 1) ≡ some c → c.done ≡ b.done
         → DoesOnlySo old actor state said last
     does_so said b does last c is_last done before x d was is_x is_d =
@@ -280,7 +280,7 @@ module _ (start : Start) (old : WorldState) (state : State) (reach : IsReachedAs
         subst (λ (p : ActorRun × Actor). DoesAsSaid p.0.running said p.1 d)
         (λ i. (some-injective r before (sym at ∙ was) i, some-injective its.0 x (sym there ∙ is_x) i)) so
 
-    -- it lands there, where no units come back
+    -- it lands there, if no units come back
     lands : (event : Event) (b : Actor) (step : IsStep old.version state (actor + 1) event (changed b)) (pooled : new.units ≡ old.units)
         (run : IsActorRunOf old.shape old.version r' b) → LooksSince r.running its.0 b → (said : Stepped) → DoesAsSaid r.running said its.0 b
         → IsPromised old actor state said start new (changed b) (reached_so event b step pooled run) → StepsTo old actor start state new said
@@ -409,7 +409,7 @@ module _ (start : Start) (old : WorldState) (state : State) (reach : IsReachedAs
     lands_so event b step (Done (answer.Refused why)) pooled ((living, fits, run), cause) looks does =
         lands_back event b (held_by r.running) step pooled living run.records fits run looks (Done (answer.Refused why)) does (due_back b (held_by r.running) why living cause)
 
-    -- an actor that goes on by an event leads to the next state
+    -- an actor that performs an event leads to the next state
     pub steps : (said : Stepped) → ((a : Actor) → WalksInOrder a → IsActorRunOf old.shape old.version r a → Advances old.shape old.version r words r' new.words.items said a)
         → new.units ≡ old.units + returned_by said (held_by r.running) → StepsTo old actor start state new said
     steps said advances pooled =
@@ -454,7 +454,7 @@ module _ (start : Start) (old : WorldState) (state : State) (reach : IsReachedAs
           },
         )
 
--- an actor changes at run time alone, and stands for the same actor of the machine as before: so does its world
+-- an actor changes only at run time, and still stands for the same actor of the machine: so does its world
 pub same_there : (start : Start) (old : WorldState) (state : State) → IsReachedAs start old state → (actor : ℕ) (r r' : ActorRun) (new : WorldState) → get_elem? old.actor_runs.items actor ≡ some r
     → ((a : Actor) → get_elem? state.actors (actor + 1) ≡ some a → IsActorRunOf old.shape old.version r a → IsActorRunOf old.shape old.version r' a)
     → new.shape ≡ old.shape → new.version ≡ old.version → new.units ≡ old.units → new.words.items ≡ old.words.items → new.actor_runs.items ≡ set old.actor_runs.items actor r'
@@ -494,7 +494,7 @@ pub each_runs : (start : Start) (world_state : WorldState) (state : State) → I
 each_runs start world_state state reach i r at =
     let found = recorder_at world_state.shape world_state.version world_state.actor_runs.items reach.shows.recorders i r reach.shows.runs at in (found.0, found.2)
 
--- it is an actor of a segment of so many words
+-- it is an actor of a segment of `n` words
 pub some_run : (world_state : WorldState) → ∥ IsReachable world_state ∥₁ → (i : ℕ) (r : ActorRun) → get_elem? world_state.actor_runs.items i ≡ some r → (n : ℕ) → n ≡ length world_state.words.items
     → ∥ IsSomeRun n r ∥₁
 some_run world_state reached i r at n count = ∥∥₁_elim reached (hlevel props) (λ (start, state, reach).
@@ -513,7 +513,7 @@ within world_state reached i r at = ∥∥₁_elim reached (hlevel props) (λ (s
 pub front_is : {A : Type 0} (n : ℕ) (l : List A) → n ≤ length l → n ≡ length (take n l)
 front_is n l long = sym (length-take-le n l long)
 
--- what an actor shows that is there
+-- what an actor that is there shows
 pub shown_is : {X : Type 0} (shown : ActorRun → List X) (world_state : WorldState) (i : ℕ) (r : ActorRun) → get_elem? world_state.actor_runs.items i ≡ some r
     → shown r ≡ of_actor shown (get_elem? world_state.actor_runs.items i)
 shown_is shown world_state i r at = sym (ap (of_actor shown) at)
@@ -597,7 +597,7 @@ pool_fits world_state reached = ∥∥₁_elim reached (hlevel props) (λ (start
     let least : opener.units.share ≤ units_of opener = omega arith in
     omega (arith, part, all, pool, least))
 
--- what an actor knows is lawful
+-- what an actor knows is valid
 module _ (world_state : WorldState) (reached : ∥ IsReachable world_state ∥₁) (i : ℕ) (r : ActorRun) (at : get_elem? world_state.actor_runs.items i ≡ some r) (place : ℕ) (known : KnownHist)
     (there : get_elem? r.known.items place ≡ some known) where
   known_in : (start : Start) (state : State) → IsReachedAs start world_state state → IsKnown world_state.shape known

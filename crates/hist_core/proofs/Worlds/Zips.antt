@@ -15,7 +15,7 @@ module _ {X Y : Type 0} (R : X → Y → Type 0) where
       → AllZip R (take (i + 1) xs) (ys ++ y ∷ [])
   zip_more xs ys i d y less all one = subst (λ (l : List X). AllZip R l (ys ++ y ∷ [])) (sym (take_more xs i d less)) (zip_push (take i xs) ys (get_or xs i d) y all one)
 
-  -- what holds of the first of each pair where the relation does, and of the second then, holds of all second ones
+  -- if the relation carries something from the first of a pair to the second, and it holds of all first ones, it holds of all second ones
   pub zip_all : (P : X → Type 0) (Q : Y → Type 0) → ((x : X) (y : Y) → R x y → P x → Q y) → (xs : List X) (ys : List Y) → AllZip R xs ys → All P xs → All Q ys
   zip_all P Q from [] [] zip all = All-nil Q
   zip_all P Q from [] (b ∷ ys) zip all = absurd zip

@@ -18,7 +18,7 @@ use Rattle.segment_promises.proofs.ListedValues.{sample_still}
 use Rattle.live_segment.specs.Delta.Owed.{HadCount, HadPacked, HadSample, HasEnough, IsEnough}
 use Rattle.live_reading.specs.Reading.{OnlyLooks}
 
--- what it had seen it has seen still
+-- what it had seen it has still seen
 has_still : (old new : List Sighting) → Grows old new → (sighting : Sighting) → Contains old sighting → Contains new sighting
 has_still old new (more, grown) sighting has = subst (λ (l : List Sighting). Contains l sighting) (sym grown) (Contains-append_left old more sighting has)
 

@@ -1,4 +1,4 @@
--- A recorder looks: what its calls leave as it was, one call after another.
+-- A recorder looks: what its calls leave unchanged, one call after another.
 use Rattle.std.proofs.Common.{◌≡◌, ℕ, List, [], ◌∷◌, Option, Some, None, inl, inr, refl, sym, ap, subst, ◌∙◌, arith}
 use mathlib.Core.Option.{some}
 use lib.ListN.{get_elem?}
@@ -52,7 +52,7 @@ looks_then a b c first second = record {
   snapshots = grows_on a.deltas.snapshots b.deltas.snapshots c.deltas.snapshots first.snapshots second.snapshots;
 }
 
--- it has come to more of the list and of the words of records
+-- it has seen more of the list and of the words of records
 sees_more : (a b : Seen) → b ≡ record a { chain = b.chain; ends = b.ends; words = b.words } → Grows a.chain b.chain → Grows a.ends b.ends → Grows a.words b.words
     → SeesOn a b
 sees_more a b same chain ends words = record {

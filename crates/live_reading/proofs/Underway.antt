@@ -27,7 +27,7 @@ use Rattle.live_reading.proofs.Looks.{goes_not, goes_then}
 
 -- ---- names
 
--- of each name a recorder knows one histogram
+-- a recorder knows one histogram of each name
 abbrev pub KnowsOnce : RecorderState → Type 0
 KnowsOnce state =
     (one other : Known) → Contains (view_of_state state).answers.names one → Contains (view_of_state state).answers.names other → one.name ≡ other.name
@@ -146,8 +146,8 @@ each_then segment a b c on outcomes each =
 
 -- ---- under way
 
--- These records are passed. Of each, in order, there is the histogram or none, and these are the histograms; its recorder knows them, and no name
--- stands twice.
+-- These records are passed. Of each, in order, there is the histogram or none, and these are the histograms; its recorder knows them, and
+-- no name comes twice.
 pub record IsUnderWay (segment : Segment) (passed : List ℕ) (hists : List LiveHistogram) (listed now : RecorderState) : Type 0 where
   pub onward : GoesOnLooking listed now
   pub outcomes : List (ℕ × Option LiveHistogram)

@@ -1,4 +1,4 @@
--- What a reading of a running segment has, by what `records`, `open` and `snapshot` of its recorder answered.
+-- What a reading of a running segment has, by what `records`, `open` and `snapshot` of its recorder returned.
 use Rattle.std.specs.Prelude.{◌≡◌, ◌≢◌, ℕ, List, [], ◌∷◌, map, Option, Some, None, MatchOption}
 use Rattle.std.specs.List.{All, AllPairs, Contains, filter_map}
 use Rattle.bucket_ranges.specs.declared.spec.Spec.TheVariants.{Sparse}
@@ -21,8 +21,8 @@ use Rattle.live_reading.specs.declared.live_reading.LiveHistogram.{LiveHistogram
 
 -- ---- between its calls
 
--- A recorder looks: it has seen no less, may know more histograms, and has noted snapshots behind those before. What it is, what it may spend,
--- its entries, what it has done to the segment and what its deltas took are as they were.
+-- A recorder looks: it has seen no less, may know more histograms, and has noted snapshots after the earlier ones. What it is, what it may
+-- spend, its entries, what it has done to the segment and what its deltas took are unchanged.
 pub record OnlyLooks (old new : Actor) : Type 0 where
   pub same : new ≡ record old {
     hand = new.hand;
@@ -41,7 +41,7 @@ pub record GoesOnLooking (old new : RecorderState) : Type 0 where
 
 -- ---- a record
 
--- `open` of a record answered none
+-- `open` of a record returned none
 pub record OpensNone (reference : ℕ) (old new : RecorderState) : Type 0 where
   pub asked : RecorderState
   pub opened : RecorderState
@@ -49,8 +49,9 @@ pub record OpensNone (reference : ℕ) (old new : RecorderState) : Type 0 where
   pub opens : OpensRecord reference (view_of_state asked) None (view_of_state opened)
   pub behind : GoesOnLooking opened new
 
--- `open` of a record answered a histogram, and this one has its name, its spec, and what `snapshot` of it answered: of each key at least what the
--- recorder had accepted or seen before, of no more keys than it may have, and of a sparse one values that ascend, each once and with units.
+-- `open` of a record returned a histogram, and this one has its name, its spec, and what `snapshot` of it returned: of each key at least
+-- what the recorder had accepted or seen before, no more keys than it may have, and of a sparse one values that ascend, each once and with
+-- units.
 pub record IsReadOf (segment : Segment) (old new : RecorderState) (reference : ℕ) (histogram : LiveHistogram) : Type 0 where
   pub asked : RecorderState
   pub opened : RecorderState

@@ -29,19 +29,19 @@ pub struct LiveReading {
     pub hists: Vec<LiveHistogram>,
 }
 
-/// Returns the histograms of a running segment, while others record: of each record on the list what `open` returns,
-/// and of each histogram that this returned a `snapshot`. Their names need not be known before.
+/// Returns the histograms of a running segment, while others record: it calls `open` for each record on the list, and
+/// `snapshot` for each histogram that this returned. Their names need not be known before.
 ///
-/// On `Ok` the list had exactly the records that `records` returned first, in a kept state of the segment. Of each of
-/// them, in order, the reading has the histogram: its name, its spec, and what a snapshot of it returned, of no more
-/// keys than [`Recorder::most_keys`] says. Of each key that is at least what the recorder had accepted, or seen, before,
-/// with the exception that [`Recorder::delta`] has. Or `open` returned none, for one of the reasons that
-/// [`Recorder::open`] has [each]. The recorder knows all of these histograms then, and no two of them have the same name
-/// [names].
+/// On `Ok` the list had exactly the records that `records` returned first, in a kept state of the segment. For each of
+/// them, in order, the reading has the histogram: its name, its spec, and what a snapshot of it returned, with no more
+/// keys than [`Recorder::most_keys`] says. For each key that is at least what the recorder had accepted, or seen,
+/// before, with the exception that [`Recorder::delta`] has. Or `open` returned none, for one of the reasons that
+/// [`Recorder::open`] has [each]. The recorder knows all of these histograms then, and no two of them have the same
+/// name [names].
 ///
-/// The recorder records into the same segment [kept], and each histogram that it knew it knows at the same place
-/// [same]. It has counted, taken, claimed and published nothing, after a refusal neither: it has only seen more, come to
-/// know histograms, and noted its snapshots [looks].
+/// The recorder records into the same segment [kept], and still knows each histogram that it knew, at the same place
+/// [same]. It has counted, taken, claimed and published nothing, even if the call was refused: it has only seen more,
+/// come to know histograms, and noted its snapshots [looks].
 ///
 /// The one error is `NoMemory`, possibly after loads [each]. It asks for memory as [`Recorder::records`], `open` and
 /// `snapshot` do, and for the name and the spec of each histogram.

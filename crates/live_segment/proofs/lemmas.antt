@@ -1,4 +1,4 @@
--- The lemmas, in folders as the sources and the definitions.
+-- The lemmas, in folders like the sources and the definitions.
 pub mod Add
 pub mod Alloc
 pub mod Delta

@@ -1,4 +1,4 @@
--- A segment that continues with the words of an image, and which images it can continue with.
+-- A segment that continues from the words of an image, and which images it can continue from.
 use Rattle.std.specs.Prelude.{◌≡◌, false, ℕ, ◌≤◌, List}
 use Rattle.segment_image.specs.Head.{head_of}
 use Rattle.segment_image.specs.declared.head.SegmentHead.{SegmentHead}
@@ -10,7 +10,7 @@ use Rattle.live_segment.specs.declared.rule.Setting.{Setting}
 use Rattle.live_segment.specs.declared.segment.Segment.{Segment}
 use Rattle.live_segment.specs.Holders.{IsOpened}
 
--- what an image with such a header is opened as, with so many shared cursors
+-- what an image with such a header is opened as, with this many shared cursors
 abbrev pub setting_of : SegmentHead → ℕ → Setting
 setting_of head cursors =
     record { shape = head.shape; version = head.version; id = head.id; cursors = cursors; full = head.full }

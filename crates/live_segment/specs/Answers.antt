@@ -58,7 +58,7 @@ AnswersOpen reference old result new =
     MatchResult result (λ found. OpensRecord reference (view_of_state old) found (view_of_state new))
     (λ why. (why ≡ NoMemory) × HasSearched (view_of_state old) (view_of_state new))
 
--- the same of a record with a name and a spec, where nothing has happened if there was no memory
+-- the same for a record with a name and a spec; if there was no memory, nothing has happened
 abbrev pub AnswersOpenAs : List ℕ → Spec → ℕ → RecorderState → Result (Option Hist) Refusal → RecorderState → Type 0
 AnswersOpenAs name spec reference old result new =
     MatchResult result (λ found. OpensAs name spec reference (view_of_state old) found (view_of_state new))
@@ -66,7 +66,7 @@ AnswersOpenAs name spec reference old result new =
 
 -- ---- `add`
 
--- it returns the first check that fails, and the state is the same; else the sample is counted, or refused
+-- it returns the fault of the first check that fails, and the state is the same; else the sample is counted, or refused
 abbrev pub AnswersAdd : Hist → ℤ → ℕ → RecorderState → Result (Unit {0}) Refusal → RecorderState → Type 0
 AnswersAdd histogram value count old result new =
     MatchOption (first_fault (add_checks (view_of_state old) count))
@@ -80,7 +80,7 @@ ClaimsAdd histogram value old result new =
 
 -- ---- `batch`
 
--- it returns the first check that fails, and the state is the same; else all is counted, or the items before one
+-- it returns the fault of the first check that fails, and the state is the same; else all is counted, or the items before one
 abbrev pub AnswersBatch : Hist → List (ℤ × ℕ) → ℤ → RecorderState → Result (Unit {0}) BatchRefusal → RecorderState → Type 0
 AnswersBatch histogram items sum old result new =
     MatchOption (first_fault (batch_checks (view_of_state old) items sum))

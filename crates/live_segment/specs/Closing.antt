@@ -1,4 +1,4 @@
--- What the image of a closed segment reads as, for who had its opener: once all recorders are joined, and whatever is outstanding.
+-- What the image of a closed segment reads as, for the holder of its opener: once all recorders are joined, and whatever is outstanding.
 use Rattle.std.specs.Prelude.{◌≡◌, ℕ, ◌+◌, ◌-◌, ◌≤◌, ◌||◌, ℤ, List, ◌∷◌, ◌++◌, map, sum_by, Ok}
 use Rattle.std.specs.List.{Contains, All}
 use Rattle.segment_image.specs.Head.{header_of, head_of}
@@ -22,7 +22,7 @@ use Rattle.live_segment.specs.Rule.{Closes}
 
 -- ---- the words
 
--- the header of words is valid and says what the segment was made as, and the words have a reading
+-- the header of words is valid and has the shape, the version and the id that the segment was opened with, and the words have a reading
 pub record IsImageOf (setting : Setting) (words : List ℕ) : Type 0 where
   pub header : header_of words ≡ Ok (head_of words)
   pub shape : (head_of words).shape ≡ setting.shape
@@ -46,7 +46,8 @@ pub record IsTally (opener : Actor) (h : Histogram) : Type 0 where
   pub sum_mark : h.sum_mark ≡ taken_sum (taken_of opener) h.name
 
 -- No record is bad, and the list does not stop. The names are exactly those that the segment was opened with and those that a `hist`
--- returned, each once, with the spec of each answer. A flag is set where a call has set it; the full one also where the segment was opened with it.
+-- returned, each once, with the spec of each answer. A flag is set if a call has set it; the full one also if the segment was opened with
+-- it.
 pub record IsJoinedReading (setting : Setting) (opener : Actor) (reading : Reading) : Type 0 where
   pub lawful : HasNoFault reading
   pub answers : ReadsAnswers opener.answers.names reading
@@ -59,8 +60,8 @@ pub record IsJoinedReading (setting : Setting) (opener : Actor) (reading : Readi
 abbrev pub ReadsJoined : Setting → Actor → List ℕ → Type 0
 ReadsJoined setting opener words = (reading : Reading) → IsReading words (head_of words) reading → IsJoinedReading setting opener reading
 
--- With a final delta of a histogram, all deltas together took its totals and its sum. Where no recorder was outstanding when the recorder of
--- a delta was made, and none was made since, the deltas up to it took exactly what the log in front of it adds up to.
+-- With a final delta of a histogram, all deltas together took its totals and its sum. If no recorder was outstanding when the recorder of a
+-- delta was made, and none was made since, the deltas up to that one took exactly what the log before it adds up to.
 pub record DeltasAddUp (opener : Actor) : Type 0 where
   pub all : (delta : Taken) → Contains opener.deltas.taken delta → IsFinal (made_of opener.role) (log_of opener) delta.name delta.moment
       → ((key : ℤ) → taken_units (taken_of opener) delta.name key ≡ tally_units (log_of opener) delta.name key)
@@ -83,15 +84,15 @@ pub record SnapshotsAgree (opener : Actor) : Type 0 where
 abbrev pub units_beyond : List Entry → Histogram → ℕ
 units_beyond log h = sum_by (λ count. count.1 - tally_units log h.name count.0) h.counts
 
--- the units that were handed out and have not come back: all of a segment but those that its opener has, and those that joined
--- recorders have spent
+-- the units that were handed out and have not come back: all of a segment except those that its opener has, and those that joined recorders
+-- have spent
 abbrev pub units_out : Actor → ℕ
 units_out opener = 4294967295 - units_of opener
 
--- What is read of the words of a state that holds between two steps: exactly the histograms that were published, with all units but those
--- in transit. Each histogram that a `hist` of a joined recorder returned is among them. Of each key the total, in version 1 with its units
--- in transit, is at least what the log has; and all units beyond the log are at most those handed out that have not come back. The opener
--- knows the redundant counts that the segment was opened with.
+-- What is read of the words of a state that holds between two steps: exactly the histograms that were published, with all units except
+-- those in transit. Each histogram that a `hist` of a joined recorder returned is among them. The total of each key, in version 1 with its
+-- units in transit, is at least what the log has; and all units beyond the log are at most those handed out that have not come back. The
+-- opener knows the redundant counts that the segment was opened with.
 pub record IsStoppedReading (setting : Setting) (opened : Anatomy) (opener : Actor) (state : State) (records : List Listed) (reading : Reading) : Type 0 where
   pub lawful : HasNoFault reading
   pub head : ReadsHead opened state reading
@@ -104,8 +105,8 @@ pub record IsStoppedReading (setting : Setting) (opened : Anatomy) (opener : Act
       → tally_units (log_of opener) h.name key ≤ units_read h key + all_moving h.name key state.actors
   pub most : sum_by (units_beyond (log_of opener)) reading.hists ≤ units_out opener
 
--- There is such a state, in which the opener has done and seen this. Its segment was opened with these words: so the records that were listed
--- then stand with the words that they had, also those of other types and the later ones of a name.
+-- There is such a state, in which the opener has done and seen this. Its segment was opened with these words: so the records that were
+-- listed then are still there with the words that they had, also those of other types and the later ones of a name.
 pub record ReadsStopped (opening : Opening) (opener : Actor) (words : List ℕ) : Type 0 where
   pub closed : Closes opening opener words
   pub reads : (reading : Reading) → IsReading words (head_of words) reading

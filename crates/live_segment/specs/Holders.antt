@@ -1,4 +1,4 @@
--- Who holds a segment, an opener or a recorder: what it has done and seen, and which segment that is.
+-- The holders of a segment, openers and recorders: what they have done and seen, and which segment that is.
 use Rattle.std.specs.Prelude.{◌≡◌, false, ◌<◌, ℕ, List, slice_set}
 use Rattle.atomic_table.specs.Seated.{TableId}
 use Rattle.segment_image.specs.declared.layout.TheConstants.{VERSION_WORD}
@@ -23,7 +23,7 @@ table_of segment = segment.table.shared.table_id
 abbrev pub opened_with : Segment → Opening
 opened_with segment = segment.table.shared.key
 
--- what an opener and a recorder have done and seen
+-- what an opener has done and seen
 abbrev pub view_of_opener : Opener → Actor
 view_of_opener opener = opener.seat.me.0
 
@@ -42,14 +42,14 @@ pub record IsMadeWith (segment : Segment) (opener : Opener) : Type 0 where
   pub table : opener.seat.table_id ≡ table_of segment
   pub of : IsOf segment.setting (view_of_opener opener)
 
--- a segment that is opened so and with these words, and its opener, which has done and seen this
+-- a segment with this setting that was opened with these words, and its opener, which has done and seen this
 pub record IsOpened (setting : Setting) (words : List ℕ) (first : Actor) (segment : Segment) (opener : Opener) : Type 0 where
   pub setting_is : segment.setting ≡ setting
   pub words_are : words_of (opened_with segment) ≡ words
   pub made : IsMadeWith segment opener
   pub view : view_of_opener opener ≡ first
 
--- a new segment that is made so, and its opener: its words are those of a blank image, but for the version
+-- a new segment with this setting, and its opener: its words are those of a blank image, except for the version
 abbrev pub IsNew : Setting → Segment → Opener → Type 0
 IsNew setting =
     IsOpened setting (slice_set (blank_words setting.shape.size setting.shape.page setting.id) VERSION_WORD setting.version) (first_view setting)
@@ -66,7 +66,7 @@ IsRecorderOf recorder opener = recorder.state.seat.table_id ≡ opener.seat.tabl
 abbrev pub RecordsInto : Segment → Recorder → Type 0
 RecordsInto segment recorder = recorder.state.seat.table_id ≡ table_of segment
 
--- two recorders record into the same segment; and one, as a call began and when it has returned
+-- two recorders record into the same segment; or one recorder does before and after a call
 abbrev pub SharesSegment : Recorder → Recorder → Type 0
 SharesSegment one other = other.state.seat.table_id ≡ one.state.seat.table_id
 

@@ -13,13 +13,13 @@ use Rattle.live_segment.specs.declared.recorder.KnownHistogram.{KnownHistogram}
 use Rattle.live_segment.specs.declared.rule.Setting.{Setting}
 use Rattle.live_segment.specs.Add.Sample.{block_words}
 
--- as its view has one
+-- a known histogram, as the recorder's view has it
 abbrev pub known_view : KnownHistogram → Known
 known_view known = record { name = known.name.items; spec = known.spec; reference = known.reference }
 
--- What is right of one that a recorder knows: its name is one, its spec has no fault, its record and its counts fit in a page, its ranges
--- are those of the spec, it alone has its reference among those that are known, its record was met on the list and lies within the
--- segment, and a block for its units fits in a page.
+-- What holds for a histogram that a recorder knows: its name is valid, its spec has no fault, its record and its counts fit in a page, its
+-- ranges are those of the spec, it alone has its reference among those that are known, its record was visited on the list and lies within
+-- the segment, and a block for its units fits in a page.
 pub record KnowsRight (setting : Setting) (a : Actor) (known : KnownHistogram) : Type 0 where
   pub named : is_name known.name.items ≡ true
   pub lawful : spec_fault known.spec ≡ None

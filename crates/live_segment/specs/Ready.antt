@@ -1,4 +1,4 @@
--- What the functions of a recorder's calls rest on, a record for each context.
+-- What the functions of a recorder's calls rely on, with a record for each context.
 use Rattle.std.specs.Prelude.{◌≡◌, false, ℕ, ◌+◌, ◌≤◌, [], length}
 use Rattle.bucket_ranges.specs.declared.spec.Spec.TheVariants.{Sparse}
 use Rattle.segment_calls.specs.declared.asked.Asked.{Asked}
@@ -51,7 +51,7 @@ pub record IsSeatedAt (segment : Segment) (histogram : KnownHistogram) (seat : P
   pub seated : IsSeated segment seat
   pub room : histogram.reference + 15 ≤ segment.setting.shape.size
 
--- a recorder's seat that has met a record on the list, which lies within the segment
+-- a recorder's seat that has visited a record on the list, which lies within the segment
 pub record HasMetRecord (segment : Segment) (at : ℕ) (seat : Pass) : Type 0 where
   pub seated : IsSeated segment seat
   pub met : MayLoadRecord at seat.me.0

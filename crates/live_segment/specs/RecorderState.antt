@@ -1,4 +1,4 @@
--- All that a recorder has but its segment: what it has done and seen, and what it knows.
+-- All that a recorder has except its segment: what it has done and seen, and what it knows.
 use Rattle.std.specs.Prelude.{◌≡◌, true, ◌<◌, ℕ, List, [], drop, length, map}
 use mathlib.Core.Option.{some}
 use lib.ListN.{get_elem?}
@@ -39,7 +39,7 @@ pub record IsRecorderAt (segment : Segment) (state : RecorderState) : Type 0 whe
 abbrev pub view_of_state : RecorderState → Actor
 view_of_state state = state.seat.me.0
 
--- each of its three indexes may have so many entries in all
+-- each of its three indexes may have this many entries in all
 abbrev pub HasLimit : ℕ → RecorderState → Type 0
 HasLimit entries state =
     (limit_of state.names.places ≡ entries) × (limit_of state.index.firsts ≡ entries) × (limit_of state.samples.firsts ≡ entries)
@@ -68,13 +68,13 @@ pub record IsSameRecorder (old new : RecorderState) : Type 0 where
   pub names : (view_of_state new).answers.names ≡ (view_of_state old).answers.names
   pub fresh : new.fresh ≡ old.fresh
 
--- It records into the same segment as before and was given no fresh records. Each histogram that it knew it still knows, at the same place.
+-- It records into the same segment as before and was given no fresh records. It still knows each histogram that it knew, at the same place.
 pub record KnowsOn (old new : RecorderState) : Type 0 where
   pub table : new.seat.table_id ≡ old.seat.table_id
   pub fresh : new.fresh ≡ old.fresh
   pub known : Grows (view_of_state old).answers.names (view_of_state new).answers.names
 
--- it is unchanged by a call of a histogram, where that has buckets
+-- it is unchanged by a call on a histogram, if that has buckets
 abbrev pub IsSameIfBucketed : Hist → RecorderState → RecorderState → Type 0
 IsSameIfBucketed histogram old new = (known : Known) → Means old histogram known → has_buckets known.spec ≡ true → new ≡ old
 

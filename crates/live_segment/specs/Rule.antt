@@ -1,4 +1,4 @@
--- What a segment is opened as and with, what holds of its table, and what its words are when it is closed.
+-- What a segment is opened as and with, what holds for its table, and what its words are when it is closed.
 use Rattle.std.specs.Prelude.{◌≡◌, Bool, false, not, ◌||◌, nat_lt, ℕ, List, [], ◌∷◌, take, drop, replicate}
 use mathlib.Core.Option.{some}
 use lib.ListN.{get_elem?}
@@ -21,7 +21,7 @@ use Rattle.live_segment.specs.declared.rule.Announcement.{Announcement}
 use Rattle.live_segment.specs.declared.rule.Opening.{Opening}
 use Rattle.live_segment.specs.declared.rule.Setting.{Setting}
 
--- what can be wrong with what a segment is to be made as, in order
+-- what can be wrong with the shape, the version and the cursors of a new segment, in order
 abbrev pub open_checks : ℕ → ℕ → ℕ → ℕ → List (Bool × OpenFault)
 open_checks size page cursors version =
     (not (is_page page) || not (is_size size page) || not (is_version version), BadShape) ∷ (nat_lt 8 cursors, BadCursors) ∷ []
@@ -32,12 +32,12 @@ first_view setting = opener_of setting.shape setting.version setting.cursors
 
 -- ---- as it is opened
 
--- the words of the segment, which stand behind the first of the table
+-- the words of the segment, which follow the first word of the table
 abbrev pub words_of : Opening → List ℕ
 words_of opening = take opening.setting.shape.size (drop 1 opening.words.items)
 
--- The opener of words with such a list: it stands for all that they read as along it. The opener of blank words, which have no list, has
--- done nothing.
+-- The opener of words with this list: it stands for all that they read as along it. The opener of blank words, which have no list, has done
+-- nothing.
 abbrev pub opener_of_words : Setting → List ℕ → List ℕ → Actor
 opener_of_words setting words references =
     record (adopter words references (reading_along words (head_of words) references) setting.cursors) {
@@ -51,8 +51,8 @@ abbrev pub opening_state : Opening → State
 opening_state opening =
     record { words = words_of opening; cursors = replicate opening.setting.cursors QUEUE; actors = opener_for opening ∷ [] }
 
--- Blocks open segments, and are those of a segment that is opened so: their words are the ones that it is opened with, and its header says
--- what it is opened as.
+-- These blocks may open a segment, and are those of one with this opening: their words are the ones that it is opened with, and its header
+-- has the version, the id and the full flag of its setting, and no corrupt flag.
 pub record IsOpenedAs (opening : Opening) (opened : Anatomy) : Type 0 where
   pub opens : IsOpening opening.setting.shape opened
   pub words : (opening_of opening.setting.shape opened).words ≡ words_of opening
@@ -61,7 +61,7 @@ pub record IsOpenedAs (opening : Opening) (opened : Anatomy) : Type 0 where
   pub intact : opened.corrupt ≡ false
   pub full : opened.full ≡ opening.setting.full
 
--- the words are those of a kept state, in which its opener stands alone
+-- the words are those of a kept state, in which the opener is the only actor
 pub record IsKeptOpening (opening : Opening) : Type 0 where
   pub opened : Anatomy
   pub as_said : IsOpenedAs opening opened
@@ -70,19 +70,19 @@ pub record IsKeptOpening (opening : Opening) : Type 0 where
 
 -- ---- from then on
 
--- what holds of its table: the words and the views are those of a state that is kept, of a segment that was opened so
+-- what holds for its table: the words and the views are those of a kept state of a segment with this opening
 pub record Runs (opening : Opening) (s : table.State Announcement Actor) : Type 0 where
   pub opened : Anatomy
   pub as_said : IsOpenedAs opening opened
   pub running : Running Announcement opening.setting.shape opened s
 
--- an actor is one of the segment
+-- an actor is one of a segment with this setting
 pub record IsOf (setting : Setting) (a : Actor) : Type 0 where
   pub shape : a.segment.shape ≡ setting.shape
   pub version : a.segment.version ≡ setting.version
   pub cursors : a.segment.cursors ≡ setting.cursors
 
--- the words of a closed segment that was opened so: those of a kept state, in which its opener has done and seen this
+-- the words of a closed segment with this opening: those of a kept state, in which its opener has done and seen this
 pub record Closes (opening : Opening) (opener : Actor) (words : List ℕ) : Type 0 where
   pub state : State
   pub words_are : words ≡ state.words

@@ -1,4 +1,4 @@
--- The states of a segment in which calls end: what is true in one of them is true of the segment, and not of what a recorder has seen alone.
+-- The states of a segment in which calls end: what is true in one of them is true of the segment, and not only of what a recorder has seen.
 use Rattle.std.specs.Prelude.{◌≡◌, ℕ, ◌+◌, ◌<◌, List, [], ◌++◌, slice_index, IsPermutation, Option, Some, None, false}
 use mathlib.Core.Option.{some}
 use lib.ListN.{get_elem?}
@@ -20,8 +20,8 @@ use Rattle.live_segment.specs.declared.rule.Opening.{Opening}
 use Rattle.live_segment.specs.Rule.{IsOpenedAs}
 use Rattle.live_segment.specs.Steps.{Sat}
 
--- A state of a segment that was opened so. It keeps what holds between any two events, so it is consistent; and who has the seat of this
--- number has done and seen this in it.
+-- A state of a segment with this opening. It keeps what holds between any two events, so it is consistent; and in it the holder of the seat
+-- of this number has done and seen this.
 pub record Standing (opening : Opening) (number : ℕ) (a : Actor) : Type 0 where
   pub opened : Anatomy
   pub as_said : IsOpenedAs opening opened
@@ -29,7 +29,7 @@ pub record Standing (opening : Opening) (number : ℕ) (a : Actor) : Type 0 wher
   pub kept : Invariant opening.setting.shape opened state
   pub stands : get_elem? state.actors number ≡ some a
 
--- a step changes nothing, and its seat stands in such a state
+-- a step changes nothing, and its seat is in such a state
 abbrev pub StandsStill : Option Opening → ℕ → Sat → ℕ → Sat → Type 0
 StandsStill place number me found me' =
     (me'.0 ≡ me.0) × (me'.1 ≡ me.1) × ((opening : Opening) → place ≡ Some opening → Standing opening number me'.0)
@@ -52,8 +52,8 @@ pub record HasFirst (opening : Opening) (number : ℕ) (a : Actor) (known : Know
   pub first : IsHistogram standing.state.words records known.name known.reference
   pub same : SameSpec (spec_of standing.state.words known.reference) known.spec
 
--- In such a state a shared cursor gave all recorders together a front of the list, each record once, and stands behind it; and each recorder
--- what it gave that one in the order of the list. Where it has just returned none, that front is all of the list.
+-- In such a state a shared cursor gave all recorders together a front of the list, each record once, and is at the end of that front; what
+-- it gave one recorder is in the order of the list. If it has just returned none, that front is all of the list.
 pub record HasShared (opening : Opening) (number : ℕ) (a : Actor) (cursor : ℕ) (answer : Option ℕ) : Type 0 where
   pub standing : Standing opening number a
   pub front : List ℕ

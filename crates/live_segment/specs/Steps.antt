@@ -39,11 +39,11 @@ IsSame old new = (new.table_id ≡ old.table_id) × (new.id ≡ old.id) × (new.
 abbrev pub Does : Event → Sat → ℕ → Sat → Type 0
 Does event me found me' = GhostNoted [] event (λ found. []) me found me'
 
--- the same, where the step's word says where the event happens
+-- the same for an event at the place that the step's word gives
 abbrev pub DoesAt : (ℕ → Event) → ℕ → Sat → ℕ → Sat → Type 0
 DoesAt event word me found me' = (at : ℕ) → word ≡ spot me.0.segment.shape.size (event at) + 1 → Does (event at) me found me'
 
--- the free pointer is exchanged, for a block that is said to want so many words
+-- the free pointer is exchanged, for a block that needs as many words as announced
 abbrev pub Raises : Step Announcement → Sat → ℕ → Sat → Type 0
 Raises st me found me' = (words : ℕ) → st.said ≡ some (Wanted words) → Does (allocating_event (exchange_free st.first st.second words)) me found me'
 
@@ -55,7 +55,7 @@ pub record Stepped (old : Pass) (event : Event) (found : ℕ) (new : Pass) : Typ
 
 -- ---- seats
 
--- an opener has said how many units its next recorder is to have
+-- an opener has announced how many units its next recorder is to have
 abbrev pub Offers : Step Announcement → Sat → ℕ → Sat → Type 0
 Offers st me found me' = (units : ℕ) → st.said ≡ some (Units units) → (me'.0 ≡ offering me.0 units) × (me'.1 ≡ me.1)
 
@@ -63,12 +63,12 @@ Offers st me found me' = (units : ℕ) → st.said ≡ some (Units units) → (m
 abbrev pub Bounds : Step Announcement → Sat → ℕ → Sat → Type 0
 Bounds st me found me' = (me'.0 ≡ me.0) × (me'.1 ≡ me.1) × (me.0.units.share ≤ 4294967295)
 
--- why there is no recorder with so many units, in order
+-- why there is no recorder with this many units, in order
 abbrev pub recorder_checks : Actor → ℕ → List (Bool × Refusal)
 recorder_checks opener units = (nat_lt opener.units.share units, NoUnits) ∷ (outstanding_of opener.role == 256, TooMany) ∷ []
 
--- A recorder is in no call. It holds no free pointer, no single word and no counts of a histogram: a call continues with those alone that it
--- has loaded itself.
+-- A recorder is in no call. It holds no free pointer, no single word and no counts of a histogram: a call uses only those that it has
+-- loaded itself.
 pub record IsAtRest (a : Actor) : Type 0 where
   pub recorder : is_opener a.role ≡ false
   pub free : is_bound a.hand.place ≡ false
@@ -78,6 +78,6 @@ pub record IsAtRest (a : Actor) : Type 0 where
   pub takes : a.deltas.taking ≡ false
   pub owes : a.answers.owed ≡ []
 
--- an opener that may take in a recorder that stands beside it
+-- an opener that may join a recorder, which is in no call
 abbrev pub Joinable : Actor → Actor → Type 0
 Joinable opener recorder = (opener.hand.place ≡ Idle) × (is_opener opener.role ≡ true) × IsAtRest recorder

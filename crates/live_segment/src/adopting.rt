@@ -50,10 +50,10 @@ impl Segment {
     /// Returns a segment that continues from the words of an image, of its shape, version, id and full flag, and its
     /// opener. The segment is opened with these words, and its opener stands for all that they read as along their
     /// list: it has accepted the image's entries and spent the units that it used, and knows its histograms, their
-    /// redundant counts and what deltas had taken of them. Or the first fault, in the order of [`AdoptFault`], which
-    /// holds where none before it does; or `NoMemory`, also where memory ran out before all was looked at [answer].
+    /// redundant counts and what deltas had taken of them. Or the first fault, in the order of [`AdoptFault`]: one that
+    /// holds while none before it does; or `NoMemory`, also if memory ran out before all was looked at [answer].
     ///
-    /// - `words`: those of an image of version 2. They are only lent, and may be any.
+    /// - `words`: those of an image of version 2. They are only borrowed, and may be any: they are checked first.
     /// - `cursors`: how many cursors along the list the recorders share, as for [`Segment::create`].
     pub fn adopt(
         alloc: Global,
@@ -65,8 +65,8 @@ impl Segment {
         Segment::adopt_in(alloc, Memory::of_heap(alloc), words, cursors)
     }
 
-    /// The same [answer], with its words in this memory, as those of [`Segment::create_in`] are. The image is not in
-    /// it.
+    /// The same [answer], with the segment's words in this memory, as those of [`Segment::create_in`] are. The image is
+    /// not in that memory.
     pub fn adopt_in(
         alloc: Global,
         memory: Memory,
@@ -80,8 +80,8 @@ impl Segment {
         Ok(made)
     }
 
-    // The segment that continues with the words of an image that may be adopted, and its opener, which has all units but those that the image
-    // has used.
+    // The segment that continues from the words of an image that may be adopted, and its opener, which has all units
+    // except those that the image has used.
     fn adopted(
         alloc: Global,
         memory: Memory,

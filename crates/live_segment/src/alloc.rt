@@ -19,10 +19,10 @@ impl Segment {
     ghost use Rattle.live_segment.specs.Steps.{IsSame};
     ghost use Rattle.live_segment.specs.Add.Refusal.{MayGiveUp};
 
-    /// Claims a block of a type with so many words, its header among them, or up to four more.
+    /// Claims a block of a type, of `size` words with its header, or up to four more.
     ///
-    /// `Corrupt` where the corrupt flag was loaded, `Full` where the words pass the end of the segment: a call that counts ends
-    /// with that.
+    /// `Corrupt` if the loaded flags have the corrupt one, `Full` if the words pass the end of the segment: a call that
+    /// counts ends with that.
     pub(crate) fn allocate(&self, seat: &mut Pass, size: u64, tag: u64) -> Result<u64, Refusal>
         requires seat { IsSeated self.now seat.old }
         requires free { is_bound seat.old.me.0.hand.place ≡ false }
@@ -53,8 +53,8 @@ impl Segment {
         }
     }
 
-    // Takes the words from a free pointer to the next for a block of a type, which wants so many of them; false where another recorder
-    // was first.
+    // Takes the words from a free pointer to the next for a block of a type that needs `words` of them; false if
+    // another recorder was first.
     fn claim(&self, seat: &mut Pass, free: u64, next: u64, words: u64, tag: u64) -> bool
         requires may { MayStep self.now seat.old (allocating_event (exchange_free free next words)) }
         requires enough { words ≤ next - free }
@@ -73,7 +73,8 @@ impl Segment {
         true
     }
 
-    // Gives up the rest of a page, from a free pointer to the next, which is too short for a block that wants so many words.
+    // Gives up the rest of a page, from a free pointer to the next, which is too short for a block that needs `words`
+    // words.
     fn waste(&self, seat: &mut Pass, free: u64, next: u64, words: u64)
         requires may { MayStep self.now seat.old (allocating_event (exchange_free free next words)) }
         requires short { next - free < words }

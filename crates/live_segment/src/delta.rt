@@ -12,7 +12,7 @@ impl Segment {
     ghost use Rattle.std.specs.Prelude.{◌≡◌, ◌+◌, ◌≤◌, [], length, vec_capacity, IfSome, MatchOption};
     ghost use Rattle.live_segment.specs.Delta.Prelude.{Actor, AreFewKeys, AreMostKeys, AreOwn, HasTaken, HasTakenSum, HoldsKeys, IsAtRest, IsSame, IsSeated, known_view, KnowsRight, MayTakeSum, NoRepeats, opened_with, SamplesStandBehind, Setting, Sparse, Standing};
 
-    // The delta takes what is new of the sum, once it has taken of all buckets or of all samples, and ends.
+    // The delta takes what is new of the sum, after all buckets or all samples, and ends.
     fn take_sum(&self, seat: &mut Pass, histogram: &KnownHistogram) -> i64
         requires may { MayTakeSum self.now (known_view histogram.now) seat.old }
         requires room { histogram.now.reference + 15 ≤ self.now.setting.shape.size }
@@ -42,7 +42,8 @@ impl Segment {
         }
     }
 
-    // How many keys are listed of a histogram at most: its samples, where an index has all of them, or else as many as it may have.
+    // How many keys are listed of a histogram at most: its samples if an index has all of them, or else as many as it
+    // may have.
     pub(crate) fn most_keys(&self, histogram: &KnownHistogram, samples: Option<&[u64]>) -> usize
         requires right { (setting : Setting) × (a : Actor) × KnowsRight setting a histogram.now }
         ensures { MatchOption samples.entry (HoldsKeys self.now (known_view histogram.now) result) (λ own. length own.now ≤ result) }

@@ -1,4 +1,4 @@
-//! The list of records: what is put on it, who walks along it, and whom its records are given to.
+//! The list of records: what is put on it, who walks along it, and who is given its records.
 
 pub(crate) mod index;
 pub(crate) mod keys;

@@ -9,7 +9,7 @@ use segment_looks::{LookFault, compose};
 use std::alloc::{AllocError, Global};
 
 impl Segment {
-    // A copy of the words, each loaded once. What it has of them is not said.
+    // A copy of the words, each loaded once. No clause says which numbers were loaded.
     fn copy_words(&self, alloc: Global) -> Result<Vec<u64>, AllocError>
         ensures { IfOk result (λ words. length words.items ≡ self.now.setting.shape.size) }
     {
@@ -21,8 +21,8 @@ impl Segment {
         Ok(words)
     }
 
-    /// Returns a look at the segment: the image that three copies of its words give, which are taken one after the other
-    /// while other threads record. It takes no recorder and no units, and disturbs none.
+    /// Returns a look at the segment: the image that three copies of its words give, taken one after the other while
+    /// other threads record. It takes no recorder and no units, and disturbs none.
     ///
     /// Of some three copies it returns what [`segment_looks::compose`] does: the image, or the first fault, which is
     /// `OldVersion` for a segment of version 1; or `NoMemory` comes. Each copy has one loaded number for each word.

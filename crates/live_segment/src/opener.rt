@@ -1,4 +1,4 @@
-//! Who makes recorders and takes them back.
+//! The opener, which makes recorders and takes them back.
 
 ghost use Rattle.std.specs.Prelude.{◌≡◌, ◌≤◌, true, []};
 ghost use Rattle.segment_machine.specs.declared.place.Place.TheVariants.{Idle};
@@ -20,7 +20,7 @@ pub struct Opener {
     // For the lists of its recorders.
     alloc: Global,
     seat: Pass,
-    // Those that no recorder has.
+    // The units that no recorder has.
     units: u32,
     outstanding: u32,
     ghost opens: { (seat.id ≡ 0) × (is_opener seat.me.0.role ≡ true) × (seat.me.0.hand.place ≡ Idle) × (outstanding_of seat.me.0.role ≤ 256) },
@@ -73,13 +73,13 @@ impl Opener {
         self.outstanding
     }
 
-    /// Makes a recorder with so many units, which may be 0. It may move to another thread. The opener was made with
+    /// Makes a recorder with this many units, which may be 0. It may move to another thread. The opener was made with
     /// the segment, and stays that of the segment [made].
     ///
-    /// The units are the opener's no more [mine]. The recorder has done nothing, knows no histogram, and has seen
-    /// what the opener has [theirs]. It records into the segment [into]. `NoUnits` where the opener has fewer, then
-    /// `TooMany` where 256 recorders are not joined, only for these causes; then the opener is unchanged [theirs,
-    /// mine]. It takes no memory.
+    /// The opener has these units no longer [mine]. The recorder has done nothing, knows no histogram, and has seen
+    /// what the opener has [theirs]. It records into the segment [into]. `NoUnits` if the opener has fewer, then
+    /// `TooMany` if 256 recorders are not joined, only for these causes; then the opener is unchanged [theirs, mine].
+    /// It takes no memory.
     pub fn recorder<'a>(
         &mut self,
         segment: &'a Segment,
@@ -95,8 +95,8 @@ impl Opener {
         Ok(Recorder { segment, state })
     }
 
-    /// The same, for a caller that keeps the segment itself: the opener stays that of the segment [made] and has
-    /// these units no more, or is unchanged [mine]; the state is that of a recorder of the segment [at] that has done
+    /// The same, for a caller that keeps the segment itself: the opener stays that of the segment [made] and has these
+    /// units no longer, or is unchanged [mine]; the state is that of a recorder of the segment [at] that has done
     /// nothing, or the first cause is returned [theirs].
     pub fn recorder_state(
         &mut self,
@@ -122,7 +122,7 @@ impl Opener {
         Ok(RecorderState::new(self.alloc, segment, seat, units))
     }
 
-    // A purse with so many of its units, or why there is none.
+    // A purse with this many of its units, or why there is none.
     fn fill_purse(&mut self, segment: &Segment, units: u32) -> Result<Pass, Refusal>
         requires { self.old.seat.table_id ≡ segment.now.table.shared.table_id }
         ensures mine { MatchResult result (λ _. IsSameOpener self.old self.new × (view_of_opener self.new ≡ giver (view_of_opener self.old) units)) (λ _. self.new ≡ self.old) }
@@ -138,14 +138,14 @@ impl Opener {
         Ok(filled)
     }
 
-    /// Lends a recorder of the same segment so many units more, which may be 0, while it runs, however many recorders
+    /// Lends a recorder of the same segment this many more units, which may be 0, while it runs, however many recorders
     /// are not joined.
     ///
-    /// The opener has so many fewer [mine] and the recorder so many more, and nothing else that either has done and
+    /// The opener has as many fewer [mine] and the recorder as many more, and nothing else that either has done and
     /// seen has changed; the recorder records into the same segment [kept] and knows the same histograms at their
-    /// places [theirs]. `NoUnits` comes exactly where the opener has fewer [why]; then both are unchanged [mine,
-    /// theirs]. The recorder is still one of the opener's segment [of], and the opener that of its segment [made]. It
-    /// takes no memory and no lock, and makes the same few steps each time.
+    /// places [theirs]. `NoUnits` comes exactly if the opener has fewer [why]; then both are unchanged [mine, theirs].
+    /// The recorder is still one of the opener's segment [of], and the opener that of its segment [made]. It takes no
+    /// memory and no lock, and makes the same few steps each time.
     pub fn lend(&mut self, recorder: &mut Recorder, units: u32) -> Result<(), Refusal>
         requires { IsRecorderOf recorder.old self.old }
         ensures kept { recorder.new.segment ≡ recorder.old.segment }
@@ -160,10 +160,10 @@ impl Opener {
         Ok(())
     }
 
-    /// The same, for a caller that keeps the segment itself: the state is still that of a recorder at the segment
-    /// [at]. The opener has so many units fewer [mine] and the state so many more [theirs]; `NoUnits` comes exactly
-    /// where the opener has fewer, and then both are unchanged [why, mine, theirs]. The state is still one of the
-    /// opener's segment [of], and the opener that of its segment [made].
+    /// The same, for a caller that keeps the segment itself: the state is still that of a recorder at the segment [at].
+    /// The opener has this many fewer units [mine] and the state as many more [theirs]; `NoUnits` comes exactly if the
+    /// opener has fewer, and then both are unchanged [why, mine, theirs]. The state is still one of the opener's
+    /// segment [of], and the opener that of its segment [made].
     pub fn lend_state(
         &mut self,
         segment: &Segment,

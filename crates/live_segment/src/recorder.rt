@@ -157,37 +157,37 @@ impl<'a> Recorder<'a> {
         self.state.spec(histogram)
     }
 
-    /// Returns the histogram of a name: that of the first record of the name on the list, which is made where there
-    /// is none. The recorder records into the same segment [kept], and each histogram that it knew it knows at the
+    /// Returns the histogram of a name: that of the first record of the name on the list, which is made if there is
+    /// none. The recorder records into the same segment [kept], and still knows each histogram that it knew, at the
     /// same place [same].
     ///
-    /// On `Ok` it knows the histogram, which has that name and the same spec [named]. It knew that one before, and
-    /// nothing has happened. Or it knew none of the name: then it has come to know the first record of the name on
-    /// the list, whose spec it saw to be the same, after what it knew [answer]. In a kept state of the segment, in
+    /// On `Ok` it knows the histogram, which has that name and the same spec [named]. Either it knew that one before,
+    /// and nothing has happened; or it knew none of the name, and has come to know, after what it knew, the first
+    /// record of the name on the list, whose spec it saw to be the same [answer]. In a kept state of the segment, in
     /// which the recorder's seat has done and seen what it has, that histogram is the first of its name on the whole
     /// list, and has the same spec there [first].
     ///
-    /// `BadName`, then `BadSpec`, then `TooLarge` where its record or its counts do not fit in a page, and `NoMemory`
-    /// come before anything has happened; `NoMemory` only where it knew no histogram of the name, or one with another
-    /// spec. `OtherSpec`: the histogram of the name that it knew has another spec, or the first record of the name
-    /// has; a record that was made for this one stays on the list unused. `Corrupt` or `Full`: the call has found the
-    /// end of the list after the last record that it has seen there, each of these records has another name, and no
-    /// block could be claimed, as for [`Recorder::add`]. After a refusal it knows what it knew. Beyond that it has
-    /// only seen more of the segment, claimed blocks, published a record or, unless it returned `Ok`, set the full
-    /// flag. Each rise of the free pointer that a refused call made wasted the rest of a page that is too short for
-    /// the block that it needs [answer].
+    /// `BadName`, then `BadSpec`, then `TooLarge` if its record or its counts do not fit in a page, and `NoMemory` come
+    /// before anything has happened; `NoMemory` only if it knew no histogram of the name, or one with another spec.
+    /// `OtherSpec`: the histogram of the name that it knew has another spec, or the first record of the name has; a
+    /// record that was made for this one stays on the list unused. `Corrupt` or `Full`: the call has found the end of
+    /// the list after the last record that it has seen there, each of these records has another name, and no block
+    /// could be claimed, as for [`Recorder::add`]. After a refusal it knows what it knew. Beyond that it has only seen
+    /// more of the segment, claimed blocks, published a record or, unless it returned `Ok`, set the full flag. Each
+    /// rise of the free pointer that a refused call made wasted the rest of a page that is too short for the block that
+    /// it needs [answer].
     ///
-    /// On `Ok`, and on `OtherSpec`, it has claimed and published nothing; or it has claimed one block, of the words
-    /// of the record or up to four more, and that is the one record that it published, of the name and the spec. It
-    /// made it where the list has none of the name: the records that it had visited, all that it had seen of the list
-    /// before the call among them, were all of the list when the call loaded the end of that, and none of them has
-    /// the name. It raises the free pointer only for that block, as [`Recorder::add`] does for its own. The full flag
-    /// is unchanged [claims].
+    /// On `Ok`, and on `OtherSpec`, it has claimed and published nothing; or it has claimed one block, of the words of
+    /// the record or up to four more, and that is the one record that it published, of the name and the spec. It made
+    /// the record when the list had none of the name: the records that it had visited, among them all that it had seen
+    /// of the list before the call, were all of the list when the call loaded its end, and none of them has the name.
+    /// It raises the free pointer only for that block, as [`Recorder::add`] does for its own. The full flag is
+    /// unchanged [claims].
     ///
     /// A histogram that it knows with the same spec takes no memory. Else it asks for memory for the name, the values
-    /// of a custom spec, the boundaries of the buckets and the words of a record, and where the list of the
-    /// histograms that it knows is full, for one twice as long. It also lets its indexes of names grow: where memory
-    /// runs out for that, later calls walk and search further.
+    /// of a custom spec, the boundaries of the buckets and the words of a record, and if the list of the histograms
+    /// that it knows is full, for one twice as long. It also lets its indexes of names grow: if memory runs out for
+    /// that, later calls walk and search further.
     pub fn hist(&mut self, name: &[u8], spec: &Spec) -> Result<Hist, Refusal>
         ensures kept { self.new.segment ≡ self.old.segment }
         ensures same { KnowsOn self.old.state self.new.state }
@@ -200,15 +200,15 @@ impl<'a> Recorder<'a> {
     }
 
     /// Returns the histogram of the record that begins at a reference, as `records`, `fresh_records` and `next_shared`
-    /// give them, without a name. The recorder records into the same segment [kept], and each histogram that it knew it
-    /// knows at the same place [same].
+    /// give them, without a name. The recorder records into the same segment [kept], and still knows each histogram
+    /// that it knew, at the same place [same].
     ///
     /// On `Some` it knows the histogram of that record. It knew it before; or it has come to know it now, as by `hist`
-    /// with the name and the spec of the record, and has claimed and published nothing. `None`: the record is not on the
-    /// list, whose end it has found since; it is none of a histogram; it has no name or no spec that may be asked for; or
-    /// it is not the first of its name: that one is an earlier record or has another spec, or other bytes than zeros
-    /// follow the name. `NoMemory` may come after loads. Beyond that it has only looked along the list and read the
-    /// record [answer].
+    /// with the name and the spec of the record, and has claimed and published nothing. `None`: the record is not on
+    /// the list, whose end it has found since; it is not one of a histogram; it has no name or no spec that may be
+    /// asked for; or it is not the first of its name: that one is an earlier record or has another spec, or other bytes
+    /// than zeros follow the name. `NoMemory` may come after loads. Beyond that it has only looked along the list and
+    /// read the record [answer].
     pub fn open(&mut self, reference: u64) -> Result<Option<Hist>, Refusal>
         ensures kept { self.new.segment ≡ self.old.segment }
         ensures same { KnowsOn self.old.state self.new.state }
@@ -217,36 +217,36 @@ impl<'a> Recorder<'a> {
         self.state.open(self.segment, reference)
     }
 
-    /// Adds a sample: so many units of a value of a histogram that it knows. It records into the same segment [kept]
+    /// Adds a sample: `count` units of a value of a histogram that it knows. It records into the same segment [kept]
     /// and knows the same histograms [same].
     ///
-    /// `ZeroCount` where there are none, then `NoUnits` where the share has fewer, only for these causes, and nothing
-    /// has happened. `Ok`: the one entry of the sample is at the end of the log, with the key of the value's bucket,
-    /// or with the value if the histogram is sparse. The count was taken from the share and is spent for the
-    /// histogram's name. `Corrupt` or `Full`: a block was needed for the sample and none could be claimed. Log and
-    /// share are unchanged then, and the recorder has come to no count, mark or redundant count. What its calls
-    /// returned, took and were given is unchanged in any case, and it has seen and done no less [answer].
+    /// `ZeroCount` if `count` is 0, then `NoUnits` if the share has fewer, only for these causes, and nothing has
+    /// happened. `Ok`: the one entry of the sample is at the end of the log, with the key of the value's bucket, or
+    /// with the value if the histogram is sparse. The count was taken from the share and is spent for the histogram's
+    /// name. `Corrupt` or `Full`: a block was needed for the sample and none could be claimed. Log and share are
+    /// unchanged then, and the recorder has come to no count, mark or redundant count. What its calls returned, took
+    /// and were given is unchanged in any case, and it has seen and done no less [answer].
     ///
-    /// - A block was needed: with buckets, the call has loaded a single word that could not take the units and a
-    ///   counts reference of 0, and the recorder has met no counts. Sparse, the call has found the end of the list
-    ///   after the last record that the recorder has seen there, and none of these records after the histogram's is a
-    ///   sample of the value.
+    /// - A block was needed: with buckets, the call has loaded a single word that could not take the units and a counts
+    ///   reference of 0, and the recorder has seen no counts. Sparse, the call has found the end of the list after the
+    ///   last record that the recorder has seen there, and none of these records after the histogram's is a sample of
+    ///   the value.
     /// - None could be claimed: for `Full`, the words that it needs pass the end of the segment from the free pointer
     ///   that the call loaded last, and for that it has set the full flag. For `Corrupt`, the call has loaded flags
     ///   with the corrupt one. What an earlier call saw or set is no cause: between two calls a recorder holds no
     ///   free pointer. The call has claimed and published nothing, and each rise of the free pointer that it made
     ///   wasted the rest of a page that is too short for these words.
     ///
-    /// On `Ok` it has claimed and published nothing, and has not raised the free pointer; or it has claimed one
-    /// block, of the words that it needs or up to four more, and each rise before the one of that block wasted the
-    /// rest of a page that is too short for these words. The full flag is unchanged. With buckets the block is for
-    /// counts, the recorder had met none before the call, the call has loaded a counts reference of 0, and it
-    /// publishes nothing. The only other counts reference that the call saw is that block's; or another recorder's,
-    /// which was first, and the block was purged. So a call that found counts claims none. Sparse, the block is the
-    /// one record that it published, the sample of the value: the records that it had visited were all of the list
-    /// when the call loaded the end of that, and none of those after the histogram's is such a sample [claims].
+    /// On `Ok` it has claimed and published nothing, and has not raised the free pointer; or it has claimed one block,
+    /// of the words that it needs or up to four more, and each rise before the one of that block wasted the rest of a
+    /// page that is too short for these words. The full flag is unchanged. With buckets the block is for counts, the
+    /// recorder had seen none before the call, the call has loaded a counts reference of 0, and it publishes nothing.
+    /// The only other counts reference that the call saw is that block's; or another recorder's, which was first, and
+    /// the block was purged. So a call that found counts claims none. Sparse, the block is the one record that it
+    /// published, the sample of the value: the records that it had visited were all of the list when the call loaded
+    /// its end, and none of those after the histogram's is such a sample [claims].
     ///
-    /// It asks for no memory, but for its index of the samples of sparse histograms, which it lets grow: where memory
+    /// It asks for no memory, except for its index of the samples of sparse histograms, which it lets grow: if memory
     /// runs out for that, it walks along the list, and so do later calls.
     // Inlined with the calls on its way: what a call keeps in memory, the next atomic step waits for.
     #[inline(always)]
@@ -264,14 +264,13 @@ impl<'a> Recorder<'a> {
     /// the sum. The batch costs as many units as the items have, or ceil(|sum| / 2^31) if that is more. The recorder
     /// records into the same segment [kept] and knows the same histograms [same].
     ///
-    /// `ZeroCount` where an item has no units, then `NoUnits` where the share has fewer than the batch costs, only
-    /// for these causes, with no item counted and the recorder unchanged. `Ok`: an entry of amount 0 for each item,
-    /// in order, and after them one of no units for the sum, unless that is 0, are at the end of the log. The cost is
-    /// taken from the share. An empty batch with sum 0 does nothing. `Full` or `Corrupt`: the items before one are in
-    /// the log, as many as the refusal says, their units are taken, and the sum is not added. That one needed a
-    /// block, and none could be claimed, as for [`Recorder::add`]: since the items before it were counted, the call
-    /// has loaded what an `add` has, and has claimed and published nothing; the items before it have claimed as on
-    /// `Ok` [answer].
+    /// `ZeroCount` if an item has no units, then `NoUnits` if the share has fewer than the batch costs, only for these
+    /// causes, with no item counted and the recorder unchanged. `Ok`: an entry of amount 0 for each item, in order, and
+    /// after them one of no units for the sum, unless that is 0, are at the end of the log. The cost is taken from the
+    /// share. An empty batch with sum 0 does nothing. `Full` or `Corrupt`: the items before one are in the log, as many
+    /// as the refusal says, their units are taken, and the sum is not added. That one needed a block, and none could be
+    /// claimed, as for [`Recorder::add`]: since the items before it were counted, the call has loaded what an `add`
+    /// has, and has claimed and published nothing; the items before it have claimed as on `Ok` [answer].
     ///
     /// On `Ok` it has claimed for each item, in order, what an `add` may claim, and nothing after: for an item that
     /// claims a block the call has found a counts reference of 0, or the end of the list, after the items before.
@@ -295,22 +294,22 @@ impl<'a> Recorder<'a> {
     /// what is new of the sum. The recorder records into the same segment [kept] and knows the same histograms
     /// [same].
     ///
-    /// `Ok`: of each bucket, or of each sample that it visited on the list, it has taken all that it saw since the
-    /// call began, and of the sum too. That comes after what its deltas took before. The result has the keys with
-    /// units alone, each once and ascending, with as many units as were taken. Nothing else has changed, but that the
-    /// recorder has seen more. Or `NoMemory`: then the recorder is unchanged; or the histogram is sparse, nothing was
-    /// taken, and the recorder may have seen more of the list and of the words of its records [taken]. There are no
-    /// more keys than [`Recorder::most_keys`] says [few].
+    /// `Ok`: it has taken all that it saw since the call began, of each bucket, or of each sample that it visited on
+    /// the list, and of the sum. That comes after what its deltas took before. The result has only keys with units,
+    /// each once and ascending, with as many units as were taken. Nothing else has changed, except that the recorder
+    /// has seen more. Or `NoMemory`: then the recorder is unchanged; or the histogram is sparse, nothing was taken, and
+    /// the recorder may have seen more of the list and of the words of its records [taken]. There are no more keys than
+    /// [`Recorder::most_keys`] says [few].
     ///
     /// All deltas of all recorders together have then taken enough, in a kept state of the segment, in which the
-    /// recorder's seat has done and seen what it has: of each key at least what it had accepted before, or was
-    /// accepted before it was made, what it had seen in a single word, and each count that it had seen; in version 2
-    /// a count and a single word together. One exception: in version 1, of the packed bucket, if the call found the
-    /// single word off, at least each count that it had seen, and no more is said [owed].
+    /// recorder's seat has done and seen what it has: for each key at least what it had accepted before, or was
+    /// accepted before it was made, what it had seen in a single word, and each count that it had seen; in version 2 a
+    /// count and a single word together. One exception, in version 1: for the packed bucket, if the call found the
+    /// single word off, at least each count that it had seen, and no more is promised [owed].
     ///
-    /// It asks for memory for as many keys as the histogram may have, of 16 bytes each: its buckets, or its samples
-    /// on the list; and for its index of the samples of sparse histograms, which it lets grow: where memory runs out
-    /// for that, it asks for as many keys as there may be samples in the segment, and walks along the list.
+    /// It asks for memory for as many keys as the histogram may have, of 16 bytes each: its buckets, or its samples on
+    /// the list; and for its index of the samples of sparse histograms, which it lets grow: if memory runs out for
+    /// that, it asks for as many keys as there may be samples in the segment, and walks along the list.
     pub fn delta(&mut self, histogram: Hist) -> Result<Delta, Refusal>
         requires { Knows self.old.state histogram }
         ensures kept { self.new.segment ≡ self.old.segment }
@@ -325,13 +324,13 @@ impl<'a> Recorder<'a> {
     /// Returns what a histogram that it knows has. The recorder records into the same segment [kept] and knows the
     /// same histograms [same].
     ///
-    /// `Ok`: what it saw since the call began: the total of each bucket in order, or of each value that has units the
+    /// `Ok`: what it saw since the call began: the total of each bucket in order, or for each value that has units the
     /// count of its first sample; the sum; and the redundant count, which it loaded last. That comes after what its
-    /// snapshots returned before. Or `NoMemory`, and what has changed is as for [`Recorder::delta`] [answer]. There
-    /// are no more keys than [`Recorder::most_keys`] says [few]. Values of a sparse histogram ascend, each once and
-    /// with units [values].
+    /// snapshots returned before. Or `NoMemory`, and what has changed is as for [`Recorder::delta`] [answer]. There are
+    /// no more keys than [`Recorder::most_keys`] says [few]. Values of a sparse histogram ascend, each once and with
+    /// units [values].
     ///
-    /// Of each key it has at least what the recorder had accepted, or seen, before, with the same exception as for
+    /// For each key it has at least what the recorder had accepted, or seen, before, with the same exception as for
     /// [`Recorder::delta`]. The redundant count is at least the units that the recorder had accepted, and each
     /// redundant count that it had seen [owed]. It asks for memory as [`Recorder::delta`] does.
     pub fn snapshot(&mut self, histogram: Hist) -> Result<Snapshot, Refusal>
@@ -358,13 +357,13 @@ impl<'a> Recorder<'a> {
     }
 
     /// Returns the references of all records of the list in its order, each once and within the segment: first those
-    /// that it had seen there, and among them each that it made, was given, or saw as the tail or where a shared
-    /// cursor stood. The call found the end of the list after the last of them. Nothing else has changed, but that a
-    /// cursor that it had loaded may be let go. Or `NoMemory`, and nothing has changed [walked]. In a kept state of
-    /// the segment, in which the recorder's seat has done and seen what it has, the list has exactly these records
-    /// [all]. The recorder records into the same segment [kept] and knows the same histograms [same].
+    /// that it had seen there, and among them each that it made, was given, or saw as the tail or where a shared cursor
+    /// was. The call found the end of the list after the last of them. Nothing else has changed, except that a cursor
+    /// that it had loaded may be let go. Or `NoMemory`, and nothing has changed [walked]. In a kept state of the
+    /// segment, in which the recorder's seat has done and seen what it has, the list has exactly these records [all].
+    /// The recorder records into the same segment [kept] and knows the same histograms [same].
     ///
-    /// It asks for memory for so many as fit in a segment, of eight bytes each, and for that alone.
+    /// It asks for memory for as many references as fit in a segment, of eight bytes each, and for nothing else.
     pub fn records(&mut self) -> Result<Vec<u64>, Refusal>
         ensures kept { self.new.segment ≡ self.old.segment }
         ensures same { IsSameRecorder self.old.state self.new.state }
@@ -379,7 +378,7 @@ impl<'a> Recorder<'a> {
     /// list. Or `NoMemory`, and nothing has changed: the next call gives them [fresh]. It records into the same
     /// segment [kept].
     ///
-    /// It asks for memory for so many as fit in a segment, of eight bytes each, and for that alone.
+    /// It asks for memory for as many references as fit in a segment, of eight bytes each, and for nothing else.
     pub fn fresh_records(&mut self) -> Result<Vec<u64>, Refusal>
         ensures kept { self.new.segment ≡ self.old.segment }
         ensures fresh { AnswersFresh self.old.state result self.new.state }
@@ -391,15 +390,15 @@ impl<'a> Recorder<'a> {
     /// to one recorder alone. The recorder records into the same segment [kept] and knows the same histograms [same].
     /// The cursor is below the number that [`Segment::create`] was given.
     ///
-    /// Some: a record within the segment, the next one on a chain after the place where the cursor stood. That chain
-    /// has all that the recorder visited, and what each cursor gave it is there in the order in which it was given.
-    /// None: the call loaded the next of the record at which it had found the cursor, and that was the end of the
-    /// list, where a chain ends that has all that the recorder visited; a later call may return a record. Before that
-    /// its exchanges may have come too late [answer]. It was given that record by this cursor, or nothing [given].
+    /// Some: a record within the segment, the next one on a chain after the place where the cursor was. That chain has
+    /// all that the recorder visited, and what each cursor gave it is there in the order in which it was given. None:
+    /// the call loaded the next of the record at which it had found the cursor, and that was the end of the list, where
+    /// a chain ends that has all that the recorder visited; a later call may return a record. Before that its exchanges
+    /// may have come too late [answer]. It was given that record by this cursor, or nothing [given].
     ///
-    /// In a kept state of the segment, in which the recorder's seat has done and seen what it has, the cursor has
-    /// given all recorders together a front of the list, each record once, and is after it; and what it gave one of
-    /// them is there in that order. Where the call returns None, this front is all of the list [shared].
+    /// In a kept state of the segment, in which the recorder's seat has done and seen what it has, the cursor has given
+    /// all recorders together a front of the list, each record once, and is after it; and what it gave one of them is
+    /// there in that order. If the call returns None, this front is all of the list [shared].
     pub fn next_shared(&mut self, cursor: usize) -> Option<u64>
         requires { cursor < (view_of_recorder self.old).segment.cursors }
         ensures kept { self.new.segment ≡ self.old.segment }

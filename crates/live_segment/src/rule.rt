@@ -1,4 +1,4 @@
-//! What holds of the words and of all who step on them.
+//! What holds for the words and for all who step on them.
 
 use atomic_table::{Seat, TableRule};
 use segment_calls::{Asked, Snapshot};
@@ -26,12 +26,12 @@ pub(crate) struct Opening {
     pub(crate) references: Vec<u64>,
 }
 
-/// What a step says that cannot be seen from its word.
+/// What a step announces that cannot be seen from its word.
 #[derive(Debug, Drop)]
 pub(crate) enum Announcement {
     /// The units that the next recorder is to have.
     Units(u32),
-    /// The words that a block wants for which the free pointer is raised.
+    /// How many words the block needs for which the free pointer is raised.
     Wanted(u64),
     /// A histogram that a record is to hold, or that a `hist` returned or was refused.
     Histogram(Asked),
@@ -45,7 +45,7 @@ impl Announcement {
     ghost use Rattle.std.specs.Prelude.{◌≡◌};
     ghost use Rattle.live_segment.specs.declared.rule.Announcement.TheVariants.{Histogram};
 
-    // What a `hist` asks for, of which this is said.
+    // What a `hist` asks for, from its announcement.
     pub(crate) fn into_asked(self) -> Asked
         requires { (asked : Asked) × (self ≡ Histogram asked) }
         ensures { self ≡ Histogram result }

@@ -1,4 +1,4 @@
-//! How seats at the table are cut in two and joined.
+//! How seats at the table are split and joined.
 
 ghost use Rattle.segment_machine.specs.Actor.{offered_of};
 ghost use Rattle.segment_machine.specs.Seats.{newcomer, parent, lender, purse, getter, joined, spent};

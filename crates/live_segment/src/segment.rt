@@ -18,7 +18,7 @@ use segment_memory::Memory;
 use std::alloc::{AllocError, Global};
 
 /// A segment whose words threads share. Word 0 of its table never changes, and the segment's words and those of the
-/// shared cursors stand behind it.
+/// shared cursors come after it.
 #[derive(Drop)]
 pub struct Segment {
     pub(crate) table: Table<Announcement, Actor, Opening, SegmentRule, Memory>,
@@ -58,26 +58,26 @@ impl Segment {
     ghost use Rattle.live_segment.specs.Steps.{IsAtRest, IsSame, Joinable};
     ghost use Rattle.live_segment.specs.Holders.{IsNew, IsOpened, IsMadeWith, opened_with, view_of_opener};
 
-    /// Returns a new segment without records, and its opener, which has all 4,294,967,295 units. Its words are those
-    /// of a blank image but for the version.
+    /// Returns a new segment without records, and its opener, which has all 4,294,967,295 units. Its words are those of
+    /// a blank image, except for the version.
     ///
-    /// - `size`: how many words of 64 bits it has, 16 of them for the header. Whole pages, 1,048,576 words at most.
-    ///   It does not grow: where a record finds no room, its call is refused as `Full`.
+    /// - `size`: how many words of 64 bits it has, 16 of them for the header. Whole pages, 1,048,576 words at most. It
+    ///   does not grow: if a record finds no room, its call is refused as `Full`.
     /// - `page`: how many words a page has. A multiple of 16, from 64 to 65,536. A block lies in one page, so a
     ///   record of more words is refused as `TooLarge`, and so are counts: a histogram of n buckets takes 4 + 2n
     ///   words for them.
-    /// - `id`: any number. It is in the header of the image, for a caller that has to tell segments apart; no call
+    /// - `id`: any number. It is in the header of the image, for a caller that has to distinguish segments; no call
     ///   looks at it.
     /// - `cursors`: how many cursors along the list the recorders share
-    ///   ([`Recorder::next_shared`](crate::Recorder::next_shared)), 0 to [`MAX_CURSORS`]. They are numbered from 0,
-    ///   and are no part of the image. 0 where no thread reads what others record.
+    ///   ([`Recorder::next_shared`](crate::Recorder::next_shared)), 0 to [`MAX_CURSORS`]. They are numbered from 0, and
+    ///   are no part of the image. Use 0 if no thread reads what others record.
     /// - `version`: which format the image has. [`VERSION_FROZEN`](crate::VERSION_FROZEN), 2, unless a reader that
     ///   knows only [`VERSION_MOVING`](crate::VERSION_MOVING), 1, is to read it. In version 1 units move out of a
     ///   packed bucket when a histogram gets counts, and those of a thread that stops in between are missing in the
     ///   image; in version 2 no unit moves.
     ///
-    /// Else the first fault is returned: `BadShape` where page, size or version is not valid, `BadCursors` where
-    /// there are to be more than eight; then `NoMemory`.
+    /// Else the first fault is returned: `BadShape` if page, size or version is not valid, `BadCursors` if there are to
+    /// be more than eight; then `NoMemory`.
     pub fn create(
         alloc: Global,
         size: u64,
@@ -99,8 +99,8 @@ impl Segment {
         )
     }
 
-    /// The same, with its words in this memory, after one more: in a room that is lent they begin at its byte 8, and
-    /// it has to have 8 bytes for each word and each cursor, and 8 more. `NoMemory` also where it has fewer.
+    /// The same, with its words in this memory, after one more word: in a room that is lent they begin at its byte 8,
+    /// and it has to have 8 bytes for each word and each cursor, and 8 more. `NoMemory` also if it has fewer.
     ///
     /// When the segment is closed or dropped, the room is with its [`Lender`](crate::Lender) again.
     pub fn create_in(
@@ -133,7 +133,7 @@ impl Segment {
         Segment::new(alloc, memory, setting).map_err(|_| OpenFault::NoMemory)
     }
 
-    // The segment that is made so.
+    // The segment that is made with this setting.
     fn new(alloc: Global, memory: Memory, setting: Setting) -> Result<(Segment, Opener), AllocError>
         requires shaped { IsShape setting.shape }
         requires few { setting.cursors ≤ 8 }
@@ -151,7 +151,7 @@ impl Segment {
         Segment::open(alloc, memory, opening, u32::MAX)
     }
 
-    // The segment that is opened so, a new one or an image's, and its opener, which has these units.
+    // The segment with this opening, a new one or that of an image, and its opener, which has these units.
     pub(crate) fn open(
         alloc: Global,
         memory: Memory,
@@ -188,22 +188,22 @@ impl Segment {
     /// If all recorders are joined:
     ///
     /// - A reading of the image has no bad record, and the list does not stop. Its names are exactly those that the
-    ///   segment was opened with and that `hist` returned, each once, with the spec of each. Of each histogram the
-    ///   units of each key and the sum are what the opener's log adds up to, which begins with what the segment was
-    ///   opened with: of a new one nothing. The redundant count is that of the opening and the units since. Marks and
-    ///   sum mark are what deltas took. The id is that of the opening. The corrupt flag is set exactly if a call has
-    ///   set it; the full one also if the segment was opened with it, which a new one is not [joined].
-    /// - After a final delta of a histogram, all deltas together took its totals and its sum. Of any delta whose
+    ///   segment was opened with and that `hist` returned, each once, with the spec of each. The units of each key and
+    ///   the sum of each histogram are what the opener's log adds up to, which begins with what the segment was opened
+    ///   with: for a new one nothing. The redundant count is that of the opening and the units since. Marks and sum
+    ///   mark are what deltas took. The id is that of the opening. The corrupt flag is set exactly if a call has set
+    ///   it; the full one also if the segment was opened with it, which a new one is not [joined].
+    /// - After a final delta of a histogram, all deltas together took its totals and its sum. For a delta whose
     ///   recorder was made when none was outstanding, and is the last that was made, the deltas up to it took exactly
     ///   what the log before it adds up to [deltas].
     /// - No bucket of any snapshot is above its total; a final snapshot has the totals, the sum and the redundant
     ///   count [snapshots].
     ///
-    /// Whether all are joined or not, the image is that of a kept state of a segment that was opened with the words
-    /// of this one, in which the opener has done and seen what it had, and its reading is as `stopped_reads` says of
-    /// that state. So words 9 to 11 and the other bits of the flags are those of the opening; and the records that
-    /// were listed then are first on the list, those of other types and the later ones of a name with the words that
-    /// they had. Each histogram that a joined recorder knows is read. Of each key the total, in version 1 with the
+    /// Whether all are joined or not, the image is that of a kept state of a segment that was opened with the words of
+    /// this one, in which the opener has done and seen what it had, and its reading is as `stopped_reads` says of that
+    /// state. So words 9 to 11 and the other bits of the flags are those of the opening; and the records that were
+    /// listed then are first on the list, also those of other types and the later ones of a name, with the words that
+    /// they had. Each histogram that a joined recorder knows is read. The total of each key, in version 1 with the
     /// units in transit, is at least what the opener's log has. All units beyond the log are at most those that were
     /// handed out and have not come back. The opener knows the redundant counts of the opening [stopped].
     pub fn close(self, opener: Opener) -> Image
@@ -280,7 +280,7 @@ impl Segment {
         self.table.shared.join_seat::<Glue>(seat, other);
     }
 
-    // A recorder's seat gets the units of a purse, and so does its count of those.
+    // A recorder's seat gets the units of a purse, and they are added to its count of units.
     pub(crate) fn pour_out(&self, seat: &mut Pass, held: &mut u32, filled: Pass, units: u32)
         requires seat { IsSeated self.now seat.old × IsAtRest seat.old.me.0 }
         requires held { held.old ≡ seat.old.me.0.units.share }

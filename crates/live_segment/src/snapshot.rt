@@ -14,7 +14,7 @@ use bucket_ranges::empty_buckets;
 use segment_calls::Snapshot;
 use std::alloc::{AllocError, Global};
 
-// The snapshot that was said to be an answer.
+// The snapshot that was announced as an answer.
 fn snapshot_said(said: Announcement) -> Snapshot
     requires { (histogram : ℕ) × (snapshot : Snapshot) × (said ≡ Answer histogram snapshot) }
     ensures { (histogram : ℕ) (snapshot : Snapshot) → said ≡ Answer histogram snapshot → result ≡ snapshot }
@@ -32,8 +32,8 @@ impl Segment {
     ghost use Rattle.std.specs.Prelude.{◌≤◌, length, IfOk, IfSome, MatchOption, ◌+◌, [], false, vec_capacity};
     ghost use Rattle.live_segment.specs.Snapshot.Prelude.{Actor, answered_as, answers, AreFewKeys, AreOwn, AreUnits, HasLookedAtAll, HasSnapshot, is_opener, IsAtRest, IsSame, IsSeated, known_view, KnowsAlone, KnowsRight, load_sum, MayNote, MayStep, NoRepeats, noted, opened_with, BeginsWithTotals, SamplesStandBehind, saw_sum, Setting, Sparse, Standing, table_of, taking_event};
 
-    // The sum of a histogram, and its redundant count, which is loaded last. No sample that was met stands before the record of its
-    // histogram.
+    // The sum of a histogram, and its redundant count, which is loaded last. No sample that was visited comes before
+    // the record of its histogram.
     fn look_at_sum(&self, seat: &mut Pass, histogram: u64) -> (i64, u64)
         requires may { MayStep self.now seat.old (taking_event (load_sum histogram)) }
         requires room { histogram + 15 ≤ self.now.setting.shape.size }
@@ -98,7 +98,8 @@ impl Segment {
         self.answer_with(seat, histogram, snapshot)
     }
 
-    // The totals with which a snapshot of a histogram begins. Where an index has all samples of a sparse one, there is room for these.
+    // The totals with which a snapshot of a histogram begins. If an index has all samples of a sparse one, there is
+    // room for these.
     pub(crate) fn opening_totals(
         &self,
         alloc: Global,

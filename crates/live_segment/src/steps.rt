@@ -1,4 +1,5 @@
-//! The steps of a recorder, one for each kind of event: a family in each file. A step is the event and nothing else.
+//! The steps of a recorder, one for each kind of event, with a family in each file. A step is the event and nothing
+//! else.
 
 pub(crate) mod allocating;
 pub(crate) mod answering;
@@ -11,5 +12,5 @@ pub(crate) mod sums;
 pub(crate) mod taking;
 pub(crate) mod walking;
 
-/// Where the first word of the segment stands in its table.
+/// Where the first word of the segment is in its table.
 pub(crate) const FIRST: usize = 1;

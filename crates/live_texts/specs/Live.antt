@@ -5,7 +5,7 @@ use Rattle.image_reader.specs.Readable.{IsReadable}
 use Rattle.live_reading.specs.declared.live_reading.LiveHistogram.{LiveHistogram}
 use Rattle.live_reading.specs.declared.live_reading.LiveReading.{LiveReading}
 
--- a histogram with this name, this spec, and what the snapshot of it saw. It has no marks, and where its record is is not known.
+-- a histogram with this name, this spec, and what the snapshot of it saw. It has no marks, and the place of its record is not known.
 abbrev pub hist_of : LiveHistogram → Histogram
 hist_of live = record {
   reference = 0;

@@ -10,7 +10,7 @@ use image_reader::HistReading;
 use reading_texts::is_sparse;
 use std::alloc::{AllocError, Global};
 
-// Whether units fit a word together.
+// Whether the sum of the units fits in a word.
 fn fit(counts: &[(i32, u64)]) -> bool
     ensures { result ≡ true ↔ (sum_by (λ count. count.1) counts.now < 2 ^ 64) }
 {
@@ -24,7 +24,7 @@ fn fit(counts: &[(i32, u64)]) -> bool
     true
 }
 
-// Whether there are so many counts, one for each bucket, where there are buckets.
+// Whether there are as many counts as buckets, if the histogram has buckets.
 fn is_one_per_bucket(alloc: Global, spec: &Spec, counts: usize) -> Result<bool, AllocError>
     ensures { IfOk result (λ is. is ≡ true ↔ ((spec_fault spec.now ≡ None) × IsOnePerBucket spec.now counts)) }
 {
@@ -43,7 +43,7 @@ fn is_readable(alloc: Global, hist: &HistReading) -> Result<bool, AllocError>
     Ok(is_whole && fit(hist.counts.as_slice()))
 }
 
-// Whether each of these histograms can.
+// Whether each of these histograms can be one of a segment.
 pub(crate) fn are_readable(alloc: Global, hists: &[HistReading]) -> Result<bool, AllocError>
     ensures { IfOk result (λ are. are ≡ true ↔ All IsReadable (map histogram_view hists.now)) }
 {

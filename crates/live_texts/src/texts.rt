@@ -18,7 +18,7 @@ use reading_shows::{Choice, ListStyle, Style, list_text, show_since_text, show_t
 use reading_texts::{Label, export_text, report_text};
 use std::alloc::{AllocError, Global};
 
-// The reading that has these histograms, or none where one is one that no segment can have.
+// The reading that has these histograms, or none if no segment can have one of them.
 fn checked(alloc: Global, live: &LiveReading) -> Result<Option<Reading>, AllocError>
     ensures { IfOk result (λ found. MatchOption found (AreReadable live.now → ⊥) (λ reading. (reading_view reading ≡ reading_of_live live.now) × All IsReadable (map histogram_view reading.hists.items))) }
 {
@@ -27,11 +27,12 @@ fn checked(alloc: Global, live: &LiveReading) -> Result<Option<Reading>, AllocEr
     Ok(if are { Some(reading) } else { None })
 }
 
-/// Returns the report of a live reading as CSV, as `reading_texts::report_text` does of an image.
+/// Returns the report of a live reading as CSV, as `reading_texts::report_text` does for an image.
 ///
-/// Where each histogram is one that a segment can have, the text is exactly that of the reading that has these names, specs,
-/// counts, sums and redundant counts, and no mark, no flag and no bad record; `None` comes only where one is not: its spec is not
-/// valid, it does not have one count for each bucket, or its units do not fit 64 bits. The one error is that memory runs out.
+/// If a segment can have each of these histograms, the text is exactly that of the reading that has these names, specs,
+/// counts, sums and redundant counts, and no mark, no flag and no bad record. `None` comes only if there is one that no
+/// segment can have: its spec is not valid, it does not have one count for each bucket, or its units together do not
+/// fit in 64 bits. The one error is that memory runs out.
 pub fn report(alloc: Global, live: &LiveReading) -> Result<Option<Vec<u8>>, AllocError>
     ensures { IfOk result (λ found. MatchOption found (AreReadable live.now → ⊥) (λ text. AreReadable live.now × IsTextOf (reading_of_live live.now) text.items)) }
 {
@@ -41,12 +42,12 @@ pub fn report(alloc: Global, live: &LiveReading) -> Result<Option<Vec<u8>>, Allo
     Ok(Some(report_text(alloc, &reading)?))
 }
 
-/// Returns the metrics of a live reading in the Prometheus text format, as `reading_texts::export_text` does of an image:
-/// their names begin with `prefix`, which is one where `reading_texts::is_prefix` says so, and all lines have these labels, which
-/// they may have where `reading_texts::are_line_labels` says so.
+/// Returns the metrics of a live reading in the Prometheus text format, as `reading_texts::export_text` does for an
+/// image: their names begin with `prefix`, and all lines have these labels. Whether these may be asked for,
+/// `reading_texts::is_prefix` and `reading_texts::are_line_labels` say.
 ///
-/// The text is exactly that of the reading that [`report`] names, and `None` comes only where it does there. The one error is that memory
-/// runs out.
+/// The text is exactly that of the reading that [`report`] names, and `None` comes only for the same causes as there.
+/// The one error is that memory runs out.
 pub fn export(
     alloc: Global,
     live: &LiveReading,
@@ -61,10 +62,10 @@ pub fn export(
     Ok(Some(export_text(alloc, &reading, prefix, line_labels)?))
 }
 
-/// Returns the text of a live reading for people, as `reading_shows::show_text` does of an image.
+/// Returns the text of a live reading for people, as `reading_shows::show_text` does for an image.
 ///
-/// The text is exactly that of the reading that [`report`] names, and `None` comes only where it does there. The one error is that memory
-/// runs out.
+/// The text is exactly that of the reading that [`report`] names, and `None` comes only for the same causes as there.
+/// The one error is that memory runs out.
 pub fn show(
     alloc: Global,
     live: &LiveReading,
@@ -79,11 +80,11 @@ pub fn show(
     Ok(Some(show_text(alloc, &reading, style, choice)?))
 }
 
-/// Returns the same text, which tells too what came since an earlier live reading, as `reading_shows::show_since_text` does of
+/// Returns the same text, with what came since an earlier live reading, as `reading_shows::show_since_text` does for
 /// images.
 ///
-/// The text is exactly that of the readings that [`report`] names of the two, and `None` comes only where it does there; nothing is
-/// asked of the earlier one. The one error is that memory runs out.
+/// The text is exactly that of the readings that [`report`] names for the two, and `None` comes only for the same
+/// causes as there, in the later one; the earlier one may be any. The one error is that memory runs out.
 pub fn show_since(
     alloc: Global,
     live: &LiveReading,
@@ -101,10 +102,10 @@ pub fn show_since(
     Ok(Some(text))
 }
 
-/// Returns a line for each of the chosen histograms of a live reading, as `reading_shows::list_text` does of an image.
+/// Returns a line for each of the chosen histograms of a live reading, as `reading_shows::list_text` does for an image.
 ///
-/// The text is exactly that of the reading that [`report`] names, and `None` comes only where it does there. The one error is that memory
-/// runs out.
+/// The text is exactly that of the reading that [`report`] names, and `None` comes only for the same causes as there.
+/// The one error is that memory runs out.
 pub fn list(
     alloc: Global,
     live: &LiveReading,

@@ -1,4 +1,4 @@
-//! A recorder that shares its segment by an `Arc`, where that of `live_segment` borrows it.
+//! A recorder that shares its segment by an `Arc`; the one of `live_segment` borrows it.
 //!
 //! An [`OwnedRecorder`] has every call of [`Recorder`](live_segment::Recorder), with its clauses: each is a
 //! [`RecorderState`](live_segment::RecorderState), which has the calls, and a way to the segment. [`owned_recorder`] makes one, [`lend`]

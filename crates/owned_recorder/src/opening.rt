@@ -18,7 +18,7 @@ use std::alloc::Global;
 use std::sync::Arc;
 
 /// Makes a recorder with this many units that keeps the segment alive, as [`Opener::recorder`] makes one that borrows
-/// it: these units are the opener's no more [mine]; the recorder is of this segment, has done nothing, knows no
+/// it: the opener has these units no longer [mine]; the recorder is of this segment, has done nothing, knows no
 /// histogram, and has seen what the opener has; or the first cause is returned, `NoUnits` or `TooMany` [theirs]. It
 /// records into the segment [into], and the opener stays that of the segment [made].
 pub fn owned_recorder(
@@ -37,9 +37,9 @@ pub fn owned_recorder(
 }
 
 /// Lends a recorder this many more units while it runs, as [`Opener::lend`] does: the opener has as many fewer [mine]
-/// and the recorder as many more [theirs]; `NoUnits` comes exactly where the opener has fewer, and then both are
-/// unchanged [why, mine, theirs]. The recorder keeps its segment [kept] and is still one of the opener's [of], and
-/// the opener stays that of its segment [made].
+/// and the recorder as many more [theirs]; `NoUnits` comes exactly if the opener has fewer, and then both are unchanged
+/// [why, mine, theirs]. The recorder keeps its segment [kept] and is still one of the opener's [of], and the opener
+/// stays that of its segment [made].
 pub fn lend(opener: &mut Opener, owned: &mut OwnedRecorder, units: u32) -> Result<(), Refusal>
     requires { IsRecorderOf owned.old opener.old }
     ensures kept { owned.new.segment ≡ owned.old.segment }
@@ -52,8 +52,8 @@ pub fn lend(opener: &mut Opener, owned: &mut OwnedRecorder, units: u32) -> Resul
     opener.lend_state(&owned.segment, &mut owned.state, units)
 }
 
-/// Takes a recorder back, as [`Opener::join`] does [takes]. The opener stays that of its segment [made]. Where nobody
-/// else keeps the segment alive, it ends.
+/// Takes a recorder back, as [`Opener::join`] does [takes]. The opener stays that of its segment [made]. If nobody else
+/// keeps the segment alive, it ends.
 pub fn join(opener: &mut Opener, owned: OwnedRecorder)
     requires { IsRecorderOf owned opener.old }
     ensures takes { IsSameOpener opener.old opener.new × (view_of_opener opener.new ≡ joined (view_of_opener opener.old) (view_of_owned owned)) }

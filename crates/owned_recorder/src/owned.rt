@@ -1,4 +1,4 @@
-//! A recorder that keeps its segment alive, where another borrows it.
+//! A recorder that keeps its segment alive instead of borrowing it.
 
 ghost use Rattle.std.specs.Prelude.{◌≡◌, ◌↔◌, ◌<◌, ◌≤◌, ◌++◌, length, IsTrue, IfOk, MatchOption};
 ghost use Rattle.std.specs.Arc.{arc_value};
@@ -18,7 +18,7 @@ use std::sync::Arc;
 
 /// Records for one thread, as a [`Recorder`](live_segment::Recorder) does, and keeps its segment alive. It may move to another thread.
 ///
-/// Each call is that of `Recorder` of the same name, with the same clauses and faults.
+/// Each call is the one of `Recorder` with the same name, with the same clauses and faults.
 #[derive(Drop)]
 pub struct OwnedRecorder {
     pub(crate) segment: Arc<Segment, Global>,

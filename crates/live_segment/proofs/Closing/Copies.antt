@@ -14,7 +14,7 @@ copied_at (y ∷ ys) (w ∷ ws) (suc i) x lt at same =
     let tail : take i ys ≡ take i ws = cc in
     ap₂ (λ (n : ℕ) (l : List ℕ). n ∷ l) head (copied_at ys ws i x (omega arith) at tail)
 
--- one word more of those behind the first
+-- one more word of those after the first
 pub copied : (row words : List ℕ) (i x : ℕ) → i < length row → get_elem? words (i + 1) ≡ some x → take i row ≡ take i (drop 1 words)
     → take (i + 1) (set row i x) ≡ take (i + 1) (drop 1 words)
 copied row [] i x lt at same = absurd (some-ne-none x (sym at))

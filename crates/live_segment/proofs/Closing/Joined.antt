@@ -20,7 +20,7 @@ use Rattle.live_segment.specs.declared.rule.Opening.{Opening}
 use Rattle.live_segment.specs.Rule.{Closes, IsOpenedAs}
 use Rattle.live_segment.specs.Closing.{IsImageOf, ReadsJoined, DeltasAddUp, SnapshotsAgree}
 
--- the words of a kept state are an image of what the segment was opened as
+-- the words of a kept state are an image with the setting of the segment's opening
 pub of_kept : (given : Opening) (opened : Anatomy) (state : State) → IsOpenedAs given opened → Invariant given.setting.shape opened state
     → IsImageOf given.setting state.words
 of_kept given opened state as_said kept =

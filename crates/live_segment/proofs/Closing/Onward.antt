@@ -1,4 +1,4 @@
--- The words of a closed segment may be adopted, where the format is the frozen one and nobody marked them as corrupt.
+-- The words of a closed segment may be adopted if the format is the frozen one and nobody marked them as corrupt.
 use Rattle.std.proofs.Common.{List, ℕ, sym, subst, ◌∙◌}
 use Rattle.segment_machine.specs.declared.actor.Actor.{Actor}
 use Rattle.segment_promises.proofs.Adopting.Kept.{kept_are_adoptable}

@@ -1,5 +1,5 @@
--- Whatever recorders are not joined, the words of a closed segment read as those of a stop. Its opener's log is in them, but for units in
--- transit; and the units beyond the log are those that were handed out.
+-- Whatever recorders are not joined, the words of a closed segment read as those of a stop. Its opener's log is in them, except for units
+-- in transit; and the units beyond the log are those that were handed out.
 use Rattle.std.proofs.Common.{◌≡◌, ℕ, ◌+◌, ◌≤◌, ◌-◌, ℤ, Bool, true, false, if◌then◌else◌, List, [], ◌∷◌, sum_by, flat_map, Contains, refl, sym, ap, subst, ◌∙◌, arith}
 use Rattle.std.specs.Ordering.{int_eq}
 use Rattle.std.proofs.lemmas.Bool.Decides.{Decides-int_eq}
@@ -57,7 +57,7 @@ module _ (logged : ℤ → ℕ) (key : ℤ) where
           omega (arith, one, all, behind, same)
       by_test false is one all behind = omega (arith, one, all, behind)
 
--- where of each key no more is read than two lists of entries have, all beyond the one is no more than the other has
+-- if of each key no more is read than two lists of entries have, all beyond the one is no more than the other has
 beyond_most : (log others : List Entry) (h : Histogram)
     → ((key : ℤ) → units_read h key ≤ tally_units log h.name key + tally_units others h.name key) → units_beyond log h ≤ tally_noted others h.name
 beyond_most log others h most =
@@ -71,14 +71,14 @@ beyond_most log others h most =
 
 -- ---- the opener and the others
 
--- where there is a first of a list, the others are behind it
+-- if a list has a first element, the others come after it
 behind_first : {X : Type 0} (x : X) (list : List X) → get_elem? list 0 ≡ some x → (rest : List X) × (list ≡ x ∷ rest)
 behind_first x [] first = absurd (some-ne-none x (sym first))
 behind_first x (y ∷ rest) first = (rest, ap (λ (y : _). y ∷ rest) (some-injective y x first))
 
 module _ (setting : Setting) (opened : Anatomy) (state : State) (kept : Invariant setting.shape opened state) (opener : Actor)
     (stands : get_elem? state.actors 0 ≡ some opener) where
-  -- the histograms that joined recorders were answered with are read
+  -- the histograms that were returned to joined recorders are read
   answers_read : (reading : Reading) → ReadsNames kept.anatomy.records reading → (known : Known) → Contains opener.answers.names known
       → (h : Histogram) × Contains reading.hists h × (h.name ≡ known.name) × (h.reference ≡ known.reference) × SameSpec h.spec known.spec
   answers_read reading names known among =

@@ -1,4 +1,4 @@
--- The words of an image that may be adopted open a segment that goes on with them.
+-- The words of an image that may be adopted open a segment that continues from them.
 use Rattle.std.proofs.Common.{◌≡◌, Bool, true, false, ◌||◌, ℕ, ◌^◌, ◌<◌, ◌≤◌, List, [], ◌∷◌, ◌++◌, take, drop, replicate, All, Result, Ok, Err, IfOk, refl, sym, ap, subst, ◌∙◌}
 use Rattle.std.specs.declared.alloc.AllocError.{AllocError}
 use lib.Seq.{take-append_seam}
@@ -91,7 +91,7 @@ module _ (given : Opening) (words references : List ℕ) (cursors : ℕ) (narrow
     words = same ∙ ap (λ (state : State). 0 ∷ memory state) (sym state_is_image);
   }
 
-  -- so a segment that is opened with them goes on with the image
+  -- so a segment that is opened with them continues from the image
   pub goes_on : (r : Result (Segment × Opener) AllocError) → cursors ≤ 8 → IfOk r (λ made. IsOpened given.setting (words_of given) (opener_for given) made.0 made.1)
       → IfOk r (λ made. IsAdopted words cursors made.0 made.1)
   goes_on (Err why) few is = tt

@@ -1,5 +1,6 @@
--- What those who call an opener and its recorders rest on: an opener is of its segment still when it has made, lent to or joined a recorder; a
--- histogram that a recorder knows it knows still behind any of its calls; and what threads give back has what each call promises.
+-- What the callers of an opener and its recorders rely on: an opener is still that of its segment when it has made, lent to or joined a
+-- recorder; a recorder still knows each histogram that it knew after any of its calls; and what threads give back has what each call
+-- promises.
 use Rattle.std.proofs.Common.{◌≡◌, ℕ, ◌<◌, List, [], ◌∷◌, All, length, slice_index_or, sym, ap, ◌∙◌, subst, arith}
 use Rattle.std.proofs.lemmas.List.{length-append}
 use Rattle.segment_machine.specs.declared.actor.Actor.{Actor}

@@ -1,4 +1,4 @@
--- What keeps a segment whatever blocks it was opened with keeps its rule: a step, an announcement, a seat that is cut in two or taken in.
+-- What keeps a segment, with whatever blocks it was opened, keeps its rule: a step, an announcement, a seat that is split or joined.
 use Rattle.std.proofs.Common.{◌≡◌, ℕ, ◌+◌, false, List, subst}
 use Rattle.atomic_table.specs.Table.{Allows, Splits, Joins}
 use Rattle.segment_machine.specs.declared.actor.Actor.{Actor}

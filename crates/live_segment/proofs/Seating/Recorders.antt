@@ -1,4 +1,4 @@
--- A recorder is one of its segment still after a call.
+-- A recorder is still one of its segment after a call.
 use Rattle.std.proofs.Common.{◌≡◌, false, ℕ, ◌+◌, List, Option, Some, None, refl, sym, ap, ◌∙◌, subst}
 use Rattle.segment_machine.specs.declared.actor.Actor.{Actor}
 use Rattle.segment_machine.specs.Actor.{is_bound, is_opener}
@@ -35,7 +35,7 @@ pub record IsSeatAfter (segment : Segment) (old new : Pass) : Type 0 where
   pub chain : Grows old.me.0.seen.chain new.me.0.seen.chain
   pub words : Grows old.me.0.seen.words new.me.0.seen.words
 
--- it is a recorder of the segment still, with the units that it then has, up to where it then was given fresh records, and what it then knows of samples
+-- it is still a recorder of the segment, with its new units, the place up to which it was given fresh records, and its new index of samples
 pub recorder_given : (segment : Segment) (state : RecorderState) (seat : Pass) (units : ℕ) (fresh : WalkPlace) (samples : RecordIndex) → IsRecorderAt segment state
     → IsSeatAfter segment state.seat seat → units ≡ seat.me.0.units.share → HasCome segment.setting.shape.size seat.me.0.seen.chain fresh
     → IsIndexed Sample segment.setting.shape.size seat.me.0.seen samples
@@ -53,7 +53,7 @@ recorder_given segment state seat units fresh samples at is counted come sampled
   sampled = sampled;
 }
 
--- the same, where it was given no fresh records
+-- the same, if it was given no fresh records
 pub recorder_still : (segment : Segment) (state : RecorderState) (seat : Pass) (units : ℕ) (samples : RecordIndex) → IsRecorderAt segment state
     → IsSeatAfter segment state.seat seat → units ≡ seat.me.0.units.share
     → IsIndexed Sample segment.setting.shape.size seat.me.0.seen samples
@@ -76,7 +76,7 @@ seat_counted segment old new of same onward rests = record {
 
 -- ---- a call that only looks, or moves a cursor
 
--- but for where it stands, what it has done and what it has seen, the actor is unchanged
+-- except for where it is, what it has done and what it has seen, the actor is unchanged
 abbrev IsFramed : Actor → Actor → Type 0
 IsFramed old new = new ≡ record old { hand = new.hand; done = new.done; seen = new.seen }
 
@@ -118,7 +118,7 @@ seat_searched segment old new seated rests same searched free =
     (subst (λ (a : Actor). a ≡ record old.me.0 { hand = a.hand; done = a.done; seen = a.seen }) (sym searched.view) refl)
     free (searched.apart rests.apart) searched.chain searched.words
 
--- it is a recorder of the segment still
+-- it is still a recorder of the segment
 pub recorder_searched : (segment : Segment) (state : RecorderState) (seat : Pass) → IsRecorderAt segment state → IsSame state.seat seat
     → HasSearched state.seat.me.0 seat.me.0 → MayTurn seat.me.0 → IsRecorderAt segment (record state { seat = seat })
 recorder_searched segment state seat at same searched free =
@@ -158,7 +158,7 @@ seat_shared segment old new cursor answer seated rests same is =
     apart (Some reference) is = ap (λ (a : Actor). is_holding a.hand.place) is.view
     apart None is = ap (λ (a : Actor). is_holding a.hand.place) is.view
 
--- ---- a recorder that gets units: only its share is another
+-- ---- a recorder that gets units: only its share changes
 
 goes_on : (a : Actor) (units : ℕ) → GoesOn a (getter a units)
 goes_on a units = record { same = refl; done = does_not a.done; seen = sees_not a.seen }

@@ -45,7 +45,7 @@ nothing_exchanged n = exchanged n 0 0 (λ x. x ≡ n) (λ e. sym e) (λ _. refl)
 
 -- ---- opened and closed
 
--- the words of a kept state are so many
+-- the words of a kept state are as many as the segment has
 front_of : (shape : Dimensions) (opened : Anatomy) (state : State) → Invariant shape opened state → take shape.size (memory state) ≡ state.words
 front_of shape opened state kept =
     ap (λ (n : ℕ). take n (memory state)) (sym (length_shown shape state.words (layout_of kept.anatomy) kept.shown))
@@ -59,7 +59,7 @@ opens given words is same = record {
       (tables_open Announcement given.setting.shape is.opened (opening_state given) (opener_for given) 0 [] is.kept refl);
 }
 
--- its words are the first, those of the segment and those of the shared cursors
+-- its words are the first one, those of the segment and those of the shared cursors
 pub many_opened : (given : Opening) → IsKeptOpening given → length given.words.items ≡ given.setting.shape.size + 1 + given.setting.cursors
 many_opened given is =
     let cursors : List ℕ = replicate given.setting.cursors 12 in
@@ -106,7 +106,7 @@ module _ (given : Opening) (shaped : IsShape given.setting.shape) (versioned : (
     words = same ∙ ap (λ (state : State). 0 ∷ memory state) (sym state_is_new);
   }
 
--- the words of a closed table behind the first one, as many as the segment has, are those of a kept state
+-- the words of a closed table after the first one, as many as the segment has, are those of a kept state
 closes_as : (given : Opening) (words image : List ℕ) (xs : List Announcement) (opener : Actor)
     → Final (Seen (Runs given) 0 opener) words xs → image ≡ take given.setting.shape.size (drop 1 words) → Closes given opener image
 closes_as given words image xs opener (s, (run, seen), stands, many, homes) same =
@@ -120,7 +120,7 @@ closes_as given words image xs opener (s, (run, seen), stands, many, homes) same
       stands = first;
     }
 
--- they were copied into a row, the first so many, and the row was cut behind these
+-- the first ones, as many as the segment has, were copied into a row, and the row was cut after them
 pub closes : (segment : Segment) (opener : Opener) (seat : Pass) (words row image : List ℕ) (xs : List Announcement) (i size : ℕ)
     → seat ≡ opener.seat → Final (Seen (Runs (opened_with segment)) seat.id seat.me.0) words xs
     → size ≤ i → i ≤ size → size ≡ segment.setting.shape.size → take i row ≡ take i (drop 1 words) → image ≡ take size row
@@ -177,12 +177,12 @@ pub pours : (given : Opening) (id other : ℕ) (b c : Actor) → MayPour b c →
 pours given id other b c may =
     joins_all given id other b c (getter b c.units.share) spent (λ opened. tables_pour Announcement given.setting.shape opened id other b c may)
 
--- a recorder that stands at rest may get what is in a purse
+-- a recorder at rest may get what is in a purse
 pub may_get : (a c : Actor) (units : ℕ) → IsAtRest a → c ≡ purse units → MayPour a c
 may_get a c units rest is =
     (rest.recorder, λ e. true≢false (sym (ap is_bound e) ∙ rest.free), subst (λ (x : Actor). x ≡ purse x.units.share) (sym is) refl)
 
--- an opener that offers nothing has no other role when it has offered units and put them into a purse
+-- an opener that offers nothing has the same role when it has offered units and put them into a purse
 same_role : (r : Role) → is_opener r ≡ true → offered_of r ≡ 0 → role.Opener (made_of r) (outstanding_of r) 0 ≡ r
 same_role (role.Opener made outstanding offered) opens nothing = ap (role.Opener made outstanding) (sym nothing)
 same_role (role.Recorder before outstanding) opens nothing = absurd (cc opens)
@@ -192,7 +192,7 @@ pub gives : (a b c : Actor) (units : ℕ) → is_opener a.role ≡ true → offe
 gives a b c units opens nothing offered filled =
     filled ∙ (ap lender offered ∙ ap (λ (r : Role). record (giver a units) { role = r }) (same_role a.role opens nothing))
 
--- who stands beside a recorder that lives has one outstanding
+-- an opener has a recorder outstanding while there is a recorder at rest
 stands_out : (actors : List Actor) (roles : RolesAreKept actors) (id other : ℕ) (a b : Actor) → get_elem? actors id ≡ some a
     → get_elem? actors other ≡ some b → is_opener a.role ≡ true → IsAtRest b → 1 ≤ outstanding_of a.role
 stands_out actors roles id other a b there beside opener rest =

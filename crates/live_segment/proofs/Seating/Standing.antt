@@ -1,4 +1,4 @@
--- A seat of a segment's table stands in a state of the segment; what its list then has, and what a shared cursor gave.
+-- A seat of a segment's table is in a state of the segment; what its list then has, and what a shared cursor gave.
 use Rattle.std.proofs.Common.{◌≡◌, ℕ, suc, ◌+◌, ◌<◌, List, ◌∷◌, ◌++◌, length, set, refl, sym, ap, subst, ◌∙◌, slice_index, arith, Option, Some}
 use Rattle.std.proofs.lemmas.List.{get_or_append_left}
 use mathlib.Core.Option.{some}
@@ -18,7 +18,7 @@ use Rattle.live_segment.specs.Steps.{Pass, Sat}
 pub same_seat : (old new : Pass) → new.table_id ≡ old.table_id → new.id ≡ old.id → new.me.0 ≡ old.me.0 → new.me.1 ≡ old.me.1 → new ≡ old
 same_seat old new table id view slots i = record { marker = old.marker; table_id = table i; id = id i; me = (view i, slots i) }
 
--- who has a seat stands in the state that the table has
+-- the holder of a seat is in the state that the table has
 pub stands_kept : (given : Opening) (s : State Announcement Actor) → Runs given s → (id : ℕ) (a : Actor) → get_elem? s.views id ≡ some a → Standing given id a
 stands_kept given s run id a there = record {
   opened = run.opened;
@@ -34,7 +34,7 @@ pub sees_next : (given : Opening) (s : State Announcement Actor) (run : Runs giv
 unfolding stands_kept
 sees_next given s run id a there at next is = record { standing = stands_kept given s run id a there; next_is = is }
 
--- what is so of a seat of a segment is so where it is known which seat that is
+-- what holds for a seat of a segment holds if it is known which seat that is
 pub as_known : (P : Opening → ℕ → Type 0) (given : Opening) (place : Option Opening) (number id : ℕ) → place ≡ Some given → number ≡ id → P given id
     → (opening : Opening) → place ≡ Some opening → P opening number
 as_known P given place number id is same so opening also =
@@ -42,7 +42,7 @@ as_known P given place number id is same so opening also =
     let one : given ≡ opening = cc in
     subst (λ (p : Opening × ℕ). P p.0 p.1) (λ i. (one i, sym same i)) so
 
--- a word that a step found and left is that of the state behind it
+-- a word that a step found and left unchanged is that of the state after it
 pub found_there : (words shared all : List ℕ) (anchor word at : ℕ) → set all word (slice_index all word) ≡ anchor ∷ words ++ shared → word ≡ at + 1
     → at < length words → slice_index words at ≡ slice_index all word
 found_there words shared all anchor word at are is below =

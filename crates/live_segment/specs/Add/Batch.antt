@@ -1,4 +1,4 @@
--- What a batch makes of the recorder that counts it, accepted and refused.
+-- What a batch changes in the recorder that counts it, accepted and refused.
 use Rattle.std.specs.Prelude.{◌≡◌, Bool, true, false, ◌-◌, nat_lt, ◌==◌, ℕ, ℤ, pos, List, [], ◌∷◌, ◌++◌, map, take}
 use mathlib.Core.Option.{some}
 use lib.ListN.{get_elem?}
@@ -25,8 +25,8 @@ use Rattle.live_segment.specs.Steps.{IsAtRest}
 use Rattle.live_segment.specs.Steps.GhostNotes.{entry_notes}
 use Rattle.live_segment.specs.Add.Progress.{FrameOfCall, counted_next}
 
--- An accepted batch: an entry of amount 0 for each item, and behind them one of no units for the sum, where that is not 0, stand at the
--- end of the log, and its cost is taken from the share. One of no items and no sum has done nothing.
+-- An accepted batch: an entry of amount 0 for each item, and after them one of no units for the sum, if that is not 0, are at the end of
+-- the log, and its cost is taken from the share. An empty batch with sum 0 has done nothing.
 pub record IsBatched (known : Known) (items : List (ℤ × ℕ)) (sum : ℤ) (old new : Actor) : Type 0 where
   pub logged : log_of new ≡ log_of old ++ batch_entries known.name (boundaries_of known.spec) items sum
   pub pays : Pays known.name (batch_cost items sum) old new
@@ -38,8 +38,8 @@ pub record IsBatched (known : Known) (items : List (ℤ × ℕ)) (sum : ℤ) (ol
 abbrev pub batch_checks : Actor → List (ℤ × ℕ) → ℤ → List (Bool × Refusal)
 batch_checks a items sum = (list_any (λ item. item.1 == 0) items, ZeroCount) ∷ (nat_lt a.units.share (batch_cost items sum), NoUnits) ∷ []
 
--- A batch that is refused at an item: the items before it are counted, and their units are taken from the share. The sum is not added.
--- It has claimed what these may claim. The item needed a block behind them, and none could be claimed.
+-- A batch that is refused at an item: the items before it are counted, and their units are taken from the share. The sum is not added. It
+-- has claimed what these may claim. After them the item needed a block, and none could be claimed.
 pub record IsCutShort (known : Known) (items : List (ℤ × ℕ)) (refusal : BatchRefusal) (old new : Actor) : Type 0 where
   pub item : ℤ × ℕ
   pub there : get_elem? items refusal.added ≡ some item

@@ -1,4 +1,4 @@
--- How a recorder brings the counts of a histogram in use: they are there or are mounted, and the single word is disabled.
+-- How a recorder puts the counts of a histogram in use: they are there or are mounted, and the single word is disabled.
 use Rattle.std.specs.Prelude.{◌≡◌, ◌≢◌, ◌⊎◌, true, false, ℕ, ◌+◌, ◌++◌, Option, Some, None}
 use Rattle.std.specs.List.{Contains}
 use Rattle.segment_image.specs.declared.layout.TheConstants.{HISTOGRAM_COUNTS}
@@ -38,7 +38,7 @@ LoadsCounts word me found me' =
 
 -- ---- mounted
 
--- a recorder whose call may need the counts of a histogram that it knows, or end where it gets none
+-- a recorder whose call may need the counts of a histogram that it knows, or end if it gets none
 pub record MayMount (a : Actor) (known : Known) : Type 0 where
   pub recorder : is_opener a.role ≡ false
   pub free : is_bound a.hand.place ≡ false
@@ -60,15 +60,15 @@ pub record HasMounted (known : Known) (old : Actor) (counts : ℕ) (new : Actor)
   pub filled : new.done.filled ≡ old.done.filled
   pub stands : LooksAtCounts new known counts
 
--- It had a block of its own for the counts, and has done nothing else than to mount it: the counts reference that it saw is that of the block,
--- or another's, and then the block was purged.
+-- It had a block of its own for the counts, and has done nothing but mount it: the counts reference that it saw is that of the block, or
+-- another's, and then the block was purged.
 pub record MountsAt (known : Known) (at : ℕ) (old : Actor) (counts : ℕ) (new : Actor) : Type 0 where
   pub done : new.done ≡ old.done
   pub saw : new.seen.words ≡ old.seen.words ++ sight (known.reference + HISTOGRAM_COUNTS) counts
   pub kept : (counts ≡ at) ⊎ IsPurged at new
 
--- it has claimed no block for the counts that it found or mounted, or one; of the words of records, and of those that lead to no block, it has
--- seen no fewer
+-- it has claimed no block for the counts that it found or mounted, or one; it has seen no fewer words of records, and no fewer that lead to
+-- no block
 abbrev pub MountsAtMostOne : Known → Actor → Actor → Type 0
 MountsAtMostOne known old new =
     ((new.done ≡ old.done) ⊎ MountsOne known old new) × Grows old.seen.words new.seen.words × Grows old.seen.ends new.seen.ends
@@ -91,7 +91,7 @@ pub record HasNotMounted (why : Refusal) (known : Known) (old new : Actor) : Typ
 abbrev pub StandsOff : Actor → Known → ℕ → Type 0
 StandsOff a known counts = ((word : ℕ) × LooksAt a known.reference (Some word) counts × (is_off word ≡ true)) × CountsWithin a known counts
 
--- it has found the single word off or disabled it, and has moved the units that this had
+-- it has found the single word off or disabled it, and has moved the units that it had
 pub record HasDisabled (known : Known) (counts : ℕ) (old new : Actor) : Type 0 where
   pub looks : LooksOn old new
   pub keeps : KeepsBlocks old new

@@ -29,7 +29,7 @@ item_with known value units amount = record (item_of known value units) { amount
 abbrev pub sample_of : Known → ℤ → ℕ → Entry
 sample_of known value units = sample_entry known.name (boundaries_of known.spec) (value, units)
 
--- The running entries of a recorder have ended but for the last one, which is of units of a value, and these are counted.
+-- The running entries of a recorder have ended except the last one, which is of units of a value, and these are counted.
 pub record IsCounted (known : Known) (value : ℤ) (units : ℕ) (before : List EntryProgress) (a : Actor) : Type 0 where
   pub recorder : is_opener a.role ≡ false
   pub free : is_bound a.hand.place ≡ false
@@ -38,12 +38,12 @@ pub record IsCounted (known : Known) (value : ℤ) (units : ℕ) (before : List 
   pub ended : All (λ c. has_ended c ≡ true) before
   pub runs : a.entries.running ≡ before ++ counted_entry (item_of known value units) false ∷ []
 
--- a sample is counted: its entry alone runs, and its call holds the units
+-- a sample is counted: only its entry runs, and its call holds the units
 pub record HasCountedSample (known : Known) (value : ℤ) (units : ℕ) (a : Actor) : Type 0 where
   pub counted : IsCounted known value units [] a
   pub holds : a.units.held ≡ record { name = known.name; units = units } ∷ []
 
--- The last of the running entries is this one now, and its amount is in the sum; one of 0 is left out. Otherwise it is as it was.
+-- The last of the running entries is this one now, and its amount is in the sum; an amount of 0 is left out. All else is unchanged.
 pub record IsSummed (entry : Entry) (before : List EntryProgress) (old new : Actor) : Type 0 where
   pub summed : Bool
   pub left_out : (summed || int_eq entry.amount (pos 0)) ≡ true
@@ -53,8 +53,8 @@ pub record IsSummed (entry : Entry) (before : List EntryProgress) (old new : Act
   }
   pub free : is_bound new.hand.place ≡ false
 
--- The call of a recorder has ended: these entries are the last of its log, and what the call held is spent. It has come to more counts,
--- and otherwise is as it was.
+-- The call of a recorder has ended: these entries are the last of its log, and what the call held is spent. It may have seen more counts
+-- and begun to look again; all else is unchanged.
 pub record HasEnded (entries : List Entry) (old new : Actor) : Type 0 where
   pub same : new ≡ record old {
     units = record old.units { costs = old.units.costs ++ old.units.held; held = [] };

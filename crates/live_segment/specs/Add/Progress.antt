@@ -20,20 +20,20 @@ use Rattle.segment_promises.specs.Onward.{DoesOn, SeesOn}
 use Rattle.live_segment.specs.Alloc.Claims.{KeepsBlocks}
 use Rattle.live_segment.specs.Steps.GhostNotes.{KnowsAlone, bucket_entry, entry_notes}
 
--- A call of a recorder continues: what only an ended call changes is as it was, and it has seen and done no less.
+-- A call of a recorder continues: what only an ended call changes is unchanged, and it has seen and done no less.
 pub record FrameOfCall (old new : Actor) : Type 0 where
   pub same : new ≡ record old { units = new.units; entries = new.entries; hand = new.hand; done = new.done; seen = new.seen }
   pub free : is_bound new.hand.place ≡ false
   pub done : DoesOn old.done new.done
   pub seen : SeesOn old.seen new.seen
 
--- it has looked, and may have claimed a block or set the full flag: its units and entries are as they were
+-- it has looked, and may have claimed a block or set the full flag: its units and entries are unchanged
 pub record LooksOn (old new : Actor) : Type 0 where
   pub proceeds : FrameOfCall old new
   pub units : new.units ≡ old.units
   pub entries : new.entries ≡ old.entries
 
--- no entry runs yet, and the share has so many units
+-- no entry runs yet, and the share has at least this many units
 abbrev pub HasNotBegun : Actor → ℕ → Type 0
 HasNotBegun a units = (a.entries.running ≡ []) × (a.units.held ≡ []) × (units ≤ a.units.share)
 
@@ -42,7 +42,8 @@ pub record HaveEnded (entries : List EntryProgress) : Type 0 where
   pub ended : All (λ c. has_ended c ≡ true) entries
   pub unsummed : All (λ c. c.summed ≡ false) entries
 
--- All that runs has ended, and its call may continue with this entry: it holds units for those of the same name, and the share has more.
+-- All running entries have ended, and their call may continue with this entry: it holds units for the same name, and the share has those of
+-- this entry.
 pub record MayGoOnWith (a : Actor) (entry : Entry) : Type 0 where
   pub runs : a.entries.running ≢ []
   pub ended : HaveEnded a.entries.running
@@ -51,7 +52,7 @@ pub record MayGoOnWith (a : Actor) (entry : Entry) : Type 0 where
   pub holds : a.units.held ≡ record { name = entry.name; units = spent } ∷ []
   pub within : AreWithin entry.name (spent + entry.units) (map (λ c. c.entry) a.entries.running ++ entry ∷ [])
 
--- this entry runs, alone or behind some that have ended, and nothing has happened of it
+-- this entry runs, alone or after some that have ended, and nothing of it has happened yet
 pub record EntryWaits (a : Actor) (entry : Entry) : Type 0 where
   pub before : List EntryProgress
   pub ended : HaveEnded before
@@ -81,16 +82,16 @@ pub record MayCountInBucket (a : Actor) (known : Known) (bucket units : ℕ) : T
 abbrev pub HasBegunEntry : Entry → Actor → Actor → Type 0
 HasBegunEntry entry old new = let begun = noted_by old (entry_notes old entry) in (new.units ≡ begun.units) × (new.entries ≡ begun.entries)
 
--- It has looked, and may have begun meanwhile: an exchange that comes too late has begun the call none the less.
+-- It has looked, and may have begun meanwhile: an exchange that comes too late has begun the call all the same.
 pub record LooksFor (entry : Entry) (old new : Actor) : Type 0 where
   pub proceeds : FrameOfCall old new
   pub begun : ((new.units ≡ old.units) × (new.entries ≡ old.entries)) ⊎ HasBegunEntry entry old new
 
--- it looks at a histogram: the single word that it loaded, where that stands, and the counts
+-- it looks at a histogram: at the single word that it loaded, if it holds one, and at the counts
 abbrev pub LooksAt : Actor → ℕ → Option ℕ → ℕ → Type 0
 LooksAt a histogram single counts = a.hand.place ≡ Looking (record { histogram = histogram; single = single; counts = counts })
 
--- counts of a histogram with so many buckets lie within the segment
+-- the counts of a histogram lie within the segment, and are not at 0
 abbrev pub CountsWithin : Actor → Known → ℕ → Type 0
 CountsWithin a known counts = (counts ≢ 0) × (counts + (BLOCK_HEADER + 2 * buckets_of known.spec) ≤ a.segment.shape.size)
 
@@ -111,7 +112,8 @@ CannotPack known bucket units old new =
     (word : ℕ) × Contains (drop (length old.seen.singles) new.seen.singles) (record { at = known.reference + HISTOGRAM_SINGLE; word = word })
     × (is_off word ≡ false) × ((packed : ℕ) → ¬ (IsPacking bucket units word packed))
 
--- How an attempt to pack units ended. They are packed; or they are not counted, and the single word that it loaded last is off or cannot take them.
+-- How an attempt to pack units ended: they are packed; or they are not counted, and the single word that it loaded last is off or cannot
+-- take them.
 abbrev pub Tries : Known → ℕ → ℕ → Actor → PackAttempt → Actor → Type 0
 Tries known bucket units old Packed new = HasCounted (bucket_entry known bucket units) old new × KeepsBlocks old new
 Tries known bucket units old Off new =

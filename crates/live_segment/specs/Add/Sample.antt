@@ -1,4 +1,4 @@
--- What a sample makes of the recorder that adds it, accepted and refused.
+-- What a sample changes in the recorder that adds it, accepted and refused.
 use Rattle.std.specs.Prelude.{◌≡◌, Bool, true, false, nat_lt, ◌==◌, ℕ, ◌+◌, ◌<◌, if◌then◌else◌, ℤ, List, [], ◌∷◌, ◌++◌, drop, length, None, Result, MatchResult, ⊤}
 use Rattle.std.specs.List.{All, Contains}
 use Rattle.std.specs.Str.{bytes_eq}
@@ -26,8 +26,9 @@ pub record Pays (name : List ℕ) (units : ℕ) (old new : Actor) : Type 0 where
   pub share : new.units.share + units ≡ old.units.share
   pub spent : (other : List ℕ) → cost_of new.units.costs other ≡ cost_of old.units.costs other + (if bytes_eq name other then units else 0)
 
--- The one entry of an accepted sample stands at the end of the log, under the key of its value's bucket, and its units are taken from the
--- share. No allocation was refused, and all else that a recorder has is as before.
+-- The one entry of an accepted sample is at the end of the log, with the key of its value's bucket, or with the value if the histogram is
+-- sparse, and its units are taken from the share. No allocation was refused; what the recorder's calls returned, took and were given is
+-- unchanged, and it has seen and done no less.
 pub record IsAdded (known : Known) (value : ℤ) (count : ℕ) (old new : Actor) : Type 0 where
   pub logged : log_of new ≡ log_of old ++ sample_entry known.name (boundaries_of known.spec) (value, count) ∷ []
   pub pays : Pays known.name count old new
@@ -40,8 +41,8 @@ pub record IsAdded (known : Known) (value : ℤ) (count : ℕ) (old new : Actor)
 abbrev pub add_checks : Actor → ℕ → List (Bool × Refusal)
 add_checks a count = (count == 0, ZeroCount) ∷ (nat_lt a.units.share count, NoUnits) ∷ []
 
--- A refused sample: log and share are as before, and so is all else that a recorder has. It has counted no unit and added no amount, and
--- has come to no count, mark or redundant count.
+-- A refused sample: log and share are unchanged, and so is what the recorder's calls returned, took and were given; it has seen and done no
+-- less. It has counted no unit and added no amount, and has seen no further count, mark or redundant count.
 pub record IsRefused (name : List ℕ) (old new : Actor) : Type 0 where
   pub logged : new.entries ≡ old.entries
   pub pays : Pays name 0 old new
@@ -53,8 +54,8 @@ abbrev pub block_words : Known → ℕ
 block_words known = count_words known.spec
 
 -- Units of a value need a block. With buckets: the call has loaded a single word that is not off and cannot take the units, and the counts
--- reference, which was 0; no recorder's counts were there for it before. Without: it has walked to the end of the list, and of all records
--- that this had then none behind the histogram's is a sample of the value.
+-- reference, which was 0; it has never seen that there were counts. Without: it has walked to the end of the list, and of all records that
+-- the list had then, none after the histogram's is a sample of the value.
 pub record NeedsBlock (known : Known) (value : ℤ) (count : ℕ) (old new : Actor) : Type 0 where
   pub buckets : has_buckets known.spec ≡ true
       → ((word : ℕ) × Contains (drop (length old.seen.singles) new.seen.singles) (record { at = known.reference + HISTOGRAM_SINGLE; word = word })
@@ -65,9 +66,9 @@ pub record NeedsBlock (known : Known) (value : ℤ) (count : ℕ) (old new : Act
       → (front behind : List ℕ) × (new.seen.chain ≡ front ++ known.reference ∷ behind) × All (SawOther new.seen known.reference value) behind
       × SawAllOfList old.seen new.seen
 
--- Why a block could not be claimed: so many words pass the end of the segment from the free pointer that the call loaded last, and for that
--- it has set the full flag; or the call has loaded flags with the corrupt one. It may have wasted rests of pages that are too short for these
--- words, and has done nothing else: it has claimed and published nothing.
+-- Why a block could not be claimed: this many words pass the end of the segment from the free pointer that the call loaded last, and for
+-- that it has set the full flag; or the call has loaded flags with the corrupt one. It may have wasted rests of pages that are too short
+-- for these words, and has done nothing else: it has claimed and published nothing.
 abbrev pub HasNoRoom : Refusal → ℕ → Actor → Actor → Type 0
 HasNoRoom Full words old new =
     (new.done ≡ record old.done { raised = new.done.raised; filled = true; lacked = old.done.lacked ++ new.seen.free ∷ [] })

@@ -1,4 +1,4 @@
--- How a recorder finds the sample of a value of a sparse histogram: it walks along the list, on from the histogram's record. Where there is
+-- How a recorder finds the sample of a value of a sparse histogram: it walks along the list from the histogram's record on. If there is
 -- none, it makes one.
 use Rattle.std.specs.Prelude.{◌≡◌, ◌⊎◌, Bool, true, false, ℕ, ◌+◌, ◌≤◌, ℤ, List, ◌∷◌, ◌++◌, ⊤}
 use Rattle.std.specs.List.{All, Contains}
@@ -27,14 +27,14 @@ abbrev pub ShowsValue : ℕ → ℤ → ℕ → Bool → Actor → Type 0
 ShowsValue histogram value at true a = SawSample a.seen histogram value at × (at + SAMPLE_LEAST ≤ a.segment.shape.size)
 ShowsValue histogram value at false a = SawOther a.seen histogram value at
 
--- Its walk has gone on behind the histogram's record. None of the records that it has given since is a sample of the value.
+-- Its walk has passed the histogram's record. None of the records that it has given since is a sample of the value.
 pub record WalksBehind (histogram : ℕ) (value : ℤ) (at : ℕ) (a : Actor) : Type 0 where
   pub front : List ℕ
   pub given : List ℕ
   pub way : IsWalkProgress (front ++ histogram ∷ given) at a
   pub others : All (SawOther a.seen histogram value) given
 
--- it saw that no record behind the histogram's is a sample of the value, up to the end of the list
+-- it saw that no record after the histogram's is a sample of the value, up to the end of the list
 abbrev pub SawNone : ℕ → ℤ → Actor → Type 0
 SawNone histogram value a = (front behind : List ℕ) × (a.seen.chain ≡ front ++ histogram ∷ behind) × All (SawOther a.seen histogram value) behind
 
@@ -42,21 +42,21 @@ SawNone histogram value a = (front behind : List ℕ) × (a.seen.chain ≡ front
 abbrev pub HasMadeNoSample : ℕ → ℤ → Actor → Type 0
 HasMadeNoSample histogram value a = (at : ℕ) → ¬ (Contains a.done.published (record { reference = at; made = Sample histogram value }))
 
--- It met the first sample of the value, within the segment. Or it saw all of the list, which has none, and has published none.
+-- It visited the first sample of the value, within the segment. Or it saw all of the list, which has none, and has published none.
 abbrev pub FindsSample : ℕ → ℤ → SampleSearch → Actor → Type 0
 FindsSample histogram value (Met reference) a =
     MayTurn a × IsFirstSample a.seen histogram value reference × (reference + SAMPLE_LEAST ≤ a.segment.shape.size)
 FindsSample histogram value (End at) a =
     WalksBehind histogram value at a × SawNone histogram value a × HasMadeNoSample histogram value a
 
--- where it came to the end, it found that there since
+-- if it came to the end of the list, it has found the end there since
 abbrev pub FoundEnd : SampleSearch → Seen → Seen → Type 0
 FoundEnd (End at) old new = SawAllOfList old new
 FoundEnd _ old new = ⊤
 
 -- ---- one that is made
 
--- It has made a sample of the value, and has put it on the list. It has seen no more of that, nor of the words of records.
+-- It has made a sample of the value, and has put it on the list. It has seen no more of the list, nor of the words of records.
 pub record HasMadeSample (histogram : ℕ) (value : ℤ) (old new : Actor) : Type 0 where
   pub looks : LooksOn old new
   pub chain : new.seen.chain ≡ old.seen.chain
@@ -78,8 +78,8 @@ pub record HasNotMadeSample (why : Refusal) (old new : Actor) : Type 0 where
 
 -- ---- one that is found or made
 
--- It met the first sample of the value, within the segment. No allocation was refused, and it came to no count. It claimed nothing, or one
--- block for the sample.
+-- It visited the first sample of the value, within the segment. No allocation was refused, and it has seen no further count. It claimed
+-- nothing, or one block for the sample.
 pub record HasSampleOf (known : Known) (value : ℤ) (sample : ℕ) (old new : Actor) : Type 0 where
   pub looks : LooksOn old new
   pub first : IsFirstSample new.seen known.reference value sample
@@ -88,7 +88,7 @@ pub record HasSampleOf (known : Known) (value : ℤ) (sample : ℕ) (old new : A
   pub untouched : new.seen.counts ≡ old.seen.counts
   pub claims : (new.done ≡ old.done) ⊎ MakesSample known.reference value old new
 
--- There was none up to the end of the list, and no block could be claimed for one. It came to no count, and its call ends.
+-- There was none up to the end of the list, and no block could be claimed for one. It has seen no further count, and its call ends.
 pub record LacksSampleOf (why : Refusal) (known : Known) (value : ℤ) (old new : Actor) : Type 0 where
   pub last : Actor
   pub looks : LooksOn old last

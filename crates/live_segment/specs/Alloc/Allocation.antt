@@ -1,4 +1,4 @@
--- What an allocation makes of a recorder: it has a block of its own, or why it has none.
+-- What an allocation changes in a recorder: it has a block of its own, or why it has none.
 use Rattle.std.specs.Prelude.{◌≡◌, ◌⊎◌, true, ℕ, ◌+◌, ◌-◌, ◌<◌, ◌≤◌, List, [], ◌∷◌, ◌++◌, Result, Ok, Err}
 use Rattle.segment_calls.specs.declared.refusal.Refusal.{Refusal}
 use Rattle.segment_calls.specs.declared.refusal.Refusal.TheVariants.{Full, Corrupt}
@@ -12,7 +12,7 @@ use Rattle.segment_machine.specs.Allocating.{new_own}
 use Rattle.live_segment.specs.Add.Refusal.{given_up}
 use Rattle.live_segment.specs.Alloc.Rises.{RaisesFor, WastesFor}
 
--- it has seen a free pointer and has made these rises of it, and otherwise is as it was
+-- it has seen a free pointer and has made these rises of it, and all else is unchanged
 abbrev pub saw_free : Actor → Place → ℕ → List Rise → Actor
 saw_free a place free raised =
     record a { hand = record a.hand { place = place }; done = record a.done { raised = raised }; seen = record a.seen { free = free } }
@@ -25,7 +25,7 @@ raised_on a from to wanted = a.done.raised ++ record { from = from; to = to; wan
 abbrev pub noticed : Actor → Actor
 noticed a = record a { seen = record a.seen { corrupt = true; warned = a.seen.warned + 1 } }
 
--- it has set the full flag, since too many words were wanted from the free pointer that it saw last
+-- it has set the full flag, since too many words were needed from the free pointer that it saw last
 abbrev pub filled : Actor → Actor
 filled a = record a { done = record a.done { filled = true; lacked = a.done.lacked ++ a.seen.free ∷ [] } }
 
@@ -48,14 +48,14 @@ pub record IsLost (a : Actor) (free : ℕ) (b : Actor) : Type 0 where
   pub further : free + BLOCK_LEAST ≤ found
   pub within : found ≤ a.segment.shape.size
 
--- the rest of a page is wasted, for a block that wants so many words; or another recorder was first
+-- the rest of a page is wasted, for a block that needs this many words; or another recorder was first
 abbrev pub Wastes : (wanted free next : ℕ) → Actor → Actor → Type 0
 Wastes wanted free next a b =
     ((b ≡ saw_free a Idle next (raised_on a free next wanted)) × (free + BLOCK_LEAST ≤ next) × (next ≤ a.segment.shape.size)) ⊎ IsLost a free b
 
--- A block of so many words or up to four more is its own, of a type, behind all that it had seen claimed. Or there is none: `Full` where
--- the words pass the end of the segment from a free pointer that it loaded, `Corrupt` where it loaded the corrupt flag; a call that counts
--- ends with that. Beside its block it has raised the free pointer over rests of pages alone that are too short for it.
+-- A block of this many words or up to four more is its own, of a type, after all that it had seen claimed. Or there is none: `Full` if the
+-- words pass the end of the segment from a free pointer that it loaded, `Corrupt` if it loaded the corrupt flag; a call that counts ends
+-- with that. Apart from its block it has raised the free pointer only over rests of pages that are too short for the block.
 abbrev pub Allocates : ℕ → ℕ → Actor → Result ℕ Refusal → Actor → Type 0
 Allocates size tag a (Ok at) b =
     (next : ℕ) × (b ≡ claimed a at next tag b.done.raised) × (a.seen.free ≤ at) × (at + size ≤ next) × (next < at + size + BLOCK_LEAST)

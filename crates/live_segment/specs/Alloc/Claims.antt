@@ -1,5 +1,5 @@
--- What a call of a recorder has claimed where it returns Ok: for each record that it made, and for the counts that it needed, one block
--- at most; and what became of that. The rests of pages that an allocation wastes are no claims, but rises of the free pointer.
+-- What a call of a recorder has claimed if it returns Ok: for each record that it made, and for the counts that it needed, one block at
+-- most; and what became of that. The rests of pages that an allocation wastes are not claims, but rises of the free pointer.
 use Rattle.std.specs.Prelude.{◌≡◌, ◌⊎◌, true, ℕ, ◌+◌, ◌<◌, ◌≤◌, ℤ, List, [], ◌∷◌, ◌++◌, None}
 use Rattle.std.specs.List.{All, Contains}
 use Rattle.segment_image.specs.Shape.{Dimensions}
@@ -24,8 +24,8 @@ use Rattle.live_segment.specs.Alloc.Rises.{RaisesFor}
 
 -- ---- none
 
--- What it has done, its own blocks, and what it has seen of the list and of the words of records are as they were. It has found no fewer words
--- to lead to no block.
+-- What it has done, its own blocks, and what it has seen of the list and of the words of records are unchanged. It has found no fewer words
+-- that lead to no block.
 pub record KeepsBlocks (old new : Actor) : Type 0 where
   pub segment : new.segment ≡ old.segment
   pub done : new.done ≡ old.done
@@ -36,12 +36,12 @@ pub record KeepsBlocks (old new : Actor) : Type 0 where
 
 -- ---- one for a record
 
--- a block of so many words or up to four more
+-- a block of this many words or up to four more
 abbrev pub IsBlockFor : ℕ → Claim → Type 0
 IsBlockFor words claim = (words ≤ claim.size) × (claim.size < words + BLOCK_LEAST)
 
--- It has claimed one block and put it on the list as a record of this. For it alone it has raised the free pointer. Its links may have come too
--- late before; it has done nothing else.
+-- It has claimed one block and put it on the list as a record of this. It has raised the free pointer only for that block. Earlier links of
+-- it may have come too late; it has done nothing else.
 pub record MakesOne (shape : Dimensions) (made : Made) (words : ℕ) (old new : Done) : Type 0 where
   pub claim : Claim
   pub block : IsBlockFor words claim
@@ -53,8 +53,8 @@ pub record MakesOne (shape : Dimensions) (made : Made) (words : ℕ) (old new : 
     beaten = new.beaten;
   }
 
--- It has made a record of a name, of so many words, where the list has none: the records that it had met were all of the list when it loaded
--- the end of that, in the same call, and none of those has the name.
+-- It has made a record of a name, of this many words, when the list had none: the records that it had visited were all of the list when it
+-- loaded its end, in the same call, and none of them has the name.
 pub record MakesNamed (name : List ℕ) (spec : Spec) (words : ℕ) (old new : Actor) : Type 0 where
   pub makes : MakesOne old.segment.shape (Histogram name spec) words old.done new.done
   pub met : List ℕ
@@ -66,8 +66,8 @@ pub record MakesNamed (name : List ℕ) (spec : Spec) (words : ℕ) (old new : A
 abbrev pub NamesAtMostOne : List ℕ → Spec → ℕ → Actor → Actor → Type 0
 NamesAtMostOne name spec words old new = (new.done ≡ old.done) ⊎ MakesNamed name spec words old new
 
--- It has made a sample of a value, where the list has none: the records that it had met were all of the list when it loaded the end of that,
--- in the same call, and none of those behind the histogram's is a sample of the value.
+-- It has made a sample of a value, when the list had none: the records that it had visited were all of the list when it loaded its end, in
+-- the same call, and none of those after the histogram's is a sample of the value.
 pub record MakesSample (histogram : ℕ) (value : ℤ) (old new : Actor) : Type 0 where
   pub makes : MakesOne old.segment.shape (Sample histogram value) SAMPLE_LEAST old.done new.done
   pub front : List ℕ
@@ -82,8 +82,9 @@ pub record MakesSample (histogram : ℕ) (value : ℤ) (old new : Actor) : Type 
 abbrev pub IsPurged : ℕ → Actor → Type 0
 IsPurged at a = (own : Own) × Contains a.hand.own own × (own.at ≡ at) × (own.tag ≡ TYPE_PURGED)
 
--- It has claimed one block for the counts of a histogram, where it had seen no counts reference and has loaded that as 0. For it alone it has
--- raised the free pointer, and it has done nothing else. The one that it has seen since is that block; or it is another recorder's, which was first, and the block was purged.
+-- It has claimed one block for the counts of a histogram, when it had seen no counts reference and loaded that as 0. It has raised the free
+-- pointer only for that block, and has done nothing else. The counts reference that it has seen since is that of the block; or it is
+-- another recorder's, which was first, and the block was purged.
 pub record MountsOne (known : Known) (old new : Actor) : Type 0 where
   pub claim : Claim
   pub block : IsBlockFor (block_words known) claim
@@ -97,8 +98,8 @@ pub record MountsOne (known : Known) (old new : Actor) : Type 0 where
 
 -- ---- for units of a value
 
--- It has claimed and published nothing; or it has claimed one block, with buckets for the counts, and without for the sample of the value. It
--- has seen no fewer words of records, and found no fewer that lead to no block: so of a batch each item has found its own.
+-- It has claimed and published nothing; or it has claimed one block, with buckets for the counts, without them for the sample of the value.
+-- It has seen no fewer words of records, and found no fewer that lead to no block: so in a batch each item has found its own.
 pub record ClaimsFor (known : Known) (value : ℤ) (old new : Actor) : Type 0 where
   pub segment : new.segment ≡ old.segment
   pub buckets : has_buckets known.spec ≡ true → (new.done ≡ old.done) ⊎ MountsOne known old new
@@ -117,7 +118,8 @@ ClaimsForEach known (item ∷ rest) old new = (mid : Actor) × ClaimsFor known i
 abbrev pub ClaimsAtMostOne : Done → Done → Type 0
 ClaimsAtMostOne old new = (new.claimed ≡ old.claimed) ⊎ ((claim : Claim) × (new.claimed ≡ old.claimed ++ claim ∷ []))
 
--- It has claimed what it may for each item of a batch, in order, and nothing behind: with buckets one block at most for all of them together.
+-- It has claimed what it may for each item of a batch, in order, and nothing after that: with buckets one block at most for all of them
+-- together.
 pub record ClaimsForAll (known : Known) (items : List (ℤ × ℕ)) (old new : Actor) : Type 0 where
   pub last : Actor
   pub each : ClaimsForEach known items old last

@@ -1,4 +1,4 @@
--- What a delta makes of its recorder: what it takes on its way, and what it has taken when it ends.
+-- What a delta changes in its recorder: what it takes on its way, and what it has taken when it ends.
 use Rattle.std.specs.Prelude.{◌≡◌, ◌≢◌, true, false, ℕ, ◌+◌, ◌<◌, ◌≤◌, ℤ, ◌+ℤ◌, List, [], ◌∷◌, ◌++◌, length, nat_lt, if◌then◌else◌, Some, None}
 use Rattle.std.specs.List.{Contains}
 use Rattle.segment_image.specs.declared.layout.TheConstants.{HISTOGRAM_COUNTS, HISTOGRAM_SINGLE, SAMPLE_COUNT}
@@ -31,7 +31,7 @@ use Rattle.live_segment.specs.Add.Progress.{CountsWithin, LooksAt}
 
 -- ---- what is taken
 
--- units of a key, where there are some
+-- units of a key, if there are any
 abbrev pub units_of_key : ℤ → ℕ → List (ℤ × ℕ)
 units_of_key key units = if nat_lt 0 units then (key, units) ∷ [] else []
 
@@ -39,7 +39,7 @@ units_of_key key units = if nat_lt 0 units then (key, units) ∷ [] else []
 abbrev pub with_units : List (ℤ × ℕ) → Taken → Taken
 with_units more taken = record taken { counts = taken.counts ++ more }
 
--- A recorder's delta continues and takes these units. The recorder has seen no less, and otherwise is as it was.
+-- A recorder's delta continues and takes these units. The recorder has seen no less, and all else is unchanged.
 pub record TakesOn (more : List (ℤ × ℕ)) (old new : Actor) : Type 0 where
   pub view : new ≡ record old {
     hand = record old.hand { place = new.hand.place };
@@ -67,8 +67,8 @@ pub record TakesWord (segment : Segment) (known : Known) (word : ℕ) (seat : Pa
 
 -- ---- at the counts
 
--- A recorder's seat takes a delta of a histogram whose counts are in use, and stands at these: the single word that it loaded is off, and says
--- which bucket was packed and what it keeps of it.
+-- A recorder's seat takes a delta of a histogram whose counts are in use, and is at these: the single word that it loaded is off, and shows
+-- which bucket was packed and what it keeps of that.
 pub record TakesAt (segment : Segment) (known : Known) (mounted : Mounted) (seat : Pass) : Type 0 where
   pub table : seat.table_id ≡ table_of segment
   pub recorder : is_opener seat.me.0.role ≡ false
@@ -93,7 +93,7 @@ pub record TakesValues (segment : Segment) (known : Known) (seat : Pass) : Type 
   pub looks : LooksAtValues segment known seat
   pub takes : Takes seat.me.0 known.reference known
 
--- it may take of a sample whose count it has loaded
+-- it may take units of a sample whose count it has loaded
 pub record MayTakeSample (segment : Segment) (known : Known) (value : ℤ) (sample count : ℕ) (seat : Pass) : Type 0 where
   pub takes : TakesValues segment known seat
   pub saw : SawSample seat.me.0.seen known.reference value sample
@@ -101,7 +101,7 @@ pub record MayTakeSample (segment : Segment) (known : Known) (value : ℤ) (samp
   pub counted : SawCount seat.me.0 (sample + SAMPLE_COUNT) count
   pub some : count ≢ 0
 
--- and has taken units of it, which are all that it saw; of the list and of records it has seen no more
+-- it has taken units of the sample, all that it saw; it has seen no more of the list and of records
 pub record HasTakenSample (segment : Segment) (known : Known) (value : ℤ) (sample units : ℕ) (old new : Pass) : Type 0 where
   pub takes : TakesValues segment known new
   pub on : TakesOn (units_of_key value units) old.me.0 new.me.0
@@ -110,8 +110,8 @@ pub record HasTakenSample (segment : Segment) (known : Known) (value : ℤ) (sam
 
 -- ---- what was taken
 
--- A delta has taken these units of the buckets of a histogram, of no more than there are, which is all that its recorder saw of them since
--- it began.
+-- A delta has taken these units from the buckets of a histogram, from no more buckets than there are: all that its recorder saw in them
+-- since it began.
 pub record HasTakenBuckets (known : Known) (taken : List (ℤ × ℕ)) (old new : Actor) : Type 0 where
   pub on : TakesOn taken old new
   pub free : is_bound new.hand.place ≡ false
@@ -119,8 +119,8 @@ pub record HasTakenBuckets (known : Known) (taken : List (ℤ × ℕ)) (old new 
   pub units : AreUnits taken
   pub few : length taken ≤ buckets_of known.spec
 
--- A delta has taken of the units of a histogram all that its recorder saw, and may take of the sum; of samples, where each that was met stands
--- behind the record of its histogram, and no block twice.
+-- A delta has taken all units of a histogram that its recorder saw, and may take what is new of the sum; all units of samples, if each that
+-- was visited comes after the record of its histogram, and no block comes twice.
 pub record MayTakeSum (segment : Segment) (known : Known) (seat : Pass) : Type 0 where
   pub table : seat.table_id ≡ table_of segment
   pub recorder : is_opener seat.me.0.role ≡ false
@@ -142,7 +142,7 @@ pub record HasTakenSum (known : Known) (amount : ℤ) (old new : Actor) : Type 0
   }
   pub all : TookAll new known
 
--- A delta of a histogram has begun and taken these units. Its recorder has seen no less, and all else that it has is as before.
+-- A delta of a histogram has begun and taken these units. Its recorder has seen no less, and all else that it has is unchanged.
 pub record HasTakenSome (known : Known) (units : List (ℤ × ℕ)) (old new : Actor) : Type 0 where
   pub view : new ≡ record (looking old) {
     hand = record old.hand { place = new.hand.place };
@@ -155,8 +155,8 @@ pub record HasTakenSome (known : Known) (units : List (ℤ × ℕ)) (old new : A
 abbrev pub taken_as : Actor → Known → List (ℤ × ℕ) → ℤ → Taken
 taken_as a known counts sum = record { name = known.name; counts = counts; sum = sum; swapped = true; moment = moment_of a }
 
--- A delta of a histogram has taken all that its recorder saw since it began, and is noted behind those before. It returns keys and
--- units, of each key as many as it took. Its recorder has seen no less, and all else that it has is as before.
+-- A delta of a histogram has taken all that its recorder saw since it began, and is noted after the earlier ones. It returns keys with
+-- units, as many of each key as it took. Its recorder has seen no less, and all else that it has is unchanged.
 pub record HasTaken (known : Known) (delta : List (ℤ × ℕ)) (sum : ℤ) (old new : Actor) : Type 0 where
   pub counts : List (ℤ × ℕ)
   pub same : new ≡ record (looking old) {

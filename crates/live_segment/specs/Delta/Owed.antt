@@ -24,7 +24,7 @@ HadPacked a known bucket units =
     (word : ℕ) × Contains a.seen.singles (record { at = known.reference + HISTOGRAM_SINGLE; word = word })
     × (units ≡ units_packed (single_of a.segment.version (buckets_of known.spec) word) bucket)
 
--- a count of a bucket, behind a counts reference that it had loaded
+-- a count of a bucket, among the counts at a reference that it had loaded
 abbrev pub HadCount : Actor → Known → ℕ → ℕ → Type 0
 HadCount a known bucket count =
     (counts : ℕ) × (word_seen a.seen.words (known.reference + HISTOGRAM_COUNTS) ≡ Some counts)
@@ -42,17 +42,17 @@ HadRedundant a known count = Contains a.seen.counts (record { at = known.referen
 
 -- ---- what it is owed
 
--- Of a key no units can have been in transit as the call looked at it: it is none of the packed bucket, where the format has version 1 and the
--- call found the single word off.
+-- No units of a key can have been in transit as the call looked at it: it is not the key of the packed bucket, if the format has version 1
+-- and the call found the single word off.
 abbrev pub IsWhole : Actor → Known → ℤ → Type 0
 IsWhole a known key =
     (a.segment.version ≡ 2) ⊎ (known.spec ≡ Sparse) ⊎ SawOpen a known
     ⊎ ((word bucket : ℕ) → SawSingle a (known.reference + HISTOGRAM_SINGLE) word
     → packed_bucket (single_of a.segment.version (buckets_of known.spec) word) ≡ Some bucket → bucket_key (Some known) bucket ≢ key)
 
--- Units of each key are enough for a recorder, by what it had before a call and what it has behind it. Of a whole key they are at least what it
--- had accepted, or what was accepted before it was made, and what it had seen in a single word. Of any key they are at least each count
--- that it had seen; in version 2 with what it had seen in a single word.
+-- Units of each key are enough for a recorder, by what it had before a call and what it has after it. For a whole key they are at least
+-- what it had accepted, or what was accepted before it was made, and what it had seen in a single word. For any key they are at least each
+-- count that it had seen; in version 2 with what it had seen in a single word.
 pub record IsEnough (known : Known) (old new : Actor) (units : ℤ → ℕ) : Type 0 where
   pub accepted : (key : ℤ) → IsWhole new known key → tally_units (accepted_by old) known.name key ≤ units key
   pub packed : (bucket n : ℕ) → bucket < buckets_of known.spec → IsWhole new known (bucket_key (Some known) bucket) → HadPacked old known bucket n

@@ -17,8 +17,8 @@ use Rattle.live_segment.specs.Hist.Search.{asked_at}
 
 -- ---- its payload
 
--- the block that it claimed last begins at a word, is to be a histogram's record, and has room for so many words behind its header; nothing
--- is stored there yet, and nobody has said what it is to hold
+-- the block that it claimed last begins at a word, is to be a histogram's record, and has room for this many words after its header;
+-- nothing is stored there yet, and what it is to hold is not noted yet
 pub record HasBlock (at words : ℕ) (a : Actor) : Type 0 where
   pub free : MayTurn a
   pub front : List Own
@@ -35,23 +35,23 @@ pub record HasBlock (at words : ℕ) (a : Actor) : Type 0 where
 abbrev pub filled_with : List ℕ → Own → Own
 filled_with payload own = record own { payload = payload }
 
--- its own block at a word has this payload, and nothing else has become of it
+-- its own block at a word has this payload, and nothing else of it has changed
 abbrev pub StandsFilled : ℕ → List ℕ → Actor → Type 0
 StandsFilled at payload a = (own : Own) × (own_at a.hand.own at ≡ Some own) × (own.next ≡ 0) × (own.made ≡ None) × (own.payload ≡ payload)
     × (own.tag ≡ TYPE_HISTOGRAM)
 
--- the block that was last has this payload; all else is as it was
+-- the block that was last has this payload; all else is unchanged
 pub record HasFilled (at : ℕ) (payload : List ℕ) (old new : Actor) : Type 0 where
   pub view : new ≡ record old { hand = record old.hand { own = change_last (filled_with payload) old.hand.own } }
   pub found : StandsFilled at payload new
 
 -- ---- the record
 
--- what is said is what is asked for
+-- what is announced is what is asked for
 abbrev pub SaysAsked : Asked → Announcement → Type 0
 SaysAsked asked said = asked_for said ≡ Some (Histogram asked.name.items asked.spec)
 
--- It has claimed a block and published it as the record of what is asked for, and owes the answer. Of the list it has seen tails alone.
+-- It has claimed a block and published it as the record of what is asked for, and owes the answer. It has seen only tails of the list.
 pub record HasMade (asked : Asked) (old new : Actor) : Type 0 where
   pub at : ℕ
   pub view : new ≡ record old {

@@ -28,14 +28,14 @@ use Rattle.live_segment.specs.List.Ends.{SawAllOfList}
 
 -- ---- the walk to the record
 
--- it has met a record on the list, which lies within the segment; or it has seen all of the list since, and the record is not there
+-- it has visited a record on the list, which lies within the segment; or it has seen all of the list since, and the record is not there
 abbrev pub MeetsRecord : ℕ → Bool → Actor → Actor → Type 0
 MeetsRecord reference true old new = Contains new.seen.chain reference × (reference + BLOCK_LEAST ≤ new.segment.shape.size)
 MeetsRecord reference false old new = ¬ (Contains new.seen.chain reference) × SawAllOfList old.seen new.seen
 
 -- ---- what it reads of the record
 
--- the type of a record is none of a histogram's
+-- the type of a record is not that of a histogram
 abbrev pub SawOtherType : Seen → ℕ → Type 0
 SawOtherType seen at = (tag : ℕ) × (word_seen seen.words (at + BLOCK_TYPE) ≡ Some tag) × (tag ≢ TYPE_HISTOGRAM)
 
@@ -51,7 +51,7 @@ pub record ReadsName (seen : Seen) (at : ℕ) (name : List ℕ) : Type 0 where
 abbrev pub SawLongName : Seen → ℕ → Type 0
 SawLongName seen at = (len : ℕ) × (word_seen seen.words (at + HISTOGRAM_NAME_LENGTH) ≡ Some len) × (MAX_NAME < len)
 
--- a number as it is read; no valid spec has one that is larger than the greatest
+-- a number as it is read: at most the greatest `u32`, which no valid spec has
 abbrev pub number_read : ℕ → ℕ
 number_read word = min word 4294967295
 
@@ -59,7 +59,7 @@ number_read word = min word 4294967295
 abbrev pub ReadsNumber : Seen → ℕ → ℕ → Type 0
 ReadsNumber seen at number = (word : ℕ) × (word_seen seen.words at ≡ Some word) × (number ≡ number_read word)
 
--- the spec that a record has, whose name takes so many words
+-- the spec of a record whose name takes this many words
 abbrev pub ReadsSpec : Seen → ℕ → ℕ → Spec → Type 0
 ReadsSpec seen at letters (Linear least greatest n) =
     (word_seen seen.words (at + HISTOGRAM_KIND) ≡ Some KIND_LINEAR) × ReadsNumber seen (at + HISTOGRAM_MIN) least
@@ -93,8 +93,8 @@ IsNotRead reference old new = MeetsRecord reference false old new ⊎ (Contains 
 
 -- ---- whether it is the first of its name
 
--- The first record of a name is another one, or has another spec than this. Or the name of this one has no zeros behind it: then none
--- has the name.
+-- The first record of a name is another one, or has another spec than this. Or the name of this one is not followed by zeros: then no
+-- record has the name.
 abbrev pub IsNotFirst : List ℕ → Asked → ℕ → Seen → Actor → Type 0
 IsNotFirst name asked reference seen a =
     ((first : ℕ) × IsFirstNamed seen name first × (first ≢ reference)) ⊎ FirstHasOtherSpec asked a ⊎ All (SawOtherName seen name) seen.chain
@@ -107,7 +107,7 @@ Recognizes asked reference old result new =
 
 -- ---- its answer
 
--- Of a record with a name and a spec: these may not be asked for, or it is not the first of the name on the list.
+-- What is wrong with a record with a name and a spec: these may not be asked for, or it is not the first of the name on the list.
 abbrev pub IsNotNamed : Dimensions → List ℕ → Spec → ℕ → Actor → Type 0
 IsNotNamed shape name spec reference a =
     ¬ (MayBeAsked shape name spec)
@@ -120,7 +120,7 @@ IsHistogramOfRecord name spec reference histogram old new =
     ((known : Known) × (get_elem? new.answers.names histogram.index ≡ some known) × (known.name ≡ name) × (known.reference ≡ reference))
     × ((new ≡ old) ⊎ (IsAnsweredWith name spec histogram old new × (new.done ≡ old.done)))
 
--- Of a record with a name and a spec it has the histogram; or it has looked along the list at most, and the record is not the one for them.
+-- It has the histogram of a record with a name and a spec; or it has at most looked along the list, and the record is not the one for them.
 abbrev pub OpensAs : List ℕ → Spec → ℕ → Actor → Option Hist → Actor → Type 0
 OpensAs name spec reference old result new =
     MatchOption result (HasSearched old new × IsNotNamed new.segment.shape name spec reference new)

@@ -1,4 +1,4 @@
--- What a walk along the list that looks for a name makes of a recorder, and how it ends.
+-- What a walk along the list that looks for a name changes in a recorder, and how it ends.
 use Rattle.std.specs.Prelude.{◌≡◌, ℕ, ◌+◌, ◌≤◌, List, length, ⊤}
 use Rattle.std.specs.List.{All, Contains}
 use Rattle.segment_image.specs.declared.layout.TheConstants.{BLOCK_LEAST, HISTOGRAM_NAME}
@@ -19,8 +19,8 @@ use Rattle.live_segment.specs.List.Ends.{SawAllOfList}
 
 -- ---- on the way
 
--- Its walk has given the front of the chain that it has seen, and stands at the last of these records, or at the queue block. None of
--- them has the name.
+-- Its walk has given the front of the chain that it has seen, and is at the last of these records, or at the queue block. None of them has
+-- the name.
 pub record SearchesAt (name : List ℕ) (at : ℕ) (a : Actor) : Type 0 where
   pub free : MayTurn a
   pub given : List ℕ
@@ -29,7 +29,7 @@ pub record SearchesAt (name : List ℕ) (at : ℕ) (a : Actor) : Type 0 where
   pub within : at + BLOCK_LEAST ≤ a.segment.shape.size
   pub others : All (SawOtherName a.seen name) given
 
--- it has seen more of the list and of the words of records; a cursor that it had loaded may be let go, and all else is as it was
+-- it has seen more of the list and of the words of records; a cursor that it had loaded may be let go, and all else is unchanged
 pub record HasSearched (old new : Actor) : Type 0 where
   pub view : new ≡ record old {
     hand = record old.hand { place = new.hand.place };
@@ -55,13 +55,13 @@ FirstHasOtherSpec asked a = (at : ℕ) × (letters : List ℕ) × IsFirstNamed a
 abbrev pub HasMadeNone : List ℕ → Actor → Type 0
 HasMadeNone name a = (spec : Spec) (at : ℕ) → ¬ (Contains a.done.published (record { reference = at; made = Histogram name spec }))
 
--- where it came to the end, it found that there since
+-- if it came to the end of the list, it has found the end there since
 abbrev pub FoundEnd : Search → Seen → Seen → Type 0
 FoundEnd (End at) old new = SawAllOfList old new
 FoundEnd _ old new = ⊤
 
--- It met the first record of the name on the list, within the segment: it may note that it knows what is asked for, or that the spec is another.
--- Or it saw all of the list, and no record has the name, one of its own neither.
+-- It visited the first record of the name on the list, within the segment: it may note that it knows what is asked for, or the record has
+-- another spec. Or it saw all of the list, and no record has the name, not even one that it made.
 abbrev pub Searches : Asked → Search → Actor → Type 0
 Searches asked (Met reference) a =
     MayTurn a × MayNote a (knows (asked_at asked reference)) × Contains a.seen.chain reference × (reference + HISTOGRAM_NAME ≤ a.segment.shape.size)

@@ -13,8 +13,8 @@ FoundNone word old new = Contains (drop (length old.ends) new.ends) word
 abbrev pub FoundEndAt : ℕ → Seen → Seen → Type 0
 FoundEndAt at old new = FoundNone (at + BLOCK_NEXT) old new
 
--- The records that it has seen on the list were all of it at a load since then: the list ended behind the last of them, or at the queue block
--- where there are none.
+-- The records that it has seen on the list were all of it at a load since then: the list ended after the last of them, or at the queue
+-- block if there are none.
 abbrev pub SawAllOfList : Seen → Seen → Type 0
 SawAllOfList old new = FoundEndAt (stands_behind new.chain) old new
 

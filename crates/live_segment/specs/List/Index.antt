@@ -1,4 +1,5 @@
--- What a recorder's index has of the records that it met along the list: of each key the first, and of samples those of each histogram.
+-- What a recorder's index has of the records that it visited along the list: the first of each key, and for samples all those of each
+-- histogram.
 use Rattle.std.specs.Prelude.{◌≡◌, true, false, Bool, ℕ, ◌+◌, List, [], ◌∷◌, ◌++◌, map, take, Option}
 use Rattle.std.specs.List.{All}
 use Rattle.segment_machine.specs.declared.seen.Seen.{Seen}
@@ -13,8 +14,8 @@ use Rattle.live_segment.specs.List.Walk.{HasCome}
 abbrev pub passed : KeyKind → Seen → ℕ → List Met
 passed kind seen given = map (λ at. (at, seen_key kind seen at)) (take given seen.chain)
 
--- It is of a kind. It has passed the front of the chain that its recorder has seen, and the recorder has looked at each of these records for
--- its key. Of each key it has the first of them. One of samples has groups: those of a histogram are one.
+-- It is of a kind. It has passed the front of the chain that its recorder has seen, and the recorder has looked at each of these records
+-- for its key. It has the first of them of each key. An index of samples has groups: the samples of a histogram are one.
 pub record IsIndexed (kind : KeyKind) (size : ℕ) (seen : Seen) (index : RecordIndex) : Type 0 where
   pub of_kind : index.kind ≡ kind
   pub come : HasCome size seen.chain index.place
@@ -22,7 +23,7 @@ pub record IsIndexed (kind : KeyKind) (size : ℕ) (seen : Seen) (index : Record
   pub grouping : kind ≡ Sample → is_grouping index.firsts ≡ true
   pub holds : Holds (passed kind seen index.place.given) index.firsts
 
--- a record is passed, with its key: the index has it, or could not grow, and stands where it stood
+-- a record is passed, with its key: the index has it, or could not grow and its place is unchanged
 abbrev pub Enters : ℕ → Option ℕ → RecordIndex → Bool → RecordIndex → Type 0
 Enters at key old true new =
     (new.place ≡ record { given = old.place.given + 1; at = at }) × (new.kind ≡ old.kind) × (is_grouping new.firsts ≡ is_grouping old.firsts)

@@ -37,7 +37,7 @@ AreOwn size seen histogram samples = (index : RecordIndex) × HasPassedAll size 
 
 -- ---- what is listed
 
--- Of each of these records it saw which sample it is, and did something with each sample. What it listed are values, each once, with units
+-- It saw of each of these records which sample it is, and did something with each sample. What it listed are values, each once, with units
 -- that the first sample of the value on the list has.
 pub record ListsSamples (Does : ℤ → ℕ → Type 0) (Has : ℕ → ℕ → Type 0) (histogram : ℕ) (passed : List ℕ) (listed : List (ℤ × ℕ)) (seen : Seen) : Type 0 where
   pub passes : AllByRecursion (PassesRecord Does seen histogram) passed
@@ -45,7 +45,7 @@ pub record ListsSamples (Does : ℤ → ℕ → Type 0) (Has : ℕ → ℕ → T
   pub once : NoKeyRepeats listed
   pub few : length listed ≤ length passed
 
--- A call on a sparse histogram listed what it saw of the first of these samples of each value. Of the list it has seen no more.
+-- A call on a sparse histogram listed what it saw of the first of these samples of each value. It has seen no more of the list.
 pub record ListsIndexed (call : SampleCall) (segment : Segment) (known : Known) (passed : List ℕ) (listed : List (ℤ × ℕ)) (old new : Pass) : Type 0 where
   pub same : IsSame old new
   pub goes : Goes call segment known new
@@ -55,7 +55,7 @@ pub record ListsIndexed (call : SampleCall) (segment : Segment) (known : Known) 
 
 -- ---- all of it
 
--- it has listed these of records, among which are all samples of the histogram that were met
+-- it has listed these from records, among which are all samples of the histogram that were visited
 pub record HasListedAll (call : SampleCall) (known : Known) (listed : List (ℤ × ℕ)) (a : Actor) : Type 0 where
   pub passed : List ℕ
   pub lists : ListsSamples (HasDealtWith call listed a) (HasUnitsOf call a) known.reference passed listed a.seen
@@ -66,8 +66,8 @@ abbrev pub HasListedValues : SampleCall → Known → List (ℤ × ℕ) → Acto
 HasListedValues OfDelta known listed old new = HasTakenSome known listed old new
 HasListedValues OfSnapshot known listed old new = HasLooked old new
 
--- A call on a sparse histogram has begun and listed these, which fit in the segment. It has listed all, where each sample that was met stands
--- behind the record of its histogram, and no block twice.
+-- A call on a sparse histogram has begun and listed these, which fit in the segment. It has listed all, if each sample that was visited
+-- comes after the record of its histogram, and no block comes twice.
 pub record ListsThrough (call : SampleCall) (segment : Segment) (known : Known) (listed : List (ℤ × ℕ)) (old new : Pass) : Type 0 where
   pub same : IsSame old new
   pub goes : Goes call segment known new

@@ -1,4 +1,5 @@
--- By which keys a recorder finds the records that it met along the list: those of histograms by their names, samples by histogram and value.
+-- By which keys a recorder finds the records that it visited along the list: those of histograms by their names, samples by histogram and
+-- value.
 use Rattle.std.specs.Prelude.{◌≡◌, true, ℕ, zero, suc, ◌+◌, ◌*◌, ◌<◌, ◌^◌, ◌%◌, ◌==◌, if◌then◌else◌, List, [], ◌∷◌, ◌++◌, Option, Some, None, is_some}
 use Rattle.std.specs.Option.{unwrap_or}
 use Rattle.std.specs.List.{All}
@@ -21,7 +22,7 @@ HasSeen seen word = is_some (word_seen seen.words word) ≡ true
 abbrev pub seen_word : Seen → ℕ → ℕ
 seen_word seen word = unwrap_or (word_seen seen.words word) 0
 
--- so many words from one on
+-- this many words from one on
 abbrev pub seen_words : Seen → ℕ → ℕ → List ℕ
 seen_words seen from zero = []
 seen_words seen from (suc n) = seen_words seen from n ++ seen_word seen (from + n) ∷ []
@@ -32,11 +33,11 @@ seen_words seen from (suc n) = seen_words seen from n ++ seen_word seen (from + 
 abbrev pub seen_letters : Seen → ℕ → List ℕ
 seen_letters seen at = seen_words seen (at + HISTOGRAM_NAME) (name_words (seen_word seen (at + HISTOGRAM_NAME_LENGTH)))
 
--- the key of a record: that of its name, where it is one of a histogram
+-- the key of a record: that of its name, if it is one of a histogram
 abbrev pub seen_name : Seen → ℕ → Option ℕ
 seen_name seen at = if seen_word seen (at + BLOCK_TYPE) == TYPE_HISTOGRAM then Some (key_of (seen_letters seen at)) else None
 
--- It has looked at a record for its name: it has seen its type and, where it is one of a histogram, all of its name.
+-- It has looked at a record for its name: it has seen its type and, if it is one of a histogram, all of its name.
 pub record HasLookedForName (seen : Seen) (at : ℕ) : Type 0 where
   pub tag : HasSeen seen (at + BLOCK_TYPE)
   pub length_seen : seen_word seen (at + BLOCK_TYPE) ≡ TYPE_HISTOGRAM → HasSeen seen (at + HISTOGRAM_NAME_LENGTH)
@@ -55,13 +56,13 @@ IsNameKey name key = (letters : List ℕ) × AreNameWords name letters × All (�
 abbrev pub sample_key : ℕ → ℕ → ℕ
 sample_key histogram word = (histogram * 4294967296 + word) % 2 ^ 64
 
--- the key of a record: that of its histogram and its value, where it is a sample
+-- the key of a record: that of its histogram and its value, if it is a sample
 abbrev pub seen_sample : Seen → ℕ → Option ℕ
 seen_sample seen at =
     if seen_word seen (at + BLOCK_TYPE) == TYPE_SAMPLE then Some (sample_key (seen_word seen (at + SAMPLE_HISTOGRAM)) (seen_word seen (at + SAMPLE_VALUE)))
     else None
 
--- It has looked at a record for its value: it has seen its type and, where it is a sample, its histogram and its value.
+-- It has looked at a record for its value: it has seen its type and, if it is a sample, its histogram and its value.
 pub record HasLookedForSample (seen : Seen) (at : ℕ) : Type 0 where
   pub tag : HasSeen seen (at + BLOCK_TYPE)
   pub histogram : seen_word seen (at + BLOCK_TYPE) ≡ TYPE_SAMPLE → HasSeen seen (at + SAMPLE_HISTOGRAM)
@@ -69,7 +70,7 @@ pub record HasLookedForSample (seen : Seen) (at : ℕ) : Type 0 where
 
 -- ---- of a kind
 
--- the key of a record, where it is one of those that have a key
+-- the key of a record, if it is one that has a key
 abbrev pub seen_key : KeyKind → Seen → ℕ → Option ℕ
 seen_key Name seen at = seen_name seen at
 seen_key Sample seen at = seen_sample seen at

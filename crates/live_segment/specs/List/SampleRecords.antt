@@ -1,4 +1,4 @@
--- What a recorder sees of the samples of a sparse histogram, which it meets along the list.
+-- What a recorder sees of the samples of a sparse histogram, which it visits along the list.
 use Rattle.std.specs.Prelude.{◌≡◌, ◌≢◌, ◌⊎◌, true, false, ℕ, ◌+◌, ◌*◌, ◌≤◌, ℤ, List, length, Option, Some, None}
 use Rattle.std.specs.List.{All, AllPairs, Contains}
 use Rattle.segment_image.specs.declared.layout.TheConstants.{HEADER_WORDS, SAMPLE_COUNT, SAMPLE_LEAST}
@@ -19,26 +19,27 @@ abbrev pub ShowsSample : ℕ → ℕ → Option ℤ → Actor → Type 0
 ShowsSample histogram at (Some value) a = SawSample a.seen histogram value at × (at + SAMPLE_LEAST ≤ a.segment.shape.size)
 ShowsSample histogram at None a = (value : ℤ) → is_i32 value ≡ true → SawOther a.seen histogram value at
 
--- it met a record that it saw to be a sample
+-- it visited a record, and saw that this is a sample
 abbrev pub MeetsSample : Actor → ℕ → Type 0
 MeetsSample a at = Contains a.seen.chain at × ((histogram : ℕ) × (value : ℤ) × SawSample a.seen histogram value at)
 
--- the samples that it met are few: each has eight words of its own, behind those of the header
+-- the samples that it visited are few: each has eight words of its own, after those of the header
 abbrev pub SamplesAreFew : Actor → Type 0
 SamplesAreFew a =
     (samples : List ℕ) → AllPairs (λ x y. x ≢ y) samples → All (MeetsSample a) samples
     → HEADER_WORDS + SAMPLE_LEAST * length samples ≤ a.segment.shape.size
 
--- the count of a sample is loaded, by a recorder that met few samples
+-- the count of a sample is loaded, by a recorder that visited few samples
 abbrev pub LoadsCountOfSample : ℕ → Sat → ℕ → Sat → Type 0
 LoadsCountOfSample word me found me' = DoesAt (λ at. taking_event (load_count at)) word me found me' × SamplesAreFew me.0
 
--- The sum of a histogram is loaded: of what its recorder met, each sample stands behind the record of its histogram, and no block twice.
+-- The sum of a histogram is loaded: of what its recorder visited, each sample comes after the record of its histogram, and no block comes
+-- twice.
 abbrev pub LoadsSum : ℕ → Sat → ℕ → Sat → Type 0
 LoadsSum word me found me' = DoesAt (λ histogram. taking_event (load_sum histogram)) word me found me' × SamplesStandBehind me.0
     × NoRepeats me.0.seen.chain
 
--- It has seen more words of published records and more counts, and looks at no histogram with buckets; otherwise it is as it was.
+-- It has seen more words of published records and more counts, and looks at no histogram with buckets; all else is unchanged.
 pub record SeesSample (old new : Actor) : Type 0 where
   pub view : new ≡ record old {
     hand = record old.hand { place = new.hand.place };

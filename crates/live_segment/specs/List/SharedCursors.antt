@@ -1,4 +1,4 @@
--- What a call on a shared cursor makes of a recorder: it was given a record, or found the end of the list behind the cursor.
+-- What a call on a shared cursor changes in a recorder: it was given a record, or found the end of the list at the cursor.
 use Rattle.std.specs.Prelude.{◌≡◌, false, ℕ, ◌+◌, ◌<◌, ◌≤◌, List, [], ◌∷◌, ◌++◌, length, Option, Some, None, slice_index, slice_set}
 use Rattle.std.specs.List.{All, Contains}
 use Rattle.segment_image.specs.declared.layout.TheConstants.{BLOCK_LEAST, BLOCK_NEXT, HEADER_WORDS, QUEUE}
@@ -26,19 +26,19 @@ abbrev pub LoadsCursor : ℕ → Sat → ℕ → Sat → Type 0
 LoadsCursor word me found me' =
     DoesAt (λ cursor. cursor_event (load_cursor cursor)) word me found me' × (length me.0.done.lost ≡ me.0.segment.cursors)
 
--- What shared cursors gave a recorder, in the order in which it was given it: what one cursor gave stands in that order on a chain, which has
--- all that the recorder has seen of the list, and each record that it met.
+-- What shared cursors gave a recorder: what one cursor gave is on a chain, in the order in which it was given. The chain begins with all
+-- that the recorder has seen of the list, and has each record that it made, was given, or saw as the tail or at a shared cursor.
 pub record GaveInOrder (chain : List ℕ) (a : Actor) : Type 0 where
   pub seen : IsPrefix a.seen.chain chain
   pub met : All (Contains chain) (records_met a)
   pub rises : (i j k l : ℕ) (x y : Given) → i < j → get_elem? a.done.given i ≡ some x → get_elem? a.done.given j ≡ some y → x.cursor ≡ y.cursor
       → get_elem? chain k ≡ some x.reference → get_elem? chain l ≡ some y.reference → k < l
 
--- A shared cursor is moved on, or comes too late: the record that it was to be moved to is the next one on the list.
+-- A shared cursor is moved, or its exchange comes too late: the record that it was to be moved to is the next one on the list.
 abbrev pub CursorMovesOn : ℕ → ℕ → Actor → Type 0
 CursorMovesOn old new a = (chain : List ℕ) × AreNeighbours chain old new × GaveInOrder chain a
 
--- a step moves a shared cursor on, and what it gave stands in order
+-- a step moves a shared cursor, and what it gave is in order
 abbrev pub MovesCursor : ℕ → ℕ → ℕ → Sat → ℕ → Sat → Type 0
 MovesCursor word old new me found me' =
     DoesAt (λ cursor. cursor_event (move_cursor cursor old new)) word me found me'
@@ -46,8 +46,8 @@ MovesCursor word old new me found me' =
 
 -- ---- what came before
 
--- Exchanges of a shared cursor came too late, or none did. The cursor was seen at them, and nexts of blocks where it stood; all else is
--- as it was.
+-- Exchanges of a shared cursor came too late, or none did. At them the cursor was seen, and the nexts of the blocks where it was; all else
+-- is unchanged.
 pub record IsLate (cursor : ℕ) (old new : Actor) : Type 0 where
   pub same : new ≡ record old {
     hand = record old.hand { place = new.hand.place };
@@ -64,14 +64,14 @@ pub record IsLate (cursor : ℕ) (old new : Actor) : Type 0 where
 
 -- ---- what it found then
 
--- it has loaded a shared cursor, which stands at a block
+-- it has loaded a shared cursor, which is at a block
 abbrev pub at_cursor : Actor → ℕ → ℕ → Actor
 at_cursor a cursor at = record a {
   hand = record a.hand { place = CursorLoaded cursor at };
   seen = record a.seen { cursors = a.seen.cursors ++ sight cursor at };
 }
 
--- it was given the record behind that block, and the cursor stands there now
+-- it was given the record after that block, and the cursor is there now
 abbrev pub given_behind : Actor → ℕ → ℕ → ℕ → Actor
 given_behind a cursor at reference = record a {
   hand = record a.hand { place = Idle };
@@ -89,8 +89,8 @@ ended_at a cursor at = record a {
   seen = record a.seen { cursors = a.seen.cursors ++ sight cursor at; ends = a.seen.ends ++ (at + BLOCK_NEXT) ∷ [] };
 }
 
--- The cursor gave the record that is next on the list behind where it stood when the exchange took. It is a record within the segment.
--- All that cursors gave the recorder stands on that list, in order.
+-- The cursor gave the record that came next on the list after the place where it was when the exchange succeeded. It is a record within the
+-- segment. All that cursors gave the recorder is on that list, in order.
 pub record IsGivenNext (cursor : ℕ) (old : Actor) (reference : ℕ) (new : Actor) : Type 0 where
   pub late : Actor
   pub before : IsLate cursor old late
@@ -103,8 +103,8 @@ pub record IsGivenNext (cursor : ℕ) (old : Actor) (reference : ℕ) (new : Act
   pub neighbours : AreNeighbours chain at reference
   pub ordered : GaveInOrder chain new
 
--- The list ended where the cursor stood, when the call loaded the next there. A chain ends there that has all that the recorder has seen of the list, and each record that it
--- made, was given, or saw as the tail or where a shared cursor stands.
+-- The list ended where the cursor was, when the call loaded the next there. A chain that ends there has all that the recorder has seen of
+-- the list, and each record that it made, was given, or saw as the tail or at a shared cursor.
 pub record IsAtEnd (cursor : ℕ) (old new : Actor) : Type 0 where
   pub late : Actor
   pub before : IsLate cursor old late
@@ -122,7 +122,7 @@ abbrev pub AnswersNext : ℕ → Actor → Option ℕ → Actor → Type 0
 AnswersNext cursor old (Some reference) new = IsGivenNext cursor old reference new
 AnswersNext cursor old None new = IsAtEnd cursor old new
 
--- what it was given by that, by a cursor
+-- what a recorder was given by such a call
 abbrev pub gift : ℕ → Option ℕ → List Given
 gift cursor (Some reference) = record { cursor = cursor; reference = reference } ∷ []
 gift cursor None = []

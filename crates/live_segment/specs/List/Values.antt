@@ -20,25 +20,25 @@ use Rattle.live_segment.specs.Steps.{IsSame, Pass}
 
 -- ---- along the list
 
--- so many keys a histogram may have: its buckets, or as many values as records fit in a segment
+-- a histogram may have this many keys: its buckets, or as many values as records fit in a segment
 abbrev pub AreMostKeys : Segment → Known → ℕ → Type 0
 AreMostKeys segment known many =
     (has_buckets known.spec ≡ true → many ≡ buckets_of known.spec)
     × (known.spec ≡ Sparse → many ≡ (segment.setting.shape.size - HEADER_WORDS) / BLOCK_LEAST)
 
--- so many are enough for these
+-- this many places are enough for the keys of a histogram
 abbrev pub HoldsKeys : Segment → Known → ℕ → Type 0
 HoldsKeys segment known many =
     (has_buckets known.spec ≡ true → buckets_of known.spec ≤ many)
     × (known.spec ≡ Sparse → (segment.setting.shape.size - HEADER_WORDS) / BLOCK_LEAST ≤ many)
 
--- so many keys are counted of a histogram as it may have, or fewer
+-- no more keys are counted of a histogram than it may have
 abbrev pub AreFewKeys : Segment → Known → List (ℤ × ℕ) → Type 0
 AreFewKeys segment known counts = (many : ℕ) → AreMostKeys segment known many → length counts ≤ many
 
 -- ---- a delta
 
--- it takes of a record that it met; of the list it has seen no more
+-- it takes what is new of a record that it visited; it has seen no more of the list
 pub record TakesValue (segment : Segment) (known : Known) (at : ℕ) (taken : Option (ℤ × ℕ)) (old new : Pass) : Type 0 where
   pub takes : TakesValues segment known new
   pub on : TakesOn (listed_of taken) old.me.0 new.me.0
@@ -47,12 +47,12 @@ pub record TakesValue (segment : Segment) (known : Known) (at : ℕ) (taken : Op
 
 -- ---- a snapshot
 
--- It has seen more and stands elsewhere; all else is as it was.
+-- It has seen more and may be at another place; all else is unchanged.
 pub record OnlySeesMore (old new : Actor) : Type 0 where
   pub view : new ≡ record old { hand = record old.hand { place = new.hand.place }; seen = new.seen }
   pub seen : SeesOn old.seen new.seen
 
--- it saw the count of a sample, and has listed it where that is not 0
+-- it saw the count of a sample, and has listed it if that is not 0
 abbrev pub HasListed : List (ℤ × ℕ) → Actor → ℤ → ℕ → Type 0
 HasListed listed a value sample =
     (count : ℕ) × SawCount a (sample + SAMPLE_COUNT) count × ((count ≡ 0) ⊎ Contains (map (λ count. count.0) listed) value)
@@ -75,7 +75,7 @@ pub data SampleCall : Type 0 where
   OfDelta : SampleCall
   OfSnapshot : SampleCall
 
--- what its seat rests on
+-- what holds for its seat
 abbrev pub Goes : SampleCall → Segment → Known → Pass → Type 0
 Goes OfDelta segment known seat = TakesValues segment known seat
 Goes OfSnapshot segment known seat = LooksAtValues segment known seat
@@ -95,7 +95,7 @@ abbrev pub HasUnitsOf : SampleCall → Actor → ℕ → ℕ → Type 0
 HasUnitsOf OfDelta a sample units = 1 ≤ units
 HasUnitsOf OfSnapshot a sample units = HasTotal a sample units
 
--- It has passed records behind that of its histogram, listed what it saw of the first sample of each value, and comes to the next.
+-- It has passed records after that of its histogram, listed what it saw of the first sample of each value, and comes to the next.
 pub record ListsAlong (call : SampleCall) (segment : Segment) (known : Known) (passed : List ℕ) (at : ℕ) (listed : List (ℤ × ℕ)) (old new : Pass) : Type 0 where
   pub same : IsSame old new
   pub goes : Goes call segment known new

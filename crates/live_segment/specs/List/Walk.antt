@@ -1,4 +1,4 @@
--- Where a walk along the list stands, and how it continues.
+-- Where a walk along the list is, and how it continues.
 use Rattle.std.specs.Prelude.{◌≡◌, ℕ, ◌+◌, ◌≤◌, List, length, slice_index, take, drop}
 use Rattle.std.specs.List.{All}
 use Rattle.segment_image.specs.declared.layout.TheConstants.{BLOCK_LEAST, HEADER_WORDS}
@@ -9,13 +9,13 @@ use Rattle.segment_machine.specs.Calls.{MayTurn}
 use Rattle.live_segment.specs.declared.list.walk.WalkPlace.{WalkPlace}
 use Rattle.live_segment.specs.List.Records.{HasWalked}
 
--- A walk has given the front of a chain that was seen, all of it within a segment of so many words, and stands behind it.
+-- A walk has given the front of a chain that was seen, all of it within a segment of this many words, and is at the end of that front.
 pub record HasCome (size : ℕ) (chain : List ℕ) (place : WalkPlace) : Type 0 where
   pub few : place.given ≤ length chain
   pub stands : place.at ≡ slice_index (stops chain) place.given
   pub within : All (λ at. (HEADER_WORDS ≤ at) × (at + BLOCK_LEAST ≤ size)) (take place.given chain)
 
--- A walk has gone on from a place to the end of the list, and has given what stands behind.
+-- A walk has continued from a place to the end of the list, and has given the records after that place.
 pub record WalksOn (size : ℕ) (old : Actor) (from : WalkPlace) (records : List ℕ) (new : Actor) (to : WalkPlace) : Type 0 where
   pub list : List ℕ
   pub walked : HasWalked old list new
@@ -23,7 +23,7 @@ pub record WalksOn (size : ℕ) (old : Actor) (from : WalkPlace) (records : List
   pub come : HasCome size list to
   pub given : to.given ≡ length list
 
--- A walk has given the front of the chain that its recorder has seen, and stands at the last of these records, or at the queue block.
+-- A walk has given the front of the chain that its recorder has seen, and is at the last of these records, or at the queue block.
 pub record IsWalkProgress (given : List ℕ) (at : ℕ) (a : Actor) : Type 0 where
   pub free : MayTurn a
   pub front : IsPrefix given a.seen.chain

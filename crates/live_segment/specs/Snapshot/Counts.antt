@@ -1,4 +1,4 @@
--- What a recorder sees that loads the counts of all buckets of a histogram, one after the other.
+-- What a recorder sees as it loads the counts of all buckets of a histogram, one after the other.
 use Rattle.std.specs.Prelude.{◌≡◌, ◌⊎◌, false, ℕ, ◌+◌, ◌<◌, ◌≤◌, ℤ, List, length}
 use mathlib.Core.Option.{some}
 use lib.ListN.{get_elem?}
@@ -15,12 +15,12 @@ use Rattle.live_segment.specs.Holders.{table_of}
 use Rattle.segment_promises.specs.Onward.{Grows}
 use Rattle.live_segment.specs.Steps.{Pass}
 
--- it stands at the counts of a histogram that it knows, whose single word it found off: before them, or at one of them
+-- it is at the counts of a histogram that it knows, whose single word it found off: before them, or at one of them
 abbrev pub StandsAt : Actor → Look → Known → Type 0
 StandsAt a look known =
     LooksOff a look known ⊎ ((bucket count : ℕ) × (a.hand.place ≡ CountLoaded look bucket count) × Buckets a look.histogram known)
 
--- a recorder's seat may load the counts of so many buckets, which is all of them, from those at a word
+-- a recorder's seat may load the counts of this many buckets, which are all, from those at a word
 pub record MayLookAt (segment : Segment) (seat : Pass) (counts buckets : ℕ) : Type 0 where
   pub table : seat.table_id ≡ table_of segment
   pub recorder : is_opener seat.me.0.role ≡ false
@@ -31,8 +31,8 @@ pub record MayLookAt (segment : Segment) (seat : Pass) (counts buckets : ℕ) : 
   pub all : buckets ≡ buckets_of known.spec
   pub since : seat.me.0.since.counts ≤ length seat.me.0.seen.counts
 
--- It has seen the counts of the first buckets since it began to look, each beside its key, and stands at the same counts. None is more
--- than all units of a segment. It has come to more counts, and otherwise is as it was.
+-- It has seen the counts of the first buckets since it began to look, each next to its key, and is at the same counts. None is more than
+-- all units of a segment. It has seen more counts, and all else is unchanged.
 pub record HasLookedAt (counts : ℕ) (old : Actor) (passed : ℕ) (totals : List (ℤ × ℕ)) (new : Actor) : Type 0 where
   pub saw : (bucket : ℕ) (total : ℤ × ℕ) → bucket < passed → get_elem? totals bucket ≡ some total → SawCount new (counts + BLOCK_HEADER + bucket) total.1
   pub few : (bucket : ℕ) (total : ℤ × ℕ) → bucket < passed → get_elem? totals bucket ≡ some total → IsUnits total.1

@@ -1,4 +1,4 @@
--- What a snapshot makes of its recorder: it has looked at a histogram anew, and notes what it saw.
+-- What a snapshot changes in its recorder: it has looked at a histogram again, and notes what it saw.
 use Rattle.std.specs.Prelude.{◌≡◌, false, ℕ, ◌+◌, ℤ, List, [], ◌∷◌, ◌++◌, length, map}
 use mathlib.Core.Option.{some}
 use lib.ListN.{get_elem?}
@@ -26,7 +26,7 @@ pub record HavePacked (version word : ℕ) (old new : List (ℤ × ℕ)) : Type 
 
 -- ---- what a call leaves that looks
 
--- A recorder has looked anew: it has seen no less, stands elsewhere, and all else is as it was.
+-- A recorder has looked again: it has seen no less, may be at another place, and all else is unchanged.
 pub record HasLooked (old new : Actor) : Type 0 where
   pub same : new ≡ record (looking old) { hand = record old.hand { place = new.hand.place }; seen = new.seen }
   pub free : is_bound new.hand.place ≡ false
@@ -44,8 +44,8 @@ saw_sum a histogram sum redundant = record a {
   seen = record a.seen { counts = a.seen.counts ++ sight (histogram + HISTOGRAM_REDUNDANT) redundant };
 }
 
--- A recorder has looked anew, and these are all that a snapshot of the histogram may list, whatever the sum and the redundant count are: of
--- samples, where each that was met stands behind the record of its histogram, and no block twice.
+-- A recorder has looked again, and these are all that a snapshot of the histogram may list, whatever the sum and the redundant count are:
+-- of samples, if each that was visited comes after the record of its histogram, and no block comes twice.
 pub record HasLookedAtAll (known : Known) (old : Actor) (counts : List (ℤ × ℕ)) (new : Actor) : Type 0 where
   pub looked : HasLooked old new
   pub saw : SamplesStandBehind new → NoRepeats new.seen.chain → (snapshot : Snapshot) → snapshot.counts.items ≡ counts
@@ -53,8 +53,8 @@ pub record HasLookedAtAll (known : Known) (old : Actor) (counts : List (ℤ × �
 
 -- ---- what is returned
 
--- A snapshot of a histogram is what its recorder saw since it began, and is noted behind those before. It has seen no less, and all else
--- that it has is as before.
+-- A snapshot of a histogram is what its recorder saw since it began, and is noted after the earlier ones. The recorder has seen no less,
+-- and all else that it has is unchanged.
 pub record HasSnapshot (known : Known) (old : Actor) (snapshot : Snapshot) (new : Actor) : Type 0 where
   pub same : new ≡ record (looking old) {
     hand = record old.hand { place = new.hand.place };

@@ -1,4 +1,4 @@
--- What the steps report that say what a `hist` returned.
+-- What the steps report to their caller that announce what a `hist` returned.
 use Rattle.std.specs.Prelude.{◌≡◌, false, ℕ, map, Some}
 use Rattle.std.specs.List.{All}
 use mathlib.Core.Option.{some}
@@ -14,7 +14,7 @@ use Rattle.live_segment.specs.declared.rule.Announcement.{Announcement}
 use Rattle.live_segment.specs.Steps.Listing.{asked_for}
 use Rattle.live_segment.specs.Steps.{IsSame, Pass, Sat}
 
--- what is said of the record at a word
+-- what is announced of the record at a word
 abbrev pub IsSaid : ℕ → Announcement → Known → Type 0
 IsSaid reference said known = (asked_for said ≡ Some (Histogram known.name known.spec)) × (known.reference ≡ reference)
 
@@ -22,13 +22,13 @@ IsSaid reference said known = (asked_for said ≡ Some (Histogram known.name kno
 abbrev pub HaveOneName : Known → Actor → Type 0
 HaveOneName mine a = All (λ (known : Known). known.reference ≡ mine.reference → known.name ≡ mine.name) a.answers.names
 
--- a `hist` returns what is said of the record at a word
+-- a `hist` returns what is announced of the record at a word
 abbrev pub NotesKnown : Step Announcement → Sat → ℕ → Sat → Type 0
 NotesKnown st me found me' =
     (said : Announcement) (known : Known) → st.said ≡ some said → IsSaid st.first said known
     → (me'.0 ≡ noted me.0 (knows known)) × (me'.1 ≡ me.1) × HaveOneName known me.0
 
--- a recorder's seat may say so
+-- a recorder's seat may announce that
 pub record MayKnow (reference : ℕ) (said : Announcement) (seat : Pass) : Type 0 where
   pub recorder : is_opener seat.me.0.role ≡ false
   pub free : MayTurn seat.me.0
@@ -36,11 +36,11 @@ pub record MayKnow (reference : ℕ) (said : Announcement) (seat : Pass) : Type 
   pub says : IsSaid reference said known
   pub may : MayNote seat.me.0 (knows known)
 
--- and has said so
+-- it has announced that
 abbrev pub HasKnown : ℕ → Announcement → Pass → Pass → Type 0
 HasKnown reference said old new =
     (known : Known) → IsSaid reference said known → IsSame old new × (new.me.0 ≡ noted old.me.0 (knows known)) × HaveOneName known old.me.0
 
--- the answers that it owes are refusals
+-- the answers that it owes become refusals
 abbrev pub Declines : Sat → ℕ → Sat → Type 0
 Declines me found me' = (me'.0 ≡ noted_by me.0 (map declines me.0.answers.owed)) × (me'.1 ≡ me.1)

@@ -1,4 +1,4 @@
--- What steps that count note beside their events: that an entry begins, that its amount is known, and that the call ends.
+-- What counting steps note with their events: that an entry begins, that its amount is known, and that the call ends.
 use Rattle.std.specs.Prelude.{◌≡◌, false, ℕ, ◌+◌, ◌-◌, ◌/◌, ℤ, pos, unsigned_abs, List, [], ◌∷◌, if◌then◌else◌, Some, FitsSigned}
 use Rattle.std.specs.List.{list_all}
 use Rattle.std.specs.Int.{cast_unsigned, w64}
@@ -29,8 +29,8 @@ bucket_entry known bucket units = record { name = known.name; key = bucket_key (
 abbrev pub value_entry : Known → ℤ → ℕ → Entry
 value_entry known value units = record { name = known.name; key = value; units = units; amount = pos 0 }
 
--- A call begins with an entry, or continues with it where all of its entries have ended, and holds what it costs. An entry that has begun
--- and waits to be counted is not noted again.
+-- A call begins with an entry, or continues with it if all of its entries have ended, and holds what it costs. An entry that has begun and
+-- waits to be counted is not noted again.
 abbrev pub opening_notes : List EntryProgress → Entry → ℕ → List Note
 opening_notes [] entry cost = begins entry.name cost (entry ∷ []) ∷ []
 opening_notes (c ∷ rest) entry cost = if list_all has_ended (c ∷ rest) then goes_on entry cost ∷ [] else []
@@ -95,7 +95,8 @@ IsAmountAdded a histogram amount x = (x.known.reference ≡ histogram) × KnowsA
 
 -- ---- what steps report
 
--- the notes with which an entry begins whose call holds its units for it, those of units of a bucket, of a value, and of a sum
+-- the notes with which an entry begins if its call holds the entry's units for it; those for units of a bucket, for units of a value, and
+-- for a sum
 abbrev pub entry_notes : Actor → Entry → List Note
 entry_notes a entry = opening_notes a.entries.running entry entry.units
 
@@ -108,7 +109,7 @@ value_notes a known value units = entry_notes a (value_entry known value units)
 abbrev pub sum_notes : Actor → Known → ℤ → List Note
 sum_notes a known sum = opening_notes a.entries.running (sum_entry known.name sum) (sum_cost a sum)
 
--- notes, an event and notes, as any account says that fits the step
+-- notes, an event and notes again, as given by any account that fits the step
 abbrev pub TellsOf : (X : Type 0) → (X → Type 0) → (X → List Note) → (X → Event) → List Note → Sat → ℕ → Sat → Type 0
 TellsOf X Fits before event behind me found me' = (x : X) → Fits x → GhostNoted (before x) (event x) (λ found. behind) me found me'
 
@@ -155,14 +156,14 @@ AddsMoved units me found me' =
 
 -- ---- what becomes of a seat
 
--- a recorder's seat may do an event with notes before it and behind it
+-- a recorder's seat may do an event with notes before it and after it
 pub record MayDo (seat : Pass) (before : List Note) (event : Event) (behind : List Note) : Type 0 where
   pub recorder : is_opener seat.me.0.role ≡ false
   pub may : MayNoteAll seat.me.0 before
   pub ready : Ready (noted_by seat.me.0 before) event
   pub goes : (found : ℕ) → Learned (noted_by seat.me.0 before) event found → MayNoteAll (next (noted_by seat.me.0 before) event found) behind
 
--- and what it is then, by the number that was found
+-- what the seat is after that, by the number that was found
 pub record Noted (old : Pass) (before : List Note) (event : Event) (behind : List Note) (found : ℕ) (new : Pass) : Type 0 where
   pub same : IsSame old new
   pub view : new.me.0 ≡ noted_by (next (noted_by old.me.0 before) event found) behind

@@ -20,13 +20,14 @@ use Rattle.live_segment.specs.Steps.GhostNotes.{TellsOf, MayDoOf, NotedOf}
 
 -- ---- one of several words
 
--- A word of a published record is loaded. Where the step's word is one of two records that may be looked at there, it is of both.
+-- A word of a published record is loaded. If the step's word belongs to two records that may be looked at there, this holds for both.
 abbrev pub LoadsPublished : ℕ → Sat → ℕ → Sat → Type 0
 LoadsPublished word me found me' =
     (at index : ℕ) → word ≡ at + index + 1 → Ready me.0 (walking_event (load_published at index))
     → Does (walking_event (load_published at index)) me found me'
 
--- A word of the payload of a block of its own is stored, of the one that the step's word lies in. No two of these begin at one word.
+-- A word is stored in the payload of a block of its own, the block in which the step's word lies. No two of its own blocks begin at one
+-- word.
 abbrev pub StoresPayload : ℕ → ℕ → Sat → ℕ → Sat → Type 0
 StoresPayload word value me found me' =
     (at index : ℕ) → word ≡ at + BLOCK_HEADER + index + 1 → Ready me.0 (allocating_event (store_payload at index value))
@@ -34,7 +35,7 @@ StoresPayload word value me found me' =
 
 -- ---- what a record is to hold
 
--- what is said that a record is to hold
+-- what a record is to hold, by an announcement
 abbrev pub asked_for : Announcement → Option Made
 asked_for (Histogram asked) = Some (made.Histogram asked.name.items asked.spec)
 asked_for (Sample histogram value) = Some (made.Sample histogram value)
@@ -51,7 +52,7 @@ asking_notes (Some own) at made = asking_unless own.made
     asking_unless None = asks at made ∷ []
     asking_unless (Some before) = []
 
--- what a link reports before it: what its block is to hold, where that is not said yet
+-- what is noted before a link: what its block is to hold, unless that is noted already
 abbrev pub link_notes : Actor → ℕ → Made → List Note
 link_notes a at made = asking_notes (own_at a.hand.own at) at made
 
@@ -60,7 +61,7 @@ pub record InLink : Type 0 where
   pub tail : ℕ
   pub made : Made
 
--- the block at a word is linked, as what is said
+-- the block at a word is linked, as the record that is announced
 abbrev pub Links : ℕ → ℕ → core.Option Announcement → Sat → ℕ → Sat → Type 0
 Links word at said me =
     TellsOf InLink (λ x. (word ≡ x.tail + BLOCK_NEXT + 1) × ((saying : Announcement) × (said ≡ some saying) × (asked_for saying ≡ Some x.made)))

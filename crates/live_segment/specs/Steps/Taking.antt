@@ -23,7 +23,7 @@ use Rattle.live_segment.specs.Steps.GhostNotes.{KnowsAlone, TellsOf, MayDoOf, No
 abbrev pub IsDeltaOf : Actor → ℕ → Known → Type 0
 IsDeltaOf a histogram known = (known.reference ≡ histogram) × KnowsAlone a known
 
--- an event on the word of a histogram's record that stands so far behind its begin is the first of a delta of it
+-- an event on the word at this offset in a histogram's record is the first of a delta of the histogram
 abbrev pub IsFirstOfDelta : ℕ → (ℕ → Event) → ℕ → Sat → ℕ → Sat → Type 0
 IsFirstOfDelta offset event word me =
     TellsOf Known (λ known. (word ≡ known.reference + offset + 1) × KnowsAlone me.0 known) (λ known. takes known.name ∷ []) (λ known. event known.reference) [] me
@@ -40,7 +40,7 @@ HasBegunDelta seat histogram event found after =
 
 -- ---- a snapshot begins
 
--- the same of a snapshot, which does not note of which histogram it is before it returns
+-- the same for a snapshot, which notes only as it returns of which histogram it is
 abbrev pub IsFirstOfSnapshot : ℕ → (ℕ → Event) → ℕ → Sat → ℕ → Sat → Type 0
 IsFirstOfSnapshot offset event word me =
     TellsOf ℕ (λ histogram. word ≡ histogram + offset + 1) (λ histogram. looks ∷ []) event [] me
@@ -60,13 +60,13 @@ abbrev pub answered_as : Actor → Known → Snapshot → Answered
 answered_as a known snapshot =
     record { name = known.name; counts = snapshot.counts.items; sum = snapshot.sum; redundant = snapshot.redundant; moment = moment_of a }
 
--- it is said to be the answer
+-- it is announced as the answer
 abbrev pub NotesAnswer : Step Announcement → Sat → ℕ → Sat → Type 0
 NotesAnswer st me found me' =
     (known : Known) (snapshot : Snapshot) → st.said ≡ some (Answer known.reference snapshot) → KnowsAlone me.0 known
     → (me'.0 ≡ noted me.0 (answers (answered_as me.0 known snapshot))) × (me'.1 ≡ me.1)
 
--- a recorder's seat may say that
+-- a recorder's seat may announce that
 pub record MayAnswer (seat : Pass) (said : Announcement) : Type 0 where
   pub recorder : is_opener seat.me.0.role ≡ false
   pub known : Known
@@ -75,7 +75,7 @@ pub record MayAnswer (seat : Pass) (said : Announcement) : Type 0 where
   pub alone : KnowsAlone seat.me.0 known
   pub may : MayNote seat.me.0 (answers (answered_as seat.me.0 known snapshot))
 
--- and has said it
+-- it has announced that
 abbrev pub HasAnswered : Pass → Announcement → Pass → Type 0
 HasAnswered seat said after =
     (known : Known) (snapshot : Snapshot) → said ≡ Answer known.reference snapshot → KnowsAlone seat.me.0 known

@@ -13,10 +13,10 @@ impl Segment {
     ghost use Rattle.live_segment.specs.Add.Prelude.{ClaimsFor, ClaimsForAll, ClaimsForEach, CountsAlone, CountsFor, HasItems, HasNoted, IsAtRest, IsBatched, IsCutShort, IsIndexed, IsNotCounted, IsReadyFor, IsSame, IsSeated, item_of, known_view, KnowsRight, StopsAtItem};
     ghost use Rattle.live_segment.specs.declared.list.index.KeyKind.TheVariants.{Sample as OfSample};
 
-    // Counts a batch: its items, and then its sum, where that is not 0.
+    // Counts a batch: its items, and then its sum if that is not 0.
     //
-    // `Corrupt` or `Full` where a block was needed for an item and none could be claimed: then those before it are counted, and the
-    // sum is not added.
+    // `Corrupt` or `Full` if a block was needed for an item and none could be claimed: then the items before it are
+    // counted, and the sum is not added.
     pub(crate) fn count_batch(
         &self,
         seat: &mut Pass,
@@ -100,7 +100,8 @@ impl Segment {
 
     // Counts items of a histogram, in order. Their call continues.
     //
-    // `Corrupt` or `Full` where a block was needed for one and none could be claimed: then the call has ended with those before it.
+    // `Corrupt` or `Full` if a block was needed for one and none could be claimed: then the call has ended after the
+    // items before it.
     fn count_items(
         &self,
         seat: &mut Pass,

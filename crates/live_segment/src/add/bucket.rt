@@ -22,7 +22,7 @@ impl Segment {
     ghost use Rattle.live_segment.specs.Add.Prelude.{bucket_entry, buckets_of, HasAddedTo, HasCounted, IsSame, IsSeated, IsSeatedAt, IsTurnedAway, known_view, KnowsRight, MayAddTo, MayCountInBucket, MountsAtMostOne, table_of, Tries};
     ghost use Rattle.segment_image.specs.declared.layout.TheConstants.{BLOCK_HEADER};
 
-    // Packs units of a bucket of a histogram, where its single word can take them.
+    // Packs units of a bucket of a histogram, if its single word can take them.
     fn pack_units(
         &self,
         seat: &mut Pass,
@@ -50,9 +50,9 @@ impl Segment {
         }
     }
 
-    // Counts units of a bucket of a histogram: in its single word, or in its counts, which it makes where there are none.
+    // Counts units of a bucket of a histogram: in its single word, or in its counts, which it makes if there are none.
     //
-    // `Corrupt` or `Full` where no block could be claimed for the counts: then the call has ended.
+    // `Corrupt` or `Full` if no block could be claimed for the counts: then the call has ended.
     #[inline(always)]
     pub(crate) fn count_in_bucket(
         &self,

@@ -5,7 +5,7 @@ ghost use Rattle.live_segment.specs.Add.Prelude.{Actor, batch_checks, batch_cost
 
 use segment_calls::Refusal;
 
-// The units of items; the greatest number where there are more.
+// The units of items together, or the greatest `u64` if there are more.
 pub(crate) fn units_of_items(items: &[(i32, u32)]) -> u64
     ensures { result ≡ min (units_of items.now) 18446744073709551615 }
 {
@@ -16,8 +16,8 @@ pub(crate) fn units_of_items(items: &[(i32, u32)]) -> u64
     units
 }
 
-// The units that a batch costs: as many as its items have, and no fewer than the size of its sum has times 2^31, rounded up. The
-// greatest number where there are more.
+// The units that a batch costs: those of its items, or ceil(|sum| / 2^31) if that is more; the greatest `u64` if even
+// that is too small.
 fn cost_of(items: &[(i32, u32)], sum: i64) -> u64
     ensures { result ≡ min (batch_cost items.now sum) 18446744073709551615 }
 {

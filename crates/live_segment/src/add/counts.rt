@@ -1,4 +1,4 @@
-//! How a recorder brings the counts of a histogram in use: it mounts them where there are none, and disables the single
+//! How a recorder puts the counts of a histogram in use: it mounts them if there are none, and disables the single
 //! word.
 
 ghost use Rattle.std.specs.Prelude.{◌≡◌, ◌==◌, ◌&&◌, nat_lt};
@@ -10,7 +10,7 @@ use segment_calls::Refusal;
 use segment_calls::packing::{DISABLED_BIT, off_word};
 use segment_image::layout::{BLOCK_HEADER, BUCKET_WEIGHT, TYPE_COUNTS, VERSION_MOVING};
 
-// Whether units of a single word are in transit once it is disabled: in version 1 where it has some.
+// Whether units of a single word are in transit once it is disabled: in version 1, if it has any.
 fn moves_units(version: u64, word: u64) -> bool
     ensures { result ≡ ((version == 1) && nat_lt 0 word) }
 {
@@ -21,7 +21,7 @@ impl Segment {
     ghost use Rattle.std.specs.Prelude.{◌≡◌, ◌+◌, ◌*◌, ◌≤◌, IfOk, MatchResult, None};
     ghost use Rattle.live_segment.specs.Add.Prelude.{block_words, boundaries_of, CountsWithin, HasBlank, HasDisabled, HasMounted, HasNotMounted, IsSame, IsSeated, IsSeatedAt, known_view, LooksAtCounts, MayGiveUp, MayMount, MountsAt, MountsAtMostOne, spec_fault};
 
-    // Where the counts of a histogram stand: those that are there, or those of a block that it claims for them.
+    // Where the counts of a histogram are: those that are there, or those of a block that it claims for them.
     pub(crate) fn find_or_mount_counts(
         &self,
         seat: &mut Pass,
@@ -45,7 +45,8 @@ impl Segment {
         Ok(self.mount(seat, histogram, at))
     }
 
-    // A blank block of its own becomes the counts of a histogram. Where another recorder's are there, it is given up.
+    // A blank block of its own becomes the counts of a histogram. If another recorder's are there, the block is given
+    // up.
     fn mount(&self, seat: &mut Pass, histogram: &KnownHistogram, at: u64) -> u64
         requires seat { IsSeated self.now seat.old }
         requires room { (histogram.now.reference + 15 ≤ self.now.setting.shape.size) × (at + 5 ≤ self.now.setting.shape.size) }
@@ -64,8 +65,8 @@ impl Segment {
         found
     }
 
-    // Disables the single word of a histogram whose counts it looks at, and adds the units that this had to their count.
-    // Where it is off, nothing is left to do.
+    // Disables the single word of a histogram whose counts it looks at, and adds the units that this word had to their
+    // count. If it is off already, nothing is left to do.
     pub(crate) fn disable_single(&self, seat: &mut Pass, histogram: &KnownHistogram, counts: u64)
         requires at { IsSeatedAt self.now histogram.now seat.old }
         requires may { MayMount seat.old.me.0 (known_view histogram.now) }

@@ -26,7 +26,7 @@ impl Segment {
         self.finish_entry(seat, histogram.reference, u64::from(units));
     }
 
-    // Adds the amount of a sample that is counted to the sum, where it is not 0.
+    // Adds the amount of a sample that is counted to the sum, if it is not 0.
     fn sum_sample(&self, seat: &mut Pass, histogram: &KnownHistogram, amount: i64)
         requires reach { MayReach self.now seat.old (histogram.now.reference + 15) }
         requires counted { (value : ℤ) × (units : ℕ) × HasCountedSample (known_view histogram.now) value units seat.old.me.0 × unsigned_abs amount ≤ 2147483648 * units }

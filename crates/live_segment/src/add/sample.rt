@@ -15,7 +15,7 @@ impl Segment {
 
     // Adds a sample.
     //
-    // `Corrupt` or `Full` where a block was needed for it and none could be claimed.
+    // `Corrupt` or `Full` if a block was needed for it and none could be claimed.
     #[inline(always)]
     pub(crate) fn add_sample(
         &self,
@@ -44,7 +44,7 @@ impl Segment {
 
     // Counts units of a value.
     //
-    // `Corrupt` or `Full` where a block was needed for them and none could be claimed: then the call has ended.
+    // `Corrupt` or `Full` if a block was needed for them and none could be claimed: then the call has ended.
     #[inline(always)]
     pub(crate) fn count_value(
         &self,
@@ -68,7 +68,7 @@ impl Segment {
         self.count_in_bucket(seat, histogram, bucket, units)
     }
 
-    // Counts units of a value of a sparse histogram: in the first sample of the value, which it makes where there is none.
+    // Counts units of a value of a sparse histogram: in the first sample of the value, which it makes if there is none.
     fn count_in_sample(
         &self,
         seat: &mut Pass,

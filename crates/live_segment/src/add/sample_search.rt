@@ -1,4 +1,4 @@
-//! How a recorder finds the sample of a value of a sparse histogram, and makes one where there is none.
+//! How a recorder finds the sample of a value of a sparse histogram, and makes one if there is none.
 
 ghost use Rattle.std.specs.Prelude.{◌≡◌, ◌+◌, ◌≤◌, false, if◌then◌else◌, MatchResult, Some};
 ghost use Rattle.live_segment.specs.Add.Prelude.{cast_unsigned, FindsSample, first_of, FoundEnd, HasMadeSample, HasNotMadeSample, HasReadWords, HasSampleOf, HasSearched, is_bound, Known, LacksSampleOf, MayTurn, NoRepeats, sample_key, SamplesStandBehind, ShowsValue, w64, WalksBehind};
@@ -14,16 +14,16 @@ use segment_image::layout::{
     BLOCK_HEADER, QUEUE, SAMPLE_HISTOGRAM, SAMPLE_LEAST, SAMPLE_VALUE, TYPE_SAMPLE,
 };
 
-// How a walk behind the record of a sparse histogram ended.
+// How a walk from the record of a sparse histogram on ended.
 pub(crate) enum SampleSearch {
     // At the first sample of the value.
     Met(u64),
-    // At the end of the list, behind this block: there is none.
+    // At the end of the list, after this block: there is none.
     End(u64),
 }
 
-// Where a walk continues for a sample that the index does not have: at its place, where it has passed all that was met, or else at the record of the
-// histogram.
+// Where a walk for a sample that the index does not have continues: at the place of the index if that has passed all
+// records that were visited, or else at the record of the histogram.
 fn start_behind(index: &RecordIndex, has_passed_all: bool, histogram: u64) -> u64
     ensures { result ≡ (if has_passed_all then index.now.place.at else histogram) }
 {
@@ -38,9 +38,9 @@ impl Segment {
     ghost use Rattle.live_segment.specs.Add.Prelude.{CountsFor, HasMetRecord, IsIndexed, IsSame, IsSeated, known_view, MayGiveUp, Sparse};
     ghost use Rattle.live_segment.specs.declared.list.index.KeyKind.TheVariants.{Sample as OfSample};
 
-    /// The first sample of a value of a sparse histogram. Where the list has none, one is made and put on it.
+    /// The first sample of a value of a sparse histogram. If the list has none, one is made and put on it.
     ///
-    /// `Corrupt` or `Full` where no block could be claimed for it: a call that counts ends with that.
+    /// `Corrupt` or `Full` if no block could be claimed for it: a call that counts ends with that.
     pub(crate) fn sample_of(
         &self,
         seat: &mut Pass,
@@ -68,7 +68,7 @@ impl Segment {
         }
     }
 
-    // The first sample of a value of a sparse histogram: by the index, and from its place on along the list.
+    // The first sample of a value of a sparse histogram: found by the index, or by a walk from its place on.
     fn search_sample(
         &self,
         seat: &mut Pass,
@@ -96,7 +96,7 @@ impl Segment {
         }
     }
 
-    // The first sample of a value of a sparse histogram, on from the first with the same key.
+    // The first sample of a value of a sparse histogram, by a walk from the first sample with the same key on.
     fn search_sample_at(
         &self,
         seat: &mut Pass,
@@ -122,7 +122,7 @@ impl Segment {
 
     // Makes a sample of a value of a sparse histogram, and puts it on the list.
     //
-    // `Corrupt` or `Full` where no block could be claimed for it: a call that counts ends with that.
+    // `Corrupt` or `Full` if no block could be claimed for it: a call that counts ends with that.
     fn make_sample(&self, seat: &mut Pass, histogram: u64, value: i32) -> Result<(), Refusal>
         requires seat { IsSeated self.now seat.old }
         requires free { is_bound seat.old.me.0.hand.place ≡ false }
@@ -142,7 +142,7 @@ impl Segment {
         Ok(())
     }
 
-    // Walks along the list, on from where a walk behind the histogram's record stands, up to the first sample of the value.
+    // Continues a walk that is at the histogram's record or after it, up to the first sample of the value.
     pub(crate) fn find_sample(
         &self,
         seat: &mut Pass,
@@ -170,7 +170,7 @@ impl Segment {
         }
     }
 
-    // Whether a record that was met is a sample of the value.
+    // Whether a record that was visited is a sample of the value.
     fn shows_value(&self, seat: &mut Pass, at: u64, histogram: u64, value: i32) -> bool
         requires meets { HasMetRecord self.now at seat.old }
         ensures read { HasReadWords seat.old seat.new }

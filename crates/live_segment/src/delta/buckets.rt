@@ -9,9 +9,9 @@ use segment_image::layout::BLOCK_HEADER;
 // The counts of a histogram, as a delta found them in use.
 #[derive(Drop)]
 pub(crate) struct Mounted {
-    // Where they stand.
+    // Where they are.
     counts: u64,
-    // The bucket whose units were packed, where there was one, and the units of it that the single word keeps.
+    // The bucket whose units were packed, if there was one, and the units of it that the single word keeps.
     packed: Option<usize>,
     kept: u64,
 }
@@ -20,8 +20,8 @@ impl Segment {
     ghost use Rattle.std.specs.Prelude.{◌≡◌, ◌<◌, ◌+◌, ◌≤◌, true, false, ℕ, [], Some, length, vec_capacity};
     ghost use Rattle.live_segment.specs.Delta.Prelude.{AreFewKeys, AreUnits, bucket_key, buckets_of, has_buckets, HasTaken, HasTakenBuckets, is_off, IsReadyFor, IsSame, known_view, KnowsRight, opened_with, SaysPacked, Standing, TakesAt, TakesOn, TakesWord, TookBucket, units_of_key};
 
-    // The units of a bucket that the delta takes: its count is loaded, and where that is not 0, the mark is raised to it. The packed bucket
-    // has the single mark, and its total is the count with what the single word keeps.
+    // The units of a bucket that the delta takes: its count is loaded, and if that is not 0, the mark is raised to it.
+    // The packed bucket has the single mark, and its total is the count with what the single word keeps.
     fn take_bucket(
         &self,
         seat: &mut Pass,
@@ -55,7 +55,8 @@ impl Segment {
         }
     }
 
-    // The delta takes what is counted in all buckets, and lists it in their order. There is room for all of them.
+    // The delta takes what is counted in all buckets, and lists it in the order of the buckets. There is room for all
+    // of them.
     fn take_buckets(
         &self,
         seat: &mut Pass,
@@ -103,7 +104,8 @@ impl Segment {
         }
     }
 
-    // The delta takes what is new in all buckets, and lists it in their order. There is room for all of them.
+    // The delta takes what is new in all buckets, and lists it in the order of the buckets. There is room for all of
+    // them.
     fn take_units(
         &self,
         seat: &mut Pass,

@@ -1,4 +1,5 @@
-//! How a delta takes what is counted in the samples of a sparse histogram: along the list, or those that an index has.
+//! How a delta takes what is counted in the samples of a sparse histogram: by a walk along the list, or by an index
+//! that has them all.
 
 use crate::recorder::KnownHistogram;
 use crate::rule::Pass;
@@ -21,7 +22,8 @@ impl Segment {
         count.saturating_sub(self.raise_mark(seat, sample + SAMPLE_MARK as u64, count))
     }
 
-    // What the delta takes of a record that was met, where it is a sample of the histogram with new units: the value and these.
+    // What the delta takes of a record that was visited, if it is a sample of the histogram with new units: the value
+    // and these units.
     fn take_value(&self, seat: &mut Pass, histogram: &KnownHistogram, at: u64) -> Option<(i32, u64)>
         requires takes { TakesValues self.now (known_view histogram.now) seat.old }
         requires met { Contains seat.old.me.0.seen.chain at }
@@ -39,8 +41,8 @@ impl Segment {
         Some((value, units))
     }
 
-    // The delta takes what is new of all samples, from the first record behind the histogram's on to the end of the list, and lists the
-    // values in their order there. There is room for as many as fit in a segment.
+    // The delta takes what is new of all samples, from the first record after the histogram's to the end of the list,
+    // and lists the values in their order there. There is room for as many as fit in a segment.
     fn take_values(
         &self,
         seat: &mut Pass,

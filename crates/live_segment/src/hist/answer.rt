@@ -13,9 +13,9 @@ use segment_calls::{Asked, Refusal};
 impl Segment {
     ghost use Rattle.live_segment.specs.Hist.Prelude.{AsksFor, IsIndexed, IsSame, IsSeated, Name, opened_with, Standing};
 
-    // The first record of the name that is asked for, which is made where there is none.
+    // The first record of the name that is asked for, which is made if there is none.
     //
-    // `Corrupt` or `Full` where no block could be claimed for it, `OtherSpec` where the first record has another spec.
+    // `Corrupt` or `Full` if no block could be claimed for it, `OtherSpec` if the first record has another spec.
     fn first_named(
         &self,
         seat: &mut Pass,
@@ -45,8 +45,8 @@ impl Segment {
 
     /// The record of what is asked for, as a recorder knows it from then on.
     ///
-    /// `Corrupt` or `Full` where no block could be claimed for it, `OtherSpec` where the first record of the name has
-    /// another spec.
+    /// `Corrupt` or `Full` if no block could be claimed for it, `OtherSpec` if the first record of the name has another
+    /// spec.
     pub(crate) fn settle(
         &self,
         seat: &mut Pass,
@@ -77,7 +77,7 @@ impl Segment {
 
     /// The histogram that is asked for, as a recorder knows it from then on.
     ///
-    /// `Corrupt` or `Full` where no block could be claimed for its record, `OtherSpec` where the first record of the name has
+    /// `Corrupt` or `Full` if no block could be claimed for its record, `OtherSpec` if the first record of the name has
     /// another spec.
     pub(crate) fn ask(
         &self,

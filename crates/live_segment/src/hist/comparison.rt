@@ -11,7 +11,7 @@ use segment_image::layout::{
     HISTOGRAM_NAME_LENGTH, TYPE_HISTOGRAM,
 };
 
-// Where these stand in the payload of a histogram's record.
+// Where these begin in the payload of a histogram's record.
 const NAME: usize = HISTOGRAM_NAME - BLOCK_HEADER;
 
 const BUCKETS: usize = HISTOGRAM_BUCKETS - BLOCK_HEADER;
@@ -19,7 +19,7 @@ const BUCKETS: usize = HISTOGRAM_BUCKETS - BLOCK_HEADER;
 impl Segment {
     ghost use Rattle.live_segment.specs.Hist.Prelude.{HasMetRecord, IsSeated, table_of};
 
-    // Whether a record that was met has these words from a place on. They are loaded up to the first that is another one.
+    // Whether a record that was visited has these words from a place on. They are loaded up to the first that differs.
     fn shows(&self, seat: &mut Pass, at: u64, first: usize, words: &[u64]) -> bool
         requires seat { (seat.old.table_id ≡ table_of self.now) × (is_opener seat.old.me.0.role ≡ false) }
         requires met { MayLoadRecord at seat.old.me.0 }

@@ -8,12 +8,13 @@ use crate::recorder::KnownHistogram;
 use list_index::{Firsts, next_byte_key};
 use std::alloc::Global;
 
-/// Where the histograms that a recorder knows stand, by their names: the first of them, as many as there was memory for.
+/// The places of the histograms that a recorder knows, by their names: of the first of them, as many as there was
+/// memory for.
 #[derive(Drop)]
 pub(crate) struct KnownNames {
     /// How many of them are entered.
     pub(crate) entered: usize,
-    /// Where the first of each key stands.
+    /// The place of the first of each key.
     pub(crate) places: Firsts,
 }
 
@@ -49,7 +50,7 @@ impl KnownNames {
         self.places.set_limit(names);
     }
 
-    // Enters the name of one more, which is to stand behind these. Where there is no memory for it, it is found by a search.
+    // Enters the name of one more, which is to come after these. If there is no memory for it, it is found by a search.
     pub(crate) fn enter(&mut self, known: &[KnownHistogram], name: &[u8])
         requires has { HasNames known.now self.old }
         requires none { NoneHasName known.now name.now }

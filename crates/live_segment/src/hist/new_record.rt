@@ -11,7 +11,8 @@ use segment_image::layout::{BLOCK_HEADER, TYPE_HISTOGRAM};
 impl Segment {
     ghost use Rattle.live_segment.specs.Hist.Prelude.{IsSame, IsSeated, table_of};
 
-    // Stores the words of a payload, but for those that are 0, in the block at a word that it claimed last. The last is not 0.
+    // Stores the words of a payload, except those that are 0, in the block at a word that it claimed last. The last is
+    // not 0.
     fn fill(&self, seat: &mut Pass, at: u64, payload: &[u64])
         requires seat { (seat.old.table_id ≡ table_of self.now) × (is_opener seat.old.me.0.role ≡ false) }
         requires block { HasBlock at (length payload.now) seat.old.me.0 }
@@ -29,7 +30,7 @@ impl Segment {
 
     // Makes the record of what is asked for, and puts it on the list.
     //
-    // `Corrupt` or `Full` where no block could be claimed for it.
+    // `Corrupt` or `Full` if no block could be claimed for it.
     pub(crate) fn make_record(
         &self,
         seat: &mut Pass,

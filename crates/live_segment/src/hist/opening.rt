@@ -73,7 +73,7 @@ impl Segment {
         }
     }
 
-    // The words of a record that was met, from a place on.
+    // Words of a record that was visited, from a place on.
     fn load_words(
         &self,
         seat: &mut Pass,
@@ -96,7 +96,7 @@ impl Segment {
         Ok(words)
     }
 
-    // The name of a histogram's record that was met, or none where it is too long.
+    // The name of a histogram's record that was visited, or none if it is too long.
     fn read_name(
         &self,
         seat: &mut Pass,
@@ -120,7 +120,7 @@ impl Segment {
         Ok(Some(name))
     }
 
-    // The spec of a linear histogram's record that was met.
+    // The spec of a linear histogram's record that was visited.
     fn read_linear(&self, seat: &mut Pass, at: u64) -> Spec
         requires meets { HasMetRecord self.now at seat.old }
         requires tag { word_seen seat.old.me.0.seen.words (at + BLOCK_TYPE) ≡ Some TYPE_HISTOGRAM }
@@ -135,8 +135,8 @@ impl Segment {
         Spec::Linear { min, max, n }
     }
 
-    // The spec of a custom histogram's record that was met and whose name takes so many words, or none where it has too few buckets or too
-    // many.
+    // The spec of a custom histogram's record that was visited and whose name takes `letters` words, or none if it has
+    // too few or too many buckets.
     fn read_custom(
         &self,
         seat: &mut Pass,
@@ -164,7 +164,7 @@ impl Segment {
         Ok(Some(Spec::Custom(CustomValues::from(values))))
     }
 
-    // The spec of a histogram's record that was met and whose name takes so many words, or none where it has none.
+    // The spec of a histogram's record that was visited and whose name takes `letters` words, or none if it has none.
     fn read_spec(
         &self,
         seat: &mut Pass,
@@ -195,7 +195,7 @@ impl Segment {
         Ok(None)
     }
 
-    // The name and the spec of a record, or none where the list does not have it, or it has none.
+    // The name and the spec of a record, or none if the list does not have the record, or the record lacks one of them.
     pub(crate) fn read_record(
         &self,
         seat: &mut Pass,
@@ -225,8 +225,8 @@ impl Segment {
         Ok(Some((name, spec)))
     }
 
-    // The histogram of a record, as a recorder knows it from then on, where that is the first of the name that is asked for, and has the
-    // spec.
+    // The histogram of a record, as a recorder knows it from then on, if that record is the first of the name that is
+    // asked for and has the spec.
     pub(crate) fn recognize(
         &self,
         seat: &mut Pass,

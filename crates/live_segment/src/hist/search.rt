@@ -16,7 +16,7 @@ pub(crate) enum Search {
     Met(u64),
     // At the first record of the name, which has another spec.
     OtherSpec,
-    // At the end of the list, behind this block: no record has the name.
+    // At the end of the list, after this block: no record has the name.
     End(u64),
 }
 
@@ -44,7 +44,7 @@ fn key_of_name(asked: &Asked) -> u64
 impl Segment {
     ghost use Rattle.live_segment.specs.Hist.Prelude.{IsIndexed, IsSame, IsSeated, Name, WalksWith};
 
-    // Walks along the list, on from where a walk stands, up to the first record of the name that is asked for.
+    // Continues a walk along the list from a block, up to the first record of the name that is asked for.
     pub(crate) fn find(&self, seat: &mut Pass, from: u64, asked: &Asked) -> Search
         requires seat { IsSeated self.now seat.old }
         requires asked { IsAsked self.now.setting.shape asked.now }
@@ -71,7 +71,7 @@ impl Segment {
         }
     }
 
-    // The first record of the name that is asked for, on from the first with the same key.
+    // The first record of the name that is asked for, by a walk from the first record with the same key on.
     fn search_at(&self, seat: &mut Pass, index: &RecordIndex, at: u64, asked: &Asked) -> Search
         requires walks { WalksWith Name self.now index.now seat.old }
         requires asked { IsAsked self.now.setting.shape asked.now }
@@ -91,7 +91,7 @@ impl Segment {
         }
     }
 
-    // The first record of the name that is asked for: by the index, and from its place on along the list.
+    // The first record of the name that is asked for: found by the index, or by a walk from its place on.
     pub(crate) fn search(&self, seat: &mut Pass, index: &mut RecordIndex, asked: &Asked) -> Search
         requires walks { WalksWith Name self.now index.old seat.old }
         requires asked { IsAsked self.now.setting.shape asked.now }

@@ -1,4 +1,4 @@
-//! What a recorder has of the records that it met along the list, so that it need not walk there again.
+//! What a recorder keeps of the records that it visited along the list, so that it need not walk there again.
 
 ghost use Rattle.std.specs.Prelude.{◌≡◌, ◌+◌, ◌*◌, ◌<◌, ◌≤◌, ◌^◌, true, false, ℕ, [], length, MatchOption};
 ghost use Rattle.live_segment.specs.List.Prelude.{HasSearched, Holds, is_grouping, MayTurn, Sample};
@@ -21,18 +21,18 @@ pub(crate) enum KeyKind {
     Sample,
 }
 
-/// Of each key on the list the first record, up to a place.
+/// The first record of each key on the list, up to a place.
 #[derive(Drop)]
 pub(crate) struct RecordIndex {
     /// What the keys are.
     pub(crate) kind: KeyKind,
     /// Up to where it has passed the list.
     pub(crate) place: WalkPlace,
-    /// The first record of each key; and of samples those of each histogram.
+    /// The first record of each key; for samples, also all those of each histogram.
     pub(crate) firsts: Firsts,
 }
 
-// What an index begins with: one of samples groups them by their histograms.
+// What an index begins with: an index of samples groups them by their histograms.
 fn firsts_for(alloc: Global, kind: KeyKind) -> Firsts
     ensures holds { Holds [] result }
     ensures grouping { kind ≡ Sample → is_grouping result ≡ true }
@@ -66,7 +66,7 @@ impl RecordIndex {
         self.firsts.set_limit(records);
     }
 
-    // Passes the record behind its place. False where it could not grow: then it stands where it stood.
+    // Passes the record after its place. False if it could not grow: then its place is unchanged.
     fn enter(&mut self, at: u64, key: Option<u64>) -> bool
         requires { self.old.place.given + 1 < 2 ^ 64 }
         ensures { Enters at key self.old result self.new }
@@ -83,7 +83,7 @@ impl RecordIndex {
         true
     }
 
-    /// The samples of a histogram, where it has passed the whole list.
+    /// The samples of a histogram, if it has passed the whole list.
     pub(crate) fn own(&self, has_passed_all: bool, histogram: u64) -> Option<&[u64]>
         ensures { MatchOption result (has_passed_all ≡ false) (λ samples. (has_passed_all ≡ true) × (samples.now ≡ own_samples self.now histogram)) }
     {
@@ -98,8 +98,8 @@ impl RecordIndex {
 impl Segment {
     ghost use Rattle.live_segment.specs.List.Prelude.{IsIndexed, IsSame, WalksWith};
 
-    // Walks along the list, on from where the index stands, and enters what it meets: to the end of the list, or to where the index
-    // could not grow. True where it came to the end.
+    // Walks along the list from the place of the index on, and enters what it visits: to the end of the list, or to
+    // where the index could not grow. True if it came to the end.
     pub(crate) fn look_on(&self, seat: &mut Pass, index: &mut RecordIndex) -> bool
         requires walks { WalksWith index.old.kind self.now index.old seat.old }
         ensures same { IsSame seat.old seat.new }
@@ -122,7 +122,7 @@ impl Segment {
         }
     }
 
-    // Looks on along the list where the index has no record of a key. True where it came to the end.
+    // Looks further along the list if the index has no record of a key. True if it came to the end.
     pub(crate) fn look_for(&self, seat: &mut Pass, index: &mut RecordIndex, key: u64) -> bool
         requires walks { WalksWith index.old.kind self.now index.old seat.old }
         ensures same { IsSame seat.old seat.new }

@@ -1,4 +1,4 @@
-//! The keys by which a recorder finds the records that it met along the list.
+//! The keys by which a recorder finds the records that it visited along the list.
 
 ghost use Rattle.std.specs.Prelude.{◌≡◌, ◌+◌, ◌≤◌, ℕ, Some};
 ghost use Rattle.live_segment.specs.List.Prelude.{cast_unsigned, HasReadWords, MayLoadRecord, name_words, w64, word_seen};
@@ -14,7 +14,7 @@ use segment_image::layout::{
     TYPE_HISTOGRAM, TYPE_SAMPLE,
 };
 
-// How far apart the keys of the samples of two histograms stand: there are as many values.
+// How far apart the keys of the samples of two histograms are: as far as there are values.
 const VALUES: u64 = 4_294_967_296;
 
 // The key of the samples of a value of a histogram, by the word of the value.
@@ -35,7 +35,7 @@ pub(crate) fn value_key(histogram: u64, value: i32) -> u64
 impl Segment {
     ghost use Rattle.live_segment.specs.List.Prelude.{HasLookedForKey, HasMetRecord, IsSeated, Name, Sample, seen_key};
 
-    // The key of the name of a histogram's record that was met.
+    // The key of the name of a histogram's record that was visited.
     fn name_key_of(&self, seat: &mut Pass, at: u64, words: u64) -> u64
         requires seat { IsSeated self.now seat.old }
         requires met { MayLoadRecord at seat.old.me.0 }
@@ -53,7 +53,7 @@ impl Segment {
         key
     }
 
-    // The key of a record that was met: that of its name, where it is one of a histogram.
+    // The key of a record that was visited: that of its name, if it is one of a histogram.
     fn name_key_at(&self, seat: &mut Pass, at: u64) -> Option<u64>
         requires meets { HasMetRecord self.now at seat.old }
         ensures read { HasReadWords seat.old seat.new }
@@ -67,7 +67,7 @@ impl Segment {
         Some(self.name_key_of(seat, at, len.div_ceil(8)))
     }
 
-    // The key of a record that was met: that of its histogram and its value, where it is a sample.
+    // The key of a record that was visited: that of its histogram and its value, if it is a sample.
     fn sample_key_at(&self, seat: &mut Pass, at: u64) -> Option<u64>
         requires meets { HasMetRecord self.now at seat.old }
         ensures read { HasReadWords seat.old seat.new }
@@ -82,7 +82,7 @@ impl Segment {
         Some(sample_key(histogram, value))
     }
 
-    // The key of a record that was met, where it is one of those that have a key.
+    // The key of a record that was visited, if it is one that has a key.
     pub(crate) fn key_at(&self, seat: &mut Pass, kind: KeyKind, at: u64) -> Option<u64>
         requires meets { HasMetRecord self.now at seat.old }
         ensures read { HasReadWords seat.old seat.new }

@@ -10,8 +10,8 @@ use segment_image::layout::QUEUE;
 impl Segment {
     ghost use Rattle.live_segment.specs.List.Prelude.{IsSame, IsSeated};
 
-    /// Puts a block of its own that is filled at the end of the list: from then on it is the record that is said, and a walk
-    /// that reaches the end has passed it.
+    /// Puts a block of its own, which is filled, at the end of the list: from then on it is the record that is
+    /// announced, and a walk that reaches the end has passed it.
     pub(crate) fn publish(&self, seat: &mut Pass, at: u64, said: &Announcement)
         requires seat { IsSeated self.now seat.old }
         requires free { is_bound seat.old.me.0.hand.place ≡ false }

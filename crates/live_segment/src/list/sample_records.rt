@@ -1,4 +1,4 @@
-//! How a recorder meets the samples of a sparse histogram along the list.
+//! How a recorder visits the samples of a sparse histogram along the list.
 
 ghost use Rattle.std.specs.Prelude.{◌≡◌, ◌+◌, ◌≤◌, true, false, IfSome};
 ghost use Rattle.live_segment.specs.List.Prelude.{Contains, CountsSample, HasReadWords, known_view, LooksAtValues, NoRepeats, SamplesAreFew, SamplesStandBehind, SeesSample, ShowsSample, Sparse};
@@ -13,7 +13,7 @@ impl Segment {
     ghost use Rattle.live_segment.specs.List.Prelude.{Actor, has_buckets, HasMetRecord, HasPassedAll, HasSearched, IsIndexed, IsSame, IsSeated, KnowsRight, MayTurn, Setting};
     ghost use Rattle.live_segment.specs.declared.list.index.KeyKind.TheVariants.{Sample as OfSample};
 
-    // The value of a record that was met, where it is a sample of a histogram.
+    // The value of a record that was visited, if it is a sample of a histogram.
     pub(crate) fn shows_sample(&self, seat: &mut Pass, at: u64, histogram: u64) -> Option<i32>
         requires meets { HasMetRecord self.now at seat.old }
         ensures read { HasReadWords seat.old seat.new }
@@ -35,7 +35,7 @@ impl Segment {
         }
     }
 
-    // The value and the units of a record that was met, where it is a sample of a histogram and has some.
+    // The value and the units of a record that was visited, if it is a sample of a histogram and has units.
     pub(crate) fn sample_at(
         &self,
         seat: &mut Pass,
@@ -60,7 +60,8 @@ impl Segment {
         Some((value, count))
     }
 
-    // Looks on along the list for the samples of a histogram, where it is sparse. True where the index has all of them then.
+    // Looks further along the list for the samples of a histogram, if it is sparse. True if the index has all of them
+    // then.
     pub(crate) fn look_for_own(
         &self,
         seat: &mut Pass,

@@ -10,7 +10,7 @@ use segment_image::layout::QUEUE;
 impl Segment {
     ghost use Rattle.live_segment.specs.List.Prelude.{HasShared, IsSame, IsSeated, opened_with};
 
-    /// Moves a shared cursor on to the record behind it, and gives that; none where the list ends there.
+    /// Moves a shared cursor to the next record and returns that; none if the list ends there.
     pub(crate) fn next_shared(&self, seat: &mut Pass, cursor: usize) -> Option<u64>
         requires seat { IsSeated self.now seat.old }
         requires free { is_bound seat.old.me.0.hand.place ≡ false }

@@ -7,7 +7,7 @@ use crate::rule::Pass;
 use crate::segment::Segment;
 use segment_image::layout::QUEUE;
 
-/// Where a walk along the list stands.
+/// Where a walk along the list is.
 #[derive(Clone, Copy)]
 pub(crate) struct WalkPlace {
     /// How many records it has given.
@@ -33,8 +33,8 @@ impl WalkPlace {
 impl Segment {
     ghost use Rattle.live_segment.specs.List.Prelude.{HasList, IsSame, IsSeated, opened_with};
 
-    // Walks along the list, on from a place to its end, and lists the records behind. There is room for as many as fit in a
-    // segment.
+    // Walks along the list from a place to its end, and lists the records after that place. There is room for as many
+    // as fit in a segment.
     pub(crate) fn walk(&self, seat: &mut Pass, place: &mut WalkPlace, records: &mut Vec<u64>)
         requires seat { IsSeated self.now seat.old }
         requires free { is_bound seat.old.me.0.hand.place ≡ false }

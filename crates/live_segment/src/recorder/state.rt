@@ -1,4 +1,4 @@
-//! What a recorder has beside its segment, and its calls, each of which is passed the segment.
+//! What a recorder has besides its segment, and its calls, each of which is passed the segment.
 
 ghost use Rattle.std.specs.Prelude.{◌≡◌, []};
 ghost use Rattle.segment_machine.specs.Seats.{getter, purse};
@@ -19,8 +19,9 @@ use segment_calls::{Asked, BatchRefusal, Delta, Refusal, Snapshot};
 use segment_image::layout::{BLOCK_LEAST, HEADER_WORDS};
 use std::alloc::Global;
 
-/// All that a recorder has but its segment. A caller that keeps the segment alive otherwise than by a borrow keeps this beside it, and
-/// passes the segment to each call. The calls are those of [`Recorder`](super::Recorder), with its clauses and faults.
+/// All that a recorder has except its segment. It is for a caller that keeps the segment alive by other means than a
+/// borrow, and passes the segment to each call. The calls are those of [`Recorder`](super::Recorder), with its clauses
+/// and faults.
 #[derive(Drop)]
 pub struct RecorderState {
     // For its lists.
@@ -30,9 +31,9 @@ pub struct RecorderState {
     known: Vec<KnownHistogram>,
     // Up to where it was given fresh records.
     fresh: WalkPlace,
-    // Where what it knows stands, by names.
+    // The places of what it knows, by names.
     names: KnownNames,
-    // What it met along the list: the records of histograms, and the samples of sparse ones.
+    // What it visited along the list: the records of histograms, and the samples of sparse ones.
     index: RecordIndex,
     samples: RecordIndex,
 }
@@ -165,8 +166,8 @@ impl RecorderState {
         self.names.find(known, name)
     }
 
-    // What a `hist` of a name that it knows returns, by the histogram at a place. It takes memory only where the spec is
-    // another: then name and spec are looked at whole, since `BadSpec` and `TooLarge` come first.
+    // What a `hist` of a name that it knows returns, by the histogram at a place. It takes memory only if the spec is
+    // another one: then all of name and spec is checked, since `BadSpec` and `TooLarge` come first.
     fn known_at(
         &self,
         segment: &Segment,
@@ -214,7 +215,7 @@ impl RecorderState {
         Ok(Hist { index })
     }
 
-    // The histogram that it knows at a place, where its record is this one.
+    // The histogram that it knows at a place, if its record is this one.
     fn known_of(&self, index: usize, reference: u64) -> Option<Hist>
         requires at { (segment : SomeSegment) × IsRecorderAt segment self.now }
         requires index { index < length self.now.known.items }
@@ -226,8 +227,8 @@ impl RecorderState {
         Some(Hist { index })
     }
 
-    // The histogram of a record that has this name and this spec, or none where these may not be asked for, or the record is not the
-    // first of its name.
+    // The histogram of a record that has this name and this spec, or none if these may not be asked for, or the record
+    // is not the first of its name.
     fn open_as(
         &mut self,
         segment: &Segment,

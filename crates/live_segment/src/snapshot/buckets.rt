@@ -27,7 +27,7 @@ impl Segment {
     ghost use Rattle.std.specs.Prelude.{◌≡◌, map, true};
     ghost use Rattle.live_segment.specs.Snapshot.Prelude.{AreFewKeys, blank_totals, buckets_of, has_buckets, HasSeenBuckets, HasSnapshot, IsReadyFor, IsSame, known_view, opened_with, Standing};
 
-    // The units of all buckets of a histogram stand beside their keys.
+    // Puts the units of all buckets of a histogram next to their keys.
     fn look_at_buckets(
         &self,
         seat: &mut Pass,

@@ -11,7 +11,7 @@ use segment_image::layout::BLOCK_HEADER;
 impl Segment {
     ghost use Rattle.live_segment.specs.Steps.{IsSame};
 
-    // The counts of all buckets, from those at a word, in order. The keys beside them stay as they are.
+    // The counts of all buckets, from those at a word, in order. The keys next to them are unchanged.
     pub(crate) fn look_at_counts(&self, seat: &mut Pass, counts: u64, totals: &mut [(i32, u64)])
         requires may { MayLookAt self.now seat.old counts (length totals.old) }
         requires room { counts + BLOCK_HEADER + length totals.old ≤ self.now.setting.shape.size }

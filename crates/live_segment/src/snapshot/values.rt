@@ -1,4 +1,5 @@
-//! How a snapshot looks at what is counted in the samples of a sparse histogram: along the list, or those that an index has.
+//! How a snapshot looks at what is counted in the samples of a sparse histogram: by a walk along the list, or by an
+//! index that has them all.
 
 use crate::recorder::KnownHistogram;
 use crate::rule::Pass;
@@ -11,8 +12,8 @@ impl Segment {
     ghost use Rattle.live_segment.specs.Snapshot.Prelude.{AreFewKeys, AreOwn, AreUnits, ComesTo, HasSnapshot, IsReadyFor, IsSame, known_view, KnowsRight, ListsAlong, ListsIndexed, ListsThrough, LooksAtValues, OfSnapshot, opened_with, Sparse, Standing};
     ghost use Rattle.segment_image.specs.declared.layout.TheConstants.{QUEUE};
 
-    // The values of a sparse histogram that have units, from the first record behind its own on to the end of the list, are listed in
-    // their order there. There is room for as many as fit in a segment.
+    // Lists the values of a sparse histogram that have units, from the first record after its own to the end of the
+    // list, in their order there. There is room for as many as fit in a segment.
     fn look_at_values(
         &self,
         seat: &mut Pass,
@@ -34,8 +35,8 @@ impl Segment {
         }
     }
 
-    // The values of a sparse histogram that have units are listed, of its samples, which an index has, in their order there. There is room
-    // for all of them.
+    // Lists the values of a sparse histogram that have units, from its samples, which an index has, in their order
+    // there. There is room for all of them.
     fn look_at_listed(
         &self,
         seat: &mut Pass,
@@ -56,8 +57,8 @@ impl Segment {
         }
     }
 
-    // A snapshot of a sparse histogram begins and lists the values that have units: of the samples that an index has, or else along the
-    // list. There is room for all of them, or for as many values as fit in a segment.
+    // A snapshot of a sparse histogram begins and lists the values that have units: of the samples that an index has,
+    // or else by a walk along the list. There is room for all of them, or for as many values as fit in a segment.
     fn look_at_samples(
         &self,
         seat: &mut Pass,

@@ -64,7 +64,7 @@ impl Segment {
     ghost use Rattle.std.specs.Prelude.{[]};
     ghost use Rattle.live_segment.specs.Steps.Prelude.{flags_notes, MayGiveUp, MayStep, Noted, refusing_notes, Stepped};
 
-    // A call that counts is refused where the corrupt flag is among them.
+    // A call that counts is refused if the corrupt flag is among them.
     pub(crate) fn load_flags(&self, seat: &mut Pass) -> u64
         requires may { MayStep self.now seat.old (allocating_event load_flags) }
         requires closes { MayGiveUp seat.old.me.0 }
@@ -82,7 +82,7 @@ impl Segment {
         self.table.shared.load::<LoadFree>(seat, FIRST + FREE_WORD)
     }
 
-    // The block that is wanted has so many words.
+    // The block that is claimed needs `words` words.
     pub(crate) fn exchange_free(&self, seat: &mut Pass, old: u64, new: u64, words: u64) -> u64
         requires { MayStep self.now seat.old (allocating_event (exchange_free old new words)) }
         ensures { Stepped seat.old (allocating_event (exchange_free old new words)) result seat.new }
@@ -132,7 +132,7 @@ impl Segment {
             .fetch_or::<SetCorrupt>(seat, FIRST + FLAGS_WORD, FLAG_CORRUPT)
     }
 
-    // The full flag is set, since too many words are wanted, and a call that counts is refused.
+    // Sets the full flag, since too many words are needed; a call that counts is refused.
     pub(crate) fn set_full(&self, seat: &mut Pass) -> u64
         requires may { (wanted : ℕ) × MayStep self.now seat.old (allocating_event (set_full wanted)) }
         requires closes { MayGiveUp seat.old.me.0 }

@@ -23,7 +23,7 @@ impl Play<Announcement, Actor> for Declining {
 impl Segment {
     ghost use Rattle.live_segment.specs.Steps.Prelude.{IsSame, table_of};
 
-    // What is said is the histogram of the record at a word: the `hist` returns it.
+    // What is announced is the histogram of the record at a word: the `hist` returns it.
     pub(crate) fn know(&self, seat: &mut Pass, reference: u64, said: &Announcement)
         requires table { seat.old.table_id ≡ table_of self.now }
         requires may { MayKnow reference said.now seat.old }
@@ -34,7 +34,7 @@ impl Segment {
             .compare_exchange_with::<Knowing>(seat, 0, reference, reference, said);
     }
 
-    // The answers that it owes are refusals.
+    // The answers that it owes become refusals.
     pub(crate) fn decline(&self, seat: &mut Pass)
         requires seat { (seat.old.table_id ≡ table_of self.now) × (is_opener seat.old.me.0.role ≡ false) }
         requires may { MayNoteAll seat.old.me.0 (map declines seat.old.me.0.answers.owed) }

@@ -1,4 +1,4 @@
-//! The steps on a shared cursor. Their words stand behind those of the segment.
+//! The steps on a shared cursor. The words of cursors come after those of the segment.
 
 ghost use Rattle.std.specs.Prelude.{◌≡◌, ◌<◌, length};
 ghost use Rattle.live_segment.specs.Steps.Prelude.{cursor_event, load_cursor, LoadsCursor, move_cursor, MovesCursor};

@@ -73,7 +73,7 @@ impl Segment {
         )
     }
 
-    // A counts block of its own becomes the histogram's, where that has none.
+    // A counts block of its own becomes the histogram's, if that has none.
     pub(crate) fn mount_counts(&self, seat: &mut Pass, histogram: u64, at: u64) -> u64
         requires may { MayStep self.now seat.old (packing_event (mount_counts histogram at)) }
         requires room { histogram + 15 ≤ self.now.setting.shape.size }

@@ -1,5 +1,5 @@
-//! The steps that fill a block of its own and put it on the list: a word of its payload, its next, the tail, and the next
-//! behind which it is linked.
+//! The steps that fill a block of its own and put it on the list: a word of its payload, its next, the tail, and the
+//! next by which it is linked.
 
 ghost use Rattle.std.specs.Prelude.{◌+◌, ◌<◌, ◌≤◌};
 ghost use Rattle.live_segment.specs.Steps.Prelude.{allocating_event, Does, DoesAt, Links, load_tail, move_tail, publishing_event, store_own_next, store_payload, StoresPayload};
@@ -46,7 +46,7 @@ impl Segment {
     ghost use Rattle.std.specs.Prelude.{◌≡◌};
     ghost use Rattle.live_segment.specs.Steps.Prelude.{AreOwnBlocksApart, HasLinked, MayLink, MayReach, MayStep, Stepped};
 
-    // It says too that no two blocks of the recorder begin at one word.
+    // It also shows that no two blocks of the recorder begin at one word.
     pub(crate) fn store_payload(&self, seat: &mut Pass, at: u64, index: usize, value: u64)
         requires may { MayStep self.now seat.old (allocating_event (store_payload at index value)) }
         requires room { at + 4 + index < self.now.setting.shape.size }
@@ -75,7 +75,7 @@ impl Segment {
         self.table.shared.load::<LoadTail>(seat, FIRST + TAIL_WORD)
     }
 
-    // The block at a word is to hold what is said, and is linked behind the tail, where no other record stands there.
+    // The block at a word is to hold what is announced, and is linked after the tail if no other record is there.
     pub(crate) fn link(&self, seat: &mut Pass, tail: u64, at: u64, said: &Announcement) -> u64
         requires reach { MayReach self.now seat.old (tail + 5) }
         requires may { MayLink seat.old tail at said.now }

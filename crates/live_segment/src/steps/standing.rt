@@ -1,4 +1,4 @@
-//! The step that says a state of the segment, as a call ends.
+//! The step that shows a state of the segment, as a call ends.
 
 ghost use Rattle.std.specs.Prelude.{◌≡◌, Option, Some, None, ℕ};
 ghost use Rattle.live_segment.specs.declared.rule.Opening.{Opening};
@@ -42,7 +42,7 @@ impl Segment {
         self.table.shared.load::<Stand<S>>(seat, 0);
     }
 
-    // A word is loaded that never changes. The seat is as it was, and stands in a state of the segment.
+    // Loads a word that never changes. The seat is unchanged, and is in a state of the segment.
     pub(crate) fn stand(&self, seat: &mut Pass)
         requires { seat.old.table_id ≡ table_of self.now }
         ensures same { seat.new ≡ seat.old }

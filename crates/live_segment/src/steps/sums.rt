@@ -26,7 +26,7 @@ impl Play<Announcement, Actor> for LoadSum {
 impl Segment {
     ghost use Rattle.live_segment.specs.Steps.Prelude.{MayStep, Stepped};
 
-    // The samples that were met have room in the segment.
+    // It also shows that the samples that were visited have room in the segment.
     pub(crate) fn load_count_of_sample(&self, seat: &mut Pass, at: u64) -> u64
         requires may { MayStep self.now seat.old (taking_event (load_count at)) }
         requires room { at < self.now.setting.shape.size }
@@ -38,7 +38,8 @@ impl Segment {
             .load::<LoadCountOfSample>(seat, FIRST + at as usize)
     }
 
-    // No sample stands before the record of its histogram, and no block twice, among those that were met.
+    // It also shows that among the records that were visited no sample comes before the record of its histogram, and
+    // none comes twice.
     pub(crate) fn load_sum(&self, seat: &mut Pass, histogram: u64) -> u64
         requires may { MayStep self.now seat.old (taking_event (load_sum histogram)) }
         requires room { histogram + 15 ≤ self.now.setting.shape.size }

@@ -112,8 +112,8 @@ impl Segment {
             .load::<TakeNext>(seat, FIRST + histogram as usize + BLOCK_NEXT)
     }
 
-    // A delta of a sparse histogram begins whose samples were all met: the type of its record is loaded, which shows nothing new. So of the
-    // list no more is seen.
+    // A delta of a sparse histogram whose samples were all visited begins: the type of its record is loaded, which
+    // shows nothing new. So no more of the list is seen.
     pub(crate) fn take_type(&self, seat: &mut Pass, histogram: u64)
         requires reach { MayReach self.now seat.old (histogram + 15) }
         requires may { MayBeginDelta seat.old histogram (λ at. walking_event (load_published at BLOCK_TYPE)) }
@@ -124,7 +124,7 @@ impl Segment {
             .load::<TakeType>(seat, FIRST + histogram as usize + BLOCK_TYPE);
     }
 
-    // The same of snapshots.
+    // The same for a snapshot.
     pub(crate) fn look_type(&self, seat: &mut Pass, histogram: u64)
         requires reach { MayReach self.now seat.old (histogram + 15) }
         requires may { MayDo seat.old (looks ∷ []) (walking_event (load_published histogram BLOCK_TYPE)) [] }
@@ -167,7 +167,7 @@ impl Segment {
             .load::<LoadCount>(seat, FIRST + at as usize)
     }
 
-    // The mark of a bucket or of a sample becomes the count that was loaded, where that is more.
+    // The mark of a bucket or of a sample becomes the count that was loaded, if that is more.
     pub(crate) fn raise_mark(&self, seat: &mut Pass, at: u64, least: u64) -> u64
         requires may { MayStep self.now seat.old (taking_event (raise_mark at least)) }
         requires room { at < self.now.setting.shape.size }
@@ -178,7 +178,7 @@ impl Segment {
             .fetch_max::<RaiseMark>(seat, FIRST + at as usize, least)
     }
 
-    // The mark of the packed bucket becomes a total of it, where that is more.
+    // The mark of the packed bucket becomes a total of it, if that is more.
     pub(crate) fn raise_single_mark(&self, seat: &mut Pass, histogram: u64, least: u64) -> u64
         requires may { MayStep self.now seat.old (taking_event (raise_single_mark histogram least)) }
         requires room { histogram + 15 ≤ self.now.setting.shape.size }
@@ -213,7 +213,7 @@ impl Segment {
             .shared
             .load::<LoadRedundant>(seat, FIRST + histogram as usize + HISTOGRAM_REDUNDANT)
     }
-    // What a snapshot saw is said to be its answer, and the snapshot ends.
+    // What a snapshot saw is announced as its answer, and the snapshot ends.
     pub(crate) fn answer(&self, seat: &mut Pass, said: &Announcement)
         requires table { seat.old.table_id ≡ table_of self.now }
         requires may { MayAnswer seat.old said.now }

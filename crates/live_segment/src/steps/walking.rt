@@ -66,7 +66,8 @@ impl Segment {
         self.load_next_as::<Brand>(seat, at)
     }
 
-    // The type of a record that was met. No sample stands before the record of its histogram, and no block twice, among those that were met.
+    // The type of a record that was visited. It also shows that among the records that were visited no sample comes
+    // before the record of its histogram, and none comes twice.
     pub(crate) fn load_type(&self, seat: &mut Pass, at: u64) -> u64
         requires may { MayStep self.now seat.old (walking_event (load_published at BLOCK_TYPE)) }
         requires room { at + BLOCK_TYPE < self.now.setting.shape.size }

@@ -20,7 +20,7 @@ use Rattle.live_segment.specs.Known.{known_view}
 use Rattle.segment_promises.specs.Onward.{GoesOn}
 use Rattle.live_segment.specs.Rule.{IsOf}
 
--- units of which the share has so many are not refused before anything happens
+-- units that the share has are not refused before anything happens
 pub passes : (a : Actor) (count : ℕ) (P : Type 0) (Q : Refusal → Type 0) → count ≢ 0 → count ≤ a.units.share → P
     → MatchOption (first_fault (add_checks a count)) P Q
 passes a count P Q none enough p =
@@ -35,7 +35,7 @@ meant items names index one known are is below there =
     let first = at_map known_view items index one (element_at items index one within ∙ ap some (sym is)) in
     let same : some (known_view one) ≡ some known = sym first ∙ (ap (λ (l : List Known). get_elem? l index) are ∙ there) in cc same
 
--- a recorder is one of the same segment still
+-- a recorder is still one of the same segment
 pub is_of_still : (setting : Setting) (old new : Actor) → GoesOn old new → IsOf setting old → IsOf setting new
 is_of_still setting old new onward of = record {
   shape = ap (λ (a : Actor). a.segment.shape) onward.same ∙ of.shape;

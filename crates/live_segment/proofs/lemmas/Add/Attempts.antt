@@ -1,5 +1,5 @@
--- An attempt to pack units of a bucket: the single word is loaded, and exchanged where it can take them. An exchange that comes too late
--- finds it further on.
+-- An attempt to pack units of a bucket: the single word is loaded, and exchanged if it can take them. An exchange that comes too late finds
+-- it further on.
 use Rattle.std.proofs.Common.{◌≡◌, ◌≢◌, ◌⊎◌, ℕ, ◌+◌, ◌-◌, ◌%◌, ◌^◌, ◌<◌, ◌≤◌, ◌||◌, nat_le, Bool, true, false, List, [], ◌∷◌, ◌++◌, length, drop, Some, None, inl, inr, refl, sym, ap, ◌∙◌, subst, arith}
 use Rattle.std.specs.List.{Contains}
 use Rattle.std.proofs.lemmas.Bool.{eq-eqb, ne_eqb, le-leb, leb-true}

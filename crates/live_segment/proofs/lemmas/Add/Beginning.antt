@@ -1,4 +1,4 @@
--- A call begins with an entry: it may say so, its entry is then next, and once it is counted the call goes on.
+-- A call begins with an entry: it may note that, its entry is then next, and once it is counted the call continues.
 use Rattle.std.proofs.Common.{◌≡◌, ℕ, suc, ◌+◌, ◌-◌, ◌*◌, ◌≤◌, ◌==◌, ℤ, map, length, not, ◌||◌, ◌&&◌, Bool, true, false, true≢false, if◌then◌else◌, pos, List, [], ◌∷◌, ◌++◌, Some, refl, sym, ap, ◌∙◌, subst, arith, filter, inl, inr, ◌⊎◌}
 use Rattle.std.specs.Prelude.{unsigned_abs, fold, ◌+ℤ◌}
 use Rattle.std.specs.List.{Contains}
@@ -85,7 +85,7 @@ notes_waiting a entry some waits =
     ap (λ (r : List EntryProgress). opening_notes r entry entry.units) waits.runs
     ∙ notes_nothing (fresh entry) (open_still entry some) waits.before entry entry.units waits.ended.ended
 
--- one with which a call goes on is noted beside those that have ended
+-- an entry with which a call continues is added to those that have ended
 notes_going : (a : Actor) (entry : Entry) → MayGoOnWith a entry → entry_notes a entry ≡ goes_on entry entry.units ∷ []
 notes_going a entry may = goes_on_with a.entries.running entry entry.units may.runs may.ended.ended
 
@@ -177,7 +177,7 @@ knows a known bucket units may = ((known_there a.answers.names known.reference k
 pub looks_for : (entry : Entry) (a b : Actor) → LooksOn a b → LooksFor entry a b
 looks_for entry a b looks = record { proceeds = looks.proceeds; begun = inl (looks.units, looks.entries) }
 
--- it may count them still
+-- it may still count them
 pub may_still : (a b : Actor) (known : Known) (entry : Entry) → CountsAlone a known entry → LooksFor entry a b
     → CountsAlone b known entry
 may_still a b known entry may looks =

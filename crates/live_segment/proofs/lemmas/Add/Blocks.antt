@@ -1,4 +1,4 @@
--- What a call that counts has claimed: nothing before it needs a block and nothing behind, and one block then.
+-- What a call that counts has claimed: nothing before it needs a block and nothing after, and one block then.
 use Rattle.std.proofs.Common.{◌≡◌, ◌==◌, ◌⊎◌, ℕ, ◌+◌, ℤ, List, [], ◌∷◌, ◌++◌, true, true≢false, inl, inr, refl, sym, ap, ◌∙◌, subst}
 use Rattle.std.specs.List.{Contains}
 use Rattle.list_core.specs.Walk.{stands_behind}
@@ -66,7 +66,7 @@ keeps_ended entries a b ended = subst (KeepsBlocks a) (sym ended.same) (record {
 purged_on : (a b : Actor) (at : ℕ) → KeepsBlocks a b → IsPurged at a → IsPurged at b
 purged_on a b at keeps (own, has, stands, tag) = (own, subst (λ (l : List Own). Contains l own) (sym keeps.own) has, stands, tag)
 
--- it did nothing before and behind
+-- it did nothing before and after
 pub mounts_between : (known : Known) (a b c d : Actor) → KeepsBlocks a b → MountsAtMostOne known b c → KeepsBlocks c d → MountsAtMostOne known a d
 mounts_between known a b c d before (claims, grows, more, same) behind = (
   by claims,
@@ -113,7 +113,7 @@ loads_none known old mid seat found after before step behind = mounts_between kn
 
 -- ---- for units of a value
 
--- a sample was made, and nothing is claimed behind
+-- a sample was made, and nothing is claimed after that
 pub makes_kept : (histogram : ℕ) (value : ℤ) (a b c : Actor) → Grows a.seen.ends b.seen.ends → (b.done ≡ a.done) ⊎ MakesSample histogram value a b → KeepsBlocks b c
     → (c.done ≡ a.done) ⊎ MakesSample histogram value a c
 makes_kept histogram value a b c grows (inl same) behind = inl (behind.done ∙ same)

@@ -1,4 +1,4 @@
--- Units of a bucket are counted in the counts, once these are in use: what a call that may count them knows behind each of its parts.
+-- Units of a bucket are counted in the counts, once these are in use: what a call that may count them knows after each of its parts.
 use Rattle.std.proofs.Common.{◌≡◌, ◌≢◌, ℕ, ◌+◌, ◌<◌, ◌||◌, ◌==◌, not, Bool, false, List, [], ◌∷◌, ◌++◌, filter, length, drop, Some, inl, inr, refl, sym, ap, ◌∙◌, subst, arith}
 use Rattle.std.specs.List.{Contains}
 use Rattle.std.proofs.lemmas.Bool.{ne_eqb}
@@ -43,7 +43,7 @@ use Rattle.live_segment.proofs.lemmas.Add.Refusing.{only_given_up}
 use Rattle.live_segment.proofs.lemmas.Alloc.Rooms.{lacked_since}
 use Rattle.live_segment.specs.Add.Sample.{block_words}
 
--- ---- what a call may do that may count units of a bucket
+-- ---- what a call that may count units of a bucket may do
 
 module _ (a : Actor) (known : Known) (bucket units : ℕ) (may : MayCountInBucket a known bucket units) where
   abbrev entry : Entry
@@ -73,7 +73,7 @@ module _ (a : Actor) (known : Known) (bucket units : ℕ) (may : MayCountInBucke
             ap (λ (x : EntryProgress). x.entry.name) same,
           )
 
-  -- and may end where it gets none
+  -- and may end if it gets none
   pub may_do_without : MayGiveUp a
   may_do_without = may_give_up a known entry may.counts
 
@@ -172,7 +172,7 @@ module _ {known : Known} {bucket units counts : ℕ} {old seat : Pass} (is : IsA
         counted_behind old.me.0 seat.me.0 after.me.0 known (bucket_entry known bucket units) is.may.counts is.looks is.filled
         (adds known bucket units counts seat may_here is.off below found after has)
 
--- ---- behind an attempt to pack
+-- ---- after an attempt to pack
 
 module _ (known : Known) (bucket units : ℕ) (old mid : Pass) (may : MayCountInBucket old.me.0 known bucket units) where
   -- the counts are in use: the reference is loaded
@@ -224,7 +224,7 @@ module _ (known : Known) (bucket units : ℕ) (old mid : Pass) (may : MayCountIn
             off = disabled.stands;
           }
 
-    -- a single word that cannot take them is seen still
+    -- a single word that cannot take them is still seen
     pub turned : (why : Refusal) (new : Pass) → HasNotMounted why known mid.me.0 new.me.0 → IsTurnedAway why known bucket units old.me.0 new.me.0
     turned why new refuses =
         let (word, saw, on, none) = tried.3 in

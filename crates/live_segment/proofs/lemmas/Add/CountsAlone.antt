@@ -1,4 +1,5 @@
--- An entry that a call counts alone, in a bucket or in a sample: the call may end before, and goes on once its units are added to a count.
+-- An entry that a call counts alone, in a bucket or in a sample: the call may end before, and continues once its units are added to a
+-- count.
 use Rattle.std.proofs.Common.{◌≡◌, ℕ, ◌+◌, ◌≤◌, ◌∙◌, ◌||◌, Bool, true, false, List, [], ◌∷◌, ◌++◌, take, drop, All, inl, inr, refl, sym, ap, subst, arith}
 use Rattle.std.proofs.lemmas.Bool.{ne_eqb}
 use Rattle.std.proofs.lemmas.List.Elements.{All-nil, All-cons}
@@ -24,7 +25,7 @@ use Rattle.live_segment.proofs.lemmas.Add.Ended.{how_many, how_many_before, stil
 use Rattle.live_segment.proofs.lemmas.Add.Refusing.{may_at_rest}
 use Rattle.live_segment.proofs.lemmas.Steps.Proceeding.{sees_count}
 
--- where all that runs has ended
+-- if all that runs has ended
 may_end_ended : (running : List EntryProgress) → HaveEnded running → MayEnd running
 may_end_ended running ended =
     let all = how_many running ended.ended in record {
@@ -33,7 +34,7 @@ may_end_ended running ended =
       untouched = subst (λ (l : List EntryProgress). All (λ c. is_untouched c ≡ true) l) (sym (ap (λ (n : ℕ). drop n running) all ∙ drop-length running)) (All-nil _);
     }
 
--- where one waits behind what has ended
+-- if one waits after those that have ended
 may_end_waiting : (entry : Entry) → 1 ≤ entry.units → (before : List EntryProgress) → HaveEnded before → MayEnd (before ++ fresh entry ∷ [])
 may_end_waiting entry some before ended =
     let one = fresh entry in
@@ -55,7 +56,7 @@ module _ (a : Actor) (known : Known) (entry : Entry) (may : CountsAlone a known 
   pub goes : has_ended one ≡ false
   goes = still_open one refl may.some
 
-  -- its call may end where no block is there for it
+  -- its call may end if there is no block for it
   pub may_give_up : MayGiveUp a
   may_give_up = by may.begun
     where

@@ -1,4 +1,4 @@
--- A single word is disabled once counts are there: it is loaded, and exchanged where it is not off. An exchange that comes too late finds it
+-- A single word is disabled once counts are there: it is loaded, and exchanged if it is not off. An exchange that comes too late finds it
 -- further on. The units that it had are added to the count of their bucket.
 use Rattle.std.proofs.Common.{◌≡◌, ◌≢◌, ◌⊎◌, ℕ, ◌+◌, ◌-◌, ◌*◌, ◌/◌, ◌%◌, ◌^◌, ◌<◌, ◌≤◌, ◌==◌, ◌&&◌, nat_lt, nat_le, if◌then◌else◌, Bool, true, false, [], ◌∷◌, ◌++◌, Option, Some, None, inl, inr, refl, sym, ap, ◌∙◌, subst, arith}
 use Rattle.std.specs.Prelude.{unwrap_or}
@@ -123,7 +123,7 @@ module _ {segment : Segment} {known : Known} {counts : ℕ} {first old : Pass} (
     pub same_seat : IsSame first seat
     same_seat = (step.same.0 ∙ attempt.same.0, step.same.1 ∙ attempt.same.1, step.same.2 ∙ attempt.same.2)
 
-    -- counts lie where they lay
+    -- counts are where they were
     within_on : (c : Actor) → LooksOn first.me.0 c → CountsWithin c known counts
     within_on c on = (
       attempt.within.0,
@@ -182,7 +182,7 @@ module _ {segment : Segment} {known : Known} {counts : ℕ} {first old : Pass} (
                 stands = ((off, ap (λ (x : Actor). x.hand.place) all, off_is b.segment.version word), within_on after.me.0 on_it);
               }
 
-          -- units are, of a bucket
+          -- units of a bucket are
           module _ (is : true ≡ ((segment.setting.version == 1) && nat_lt 0 word)) where
             formed : (word / 2 ^ 32 < n) × (single_of version n word ≡ Some (single.Packed (word / 2 ^ 32) (word % 2 ^ 32)))
             formed = by (on_form version n word learned.0 (is_on word on))

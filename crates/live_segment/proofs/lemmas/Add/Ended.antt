@@ -1,4 +1,4 @@
--- Entries that have ended: none of them is open. One behind them that is open is next, and changes alone.
+-- Entries that have ended: none of them is open. An open one after them is next, and only that changes.
 use Rattle.std.proofs.Common.{◌≡◌, ◌≢◌, ℕ, suc, ◌≤◌, ◌==◌, not, ◌||◌, ◌&&◌, Bool, true, false, if◌then◌else◌, cond, List, [], ◌∷◌, ◌++◌, length, filter, All, refl, ap, ◌∙◌, arith}
 use Rattle.std.specs.List.{list_all}
 use Rattle.std.proofs.lemmas.Bool.{ne_eqb}
@@ -25,7 +25,7 @@ all_ended (x ∷ xs) all =
     ap (λ (b : Bool). b && list_all has_ended xs) (All-head (λ c. has_ended c ≡ true) x xs all)
     ∙ all_ended xs (All-tail (λ c. has_ended c ≡ true) x xs all)
 
--- so many have ended
+-- all of them have ended
 pub how_many : (before : List EntryProgress) → All (λ c. has_ended c ≡ true) before → how_many_ended before ≡ length before
 how_many [] all = refl
 how_many (x ∷ xs) all =
@@ -33,7 +33,7 @@ how_many (x ∷ xs) all =
     ap (λ (b : Bool). length (cond b (x ∷ rest) rest)) (All-head (λ c. has_ended c ≡ true) x xs all)
     ∙ ap suc (how_many xs (All-tail (λ c. has_ended c ≡ true) x xs all))
 
--- a call whose entries have ended goes on
+-- a call whose entries have ended continues
 pub goes_on_with : (running : List EntryProgress) (entry : Entry) (cost : ℕ) → running ≢ [] → All (λ c. has_ended c ≡ true) running
     → opening_notes running entry cost ≡ goes_on entry cost ∷ []
 goes_on_with [] entry cost runs all = absurd (runs refl)
@@ -54,7 +54,7 @@ still_open c noted some = falls (is_counted c) (is_summed c) (is_noted c) (λ i.
     falls false true z is = refl
     falls false false z is = refl
 
--- it is next, and changes alone
+-- it is next, and only it changes
 module _ (c : EntryProgress) (goes : has_ended c ≡ false) where
   pub next_behind : (before : List EntryProgress) → All (λ x. has_ended x ≡ true) before → filter (λ x. not (has_ended x)) (before ++ c ∷ []) ≡ c ∷ []
   next_behind [] all = ap (λ (b : Bool). cond (not b) (c ∷ []) []) goes
@@ -70,7 +70,7 @@ module _ (c : EntryProgress) (goes : has_ended c ≡ false) where
       ap (λ (b : Bool). cond (not b) (f x ∷ (xs ++ c ∷ [])) (x ∷ change_next f (xs ++ c ∷ []))) (All-head (λ y. has_ended y ≡ true) x xs all)
       ∙ ap (λ (l : List EntryProgress). x ∷ l) (changed_behind f xs (All-tail (λ y. has_ended y ≡ true) x xs all))
 
--- ---- with an open one behind them
+-- ---- with an open one after them
 
 module _ (c : EntryProgress) (waits : has_ended c ≡ false) where
   pub how_many_before : (before : List EntryProgress) → All (λ x. has_ended x ≡ true) before → how_many_ended (before ++ c ∷ []) ≡ length before

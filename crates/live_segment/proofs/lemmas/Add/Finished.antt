@@ -1,4 +1,4 @@
--- A sample that is counted is finished: its amount is told and added to the sum, its units are noted, and its call ends.
+-- A sample that is counted is finished: its amount is noted and added to the sum, its units are noted, and its call ends.
 use Rattle.std.proofs.Common.{◌≡◌, ◌≢◌, ℕ, ◌+◌, ◌*◌, ◌≤◌, not, ◌&&◌, Bool, true, false, ℤ, pos, List, [], ◌∷◌, ◌++◌, map, filter, All, Some, refl, sym, ap, ◌∙◌, subst, arith}
 use Rattle.std.specs.Prelude.{unsigned_abs}
 use Rattle.std.specs.Ordering.{int_eq}

@@ -1,4 +1,4 @@
--- How a recorder brings the counts of a histogram in use: what it knows of the counts reference, and what mounting leaves as it was.
+-- How a recorder puts the counts of a histogram in use: what it knows of the counts reference, and what mounting leaves unchanged.
 use Rattle.std.proofs.Common.{◌≡◌, ◌≢◌, ℕ, ◌+◌, ◌≤◌, not, Bool, true, false, true≢false, if◌then◌else◌, zero, suc, ◌-◌, ◌*◌, ◌<◌, length, append-nil, Option, Ok, Err, List, [], ◌∷◌, ◌++◌, filter, Some, None, inl, inr, refl, sym, ap, ◌∙◌, subst, arith, eq-eqb, ne_eqb, eqb-true, ◌==◌}
 use Rattle.std.specs.Prelude.{slice_index}
 use Rattle.std.specs.List.{Contains}
@@ -75,7 +75,7 @@ loads_counts given slots id me word records histogram at ready s run wide mine s
     λ none. some_there (is ∙ none) in
     (view, act, valid, holds, λ y same. (told y same, subst (SawNoNone me.0.seen) (let e = refers in omega (arith, e, at, same)) saw))
 
--- ---- a call that goes on may mount them still
+-- ---- a call that continues may still mount them
 
 pub mounts_on : (a b : Actor) (known : Known) → MayMount a known → LooksOn a b → MayMount b known
 mounts_on a b known may looks =
@@ -94,11 +94,11 @@ mounts_on a b known may looks =
       );
     }
 
--- it has seen words more, and may have found one that leads to no block
+-- it has seen more words, and may have found one that leads to no block
 sees_words : (a : Seen) (more : List Sighting) (ends : List ℕ) → Grows a.ends ends → SeesOn a (record a { words = a.words ++ more; ends = ends })
 sees_words a more ends longer = sees_lists a (grows_not a.chain) longer (grows_not a.tails) (grows_not a.singles) (grows_not a.counts) (grows_by a.words more) (grows_not a.cursors)
 
--- it stands elsewhere with other blocks, and has seen words more
+-- it is elsewhere with other blocks, and has seen more words
 pub with_words : (a : Actor) (hand : Hand) (more : List Sighting) (ends : List ℕ) → Grows a.seen.ends ends → is_bound hand.place ≡ false
     → LooksOn a (record a { hand = hand; seen = record a.seen { words = a.seen.words ++ more; ends = ends } })
 with_words a hand more ends longer free = record {
@@ -316,7 +316,7 @@ module _ (segment : Segment) (known : Known) (old : Pass) (table : old.table_id 
       none_seen : word_seen seat.me.0.seen.words (known.reference + 8) ≡ None
       none_seen = ap (λ (ws : List Sighting). word_seen ws (known.reference + 8)) words_still ∙ none_before
 
-      -- it has just loaded it so
+      -- it has just loaded that
       loaded_none : FoundNoCounts known.reference first.seen seat.me.0.seen
       loaded_none = found_now first.seen seat.me.0.seen (known.reference + 8) (found == 0) (ap (λ (b : Actor). b.seen.ends) step.view) (eq-eqb found 0 none)
 

@@ -1,4 +1,4 @@
--- A sample that a recorder published is never seen to be another record, and stands behind the record of its histogram.
+-- A sample that a recorder published is never seen to be another record, and comes after the record of its histogram.
 use Rattle.std.proofs.Common.{◌≡◌, ◌≢◌, ℕ, ◌+◌, ◌<◌, ℤ, List, slice_index, Some, inl, inr, sym, ap, ◌∙◌, subst, arith}
 use Rattle.std.specs.List.{Contains}
 use Rattle.std.proofs.lemmas.List.Elements.{All-contains, Contains-append_right}

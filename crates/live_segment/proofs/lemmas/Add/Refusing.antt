@@ -1,4 +1,4 @@
--- A call that counts ends where it is refused: that it may note so, and what becomes of its recorder.
+-- A call that counts ends if it is refused: that it may note this, and what becomes of its recorder.
 use Rattle.std.proofs.Common.{◌≡◌, ℕ, ◌+◌, ◌==◌, Bool, true, false, if◌then◌else◌, List, [], ◌∷◌, All, take, drop, refl, sym, ap, ◌∙◌, subst, eq-eqb}
 use Rattle.std.specs.Prelude.{bit_and}
 use Rattle.std.proofs.lemmas.List.Elements.{All-nil}
@@ -19,7 +19,7 @@ use Rattle.live_segment.specs.Steps.GhostNotes.{Noted}
 use Rattle.live_segment.specs.Add.Refusal.{how_many_ended, MayEnd, MayGiveUp, refusing_notes, given_up, flags_notes, LoadsFlags, SetsFull}
 use Rattle.live_segment.proofs.Seating.Openings.{follows}
 
--- ---- where no entry runs
+-- ---- if no entry runs
 
 -- nothing has to be shown of no entry
 pub may_at_rest : (a : Actor) → a.entries.running ≡ [] → MayGiveUp a
@@ -29,7 +29,7 @@ may_at_rest a none = subst MayEnd (sym none) (record { ended = All-nil _; unsumm
 pub at_rest : (a : Actor) → a.entries.running ≡ [] → given_up a ≡ a
 at_rest a none = ap (λ (r : List EntryProgress). noted_by a (refusing_notes r)) none
 
--- ---- what it leaves as it was
+-- ---- what it leaves unchanged
 
 pub only_given_up : (a : Actor)
     → given_up a ≡ (let b = given_up a in record a { units = b.units; entries = b.entries; since = b.since })
@@ -41,7 +41,7 @@ only_given_up a = by a.entries.running
     by [] = refl
     by (c ∷ rest) = refl
 
--- ---- that it may note so
+-- ---- that it may note this
 
 pub may_end : (a : Actor) (running : List EntryProgress) → MayEnd running → a.entries.running ≡ running → is_bound a.hand.place ≡ false
     → MayNoteAll a (refusing_notes running)

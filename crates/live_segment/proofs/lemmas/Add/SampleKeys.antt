@@ -1,4 +1,4 @@
--- What an index of samples answers for a value of a histogram: no record that it passed is a sample of it, or the first with its key.
+-- What an index of samples returns for a value of a histogram: no record that it passed is a sample of it, or the first with its key.
 use Rattle.std.proofs.Common.{◌≡◌, ◌≢◌, ℕ, suc, ◌+◌, ◌<◌, ◌≤◌, Bool, true, false, if◌then◌else◌, ℤ, List, [], ◌∷◌, ◌++◌, length, slice_index, Some, None, inl, inr, refl, sym, ap, subst, ◌∙◌, arith, append_assoc, length-append}
 use Rattle.std.specs.Prelude.{take}
 use Rattle.std.specs.Int.{cast_unsigned, w64}
@@ -37,7 +37,7 @@ use Rattle.live_segment.proofs.lemmas.List.Indexed.{first_met_here, none_met_her
 use Rattle.live_segment.proofs.lemmas.List.Keyed.{sample_some, seen_is, was_seen, word_is}
 use Rattle.live_segment.proofs.lemmas.List.Walked.{right_still}
 
--- ---- lists on which nothing stands twice
+-- ---- lists without repeats
 
 module _ (chain p q r s : List ℕ) (x : ℕ) (once : NoRepeats chain) (one : chain ≡ p ++ x ∷ q) (two : chain ≡ r ++ x ∷ s) where
   at_one : slice_index chain (length p) ≡ x
@@ -46,7 +46,7 @@ module _ (chain p q r s : List ℕ) (x : ℕ) (once : NoRepeats chain) (one : ch
   at_two : slice_index chain (length r) ≡ x
   at_two = ap (λ (l : List ℕ). slice_index l (length r)) two ∙ get_or-append_seam r x s 0
 
-  -- what stands on it stands at one place
+  -- what is on it is at one place
   same_place : length p ≡ length r
   same_place =
       let first = ap length one ∙ length-append p (x ∷ q) in
@@ -92,7 +92,7 @@ module _ (seen : Seen) (histogram : ℕ) (value : ℤ) where
 
 -- ---- no record has it
 
--- it has passed the whole list: a walk goes on at its end
+-- it has passed the whole list: a walk continues at its end
 pub none_sampled : (setting : Setting) (histogram : KnownHistogram) (value : ℤ) (a : Actor) (index : RecordIndex) → a.segment.shape.size ≡ setting.shape.size
     → 17 ≤ setting.shape.size → MayTurn a → KnowsRight setting a histogram → IsIndexed kind.Sample setting.shape.size a.seen index
     → first_of index.firsts (sample_key histogram.reference (cast_unsigned w64 value)) ≡ None → index.place.given ≡ length a.seen.chain
@@ -111,7 +111,7 @@ none_sampled setting histogram value a index sized wide free right indexed none 
       others = all_behind (SawOther a.seen reference value) front reference behind (subst (All (SawOther a.seen reference value)) whole others);
     }
 
--- it goes on there, or begins anew at the histogram's record
+-- it continues there, or begins again at the histogram's record
 pub walks_from : (histogram : ℕ) (value : ℤ) (at : ℕ) (a : Actor) (has_passed_all : Bool) → (has_passed_all ≡ true → WalksBehind histogram value at a)
     → WalksBehind histogram value histogram a → WalksBehind histogram value (if has_passed_all then at else histogram) a
 walks_from histogram value at a true there anew = there refl
@@ -121,7 +121,7 @@ walks_from histogram value at a false there anew = anew
 
 module _ {size : ℕ} (histogram : ℕ) (value : ℤ) (old : Actor) {index : RecordIndex} {at : ℕ} (free : MayTurn old) (indexed : IsIndexed kind.Sample size old.seen index)
     (first : first_of index.firsts (sample_key histogram (cast_unsigned w64 value)) ≡ Some at) where
-  -- where it stands on the list
+  -- where it is on the list
   splits : (before after : List ℕ) × (old.seen.chain ≡ before ++ at ∷ after) × All (SawOther old.seen histogram value) before × (at + 5 ≤ size)
       × HasLookedForSample old.seen at
   splits =
@@ -136,7 +136,7 @@ module _ {size : ℕ} (histogram : ℕ) (value : ℤ) (old : Actor) {index : Rec
   pub room_sample : at + 5 ≤ size
   room_sample = let (before, after, there, others, room, looked) = splits in room
 
-  -- it is the first sample of the value, where it is one
+  -- it is the first sample of the value, if it is one
   pub first_sampled : (new : Actor) → SeesWords old new → SamplesStandBehind old → NoRepeats old.seen.chain
       → (front behind : List ℕ) → old.seen.chain ≡ front ++ histogram ∷ behind
       → ShowsValue histogram value at true new → FindsSample histogram value (search.Met at) new
@@ -169,12 +169,12 @@ module _ {size : ℕ} (histogram : ℕ) (value : ℤ) (old : Actor) {index : Rec
 
 -- ---- what is kept
 
--- a histogram that it knows is known still
+-- a histogram that it knows is still known
 pub right_searched : (setting : Setting) (histogram : KnownHistogram) (a b : Actor) → HasSearched a b → KnowsRight setting a histogram → KnowsRight setting b histogram
 right_searched setting histogram a b searched right =
     right_still setting a b histogram (ap (λ (x : Actor). x.answers.names) searched.view) searched.chain right
 
--- a search that came to the end found it there since it began
+-- a search that came to the end has found the end since it began
 pub sample_ended_since : (found : SampleSearch) (a b c : Actor) → HasSearched a b → HasSearched b c → FoundEnd found b.seen c.seen → FoundEnd found a.seen c.seen
 sample_ended_since (search.End at) a b c one two end = all_on a.seen b.seen c.seen c.seen one.ends two.ends (grows_not c.seen.ends) refl end
 sample_ended_since (search.Met reference) a b c one two end = tt

@@ -45,7 +45,7 @@ use Rattle.live_segment.proofs.lemmas.Alloc.Rooms.{lacks_room}
 abbrev block : ℕ → ℕ → List ℕ → Own
 block at size payload = record { at = at; size = size; tag = 3; next = 0; payload = payload; made = None }
 
--- a block with one word more
+-- a block with one more word
 abbrev with_word : ℕ → ℕ → Own → Own
 with_word index value own = record own { payload = stored own.payload index value }
 
@@ -57,7 +57,7 @@ module _ (a : Actor) (at behind : ℕ) (raised : List Rise) (enough : at + 8 ≤
   -- it has a payload so far
   module _ (segment : Segment) (now : Pass) (payload : List ℕ) (is : now.me.0 ≡ with_block a at behind raised payload) (table : now.table_id ≡ table_of segment)
       (records : is_opener a.role ≡ false) where
-    -- another word may be stored behind it
+    -- another word may be stored after it
     pub may_store : (index value : ℕ) → length payload ≤ index → index < 4 → MayStep segment now (allocating_event (store_payload at index value))
     may_store index value short inside = record {
       table = table;
@@ -89,7 +89,7 @@ module _ (a : Actor) (at behind : ℕ) (raised : List Rise) (enough : at + 8 ≤
           ∙ ap (λ (own : List Own). record (claimed a at behind 3 raised) { hand = record { place = Idle; own = own } })
           (changed_there a.hand.own (block at (behind - at) payload) at (with_word index value) apart_there refl))
 
-      -- and it stands at its word with any payload
+      -- and it is at its word with any payload
       pub stands : (more : List ℕ) → own_at (a.hand.own ++ block at (behind - at) more ∷ []) at ≡ Some (block at (behind - at) more)
       stands more = found_there a.hand.own (block at (behind - at) payload) (block at (behind - at) more) at apart_there refl refl
 
@@ -145,7 +145,7 @@ fills a at behind raised histogram value now enough put valued (known, (has, ref
   may = (refl, omega (arith, enough), valued, (known, (subst (λ (x : Actor). Contains x.answers.names known) (sym put.is) has, refers, sparse)));
 }
 
--- its blocks alone are others
+-- only its blocks differ
 looks_at_hand : (a b : Actor) → b ≡ record a { hand = b.hand } → is_bound b.hand.place ≡ false → LooksOn a b
 looks_at_hand a b is free = record {
   proceeds = record {

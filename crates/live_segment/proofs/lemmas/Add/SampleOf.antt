@@ -1,4 +1,4 @@
--- The first sample of a value is looked for, one is made where there is none, and it is looked on for: what becomes of the recorder.
+-- The first sample of a value is looked for, one is made if there is none, and the search continues: what becomes of the recorder.
 use Rattle.std.proofs.Common.{◌≡◌, ℕ, ◌+◌, ◌≤◌, ◌==◌, ◌||◌, Bool, true, false, ℤ, List, [], ◌∷◌, ◌++◌, length, slice_index, eqb-true, inl, inr, refl, sym, ap, subst, ◌∙◌, arith, append_assoc}
 use Rattle.std.specs.List.{Contains, list_any}
 use Rattle.std.proofs.lemmas.List.{get_or_push, length_push}
@@ -38,7 +38,7 @@ use Rattle.live_segment.proofs.lemmas.Alloc.Rooms.{lacked_since}
 
 -- ---- a walk begins
 
--- an element stands between others
+-- an element is between others
 pub split_there : (list : List ℕ) (x : ℕ) → list_any (λ y. y == x) list ≡ true → (front behind : List ℕ) × (list ≡ front ++ x ∷ behind)
 split_there [] x is = absurd (cc is)
 split_there (y ∷ rest) x is = by (y == x) refl is (split_there rest x)
@@ -50,11 +50,11 @@ split_there (y ∷ rest) x is = by (y == x) refl is (split_there rest x)
     by false apart found later =
         let (front, behind, parts) = later found in (y ∷ front, behind, ap (λ (l : List ℕ). y ∷ l) parts)
 
--- a walk stands at the last that it has given
+-- a walk is at the last record that it has given
 stands_last : (given : List ℕ) (x : ℕ) → x ≡ slice_index (stops (given ++ x ∷ [])) (length (given ++ x ∷ []))
 stands_last given x = let long = length_push given x in sym (get_or_push (stops given) x 0 (length (given ++ x ∷ [])) (omega (arith, long)))
 
--- it has given the histogram's record, and stands there
+-- it has given the histogram's record, and is there
 pub walk_begins : (setting : Setting) (histogram : KnownHistogram) (value : ℤ) (a : Actor) → IsOf setting a → MayTurn a → KnowsRight setting a histogram
     → WalksBehind histogram.reference value histogram.reference a
 walk_begins setting histogram value a of free right =
@@ -70,7 +70,7 @@ walk_begins setting histogram value a of free right =
       others = All-nil _;
     }
 
--- ---- it goes on
+-- ---- it continues
 
 -- a search has looked
 looks_searched : (a b : Actor) → MayTurn b → HasSearched a b → LooksOn a b
@@ -92,7 +92,7 @@ looks_searched a b free searched = record {
   entries = ap (λ (x : Actor). x.entries) searched.view;
 }
 
--- the histogram is known still, and its call may end as before
+-- the histogram is still known, and its call may still end
 pub knows_still : (setting : Setting) (histogram : KnownHistogram) (a b : Actor) → KnowsRight setting a histogram → histogram.spec ≡ spec.Sparse → HasSearched a b
     → (known : Known) × Sparse b histogram.reference known
 knows_still setting histogram a b right sparse searched = (
@@ -108,7 +108,7 @@ knows_still setting histogram a b right sparse searched = (
 pub gives_up_still : (a b : Actor) → MayGiveUp a → HasSearched a b → MayGiveUp b
 gives_up_still a b may searched = subst (λ (x : Actor). MayGiveUp x) (sym searched.view) may
 
--- behind the end that it had reached a walk goes on once a sample is made
+-- a walk continues after the end that it had reached, once a sample is made
 pub walk_goes_on : (histogram : ℕ) (value : ℤ) (at : ℕ) (a b : Actor) → WalksBehind histogram value at a → HasMadeSample histogram value a b
     → WalksBehind histogram value at b
 walk_goes_on histogram value at a b walks made = record {
@@ -125,7 +125,7 @@ walk_goes_on histogram value at a b walks made = record {
 
 -- ---- how it ends
 
--- it met a sample before it made one
+-- it visited a sample before it made one
 pub met_before : (known : Known) (value : ℤ) (sample : ℕ) (a b : Actor) → HasSearched a b → FindsSample known.reference value (search.Met sample) b
     → HasSampleOf known value sample a b
 met_before known value sample a b searched (free, first, within) = record {
@@ -138,7 +138,7 @@ met_before known value sample a b searched (free, first, within) = record {
 }
 
 module _ (known : Known) (value : ℤ) (a b : Actor) (searched : HasSearched a b) (free : MayTurn b) where
-  -- it met one behind
+  -- it visited one after that
   module _ (c d : Actor) (made : HasMadeSample known.reference value b c) (again : HasSearched c d) where
     pub met_then : (sample : ℕ) → SawNone known.reference value b → SawAllOfList a.seen b.seen → FindsSample known.reference value (search.Met sample) d
         → HasSampleOf known value sample a d

@@ -1,5 +1,5 @@
--- A search for the sample of a value: what a recorder knows once it has loaded the next of the block where its walk stands, and once it has
--- looked at the record that it met.
+-- A search for the sample of a value: what a recorder knows once it has loaded the next of the block where its walk is, and once it has
+-- looked at the record that it visited.
 use Rattle.std.proofs.Common.{◌≡◌, ◌≢◌, ℕ, ◌+◌, ◌≤◌, ℤ, ◌==◌, true, not, List, [], ◌∷◌, ◌++◌, map, refl, sym, ap, subst, ◌∙◌}
 use Rattle.std.specs.List.{All, Contains, filter}
 use Rattle.std.proofs.lemmas.List.{append_assoc}
@@ -96,7 +96,7 @@ module _ {segment : Segment} {old : Pass} {histogram : ℕ} {value : ℤ} {at : 
         others_last : All (SawOther b.seen histogram value) walks.given
         others_last = others_still new.me.0.seen b.seen sees.words histogram value walks.given others_then
 
-        -- it goes on behind another record
+        -- it continues after another record
         pub walks_then : SawOther b.seen histogram value found → WalksBehind histogram value found b
         walks_then other = record {
           front = walks.front;
@@ -105,7 +105,7 @@ module _ {segment : Segment} {old : Pass} {histogram : ℕ} {value : ℤ} {at : 
           others = All-push (SawOther b.seen histogram value) walks.given found others_last other;
         }
 
-        -- it met the first sample of the value
+        -- it visited the first sample of the value
         pub met_first : ShowsValue histogram value found true b → FindsSample histogram value (search.Met found) b
         met_first (saw, within) =
             let (rest, front) = on.front in (

@@ -1,4 +1,4 @@
--- The word of a sample's value: the value of an `i32` that it holds, where it holds one.
+-- The word of a sample's value: the value of an `i32` that it holds, if it holds one.
 use Rattle.std.proofs.Common.{◌≡◌, ◌≢◌, ℕ, ◌<◌, ◌^◌, true, ℤ, pos, negsuc, w32, w64, FitsSigned, rules, arith, sym, ap, ◌∙◌, subst}
 use Rattle.std.specs.Int.{cast_signed, cast_unsigned}
 use Rattle.std.proofs.lemmas.Bool.{lt-ltb, ltb-true}

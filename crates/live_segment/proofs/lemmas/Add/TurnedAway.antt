@@ -1,4 +1,4 @@
--- A sample that is turned away leaves its recorder as it was, at rest, and without a block that it needed.
+-- A sample that is turned away leaves its recorder unchanged, at rest, and without a block that it needed.
 use Rattle.std.proofs.Common.{◌≡◌, ◌⊎◌, ℕ, ◌-◌, ◌≤◌, Bool, true, false, true≢false, if◌then◌else◌, ℤ, List, [], ◌∷◌, ◌++◌, length, refl, sym, ap, ◌∙◌, subst, arith, inl, inr}
 use Rattle.std.specs.Prelude.{Err, MatchResult, Ok, Result}
 use Rattle.std.specs.Str.{bytes_eq}
@@ -36,7 +36,7 @@ nothing : (b : Bool) → ◌≡◌ {A = ℕ} (if b then 0 else 0) 0
 nothing true = refl
 nothing false = refl
 
--- units of 0 of a name make no difference
+-- 0 units of a name make no difference
 spends_none : (costs : List Cost) (name other : List ℕ) → cost_of (costs ++ record { name = name; units = 0 } ∷ []) other ≡ cost_of costs other
 spends_none costs name other =
     let both = sum_by-append (λ (c : Cost). if bytes_eq c.name other then c.units else 0) costs (record { name = name; units = 0 } ∷ []) in

@@ -1,5 +1,5 @@
--- Units of a value of a sparse histogram are counted in the first sample of the value; where none is there and none can be made, the call
--- ends without.
+-- Units of a value of a sparse histogram are counted in the first sample of the value; if there is none and none can be made, the call ends
+-- without it.
 use Rattle.std.proofs.Common.{◌≡◌, ℕ, ◌+◌, ◌*◌, ◌≤◌, if◌then◌else◌, true≢false, ℤ, pos, [], inr, refl, sym, ap, ◌∙◌, subst}
 use Rattle.segment_image.specs.Shape.{Dimensions}
 use Rattle.bucket_ranges.specs.declared.spec.Spec.{Spec}

@@ -1,4 +1,4 @@
--- One record is made, and nothing else is done before and behind.
+-- One record is made, and nothing else is done before and after.
 use Rattle.std.proofs.Common.{◌≡◌, ℕ, sym, subst}
 use Rattle.segment_image.specs.Shape.{Dimensions}
 use Rattle.segment_machine.specs.declared.actor.Done.{Done}

@@ -1,4 +1,4 @@
--- A call that claims a block, or is refused one, has looked: what that leaves as it was.
+-- A call that claims a block, or is refused one, has looked: what that leaves unchanged.
 use Rattle.std.proofs.Common.{◌≡◌, ◌∙◌, ℕ, ◌≤◌, Bool, true, false, List, [], ◌∷◌, ◌++◌, append_assoc, true≢false, refl, sym, subst, arith}
 use Rattle.std.specs.Prelude.{Ok}
 use Rattle.segment_machine.specs.declared.actor.Actor.{Actor}

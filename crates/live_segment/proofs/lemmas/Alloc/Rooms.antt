@@ -1,4 +1,4 @@
--- Where no block could be claimed, there was no room: in the allocation, and so in the call since it began.
+-- If no block could be claimed, there was no room: in the allocation, and so in the call since it began.
 use Rattle.std.proofs.Common.{◌≡◌, ◌∙◌, ℕ, ◌+◌, ◌<◌, ◌≤◌, [], ◌∷◌, ◌++◌, true, refl, sym, ap, subst, arith}
 use Rattle.std.specs.Prelude.{Err}
 use Rattle.segment_image.specs.Shape.{Dimensions}

@@ -54,7 +54,7 @@ loaded segment first old mid new found free table of same view behind clear flag
 
 -- ---- what is wasted
 
--- so far it has wasted rests alone; then one rest more
+-- so far it has only wasted rests; then one more rest
 pub wastes_one : (shape : Dimensions) (words : ℕ) (old mid : List Rise) (rise : Rise) → IsWasteFor shape words rise → WastesFor shape words old mid
     → WastesFor shape words old (mid ++ rise ∷ [])
 wastes_one shape words old mid rise is (wastes, are, all) =
@@ -146,7 +146,7 @@ module _ (segment : Segment) (first seat : Pass) (size free : ℕ) (raised : Lis
       )
   wastes_more room is b (inr lost) before = loses b lost before
 
-  -- the full flag may be set where the plan says so
+  -- the full flag may be set if the plan says so
   pub may_fill : Full ≡ planned free size segment.setting.shape → MayStep segment seat (allocating_event (set_full size))
   may_fill is = record {
     table = has.table;

@@ -1,4 +1,4 @@
--- A call that takes or looks, behind a search along the list: what is said of it holds from before the search on.
+-- A call that takes or looks, after a search along the list: what holds of it since the search holds since before the search.
 use Rattle.std.proofs.Common.{◌∙◌, false, ℕ, ℤ, List, [], ◌∷◌, ◌++◌, ap, sym, subst}
 use Rattle.segment_calls.specs.declared.answer.Snapshot.{Snapshot}
 use Rattle.segment_machine.specs.declared.actor.Actor.{Actor}
@@ -33,7 +33,7 @@ module _ (old mid : Actor) (searched : HasSearched old mid) where
   sees_behind = subst (λ (a : Actor). SeesOn old.seen a.seen) (sym searched.view) (sees_lists old.seen searched.chain searched.ends
       (grows_not old.seen.tails) (grows_not old.seen.singles) (grows_not old.seen.counts) searched.words (grows_not old.seen.cursors))
 
-  -- a delta behind it
+  -- a delta after it
   pub taken_behind : (known : Known) (delta : List (ℤ × ℕ)) (sum : ℤ) (new : Actor) → HasTaken known delta sum mid new → HasTaken known delta sum old new
   taken_behind known delta sum new taken = record {
     counts = taken.counts;
@@ -48,7 +48,7 @@ module _ (old mid : Actor) (searched : HasSearched old mid) where
     each = taken.each;
   }
 
-  -- a snapshot behind it
+  -- a snapshot after it
   pub answered_behind : (known : Known) (snapshot : Snapshot) (new : Actor) → HasSnapshot known mid snapshot new → HasSnapshot known old snapshot new
   answered_behind known snapshot new has = record {
     same = has.same ∙ ap (λ (a : Actor). record (looking a) {

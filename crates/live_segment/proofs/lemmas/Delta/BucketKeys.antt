@@ -1,4 +1,4 @@
--- The bucket of a value has the value's key, and it alone.
+-- Only the bucket of a value has the value's key.
 use Rattle.std.proofs.Common.{◌≡◌, ℕ, ◌<◌, true, ℤ, pos, List, subst, w32, of_z, to_z, FitsSigned, sym, ap, ◌∙◌, None}
 use Rattle.bucket_ranges.specs.declared.spec.Spec.{Spec}
 use Rattle.bucket_ranges.specs.Ranges.{boundaries_of, clamped, IsBucketOf}

@@ -89,7 +89,7 @@ module _ (segment : Segment) (known : Known) (old : Pass) (may : MayTakeSum segm
 
 -- ---- all of it
 
--- what it has taken once it goes on and takes more
+-- what it has taken once it continues and takes more
 pub takes_some : (known : Known) (first one two : Actor) (units : List (ℤ × ℕ)) → HasTakenSome known [] first one → TakesOn units one two
     → HasTakenSome known units first two
 takes_some known first one two units gone on = record {

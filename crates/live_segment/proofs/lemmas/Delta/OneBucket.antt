@@ -50,7 +50,7 @@ then_more more rest (x ∷ []) = λ i. record x { counts = append_assoc x.counts
 then_more more rest (x ∷ y ∷ []) = λ i. x ∷ record y { counts = append_assoc y.counts more rest i } ∷ []
 then_more more rest (x ∷ y ∷ z ∷ list) = ap (λ (l : List Taken). x ∷ l) (then_more more rest (y ∷ z ∷ list))
 
--- it stands somewhere else, has taken units, and has seen more
+-- it is at another place, has taken units, and has seen more
 abbrev taking_on : Actor → Place → List (ℤ × ℕ) → Seen → Actor
 taking_on a place more seen = record a {
   hand = record a.hand { place = place };
@@ -78,7 +78,7 @@ pub saw_here : (a : Actor) (at word : ℕ) → a.since.counts ≤ length a.seen.
     → Contains (drop a.since.counts (a.seen.counts ++ sight at word)) (record { at = at; word = word })
 saw_here a at word low = seen_here a.since.counts a.seen.counts at word low
 
--- a delta that went on takes the same histogram
+-- a delta that has continued takes the same histogram
 pub takes_of : (a b : Actor) (more : List (ℤ × ℕ)) (histogram : ℕ) (known : Known) → TakesOn more a b → Takes a histogram known → Takes b histogram known
 takes_of a b more histogram known on (taking, has, of, (before, last, is, name)) = (
   ap (λ (x : Actor). x.deltas.taking) on.view ∙ taking,
@@ -131,7 +131,7 @@ module _ {segment : Segment} {known : Known} {mounted : Mounted} {old : Pass} (t
   knows : Buckets old.me.0 known.reference known
   knows = ⊎_elim (λ (_, _, _, b). b) (λ (_, _, _, b). b) takes.stands
 
-  -- it stands at them still once its delta went on
+  -- it is still at them once its delta has continued
   pub stays : (new : Pass) (more : List (ℤ × ℕ)) → IsSame old new → TakesOn more old.me.0 new.me.0 → StandsAt new.me.0 look known
       → TakesAt segment known mounted new
   stays new more same on stands =
@@ -322,7 +322,7 @@ module _ {segment : Segment} {known : Known} {mounted : Mounted} {old : Pass} (t
               took new _ (bucket_key (Some known) bucket) _ found (count + mounted.kept) raise.same key_packed raise.view
               (inl (stays_packed.word, stays_packed.saw, sym stays_packed.packed ∙ packs, refl)) total_is
 
-      -- each other has its own behind the counts
+      -- each other one has its own mark after the counts
       module _ (apart : mounted.packed ≢ Some bucket) where
         other : packed_bucket form ≢ Some bucket
         other e = apart (takes.packed ∙ e)

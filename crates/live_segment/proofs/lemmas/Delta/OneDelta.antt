@@ -1,4 +1,4 @@
--- A delta of a histogram with buckets: it begins with the single word, takes what that says, and ends with the sum.
+-- A delta of a histogram with buckets: it begins with the single word, takes what the word holds, and ends with the sum.
 use Rattle.std.proofs.Common.{◌≡◌, ◌≢◌, ℕ, ◌+◌, ◌-◌, ◌*◌, ◌<◌, ◌≤◌, ◌==◌, ℤ, max, if◌then◌else◌, Bool, true, false, true≢false, List, [], ◌∷◌, ◌++◌, drop, take, length, Option, Some, None, inl, inr, ⊎_elim, refl, sym, ap, subst, ◌∙◌, arith}
 use Rattle.std.specs.Prelude.{unwrap_or}
 use Rattle.std.specs.List.{Contains}
@@ -122,7 +122,7 @@ module _ {segment : Segment} (known : Known) {first : Pass} (seated : IsSeated s
 
 -- ---- it takes what the word says
 
--- what stands behind the front of a list stands in it
+-- what comes after the front of a list is on it
 behind_front : (n : ℕ) (list : List Sighting) (x : Sighting) → Contains (drop n list) x → Contains list x
 behind_front n list x has = subst (λ (l : List Sighting). Contains l x) (take-append-drop n list) (Contains-append_right (take n list) (drop n list) x has)
 
@@ -146,7 +146,7 @@ module _ (segment : Segment) (known : Known) (word : ℕ) (old : Pass) (takes : 
       ap (λ (v : ℕ). single_of v (buckets_of known.spec) word) (sym takes.of.version) in
       (says.0 ∙ ap packed_bucket one, says.1 ∙ ap units_in one)
 
-  -- where it is off, the counts are in use
+  -- if it is off, the counts are in use
   pub may_load : MayStep segment old (counting_event (load_counts known.reference))
   may_load = record { table = takes.table; recorder = takes.recorder; ready = (free, (known, knows)) }
 
@@ -207,7 +207,7 @@ module _ (segment : Segment) (known : Known) (word : ℕ) (old : Pass) (takes : 
           counts = subst (λ (a : Actor). a.since.counts ≤ length a.seen.counts) (sym load.view) takes.counts;
         }
 
-  -- where it is not off, it has all units that there are
+  -- if it is not off, it has all units that there are
   module _ (on : is_off word ≡ false) where
     took_else : (a : Actor) (bucket : ℕ) → SawSingle a (known.reference + 9) word → a.segment.version ≡ old.me.0.segment.version
         → packed_bucket held ≢ Some bucket → TookBucket a known bucket

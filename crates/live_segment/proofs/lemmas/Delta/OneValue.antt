@@ -1,4 +1,4 @@
--- What a delta takes of one record that it met behind the record of a sparse histogram.
+-- What a delta takes of one record that it visited after the record of a sparse histogram.
 use Rattle.std.proofs.Common.{◌≡◌, ◌≢◌, ℕ, ℤ, if◌then◌else◌, Bool, List, [], ◌∷◌, Some, None, inl, inr, refl, sym, ap, subst, ◌∙◌, arith}
 use Rattle.std.proofs.lemmas.Bool.{lt-ltb}
 use Rattle.segment_machine.specs.declared.actor.Actor.{Actor}

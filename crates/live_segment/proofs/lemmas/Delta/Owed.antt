@@ -1,4 +1,4 @@
--- What all deltas took, and what a snapshot answers, is enough for the recorder whose call has ended.
+-- What all deltas took, and what a snapshot returns, is enough for the recorder whose call has ended.
 use Rattle.std.proofs.Common.{◌≡◌, ◌≢◌, ℕ, ◌+◌, ◌<◌, ◌≤◌, ℤ, true, false, true≢false, List, ◌∷◌, ◌++◌, take, drop, length, map, append_assoc, Option, Some, inl, inr, ◌⊎◌, ⊎_elim, refl, sym, ap, subst, ◌∙◌, arith}
 use Rattle.std.specs.Prelude.{if◌then◌else◌, slice_index}
 use Rattle.std.specs.List.{Contains, filter}
@@ -89,7 +89,7 @@ logged_counted a ended entry own = ⊎_elim
     (contains_filter is_counted (a.entries.log ++ a.entries.running) c (Contains-append_left a.entries.log a.entries.running c there) counts))))
     (Contains-append_cases a.entries.first _ entry own)
 
--- the counts reference of a record is fixed where it is not 0
+-- the counts reference of a record is fixed if it is not 0
 mounted_of : (r : Record) → IsFixedIn (histogram r) 8 → r.counts ≢ 0
 mounted_of r (inl two) = absurd (omega (arith, two))
 mounted_of r (inr (inl field)) = let below = field.1 in absurd (omega (arith, below))

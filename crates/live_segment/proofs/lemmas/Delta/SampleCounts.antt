@@ -1,4 +1,4 @@
--- The count of a sample that was met is loaded.
+-- The count of a sample that was visited is loaded.
 use Rattle.std.proofs.Common.{◌≡◌, ◌≢◌, ℕ, ◌+◌, ◌-◌, false, ℤ, List, [], ◌++◌, drop, inr, refl, sym, ap, ◌∙◌, subst, arith}
 use Rattle.std.specs.List.{Contains}
 use Rattle.std.proofs.lemmas.List.{append-nil, drop-append-le}
@@ -25,7 +25,7 @@ use Rattle.live_segment.proofs.lemmas.Add.Beginning.{known_there}
 use Rattle.live_segment.proofs.lemmas.List.Showing.{meets_still}
 use Rattle.segment_promises.proofs.Calls.Places.{not_looking}
 
--- where it stands that has loaded the count of a sample
+-- where a recorder is that has loaded the count of a sample
 loads_sample : (p : Place) (at found : ℕ) → is_holding p ≡ false → (is_holding (at_count p at found) ≡ false) × (is_bound (at_count p at found) ≡ false)
 loads_sample (place.Looking look) at found apart = absurd (cc apart)
 loads_sample (place.CountLoaded look bucket count) at found apart = absurd (cc apart)
@@ -109,7 +109,7 @@ module _ {segment : Segment} {known : Known} {first old : Pass} (at : ℕ) (valu
         (sym ((λ i. drop (began i) (counts_are i)) ∙ drop-append-le first.me.0.since.counts first.me.0.seen.counts (sight (at + 6) found) looks.counts))
         (Contains-append_right (drop first.me.0.since.counts first.me.0.seen.counts) (sight (at + 6) found) seen (0, omega arith, refl))
 
-    -- it stands at it
+    -- it is at the sample
     pub loaded : new.me.0.hand.place ≡ SampleLoaded at found
     loaded = ap (λ (x : Actor). x.hand.place) step.view ∙ at_sample old.me.0.hand.place at found apart_old
 

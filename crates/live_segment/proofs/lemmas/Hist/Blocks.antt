@@ -1,4 +1,4 @@
--- A `hist` has claimed nothing, or one block for the record that it made: behind records that it had met, none of which has the name.
+-- A `hist` has claimed nothing, or one block for the record that it made: after records that it had visited, none of which has the name.
 use Rattle.std.proofs.Common.{◌≡◌, ℕ, ◌+◌, List, [], ◌∷◌, length, length-append, map, inl, inr, refl, sym, ap, subst, ◌∙◌, arith}
 use Rattle.std.specs.List.{All}
 use Rattle.bucket_ranges.specs.declared.spec.Spec.{Spec}
@@ -32,7 +32,7 @@ use Rattle.live_segment.proofs.lemmas.List.Ends.{found_on}
 pub searches_none : (asked : Asked) (a b : Actor) → HasSearched a b → MakesFor asked a b
 searches_none asked a b searched = inl (ap (λ (x : Actor). x.done) searched.view)
 
--- behind one that met none up to the end it has made one, and has searched on
+-- after a search that found none up to the end it has made one, and has searched further
 pub makes_one : (asked : Asked) (a b c d : Actor) → HasSearched a b → All (SawOtherName b.seen asked.name.items) b.seen.chain
     → SawAllOfList a.seen b.seen → HasMade asked b c → HasSearched c d → MakesFor asked a d
 makes_one asked a b c d first others all made second = inr (record {
@@ -49,7 +49,7 @@ makes_one asked a b c d first others all made second = inr (record {
       asked.name.items b.seen.chain others;
 })
 
--- nothing is claimed behind
+-- nothing is claimed after that
 pub makes_kept : (asked : Asked) (a b c : Actor) → Grows a.seen.ends b.seen.ends → MakesFor asked a b → KeepsBlocks b c → MakesFor asked a c
 makes_kept asked a b c grows (inl same) behind = inl (behind.done ∙ same)
 makes_kept asked a b c grows (inr one) behind = inr (record {

@@ -30,7 +30,7 @@ use Rattle.segment_promises.proofs.Growing.{grows_not}
 module _ {segment : Segment} {old : Pass} {asked : Asked} (is : IsAsked segment.setting.shape asked) (seated : IsSeated segment old) (free : MayTurn old.me.0)
     {index : RecordIndex} (indexed : IsIndexed Name segment.setting.shape.size old.me.0.seen index) {at : ℕ}
     (first : (key : ℕ) × IsNameKey asked.name.items key × (first_of index.firsts key ≡ Some at)) where
-  -- where it stands on the list
+  -- where it is on the list
   splits : (before after : List ℕ) × (old.me.0.seen.chain ≡ before ++ at ∷ after) × All (SawOtherName old.me.0.seen asked.name.items) before
       × (at + 5 ≤ segment.setting.shape.size)
   splits =
@@ -44,7 +44,7 @@ module _ {segment : Segment} {old : Pass} {asked : Asked} (is : IsAsked segment.
   pub room_it : at + 5 ≤ segment.setting.shape.size
   room_it = let (before, after, there, others, room) = splits in room
 
-  -- where it has another name, a walk begins anew
+  -- if it has another name, a walk begins again
   pub walk_anew : (b : Actor) → SeesWords old.me.0 b → SearchesAt asked.name.items 12 b
   walk_anew b sees =
       let from = segment.shaped.wide in
@@ -77,7 +77,7 @@ module _ {segment : Segment} {old : Pass} {asked : Asked} (is : IsAsked segment.
     pub other_here : ShowsSpec asked at false last.seen → Searches asked search.OtherSpec last
     other_here = first_without is at last meets_last is_first
 
--- a search that came to the end found it there since it began
+-- a search that came to the end has found the end since it began
 pub ended_since : (found : Search) (a b c : Actor) → HasSearched a b → HasSearched b c → FoundEnd found b.seen c.seen → FoundEnd found a.seen c.seen
 ended_since (search.End at) a b c one two end = all_on a.seen b.seen c.seen c.seen one.ends two.ends (grows_not c.seen.ends) refl end
 ended_since (search.Met reference) a b c one two end = tt

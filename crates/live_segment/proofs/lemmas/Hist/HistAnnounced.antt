@@ -1,4 +1,4 @@
--- That the rule of a segment's table allows what is said of a `hist`: that it is answered with a histogram, or refused.
+-- That the rule of a segment's table allows what is announced of a `hist`: that it returns a histogram, or is refused.
 use Rattle.std.proofs.Common.{◌≡◌, ◌≢◌, ℕ, false, ◌==◌, [], ◌∷◌, map, true≢false, refl, sym, ap, ◌∙◌, subst}
 use Rattle.std.specs.Prelude.{Some}
 use Rattle.std.specs.List.{Contains}
@@ -30,7 +30,7 @@ use Rattle.live_segment.specs.Rule.{Runs}
 use Rattle.live_segment.specs.Steps.{Sat}
 use Rattle.live_segment.proofs.Seating.Openings.{announces}
 
--- one thing alone is said of a record
+-- only one thing is announced of a record
 pub one_said : (reference : ℕ) (said : Announcement) (x y : Known) → IsSaid reference said x → IsSaid reference said y → x ≡ y
 one_said reference said x y (says, at) (also, place) =
     let both : Some (made.Histogram x.name x.spec) ≡ Some (made.Histogram y.name y.spec) = sym says ∙ also in

@@ -1,4 +1,4 @@
--- What a `hist` leaves of its recorder: what it knows is right still, and what it has come to know is.
+-- What a `hist` leaves of its recorder: what it knew is still right, and what it has come to know is right.
 use Rattle.std.proofs.Common.{◌≡◌, ◌≢◌, ℕ, zero, suc, ◌+◌, ◌<◌, ◌≤◌, Bool, true, false, List, [], ◌∷◌, ◌++◌, length, map, ◌==◌, if◌then◌else◌, eq-eqb, ne_eqb, All, ⊎_elim, refl, sym, ap, subst, ◌∙◌, arith, length-append}
 use Rattle.std.specs.Prelude.{Some, None, ◌||◌, slice_index_or}
 use Rattle.std.specs.List.{list_any}
@@ -36,18 +36,18 @@ use Rattle.live_segment.proofs.lemmas.Hist.SameLawful.{same_small}
 
 -- ---- which it knows
 
--- what stands in a list stands in the mapped one
+-- what is in a list is in the mapped one
 map_there : {A B : Type 0} (f : A → B) (l : List A) (i : ℕ) (x : A) → get_elem? l i ≡ some x → get_elem? (map f l) i ≡ some (f x)
 map_there f [] i x e = absurd (some-ne-none x (sym e))
 map_there f (y ∷ ys) zero x e = ap (λ z. some (f z)) (some-injective y x e)
 map_there f (y ∷ ys) (suc i) x e = map_there f ys i x e
 
--- of a histogram that is known its view is
+-- the view of a known histogram is among the views
 pub view_there : (list : List KnownHistogram) (names : List Known) (i : ℕ) (known : KnownHistogram) → map known_view list ≡ names → get_elem? list i ≡ some known
     → get_elem? names i ≡ some (known_view known)
 view_there list names i known listed at = subst (λ (l : List Known). get_elem? l i ≡ some (known_view known)) listed (map_there known_view list i known at)
 
--- the one that is read where one of the name stands
+-- the one that is read at a place where one of the name is
 pub read_known : (list : List KnownHistogram) (names : List Known) (name : List ℕ) (n i : ℕ) (read : KnownHistogram) → map known_view list ≡ names → n ≡ length list
     → IsKnownAt list name i → read ≡ slice_index_or list i read → (get_elem? names i ≡ some (known_view read)) × (read.name.items ≡ name)
 read_known list names name n i read listed count (known, at, named) is =
@@ -61,7 +61,7 @@ none_known list a name listed none index known (at, named) =
     let (x, there, is) = from_map known_view list index known (subst (λ (l : List Known). get_elem? l index ≡ some known) (sym listed) at) in
     none index x there (ap (λ (k : Known). k.name) is ∙ named)
 
--- so many are
+-- there are as many views as known histograms
 pub count_of : (list : List KnownHistogram) (names : List Known) (n : ℕ) → map known_view list ≡ names → n ≡ length list → n ≡ length names
 count_of list names n listed count = count ∙ (sym (length-map list known_view) ∙ ap length listed)
 
@@ -70,7 +70,7 @@ pub asked_here : (setting : Setting) (a : Actor) {name : List ℕ} {kind : Spec}
     → IsAskedFor a.segment.shape name kind asked
 asked_here setting a {name} {kind} {asked} of asks = subst (λ (d : Dimensions). IsAskedFor d name kind asked) (sym of.shape) asks
 
--- the words behind the header of a record: eleven, and those of the name and of the ranges
+-- the words after the header of a record: eleven, and those of the name and of the ranges
 pub payload_long : (s : Spec) (n : ℕ) (rest : List ℕ) → length (spec_fields s ++ 0 ∷ 0 ∷ 0 ∷ 0 ∷ 0 ∷ 0 ∷ n ∷ rest) ≡ 11 + length rest
 payload_long (spec.Linear low high m) n rest = omega arith
 payload_long spec.Boolean n rest = omega arith
@@ -91,12 +91,12 @@ may_be_asked shape name kind asked is =
       λ large. ⊎_elim (λ more. omega (arith, more, all, both, named, page)) (λ more. omega (arith, more, fits)) large,
     )
 
--- what is right of the one that is read
+-- what holds for the one that is read
 pub right_read : (setting : Setting) (a : Actor) (list : List KnownHistogram) (name : List ℕ) (i : ℕ) (read : KnownHistogram) → All (KnowsRight setting a) list
     → IsKnownAt list name i → read ≡ slice_index_or list i read → KnowsRight setting a read
 right_read setting a list name i read all (known, at, named) is = subst (KnowsRight setting a) (sym is) (all i read (below_length list i known at))
 
--- one that is known may be asked for by a lawful spec that is the same
+-- one that is known may be asked for by a valid spec that is the same
 pub may_be_known : (setting : Setting) (a : Actor) (known : KnownHistogram) (name : List ℕ) (kind : Spec) → IsOf setting a → KnowsRight setting a known
     → known.name.items ≡ name → SameSpec known.spec kind → spec_fault kind ≡ None → MayBeAsked a.segment.shape name kind
 may_be_known setting a known name kind of right named same lawful =
@@ -276,7 +276,7 @@ module _ (setting : Setting) (name : List ℕ) (kind : Spec) (asked : Asked) (kn
       ∙ (map-append known_view old (known ∷ [])
       ∙ ((λ i. listed i ++ is.view i ∷ []) ∙ sym (names_grew asked known.reference a b comes)))
 
-  -- which stands at the end of them
+  -- it is at the end of them
   pub named_then : (n : ℕ) → n ≡ length a.answers.names
       → (n < length b.answers.names) × ((x : Known) × (get_elem? b.answers.names n ≡ some x) × (x.name ≡ name) × SameSpec x.spec kind)
   named_then n last =

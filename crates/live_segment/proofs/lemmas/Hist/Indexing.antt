@@ -1,4 +1,4 @@
--- What an index answers for a name: no record that it passed has it, or the first with its key.
+-- What an index returns for a name: no record that it passed has it, or the first with its key.
 use Rattle.std.proofs.Common.{◌≡◌, ◌≢◌, ℕ, suc, ◌+◌, ◌<◌, ◌≤◌, List, [], ◌∷◌, ◌++◌, length, slice_index, Some, None, inl, inr, refl, sym, ap, ◌∙◌, arith}
 use Rattle.std.specs.Prelude.{take}
 use Rattle.std.specs.List.{All}
@@ -65,14 +65,14 @@ module _ (seen : Seen) (name : List ℕ) (key : ℕ) (is : IsNameKey name key) w
     pub none_here : first_of index.firsts key ≡ None → All (SawOtherName seen name) (take index.place.given seen.chain)
     none_here none = none_met_here Name seen key (SawOtherName seen name) other_key size index indexed none
 
-    -- the first with the key stands behind others
+    -- the first with the key comes after others
     pub first_here : (at : ℕ) → first_of index.firsts key ≡ Some at
         → (before after : List ℕ) × (seen.chain ≡ before ++ at ∷ after) × All (SawOtherName seen name) before × (at + 5 ≤ size)
     first_here at one =
         let (before, after, there, others, room, looked) = first_met_here Name seen key (SawOtherName seen name) other_key size index indexed at one in
         (before, after, there, others, room)
 
--- and one for a name that the index has not
+-- a walk for a name that the index does not have continues at the place of the index
 pub walks_behind : (size : ℕ) (a : Actor) (index : RecordIndex) (name : List ℕ) (key : ℕ) → a.segment.shape.size ≡ size → 17 ≤ size → MayTurn a
     → IsIndexed Name size a.seen index → IsNameKey name key → first_of index.firsts key ≡ None → SearchesAt name index.place.at a
 walks_behind size a index name key sized wide free indexed is none =

@@ -7,7 +7,7 @@ use native.Mathlib.Decide.{ℕ_discrete}
 use Rattle.segment_invariant.proofs.Lists.Pairs.{element_at}
 use Rattle.live_segment.specs.declared.recorder.KnownHistogram.{KnownHistogram}
 
--- what is read at a place stands there
+-- what is read at a place is there
 pub is_there : {A : Type 0} (l : List A) (n i : ℕ) (x : A) → n ≡ length l → i < n → x ≡ get_or l i x → get_elem? l i ≡ some x
 is_there l n i x count near read = element_at l i x (omega (arith, count, near)) ∙ ap some (sym read)
 

@@ -1,4 +1,4 @@
--- The names of the histograms that a recorder knows: which are entered, and what is known where a name is not there.
+-- The names of the histograms that a recorder knows: which are entered, and what is known if a name is not there.
 use Rattle.std.proofs.Common.{◌≡◌, ◌≢◌, ◌∙◌, ◌==◌, ℕ, ◌+◌, ◌<◌, Bool, true, List, [], ◌∷◌, ◌++◌, length, Option, Some, None, if◌then◌else◌, refl, sym, ap, subst, arith, eq-eqb}
 use Rattle.std.specs.Prelude.{is_some, take, get_or}
 use Rattle.std.specs.List.{All, AllPairs}
@@ -21,7 +21,7 @@ use Rattle.live_segment.specs.Hist.KnownNames.{HasNames}
 abbrev Held : KnownNames → KnownHistogram → Type 0
 Held names one = is_some (first_of names.places (byte_key_of one.name.items)) ≡ true
 
--- no two of them have the same name, where the last one has another
+-- no two of them have the same name, if the last one has another
 abbrev Apart : KnownHistogram → KnownHistogram → Type 0
 Apart one other = one.name.items ≢ other.name.items
 
@@ -82,7 +82,7 @@ names_entered known last old new place all count entered has none =
       once = once_more known last has.once none;
     }
 
--- one whose key is not there has the name of none that is entered
+-- no histogram that is entered has a name whose key is not there
 pub none_entered : (known : List KnownHistogram) (names : KnownNames) (name : List ℕ) → HasNames known names → first_of names.places (byte_key_of name) ≡ None
     → (i : ℕ) (one : KnownHistogram) → i < names.entered → get_elem? known i ≡ some one → one.name.items ≢ name
 none_entered known names name has none i one below at named =
@@ -94,7 +94,7 @@ none_entered known names name has none i one below at named =
     subst (λ (l : List ℕ). is_some (first_of names.places (byte_key_of l)) ≡ true) (ap (λ (k : KnownHistogram). k.name.items) here ∙ named) held in
     absurd (cc (sym (ap (λ (o : Option ℕ). is_some o) none) ∙ some_there))
 
--- where all are entered, none has the name
+-- if all are entered, none has the name
 pub none_named : (known : List KnownHistogram) (names : KnownNames) (name : List ℕ) → HasNames known names → names.entered ≡ length known
     → first_of names.places (byte_key_of name) ≡ None → NoneHasName known name
 none_named known names name has all none i one at =

@@ -1,4 +1,4 @@
--- What the words tell that were loaded of a record: that it has the name that is asked for, and the spec, or another one.
+-- What the words that were loaded of a record show: that it has the name that is asked for, and the spec, or another one.
 use Rattle.std.proofs.Common.{◌≡◌, ◌≢◌, ◌⊎◌, ℕ, ◌+◌, ◌-◌, ◌<◌, ◌≤◌, Bool, true, false, List, [], ◌∷◌, ◌++◌, length, take, drop, slice_index, get_or, inl, inr, refl, sym, ap, subst, ◌∙◌, arith, length-append}
 use Rattle.std.specs.Prelude.{Some}
 use mathlib.Core.Logic.{dite}
@@ -30,7 +30,7 @@ use Rattle.live_segment.proofs.lemmas.List.Showing.{sees_one, seen_one}
 
 -- ---- the words of a payload
 
--- behind the fields of the spec, seven words, and what stands behind these
+-- the fields of the spec, seven words, and what follows them
 behind_fields : (s : Spec) (n : ℕ) (rest : List ℕ) → drop 11 (spec_fields s ++ 0 ∷ 0 ∷ 0 ∷ 0 ∷ 0 ∷ 0 ∷ n ∷ rest) ≡ rest
 behind_fields (Linear low high m) n rest = refl
 behind_fields Boolean n rest = refl
@@ -73,7 +73,7 @@ module _ (shape : Dimensions) (asked : Asked) (is : IsAsked shape asked) where
         by true shown = ((tag, len, is.payload.letters, is.payload.spells, shown), room)
         by false (i, word, below, seen, other) = inr (inr (is.payload.letters, i, word, is.payload.spells, below, seen, other))
 
--- ---- type and length of the name are as they are to be
+-- ---- type and length of the name are those that are asked for
 
 module _ (segment : Segment) (first mid last : Pass) (asked : Asked) (at tag len : ℕ) (is : IsAsked segment.setting.shape asked)
     (of : IsOf segment.setting first.me.0) (load_tag : Stepped first (walking_event (load_published at 2)) tag mid) (tagged : tag ≡ 1)
@@ -129,7 +129,7 @@ fields_long Boolean = refl
 fields_long (Custom values) = refl
 fields_long Sparse = refl
 
--- it has ranges where it is a custom one, whose last field is one more than these
+-- it has ranges only if it is a custom one, whose last field is one more than their number
 ranges_if_custom : (s : Spec) → (length (spec_ranges s) ≡ 0)
     ⊎ ((slice_index (spec_fields s) 0 ≡ 3) × (length (spec_ranges s) ≡ slice_index (spec_fields s) 3 - 1))
 ranges_if_custom (Linear low high n) = inl refl
@@ -158,7 +158,7 @@ module _ (shape : Dimensions) (asked : Asked) (is : IsAsked shape asked) where
       ∙ (ap (λ (n : ℕ). drop n (is.payload.letters ++ spec_ranges asked.spec)) is.payload.count_is ∙ drop-append_seam is.payload.letters (spec_ranges asked.spec))))
 
   module _ (at : ℕ) (seen : Seen) where
-    -- the first three fields tell
+    -- the first three fields show another spec
     pub other_field : (words : List ℕ) → words ≡ take 3 (spec_fields asked.spec) → ShowsWords at 4 words false seen
         → SawOtherSpec seen asked.spec asked.letters at
     other_field words all (i, word, below, saw, other) =
@@ -211,7 +211,7 @@ module _ (shape : Dimensions) (asked : Asked) (is : IsAsked shape asked) where
           λ equal. other (ap (λ (n : ℕ). bytes_of_words (n ∷ [])) (equal ∙ sym (ap (λ (l : List ℕ). slice_index l i) are))),
         )
 
--- ---- the name is as it is to be, and the first fields
+-- ---- the name is the one that is asked for, and so are the first fields
 
 module _ (segment : Segment) (first mid : Pass) (asked : Asked) (at : ℕ) (is : IsAsked segment.setting.shape asked)
     (of : IsOf segment.setting first.me.0) (name : ShowsName asked at true first.me.0) (sees : SeesWords first.me.0 mid.me.0) where

@@ -1,4 +1,4 @@
--- Of each name a recorder knows one histogram at most.
+-- A recorder knows at most one histogram of each name.
 use Rattle.std.proofs.Common.{◌≡◌, ◌≢◌, ℕ, List, map, get_or, ⊎_elim, sym, ap, subst, ◌∙◌}
 use Rattle.std.specs.List.{AllPairs}
 use Rattle.std.proofs.lemmas.Bool.{cases_order}
@@ -13,7 +13,7 @@ use Rattle.live_segment.specs.declared.recorder.KnownHistogram.{KnownHistogram}
 use Rattle.live_segment.specs.Known.{known_view}
 use Rattle.live_segment.specs.Hist.Answer.{KnowsNoSame}
 
--- two places at which the same name stands are one
+-- two places with the same name are one
 one_place : (list : List KnownHistogram) → AllPairs (λ one other. one.name.items ≢ other.name.items) list → (i j : ℕ) (one other : KnownHistogram)
     → get_elem? list i ≡ some one → get_elem? list j ≡ some other → one.name.items ≡ other.name.items → i ≡ j
 one_place list once i j one other at there same = ⊎_elim (λ is. is)
@@ -28,7 +28,7 @@ one_place list once i j one other at there same = ⊎_elim (λ is. is)
         ap (λ (k : KnownHistogram). k.name.items) (index_at list i x one at)
         ∙ (same ∙ sym (ap (λ (k : KnownHistogram). k.name.items) (index_at list j y one there)))
 
--- where that one has another spec, none has the name and the spec
+-- if that one has another spec, none has the name and the spec
 pub none_same : (list : List KnownHistogram) (a : Actor) → AllPairs (λ one other. one.name.items ≢ other.name.items) list
     → map known_view list ≡ a.answers.names → (name : List ℕ) (spec : Spec) (index : ℕ) (one : KnownHistogram) → get_elem? list index ≡ some one
     → one.name.items ≡ name → ¬ (SameSpec one.spec spec) → KnowsNoSame name spec a

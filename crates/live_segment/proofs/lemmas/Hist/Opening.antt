@@ -1,4 +1,4 @@
--- What a recorder returns that opens the histogram of a record.
+-- What a recorder that opens the histogram of a record returns.
 use Rattle.std.proofs.Common.{◌≡◌, ◌≢◌, ℕ, List, length, Option, Some, None, Result, Ok, Err, MatchOption, MatchResult, inl, inr, refl, sym, subst}
 use mathlib.Core.Option.{some}
 use lib.ListN.{get_elem?}
@@ -50,7 +50,7 @@ opened_read name spec reference a b c None searched reads (further, other) =
     (searched_on a b c searched further, inr (name, spec, record_stays b.seen c.seen further.words reference name spec reads, other))
 opened_read name spec reference a b c (Some histogram) searched reads opened = (name, spec, b, searched, reads, opened)
 
--- and where there was no memory then
+-- and if there was no memory then
 pub answered_open : (name : List ℕ) (spec : Spec) (reference : ℕ) (a b c : Actor) (result : Result (Option Hist) Refusal) → HasSearched a b
     → ReadsRecord b.seen reference name spec
     → MatchResult result (λ found. OpensAs name spec reference b found c) (λ why. (why ≡ NoMemory) × (c ≡ b))

@@ -56,7 +56,7 @@ module _ (shape : Dimensions) (opened : Anatomy) (state : State) (kept : Invaria
       ∙ record_seen at (15 + i) word r has (omega (arith, all, many, below)) (ap (word_seen a.seen.words) (sym place) ∙ seen) in
       ne (ap (λ w. bytes_of_words (w ∷ [])) (sym found) ∙ word_bytes r.letters letters i many (omega (arith, many, below)) (bytes_same name r.letters letters lettered are))
 
-  -- a record that it published stands as what it was given
+  -- a record that it published holds what it was given
   published_stands : (p : Published) → Contains a.done.published p → StandsAs kept.anatomy.pieces (listed p) (Some p.made)
   published_stands p has =
       let (front, all, permuted) = kept.list.once in

@@ -1,4 +1,4 @@
--- A spec that is the same as a lawful one is lawful, but for the number of its values.
+-- A spec that is the same as a valid one is valid, except for the number of its values.
 use Rattle.std.proofs.Common.{◌≡◌, Bool, true, false, not, nat_lt, ℕ, ◌+◌, ◌*◌, ◌<◌, ◌≤◌, ◌⊎◌, List, [], ◌∷◌, length, inl, inr, ap, sym, subst, refl, ◌∙◌, arith}
 use Rattle.std.specs.Prelude.{None, ◌||◌, slice_index}
 use Rattle.std.specs.List.{list_any}
@@ -69,7 +69,7 @@ linear_same min max n low high m lawful same =
     (subst (λ (k : ℕ). spec_fault (spec.Linear low k n) ≡ None) (field 2)
     (subst (λ (k : ℕ). spec_fault (spec.Linear k max n) ≡ None) (field 1) lawful))
 
--- the same spec as a lawful one
+-- the same spec as a valid one
 pub same_lawful : (a b : Spec) → spec_fault a ≡ None → SameSpec a b → ((values : List ℕ) → b ≡ spec.Custom values → length values ≤ 999)
     → spec_fault b ≡ None
 same_lawful a spec.Boolean lawful same few = refl

@@ -1,5 +1,5 @@
--- A search for a name: what a recorder knows once it has loaded the next of the block where its walk stands, and once it has compared the
--- record that it met.
+-- A search for a name: what a recorder knows once it has loaded the next of the block where its walk is, and once it has compared the
+-- record that it visited.
 use Rattle.std.proofs.Common.{◌≡◌, ◌≢◌, ℕ, ◌+◌, ◌<◌, ◌≤◌, ◌==◌, Bool, true, false, List, [], ◌∷◌, ◌++◌, length, slice_index, inl, inr, refl, sym, ap, subst, ◌∙◌, arith, ne_eqb, length-append, eq-eqb, map, not}
 use Rattle.std.specs.Prelude.{if◌then◌else◌}
 use Rattle.std.specs.List.{All, Contains, filter}
@@ -149,7 +149,7 @@ module _ {segment : Segment} {old : Pass} {name : List ℕ} {at : ℕ} (seated :
       pub room_found : found + 5 ≤ segment.setting.shape.size
       room_found = way.room_found seated way_there found new load miss
 
-      -- what a walk knows that goes on behind a record of another name
+      -- what a walk that continues after a record of another name knows
       pub walks_then : (b : Actor) → SeesWords new.me.0 b → SawOtherName b.seen name found → SearchesAt name found b
       walks_then b sees other =
           let there = way.way_on seated way_there found new load miss b sees in record {
@@ -188,7 +188,7 @@ name_still a b grows name at (tag, len, letters, spells, words) = (
   λ i below. still a.words b.words grows (at + 15 + i) (slice_index letters i) (words i below),
 )
 
--- a recorder's seat goes on at its segment
+-- a recorder's seat is still one at its segment
 pub seat_on : {segment : Segment} {first : Pass} (old : Pass) → IsSeated segment first → IsSame first old → HasSearched first.me.0 old.me.0 → IsSeated segment old
 seat_on old seated same searched = record {
   table = same.0 ∙ seated.table;

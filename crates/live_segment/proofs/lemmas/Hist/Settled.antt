@@ -1,4 +1,4 @@
--- A `hist` looks for the first record of its name, makes one where there is none, and looks on: what becomes of its recorder.
+-- A `hist` looks for the first record of its name, makes one if there is none, and looks further: what becomes of its recorder.
 use Rattle.std.proofs.Common.{◌≡◌, ◌≢◌, ℕ, ◌+◌, ◌≤◌, Bool, false, List, [], ◌∷◌, ◌++◌, length, map, not, ◌&&◌, ◌==◌, if◌then◌else◌, eq-eqb, append_assoc, All, inl, inr, refl, sym, ap, subst, ◌∙◌, arith, true}
 use Rattle.std.specs.Prelude.{Ok, Err}
 use Rattle.std.specs.List.{Contains, filter}
@@ -39,7 +39,7 @@ use Rattle.segment_promises.proofs.Growing.{grows_by, grows_not, grows_same}
 use Rattle.live_segment.proofs.lemmas.Add.Refusing.{at_rest}
 use Rattle.live_segment.proofs.lemmas.Hist.Searching.{others_still}
 
--- ---- what each part leaves as it was
+-- ---- what each part leaves unchanged
 
 does_same : (old new : Done) → new ≡ old → DoesOn old new
 does_same old new same = subst (DoesOn old) (sym same) (does_not old)
@@ -200,7 +200,7 @@ walk_begins name a free wide = record {
   others = All-nil _;
 }
 
--- behind the end that it had reached a walk goes on once a record is made
+-- a walk continues after the end that it had reached, once a record is made
 pub walk_goes_on : (asked : Asked) (at : ℕ) (a b : Actor) → SearchesAt asked.name.items at a → HasMade asked a b → SearchesAt asked.name.items at b
 walk_goes_on asked at a b walks made = record {
   free = made.free;
@@ -211,7 +211,7 @@ walk_goes_on asked at a b walks made = record {
   others = others_still a.seen b.seen (grows_same a.seen.words b.seen.words (ap (λ (x : Actor). x.seen.words) made.view)) asked.name.items walks.given walks.others;
 }
 
--- it meets the record that it made, at the end at the latest
+-- it visits the record that it made, at the end at the latest
 pub meets_own : (asked : Asked) (a b c : Actor) → HasMade asked a b → HasSearched b c → HasMadeNone asked.name.items c → ⊥
 meets_own asked a b c made searched none =
     none asked.spec made.at (subst (λ (l : List Published). Contains l (record { reference = made.at; made = Histogram asked.name.items asked.spec }))
@@ -229,7 +229,7 @@ owes_one asked a b c none made searched = inr (
       ∙ (ap (λ (x : Actor). x.answers.owed) made.view ∙ ap (λ (l : List Known). l ++ asked_at asked made.at ∷ []) none),
 )
 
--- a search that met the first record of the name ends the call
+-- a search that found the first record of the name ends the call
 pub met_first : (asked : Asked) (a b : Actor) (reference : ℕ) → a.answers.owed ≡ [] → HasSearched a b → Searches asked (search.Met reference) b
     → LooksUp asked a (Ok reference) b
 met_first asked a b reference none searched (free, known, met, room) =
@@ -238,7 +238,7 @@ met_first asked a b reference none searched (free, known, met, room) =
 pub met_another : (asked : Asked) (a b : Actor) → a.answers.owed ≡ [] → HasSearched a b → Searches asked search.OtherSpec b → LooksUp asked a (Err why.OtherSpec) b
 met_another asked a b none searched (free, other) = (searched_around a b free searched, owes_not asked a b searched none, other)
 
--- the same behind a record that it made
+-- the same after a record that it made
 module _ (asked : Asked) (a b c d : Actor) (none : a.answers.owed ≡ []) (first : HasSearched a b) (walks : MayTurn b) (made : HasMade asked b c) (second : HasSearched c d) where
   around : MayTurn d → LooksAround a d
   around free = around_on a b d (searched_around a b walks first) (around_on b c d (made_around asked b c made) (searched_around c d free second))
@@ -284,9 +284,9 @@ not_made asked at a b c cause none rests searched (walks, others, made_none) all
     by why.NoMemory room others all nothing looked not_other = absurd room
     by why.TooLarge room others all nothing looked not_other = absurd room
 
--- ---- what is said of it
+-- ---- what is announced of it
 
--- a call that owes answers may refuse them, where the first record of the name has another spec
+-- a call that owes answers may refuse them, if the first record of the name has another spec
 pub may_decline : (asked : Asked) (cause : Refusal) (old a : Actor) → OwesAs asked cause a → IsHistRefusal asked cause old a → MayNoteAll a (map declines a.answers.owed)
 may_decline asked why.OtherSpec old a (inl none) other = subst (λ (l : List Known). MayNoteAll a (map declines l)) (sym none) refl
 may_decline asked why.OtherSpec old a (inr (at, one)) other =

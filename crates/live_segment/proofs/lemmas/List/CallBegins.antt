@@ -44,7 +44,7 @@ module _ {segment : Segment} {histogram : KnownHistogram} {first : Pass} (ready 
   abbrev known : Known
   known = known_view histogram
 
-  -- the histogram's record was met
+  -- the histogram's record was visited
   pub was_met : Contains first.me.0.seen.chain histogram.reference
   was_met =
       let (front, behind, split) = stands_there first.me.0.seen.chain histogram.reference ready.right.met in
@@ -85,7 +85,7 @@ module _ {segment : Segment} {histogram : KnownHistogram} {first : Pass} (ready 
 
 -- ---- it has begun
 
--- what it is once it has looked anew, stands elsewhere, and has seen more
+-- what it is once it has looked again, is at another place, and has seen more
 abbrev Anew : Actor → Actor → Type 0
 Anew a b = b ≡ record (looking a) { hand = record a.hand { place = b.hand.place }; deltas = b.deltas; seen = b.seen }
 
@@ -188,7 +188,7 @@ module _ {segment : Segment} {histogram : KnownHistogram} {first one : Pass} (re
       comes_first (looking first.me.0) one.me.0 histogram.reference found (ap (λ (a : Actor). a.segment.shape) told.view) front behind split told.learned
       (ap (λ (a : Actor). a.seen.chain) told.view)
 
-  -- the type of the histogram's record: of the list it sees no more
+  -- the type of the histogram's record: it sees no more of the list
   pub took_type : HasBegunDelta first histogram.reference (λ at. walking_event (load_published at 2)) found one → HasBegun OfDelta segment histogram first one
   took_type begun = let told = begun (known_view histogram) (refl, ready.right.alone) in
       took ready sparse told.same (next (noted first.me.0 (takes histogram.name.items)) (walking_event (load_published histogram.reference 2)) found) told.view refl (sees_words first.me.0.seen _)

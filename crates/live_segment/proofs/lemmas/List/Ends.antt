@@ -1,4 +1,4 @@
--- A word that was found to lead to no block was found so since any earlier state, and still was later.
+-- A word that was found to lead to no block has been found so since any earlier state, and at any later one.
 use Rattle.std.proofs.Common.{◌≡◌, ℕ, ◌+◌, Bool, true, List, [], ◌∷◌, ◌++◌, length, drop, sym, ap, subst, refl, ◌∙◌, arith}
 use Rattle.std.specs.List.{Contains}
 use Rattle.std.proofs.lemmas.List.{append_assoc}

@@ -1,4 +1,4 @@
--- Samples are few: each that a recorder met has eight words of its own in the segment.
+-- Samples are few: each that a recorder visited has eight words of its own in the segment.
 use Rattle.std.proofs.Common.{◌≡◌, ◌≢◌, ◌⊎◌, ℕ, ◌+◌, ◌*◌, ◌-◌, ◌/◌, ◌<◌, ◌≤◌, true, false, true≢false, ℤ, List, [], ◌∷◌, ◌++◌, length, map, get_or, inl, inr, ⊎_elim, refl, sym, ap, subst, ◌∙◌, arith, ne_eqb, eqb-true}
 use Rattle.std.specs.List.{All, AllPairs, Contains, IsDistinct, list_any}
 use Rattle.std.proofs.lemmas.Bool.{cases_order}
@@ -35,11 +35,11 @@ use Rattle.segment_promises.proofs.Growing.{still}
 
 -- ---- numbers
 
--- which eight words behind the header a number begins in
+-- in which eight words after the header a number is
 abbrev slot : ℕ → ℕ
 slot x = (x - 16) / 8
 
--- numbers that lie eight apart at least are few
+-- numbers that are at least eight apart are few
 slots_few : (xs : List ℕ) (size : ℕ) → 16 ≤ size → AllPairs (λ x y. (x + 8 ≤ y) ⊎ (y + 8 ≤ x)) xs → All (λ x. (16 ≤ x) × (x + 8 ≤ size)) xs
     → 16 + 8 * length xs ≤ size
 slots_few xs size least apart within = all_few (length-le_from_distinct_below (map slot xs) ((size - 16) / 8) distinct low)
@@ -120,7 +120,7 @@ module _ (shape : Dimensions) (opened : Anatomy) (state : State) (kept : Invaria
       (λ k d inside. block_within (get_or samples k d) (block_of_sample _ (met k d inside))) in
       omega (arith, few, sized)
 
--- ---- told
+-- ---- shown by the load of a count
 
 -- a recorder that may load a count is not joined
 counts_live : (a : Actor) (at : ℕ) → MayLoadCount a at → a.hand.place ≢ Spent
@@ -139,7 +139,7 @@ module _ (given : Opening) (slots id : ℕ) (me : Sat) (word : ℕ) (records : i
 
 -- ---- those of a walk
 
--- of the records that a walk gave so many were seen to be samples, each another one
+-- at least this many records that a walk gave were seen to be samples, no two of them the same
 pub record HasMet (seen : Seen) (walked : List ℕ) (n : ℕ) : Type 0 where
   pub samples : List ℕ
   pub many : n ≤ length samples

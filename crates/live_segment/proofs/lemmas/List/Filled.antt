@@ -1,4 +1,4 @@
--- The payload of a block of its own is stored, but for the words that are 0: what its recorder has between two stores.
+-- The payload of a block of its own is stored, except for the words that are 0: what its recorder has between two stores.
 use Rattle.std.proofs.Common.{◌≡◌, ◌≢◌, ℕ, zero, suc, ◌+◌, ◌-◌, ◌<◌, ◌≤◌, Bool, false, true≢false, if◌then◌else◌, List, [], ◌∷◌, ◌++◌, length, take, replicate, slice_index, refl, sym, ap, subst, ◌∙◌, arith, append_assoc, length-append, eq-eqb, ne_eqb}
 use Rattle.std.specs.Prelude.{Some}
 use Rattle.std.specs.List.{Contains}
@@ -69,7 +69,7 @@ nothing (x ∷ rest) none = absurd (omega (arith, none))
 
 -- ---- between two stores
 
--- the words before an index are stored, but for the zeros at their end
+-- the words before an index are stored, except for the zeros at their end
 pub record IsFilledTo (at : ℕ) (payload : List ℕ) (first now : Actor) (index : ℕ) : Type 0 where
   pub stored : List ℕ
   pub view : now ≡ record first { hand = record first.hand { own = change_last (filled_with stored) first.hand.own } }

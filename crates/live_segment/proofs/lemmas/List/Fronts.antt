@@ -36,7 +36,7 @@ use Rattle.live_segment.specs.List.SharedCursors.{IsAtEnd, IsGivenNext}
 use Rattle.live_segment.specs.List.Records.{HasWalked}
 use Rattle.live_segment.specs.Standing.{HasFirst, HasList, HasShared, SeesNext, Standing}
 
--- who stands somewhere where no call goes on was not joined
+-- an actor that need not finish what a call has begun was not joined
 pub lives_free : (a : Actor) → is_bound a.hand.place ≡ false → a.hand.place ≢ Spent
 lives_free a free spent = true≢false (sym (ap is_bound spent) ∙ free)
 
@@ -44,7 +44,7 @@ module _ (shape : Dimensions) (opened : Anatomy) (state : State) (kept : Invaria
   abbrev order : List ℕ
   order = order_of kept.anatomy
 
-  -- a front behind which the list ends is all of it
+  -- a front at whose end the list ends is all of it
   whole : (front : List ℕ) → IsPrefix front order → word_at state.words (stands_behind front + 3) ≡ 12 → order ≡ front
   whole front (more, all) last =
       let long = ap length all in
@@ -53,7 +53,7 @@ module _ (shape : Dimensions) (opened : Anatomy) (state : State) (kept : Invaria
       whole_front front more order all
       (last_stop state.words order (length front) kept.list.linked (omega (arith, long, parts)) (ap (λ (at : ℕ). word_at state.words (at + 3)) stands ∙ last))
 
-  -- where a shared cursor was seen, and the list ends there, it stands behind all of the list
+  -- if a shared cursor was seen at a place and the list ends there, it is after all of the list
   at_the_end : (id : ℕ) (a : Actor) → get_elem? state.actors id ≡ some a → a.hand.place ≢ Spent → (cursor at : ℕ)
       → Contains a.seen.cursors (record { at = cursor; word = at }) → word_at state.words (at + 3) ≡ 12 → (place : ℕ) → place ≤ length order
       → slice_index (stops order) place ≡ slice_index state.cursors cursor → length order ≤ place
@@ -98,7 +98,7 @@ module _ (given : Opening) (number : ℕ) (a : Actor) where
         same = same;
       }
 
-  -- a shared cursor stands behind what it gave, which is all of the list where that ends where the cursor was seen
+  -- a shared cursor is after what it gave, which is all of the list if that ends where the cursor was seen
   pub shares : (cursor : ℕ) (answer : Option ℕ) (standing : Standing given number a) → a.hand.place ≢ Spent → cursor < a.segment.cursors
       → (answer ≡ None → (at : ℕ) × Contains a.seen.cursors (record { at = cursor; word = at }) × (word_at standing.state.words (at + 3) ≡ 12))
       → HasShared given number a cursor answer
@@ -125,7 +125,7 @@ module _ (given : Opening) (number : ℕ) (a : Actor) where
             drop_all place chain (at_the_end shape standing.opened state kept number a standing.stands lives cursor at sighted last place low stands);
       }
 
-  -- so it does once it gave one
+  -- so it is once it gave a record
   pub shares_one : (cursor reference : ℕ) (old : Actor) → IsGivenNext cursor old reference a → cursor < old.segment.cursors → Standing given number a
       → HasShared given number a cursor (Some reference)
   shares_one cursor reference old is few standing =
@@ -133,7 +133,7 @@ module _ (given : Opening) (number : ℕ) (a : Actor) where
       let same = ap (λ (a : Actor). a.segment.cursors) is.view ∙ ap (λ (a : Actor). a.segment.cursors) is.before.same in
       shares cursor (Some reference) standing (λ spent. cc (idle, spent)) (subst (λ (n : ℕ). cursor < n) (sym same) few) (λ none. absurd (cc none))
 
-  -- and where it gave none
+  -- and if it gave none
   pub shares_none : (cursor at : ℕ) (old : Actor) → IsAtEnd cursor old a → cursor < old.segment.cursors → SeesNext given number at 12 a
       → Contains a.seen.cursors (record { at = cursor; word = at }) → HasShared given number a cursor None
   shares_none cursor at old is few sees sighted =
@@ -141,7 +141,7 @@ module _ (given : Opening) (number : ℕ) (a : Actor) where
       let same = ap (λ (a : Actor). a.segment.cursors) is.view ∙ ap (λ (a : Actor). a.segment.cursors) is.before.same in
       shares cursor None sees.standing (λ spent. cc (idle, spent)) (subst (λ (n : ℕ). cursor < n) (sym same) few) (λ none. (at, sighted, sees.next_is))
 
-  -- the same of the histogram that a call answers with
+  -- the same for the histogram that a call returns
   pub answer_first : (answer : Result Hist Refusal) → Standing given number a
       → IfOk answer (λ histogram. (known : Known) → get_elem? a.answers.names histogram.index ≡ some known → HasFirst given number a known)
   answer_first (Err why) standing = tt

@@ -1,4 +1,4 @@
--- What a call of a recorder leaves of its index: what it has is right still.
+-- What a call of a recorder leaves of its index: what it has is still right.
 use Rattle.std.proofs.Common.{◌≡◌, ℕ, ◌+◌, List, [], length, Option, Some, None, ap, ◌∙◌}
 use Rattle.std.specs.Prelude.{Err}
 use Rattle.segment_machine.specs.declared.actor.Actor.{Actor}

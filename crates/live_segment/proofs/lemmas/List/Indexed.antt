@@ -1,4 +1,4 @@
--- A recorder's index: what it has stays right, it grows by a record that was looked at, and what it answers.
+-- A recorder's index: what it has stays right, it grows by a record that was looked at, and what it returns.
 use Rattle.std.proofs.Common.{◌≡◌, ◌≢◌, ℕ, ◌+◌, ◌*◌, ◌≤◌, true, false, List, [], ◌∷◌, ◌++◌, length, map, slice_index, Option, Some, None, refl, sym, ap, subst, ◌∙◌, arith, length-append}
 use Rattle.std.specs.Prelude.{take, drop, get_or}
 use Rattle.std.specs.List.{All, Contains}
@@ -60,7 +60,7 @@ module _ (of_kind : KeyKind) where
       front_still : take index.place.given b.chain ≡ given
       front_still = let (more, is) = chain in ap (take index.place.given) is ∙ take-append-le index.place.given a.chain more indexed.come.few
 
-      -- what it has is right still
+      -- what it has is still right
       pub indexed_still : IsIndexed of_kind size b index
       indexed_still = record {
         of_kind = indexed.of_kind;
@@ -71,7 +71,7 @@ module _ (of_kind : KeyKind) where
             (sym (ap (map (keyed b)) front_still ∙ keys_still given indexed.looked)) indexed.holds;
       }
 
-      -- where it could not grow
+      -- if it could not grow
       pub indexed_as : (at : ℕ) (key : Option ℕ) (new : RecordIndex) → Enters at key index false new → IsIndexed of_kind size b new
       indexed_as at key new (place, same_kind, same_groups, holds) = record {
         of_kind = same_kind ∙ indexed.of_kind;
@@ -82,7 +82,7 @@ module _ (of_kind : KeyKind) where
             (holds (passed of_kind b index.place.given) indexed_still.holds);
       }
 
-      -- one record more
+      -- one more record
       pub indexed_more : (at : ℕ) (key : Option ℕ) (new : RecordIndex) (rest : List ℕ) → b.chain ≡ (given ++ at ∷ []) ++ rest → 16 ≤ at → at + 5 ≤ size
           → HasLookedForKey of_kind b at → seen_key of_kind b at ≡ key → Enters at key index true new → IsIndexed of_kind size b new
       indexed_more at key new rest front from to looked key_is (place, same_kind, same_groups, holds) =
@@ -114,10 +114,10 @@ module _ (of_kind : KeyKind) where
                 (subst (λ (l : List Met). Holds l new.firsts) (sym met) (holds (passed of_kind a index.place.given) indexed.holds));
           }
 
-  -- ---- what it answers
+  -- ---- what it returns
 
-  -- Of a property that all records have which have another key: none that it has passed has the key, or the first that has it stands behind
-  -- others.
+  -- For a property of all records with another key: no record that it has passed has the key, or the first with the key comes after records
+  -- with that property.
   module _ (seen : Seen) (key : ℕ) (IsOther : ℕ → Type 0)
       (other : (at : ℕ) → HasLookedForKey of_kind seen at → seen_key of_kind seen at ≢ Some key → IsOther at) where
     others_by_key : (list : List ℕ) → All (HasLookedForKey of_kind seen) list → All (λ (m : Met). m.1 ≢ Some key) (map (keyed seen) list) → All IsOther list
@@ -168,7 +168,7 @@ module _ (of_kind : KeyKind) where
 
   -- ---- the walk of the index
 
-  -- a walk goes on where the index stands
+  -- a walk continues at the place of the index
   pub progress : (size : ℕ) (a : Actor) (index : RecordIndex) → a.segment.shape.size ≡ size → 17 ≤ size → MayTurn a
       → IsIndexed of_kind size a.seen index → IsWalkProgress (take index.place.given a.seen.chain) index.place.at a
   progress size a index sized wide free indexed =

@@ -88,7 +88,7 @@ module _ (a b : Seen) (grows : Grows a.words b.words) where
   pub word_still : (word : ℕ) → HasSeen a word → seen_word b word ≡ seen_word a word
   word_still word has = word_is b word (seen_word a word) (seen_still word has)
 
-  -- what it saw later it had seen, where it had seen the word
+  -- what it saw later it had seen before, if it had seen the word
   pub was_seen : (word w : ℕ) → HasSeen a word → word_seen b.words word ≡ Some w → word_seen a.words word ≡ Some w
   was_seen word w has is = seen_is a word has ∙ (sym (seen_still word has) ∙ is)
 
@@ -213,7 +213,7 @@ module _ (seen : Seen) (at len n : ℕ) (tag : word_seen seen.words (at + 2) ≡
       name_some seen at (word_is seen (at + 2) 1 tag)
       ∙ (ap (λ (k : ℕ). Some (key_of (seen_words seen (at + 15) k))) many ∙ ap Some (sym is))
 
--- a record that is none of a histogram
+-- a record that is not one of a histogram
 module _ (seen : Seen) (at tag : ℕ) (is : word_seen seen.words (at + 2) ≡ Some tag) (other : tag ≢ 1) where
   no_tag : seen_word seen (at + 2) ≢ 1
   no_tag same = other (sym (word_is seen (at + 2) tag is) ∙ same)

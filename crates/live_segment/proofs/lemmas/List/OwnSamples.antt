@@ -1,4 +1,4 @@
--- What an index of samples has of one histogram: all of its samples that were met, each once.
+-- What an index of samples has of one histogram: all of its samples that were visited, each once.
 use Rattle.std.proofs.Common.{◌≡◌, ◌≢◌, ℕ, ◌+◌, ◌-◌, ◌*◌, ◌/◌, ◌%◌, ◌^◌, ◌<◌, ◌≤◌, ◌==◌, if◌then◌else◌, Bool, true, false, ℤ, pos, negsuc, List, [], ◌∷◌, length, map, get_or, slice_index, suc, true≢false, Some, None, inl, inr, refl, sym, ap, subst, ◌∙◌, arith}
 use Rattle.std.specs.Prelude.{take}
 use Rattle.std.specs.Int.{cast_signed, cast_unsigned, w64}
@@ -92,7 +92,7 @@ numbers_are : (seen : Seen) (list : List ℕ) → map (λ (m : Met). m.0) (map (
 numbers_are seen [] = refl
 numbers_are seen (x ∷ xs) = ap (λ (l : List ℕ). x ∷ l) (numbers_are seen xs)
 
--- what is said of each that was met by its key is said of it by what was seen
+-- what holds for each that was visited by its key holds for it by what was seen
 module _ (P : ℕ → Type 0) (seen : Seen) (group : ℕ) where
   abbrev IfKeyed : Met → Type 0
   IfKeyed m = (key : ℕ) → m.1 ≡ Some key → group_of key ≡ group → P m.0
@@ -106,7 +106,7 @@ module _ (P : ℕ → Type 0) (seen : Seen) (group : ℕ) where
       All-cons IfSample x xs (All-head IfKeyed (keyed kind.Sample seen x) (map (keyed kind.Sample seen) xs) all)
       (each_keyed xs (All-tail IfKeyed (keyed kind.Sample seen x) (map (keyed kind.Sample seen) xs) all))
 
--- of those that were met a group has no more
+-- a group has no more than were visited
 few_in : (met : List Met) (group : ℕ) → length (met_in met group) ≤ length met
 few_in [] group = omega arith
 few_in ((at, None) ∷ rest) group = let few = few_in rest group in omega (arith, few)
@@ -116,13 +116,13 @@ few_in ((at, Some own) ∷ rest) group = by (group_of own == group) (few_in rest
     by true few = omega (arith, few)
     by false few = omega (arith, few)
 
--- on a list on which nothing stands twice, two places have two records
+-- on a list without repeats, two places have two records
 apart_chain : (chain : List ℕ) → NoRepeats chain → AllPairs (λ x y. x ≢ y) chain
 apart_chain chain once i j d lt inside same =
     once (suc i) (suc j) (omega (arith, lt)) (omega (arith, inside))
     (get_or_default chain i 0 d (omega (arith, lt, inside)) ∙ (same ∙ get_or_default chain j d 0 inside))
 
--- none of the front of a list stands behind it, where none stands twice
+-- an element of a list without repeats is not among those before it
 new_behind : (list : List ℕ) → AllPairs (λ x y. x ≢ y) list → (i at : ℕ) → i < length list → get_or list i 0 ≡ at → ¬ (Contains (take i list) at)
 new_behind list apart i at inside is (k, low, here) =
     let long = length-take-le i list (omega (arith, inside)) in
@@ -144,12 +144,12 @@ module _ (size : ℕ) (seen : Seen) (index : RecordIndex) (has : HasPassedAll si
     samples_are = has.indexed.holds.all (has.indexed.grouping refl) histogram
         ∙ ap (λ (l : List ℕ). met_in (map (keyed kind.Sample seen) l) histogram) whole
 
-    -- what is said of all that were met is said of them
+    -- what holds for all that were visited holds for them
     pub said_of_own : (P : ℕ → Type 0) → All P seen.chain → All P (own_samples index histogram)
     said_of_own P all = subst (All P) (sym samples_are)
         (in_group P (map (keyed kind.Sample seen) seen.chain) histogram (subst (All P) (sym (numbers_are seen seen.chain)) all))
 
-    -- they were met, and lie within the segment
+    -- they were visited, and lie within the segment
     pub own_met : All (Contains seen.chain) (own_samples index histogram)
     own_met = said_of_own (Contains seen.chain) (All-contains_itself seen.chain)
 
@@ -163,13 +163,13 @@ module _ (size : ℕ) (seen : Seen) (index : RecordIndex) (has : HasPassedAll si
         let few = few_in (map (keyed kind.Sample seen) seen.chain) histogram in
         let all = length-map seen.chain (keyed kind.Sample seen) in omega (arith, own, few, all)
 
-    -- none stands twice among them
+    -- none is among them twice
     own_apart : AllPairs (λ x y. x ≢ y) seen.chain → AllPairs (λ x y. x ≢ y) (own_samples index histogram)
     own_apart apart = subst (AllPairs (λ x y. x ≢ y)) (sym samples_are)
         (pairs_in_group (λ x y. x ≢ y) (map (keyed kind.Sample seen) seen.chain) histogram
         (subst (AllPairs (λ x y. x ≢ y)) (sym (numbers_are seen seen.chain)) apart))
 
-    -- each sample that was met is among them
+    -- each sample that was visited is among them
     pub own_each : histogram < 2 ^ 32 → (value : ℤ) (sample : ℕ) → Contains seen.chain sample → SawSample seen histogram value sample
         → Contains (own_samples index histogram) sample
     own_each small value sample met (tag, of, word, fits) =
@@ -182,7 +182,7 @@ module _ (size : ℕ) (seen : Seen) (index : RecordIndex) (has : HasPassedAll si
         All-contains (λ at. (key : ℕ) → seen_sample seen at ≡ Some key → group_of key ≡ histogram → Contains (own_samples index histogram) at) seen.chain sample
         keyed_all met (sample_key histogram (cast_unsigned w64 value)) key (group_is histogram value small fits)
 
--- it has them still, where more was seen of the records alone
+-- it still has them, if only more of the records was seen
 pub passed_still : (size : ℕ) (a b : Seen) (index : RecordIndex) → b.chain ≡ a.chain → Grows a.words b.words → HasPassedAll size a index → HasPassedAll size b index
 passed_still size a b index chain words has = record {
   indexed = indexed_still kind.Sample a b words size index (subst (Grows a.chain) (sym chain) (grows_not a.chain)) has.indexed;
@@ -190,7 +190,7 @@ passed_still size a b index chain words has = record {
   few = subst (λ (l : List ℕ). 5 * length l + 16 ≤ size) (sym chain) has.few;
 }
 
--- a record that it sees to be a sample it had seen to be one, where it had looked at it
+-- a record that it sees to be a sample it had already seen to be one, if it had looked at it
 pub sample_was : (a b : Seen) → Grows a.words b.words → (histogram : ℕ) (value : ℤ) (at : ℕ) → HasLookedForSample a at → SawSample b histogram value at
     → SawSample a histogram value at
 sample_was a b words histogram value at looked (tag, of, valued, small) =
@@ -221,7 +221,7 @@ module _ (size : ℕ) (seen : Seen) (histogram : ℕ) (samples : List ℕ) (own 
       let few = own_few size seen index has histogram in
       let fit = has.few in omega (arith, all, few, fit)
 
-  -- each is new behind those before it
+  -- each differs from those before it
   pub new_own : NoRepeats seen.chain → (i : ℕ) → i < length samples → ¬ (Contains (take i samples) (slice_index samples i))
   new_own once i low =
       let (index, has, are) = own in

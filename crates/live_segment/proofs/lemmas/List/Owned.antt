@@ -1,4 +1,4 @@
--- Blocks of a recorder's own: which one stands at a word, and what a change of it leaves.
+-- A recorder's own blocks: which one is at a word, and what a change of it leaves.
 use Rattle.std.proofs.Common.{◌≡◌, ℕ, ◌==◌, Bool, true, false, not, List, [], ◌∷◌, refl, sym, ap, ◌∙◌, subst, eqb-true, arith, Contains, Some}
 use Rattle.std.specs.Prelude.{if◌then◌else◌}
 use Rattle.std.proofs.lemmas.List.Elements.{Contains-append_right}
@@ -7,7 +7,7 @@ use Rattle.segment_machine.specs.Calls.{change_own, without}
 use Rattle.segment_machine.specs.Publishing.{own_at}
 
 module _ (at : ℕ) where
-  -- a block that is found there is its own, and stands there
+  -- a block that is found there is its own, and is there
   pub own_there : (list : List Own) (own : Own) → own_at list at ≡ Some own → Contains list own × (own.at ≡ at)
   own_there [] own is = cc is
   own_there (x ∷ rest) own is = by (x.at == at) refl (own_there rest own) is
@@ -33,7 +33,7 @@ module _ (at : ℕ) where
           ∙ ap (λ (y : Own). Some (change y)) (cc found)
       by false e behind found = ap (λ (b : Bool). if b then Some x else own_at (change_own at change rest) at) e ∙ behind found
 
-  -- all others are as they were
+  -- all others are unchanged
   pub others_stay : (change : Own → Own) (list : List Own) → ((x : Own) → (change x).at ≡ x.at)
       → without at (change_own at change list) ≡ without at list
   others_stay change [] stays = refl

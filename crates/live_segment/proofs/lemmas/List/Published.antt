@@ -29,11 +29,11 @@ use Rattle.live_segment.proofs.lemmas.List.Owned.{own_there, own_changed, others
 use Rattle.segment_promises.proofs.Growing.{grows_by, grows_not, grows_on, reference_within}
 use Rattle.live_segment.proofs.lemmas.List.Sharing.{same_on}
 
--- the block as it waits: its next is stored, and it may have been said what it is to hold
+-- the block as it waits: its next is stored, and what it is to hold may be noted
 abbrev queued : Own → Option Made → Own
 queued own what = record own { next = 12; made = what }
 
--- what may be published rests on the shape and on the histograms that are known
+-- what may be published depends on the shape and on the histograms that are known
 may_still : (a b : Actor) (own : Own) (what : Option Made) (made : Made) → b.segment.shape ≡ a.segment.shape → b.answers.names ≡ a.answers.names
     → MayPublish a own made → MayPublish b (queued own what) made
 may_still a b own what (Histogram name spec) shape names (tag, named, lawful, fits) = (tag, named, lawful, rw shape fits)
@@ -89,7 +89,7 @@ module _ {segment : Segment} {first : Pass} {at : ℕ} {made : Made} (is : IsFil
 
 -- ---- what it is to hold
 
--- notes before a link say what the block is to hold, where nobody has said it yet
+-- notes before a link give what the block is to hold, unless that is noted already
 record IsAsked (a : Actor) (at : ℕ) (made : Made) (own : Own) (notes : List Note) : Type 0 where
   may : MayNoteAll a notes
   only : noted_by a notes ≡ record a { hand = (noted_by a notes).hand }
@@ -158,7 +158,7 @@ module _ {segment : Segment} {first old : Pass} {at : ℕ} {made : Made} (is : I
     asked : IsAsked seat.me.0 at made is.own notes
     asked = asks_it seat.me.0 at made is.own waits.what waits.asked block_still
 
-    -- what it is then, but for its place
+    -- what it is then, except for its place
     viewed : x ≡ record first.me.0 {
       hand = x.hand;
       done = record first.me.0.done { beaten = old.me.0.done.beaten };

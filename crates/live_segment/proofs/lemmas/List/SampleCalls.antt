@@ -1,4 +1,4 @@
--- What a delta and a snapshot of a sparse histogram have in common: step by step they go on, and what they did with samples stays done.
+-- What a delta and a snapshot of a sparse histogram have in common: step by step they continue, and what they did with samples stays done.
 use Rattle.std.proofs.Common.{◌≡◌, ℕ, ◌+◌, false, ℤ, map, List, [], ◌∷◌, ◌++◌, Option, Some, None, inl, inr, ⊎_elim, refl, sym, ap, subst, ◌∙◌, arith}
 use Rattle.std.specs.List.{Contains}
 use Rattle.std.proofs.lemmas.List.{map-append}
@@ -24,7 +24,7 @@ use Rattle.live_segment.proofs.lemmas.Steps.Proceeding.{sees_lists, sees_not, se
 
 -- ---- its seat
 
--- a recorder's seat that looks at the samples of a sparse histogram still does, where it stands elsewhere, has seen more, and takes
+-- a recorder's seat that looks at the samples of a sparse histogram still does when it is at another place, has seen more, and takes
 pub looks_on : (segment : Segment) (known : Known) (old new : Pass) → LooksAtValues segment known old → IsSame old new
     → new.me.0 ≡ record old.me.0 { hand = record old.me.0.hand { place = new.me.0.hand.place }; deltas = new.me.0.deltas; seen = new.me.0.seen }
     → SeesOn old.me.0.seen new.me.0.seen → is_bound new.me.0.hand.place ≡ false → is_holding new.me.0.hand.place ≡ false → LooksAtValues segment known new
@@ -69,7 +69,7 @@ pub on_then : (call : SampleCall) (a b c : Actor) (more rest : List (ℤ × ℕ)
 on_then OfDelta a b c more rest one two = takes_then a b c more rest one two
 on_then OfSnapshot a b c more rest one two = more_on a b c one two
 
--- it lists nothing at a step that leaves all but what it has seen and where it stands
+-- it lists nothing at a step that changes only what it has seen and where it is
 pub on_by : (call : SampleCall) (a b : Actor) (seen : Seen) → b ≡ record a { hand = record a.hand { place = b.hand.place }; seen = seen } → SeesOn a.seen seen
     → ListsOn call [] a b
 on_by OfDelta a b seen is sees =
@@ -99,7 +99,7 @@ on_view OfSnapshot more a b on = (
   on.seen,
 )
 
--- ---- it goes on
+-- ---- it continues
 
 module _ (call : SampleCall) (segment : Segment) (known : Known) (old new : Pass) (more : List (ℤ × ℕ)) (goes : Goes call segment known old)
     (on : ListsOn call more old.me.0 new.me.0) where
@@ -148,7 +148,7 @@ module _ (call : SampleCall) (segment : Segment) (known : Known) (old new : Pass
 
 -- ---- what it lists of one record
 
--- of the list it has seen no more
+-- it has seen no more of the list
 pub record ListsOne (call : SampleCall) (segment : Segment) (known : Known) (at : ℕ) (listed : List (ℤ × ℕ)) (one : Option (ℤ × ℕ)) (old new : Pass) : Type 0 where
   pub same : IsSame old new
   pub goes : Goes call segment known new

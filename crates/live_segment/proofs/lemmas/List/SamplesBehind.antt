@@ -1,4 +1,4 @@
--- Each sample that a recorder met stands behind the record of its histogram, as on the list.
+-- Each sample that a recorder visited comes after the record of its histogram, as on the list.
 use Rattle.std.proofs.Common.{◌≡◌, ◌≢◌, ℕ, ◌+◌, false, true≢false, sym, ap, ◌∙◌, arith}
 use lib.ListN.{get_elem?}
 use Rattle.atomic_table.specs.Table.{Allows}

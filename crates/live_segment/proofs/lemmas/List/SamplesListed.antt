@@ -71,7 +71,7 @@ module _ (Does : ℤ → ℕ → Type 0) (Has : ℕ → ℕ → Type 0) (histogr
       few = let few = lists.few in let one = length_push passed at in omega (arith, few, one);
     }
 
-    -- it lists the value, of which it alone is the first sample
+    -- it lists the value, whose only first sample it is
     pub lists_one : (value : ℤ) (units : ℕ) → SawSample seen histogram value at → Does value at → Has at units → IsFirstSample seen histogram value at
         → ((other : ℕ) → IsFirstSample seen histogram value other → other ≡ at) → ¬ (Contains passed at)
         → ListsSamples Does Has histogram (passed ++ at ∷ []) (listed ++ (value, units) ∷ []) seen
@@ -106,7 +106,7 @@ module _ (seen : Seen) (histogram : ℕ) (value : ℤ) (fits : is_i32 value ≡ 
   abbrev IsFirstOf : List ℕ → ℕ → Type 0
   IsFirstOf list at = ComesFirst (SawOther seen histogram value) (SawSample seen histogram value) list at
 
-  -- where one stands among records, one is the first
+  -- if one is among records, one is the first
   first_in : (list : List ℕ) → AllByRecursion (Shows seen histogram) list → (at : ℕ) → Contains list at → SawSample seen histogram value at
       → (first : ℕ) × IsFirstOf list first
   first_in [] shown at (k, low, is) saw = absurd (omega (arith, low))
@@ -120,7 +120,7 @@ module _ (seen : Seen) (histogram : ℕ) (value : ℤ) (fits : is_i32 value ≡ 
           let (first, (before, behind, split, others, it)) = again (k, omega (arith, low), is) in
           (first, (r ∷ before, behind, ap (λ (l : List ℕ). r ∷ l) split, All-cons (SawOther seen histogram value) r before other others, it))
 
--- ---- a sample that is no later one
+-- ---- a sample that is not a later one
 
 module _ (known : Known) (a : Actor) (looked : All (HasLookedForSample a.seen) a.seen.chain) (sparse : Sparse a known.reference known)
     (front behind : List ℕ) (split : a.seen.chain ≡ front ++ known.reference ∷ behind)

@@ -1,5 +1,5 @@
--- A try of a call on a shared cursor: what a recorder knows once it has loaded the cursor and the next behind it, and once its exchange
--- took or came too late.
+-- A try of a call on a shared cursor: what a recorder knows once it has loaded the cursor and the next at it, and once its exchange
+-- succeeded or came too late.
 use Rattle.std.proofs.Common.{◌≡◌, ◌≢◌, ℕ, ◌+◌, ◌-◌, ◌*◌, ◌<◌, ◌≤◌, ◌==◌, Bool, true, false, if◌then◌else◌, List, [], ◌∷◌, ◌++◌, length, drop, set, slice_index, inr, refl, sym, ap, subst, ◌∙◌, eq-eqb, ne_eqb, arith, All, Option, Some, None}
 use Rattle.std.specs.List.{Contains}
 use Rattle.std.proofs.lemmas.List.{append-nil, append_assoc, set-set, set-get_or, get_or-set_same}
@@ -43,7 +43,7 @@ late_not cursor a free = record {
 same_test : (n : ℕ) → (n == n) ≡ true
 same_test n = eq-eqb n n refl
 
--- where a recorder stands that has loaded the next behind a shared cursor
+-- where a recorder is that has loaded the next at a shared cursor
 behind_end : (cursor at found : ℕ) → found ≡ 12 → behind (CursorLoaded cursor at) at found ≡ Idle
 behind_end cursor at found end =
     ap (λ (b : Bool). if b then (if found == 12 then Idle else BehindCursor cursor at found) else CursorLoaded cursor at) (same_test at)
@@ -82,11 +82,11 @@ answer_names cursor old None new is = ap (λ (a : Actor). a.answers.names) is.vi
 
 -- ---- a try
 
--- it is the same seat still
+-- it is still the same seat
 pub same_on : (a b c : Pass) → IsSame a b → IsSame b c → IsSame a c
 same_on a b c one two = (two.0 ∙ one.0, two.1 ∙ one.1, two.2 ∙ one.2)
 
--- what it is once it has loaded a cursor and the next behind that
+-- what it is once it has loaded a cursor and the next at it
 abbrev followed : Actor → ℕ → ℕ → ℕ → Actor
 followed a cursor at found = next (at_cursor a cursor at) (walking_event (load_next at)) found
 
@@ -196,7 +196,7 @@ module _ {segment : Segment} {cursor : ℕ} {first old : Pass} (turn : IsSharing
           moved : last.me.0 ≡ after_cursor (other == at) (followed old.me.0 cursor at found) cursor found other
           moved = move.view ∙ ap (λ (a : Actor). after_cursor (other == at) a cursor found other) view
 
-          -- the exchange took
+          -- the exchange succeeded
           pub given : other ≡ at → CursorMovesOn at found last.me.0 → IsGivenNext cursor first.me.0 found last.me.0
           given took (chain, neighbours, ordered) =
               let shape : old.me.0.segment.shape ≡ first.me.0.segment.shape = ap (λ (a : Actor). a.segment.shape) turn.late.same in
@@ -267,7 +267,7 @@ module _ {segment : Segment} {cursor : ℕ} {first old : Pass} (turn : IsSharing
                       (All-push (λ (s : Sighting). s.at ≡ cursor) turn.late.sights (record { at = cursor; word = at }) turn.late.of refl) refl;
                 }
 
-            -- that happens few times
+            -- that happens only few times
             pub falls : length old.me.0.done.lost ≡ old.me.0.segment.cursors
                 → segment.setting.shape.size - slice_index last.me.0.done.lost cursor < segment.setting.shape.size - slice_index old.me.0.done.lost cursor
             falls many =

@@ -41,7 +41,7 @@ fixed_still a b at index grows (inr (inl (tag, behind))) =
     inr (inl (still a.seen.words b.seen.words grows (at + 2) 1 tag, fixed_behind a b at index grows behind))
 fixed_still a b at index grows (inr (inr (tag, from, to))) = inr (inr (still a.seen.words b.seen.words grows (at + 2) 3 tag, from, to))
 
--- a word that is seen now is what was found, since it was so where it was seen before
+-- a word that is seen now is what was found, also if it was seen before
 seen_now : (list : List Sighting) (at found : ℕ) → ((word : ℕ) → word_seen list at ≡ Some word → found ≡ word)
     → word_seen (list ++ sight at found) at ≡ Some found
 seen_now [] at found same = ap (λ (b : Bool). if b then Some found else word_seen [] at) (eq-eqb at at refl)
@@ -65,7 +65,7 @@ sees_on a b c one two = record {
   words = grows_on a.seen.words b.seen.words c.seen.words one.words two.words;
 }
 
--- a record that was met is met still
+-- a record that was visited is still one that was visited
 pub meets_still : (at : ℕ) (a b : Actor) → SeesWords a b → MayLoadRecord at a → MayLoadRecord at b
 meets_still at a b sees met = subst (MayLoadRecord at) (sym sees.view) met
 
@@ -94,7 +94,7 @@ module _ (segment : Segment) (first old : Pass) (at : ℕ) (table : first.table_
     ready = let there = meets_still at first.me.0 old.me.0 sees met in (there.0, there.1, fixed);
   }
 
-  -- as one that was known for such before
+  -- as one that was known before never to change
   pub may_load : (index : ℕ) → IsFixed first.me.0 at index → MayStep segment old (walking_event (load_published at index))
   may_load index fixed = may_load_fixed index (fixed_still first.me.0 old.me.0 at index sees.words fixed)
 
@@ -114,7 +114,7 @@ module _ (old new : Pass) (at from k found : ℕ) (words : List ℕ) (step : Ste
       let here : at + (from + k) ≡ at + from + k = omega arith in
       ap (word_seen new.me.0.seen.words) (sym here) ∙ seen_one old new at (from + k) found step
 
-  -- one word more is as it was to be
+  -- one more word is as it has to be
   pub one_more : ((j : ℕ) → j < k → word_seen old.me.0.seen.words (at + from + j) ≡ Some (slice_index words j)) → found ≡ slice_index words k
       → (j : ℕ) → j < k + 1 → word_seen new.me.0.seen.words (at + from + j) ≡ Some (slice_index words j)
   one_more shown is j below = dite (ℕ_discrete j k)

@@ -1,4 +1,4 @@
--- A walk along the list goes on, whatever it looks for: what a recorder knows once it has loaded the next of the block where it stands.
+-- A walk along the list continues, whatever it looks for: what a recorder knows once it has loaded the next of the block where the walk is.
 use Rattle.std.proofs.Common.{◌≡◌, ◌≢◌, ℕ, ◌+◌, ◌<◌, ◌≤◌, ◌==◌, Bool, true, List, [], ◌∷◌, ◌++◌, length, slice_index, refl, sym, ap, subst, ◌∙◌, arith, ne_eqb, length-append, eq-eqb}
 use Rattle.std.specs.Prelude.{if◌then◌else◌}
 use Rattle.std.specs.List.{All, Contains}
@@ -91,7 +91,7 @@ module _ {segment : Segment} {old : Pass} {given : List ℕ} {at : ℕ} (seated 
           subst (λ (n : ℕ). FoundNone (n + 3) old.me.0.seen new.me.0.seen) (way.stands ∙ ap stands_behind (whole ∙ sym chain_still))
           (found_now old.me.0.seen new.me.0.seen (at + 3) (found == 12) ends_are (eq-eqb found 12 end))
 
-      -- all that it met is there
+      -- all that it visited is there
       pub met_all : All (Contains chain) (records_met old.me.0)
       met_all = load.learned.all (ap stands_behind (sym whole) ∙ sym way.stands) end
 
@@ -105,7 +105,7 @@ module _ {segment : Segment} {old : Pass} {given : List ℕ} {at : ℕ} (seated 
             within = subst (λ (d : Dimensions). at + 5 ≤ d.size) (sym (ap (λ (a : Actor). a.segment.shape) load.view)) way.within;
           }
 
-    -- a record stands behind
+    -- a record comes after
     module _ (miss : found ≢ 12) where
       gave_one : given_after given (said_of old.me.0.segment.shape.size found) ≡ given ++ found ∷ []
       gave_one =
@@ -128,7 +128,7 @@ module _ {segment : Segment} {old : Pass} {given : List ℕ} {at : ℕ} (seated 
           (reference_behind segment.setting.shape.size found
           (subst (λ (d : Dimensions). is_reference d.size found ≡ true) seated.of.shape load.learned.reference) miss).1
 
-      -- it goes on behind that record, once words of it were seen
+      -- it continues after that record, once words of it were seen
       module _ (b : Actor) (sees : SeesWords new.me.0 b) where
         pub way_on : IsWalkProgress (given ++ found ∷ []) found b
         way_on =

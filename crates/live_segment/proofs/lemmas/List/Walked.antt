@@ -54,7 +54,7 @@ use Rattle.segment_promises.proofs.Calls.Places.{behind_apart}
 -- ---- its step
 
 module _ (given : Opening) (slots id : ℕ) (me : Sat) (word : ℕ) (records : is_opener me.0.role ≡ false) where
-  -- a next is loaded by a recorder that has met no block twice
+  -- a next is loaded by a recorder that has visited no block twice
   pub loads_next : (place : Option Opening) (number at : ℕ) → place ≡ Some given → number ≡ id → word ≡ at + 3 + 1 → at + 5 ≤ given.setting.shape.size
       → Ready me.0 (walking_event (load_next at))
       → Allows (Runs given) slots id me word (change given.setting.version (walking_event (load_next at))) (LoadsNext place number word me)
@@ -87,11 +87,11 @@ module _ (given : Opening) (slots id : ℕ) (me : Sat) (word : ℕ) (records : i
 
 -- ---- between two steps
 
--- it has seen so much of the list, and found these words to lead to no block; otherwise only its place may be another
+-- it has seen this much of the list, and found that these words lead to no block; otherwise only its place may have changed
 abbrev saw_list : Actor → Place → List ℕ → List ℕ → Actor
 saw_list a place chain ends = record a { hand = record a.hand { place = place }; seen = record a.seen { chain = chain; ends = ends } }
 
--- a walk has given these records, and stands behind them
+-- a walk has given these records, and is at their end
 pub record IsWalking (first now : Pass) (given : List ℕ) (at : ℕ) : Type 0 where
   pub same : IsSame first now
   pub view : now.me.0 ≡ saw_list first.me.0 now.me.0.hand.place now.me.0.seen.chain first.me.0.seen.ends
@@ -117,7 +117,7 @@ begins size first place free sized come =
       within = subst (λ (n : ℕ). All (λ r. (16 ≤ r) × (r + 5 ≤ n)) (take place.given chain)) (sym sized) come.within;
     }
 
--- a block where a walk stands lies within the segment
+-- a block where a walk is lies within the segment
 pub stands_within : (size : ℕ) (given : List ℕ) → 17 ≤ size → All (λ r. (16 ≤ r) × (r + 5 ≤ size)) given → stands_behind given + 5 ≤ size
 stands_within size [] wide all = omega arith
 stands_within size (x ∷ xs) wide all = (all (length xs) 0 (omega arith)).1
@@ -217,7 +217,7 @@ module _ {segment : Segment} {first old : Pass} {given : List ℕ} {at : ℕ} (s
                 (subst (λ (s : Dimensions). is_reference s.size found ≡ true) shape load.learned.reference) miss);
           }
 
-      -- so many records fit in a segment
+      -- these records and one more fit in a segment
       pub few : 5 * (length given + 1) + 16 ≤ segment.setting.shape.size
       few =
           let (rest, front) = longer.1 in
@@ -231,7 +231,7 @@ module _ {segment : Segment} {first old : Pass} {given : List ℕ} {at : ℕ} (s
 
 -- ---- at the end
 
--- where a walk stands that has given all of a list
+-- where a walk is that has given all of a list
 come_to : (size at given : ℕ) (list : List ℕ) → given ≡ length list → at ≡ stands_behind list
     → All (λ r. (16 ≤ r) × (r + 5 ≤ size)) list → HasCome size list (record { given = given; at = at })
 come_to size at given list all stands within = record {
@@ -240,7 +240,7 @@ come_to size at given list all stands within = record {
   within = subst (All (λ r. (16 ≤ r) × (r + 5 ≤ size))) (sym (ap (λ (n : ℕ). take n list) all ∙ take-length list)) within;
 }
 
--- it has gone on from a place to the end of the list
+-- it has continued from a place to the end of the list
 pub walked_on : (size : ℕ) (first : Pass) (from to : WalkPlace) (records : List ℕ) (old new : Pass) → first.me.0.segment.shape.size ≡ size
     → HasCome size first.me.0.seen.chain from → IsWalking first old (take from.given first.me.0.seen.chain ++ records) to.at
     → to.given ≡ length (take from.given first.me.0.seen.chain ++ records)
@@ -256,7 +256,7 @@ walked_on size first from to records old new sized come is given walked =
       given = given;
     }
 
--- where a walk stood it stands still, once more of the list was seen
+-- a walk is still at its place once more of the list was seen
 pub come_still : (size : ℕ) (old new : List ℕ) (place : WalkPlace) → Grows old new → HasCome size old place → HasCome size new place
 come_still size old new place (more, is) come =
     let few = come.few in
@@ -272,7 +272,7 @@ come_still size old new place (more, is) come =
 pub walk_grows : (old : Actor) (list : List ℕ) (new : Actor) → HasWalked old list new → Grows old.seen.chain new.seen.chain
 walk_grows old list new walked = subst (Grows old.seen.chain) (sym (ap (λ (a : Actor). a.seen.chain) walked.view)) walked.chain
 
--- a histogram that a recorder knows it knows still
+-- a recorder still knows a histogram that it knew
 pub right_still : (setting : Setting) (old new : Actor) (known : KnownHistogram) → new.answers.names ≡ old.answers.names
     → Grows old.seen.chain new.seen.chain → KnowsRight setting old known → KnowsRight setting new known
 right_still setting old new known names (more, is) right = record {

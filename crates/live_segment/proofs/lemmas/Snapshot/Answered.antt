@@ -18,7 +18,7 @@ use Rattle.live_segment.proofs.Seating.Openings.{announces}
 use Rattle.live_segment.proofs.Seating.Seated.{nothing_exchanged}
 use Rattle.live_segment.proofs.lemmas.Steps.GhostNoted.{one_known}
 
--- what is said is the answer of one histogram alone
+-- what is announced is the answer of only one histogram
 module _ (histogram : ℕ) (snapshot : Snapshot) where
   abbrev reference_said : Announcement → ℕ
   reference_said (Answer n s) = n

@@ -1,4 +1,4 @@
--- A snapshot is answered: its recorder has looked anew, has loaded the sum and the redundant count, and notes what it saw.
+-- A snapshot gets its answer: its recorder has looked again, has loaded the sum and the redundant count, and notes what it saw.
 use Rattle.std.proofs.Common.{◌≡◌, ◌≢◌, ℕ, ◌+◌, ◌≤◌, true, true≢false, ℤ, List, [], ◌∷◌, ◌++◌, drop, length, map, Some, inl, inr, ⊎_elim, refl, sym, ap, ◌∙◌, subst, arith, length-append}
 use Rattle.std.specs.List.{Contains, range_with_len}
 use Rattle.std.proofs.lemmas.List.{drop-append-le}
@@ -31,7 +31,7 @@ use Rattle.segment_promises.specs.Totals.{blank_totals}
 use Rattle.segment_promises.proofs.Calls.BlankTotals.{keys_of_buckets}
 use Rattle.live_segment.proofs.lemmas.Steps.Proceeding.{sees_count, sees_on}
 
--- what it had seen since it began to look it has still seen, where it sees more counts
+-- what it had seen since it began to look it has still seen when it sees more counts
 pub counted_since : (a : Actor) (more : List Sighting) → a.since.counts ≤ length a.seen.counts
     → drop a.since.counts (a.seen.counts ++ more) ≡ drop a.since.counts a.seen.counts ++ more
 counted_since a more since = drop-append-le a.since.counts a.seen.counts more since

@@ -1,4 +1,4 @@
--- A recorder looks at the buckets of a histogram: it loads the single word and, where that is off, the counts of all buckets.
+-- A recorder looks at the buckets of a histogram: it loads the single word and, if that is off, the counts of all buckets.
 use Rattle.std.proofs.Common.{◌≡◌, ◌≢◌, ℕ, ◌+◌, ◌*◌, ◌^◌, ◌<◌, ◌≤◌, ◌==◌, Bool, true, false, true≢false, if◌then◌else◌, ℤ, List, [], ◌∷◌, ◌++◌, drop, length, get_or, Some, inl, inr, ⊎_elim, refl, sym, ap, ◌∙◌, subst, arith}
 use Rattle.std.specs.List.{All, Contains}
 use Rattle.std.proofs.lemmas.Bool.{ne_eqb, le-leb}
@@ -51,7 +51,7 @@ counts_there words histogram found used same =
     ap (λ (b : Bool). word_seen (words ++ (if b then [] else sight (histogram + 8) found)) (histogram + 8)) (ne_eqb found 0 used)
     ∙ seen_now words (histogram + 8) found same
 
--- it has looked anew
+-- it has looked again
 pub has_looked : (a b : Actor) (place : Place) (seen : Seen) → b ≡ record (looking a) { hand = record a.hand { place = place }; seen = seen }
     → is_bound place ≡ false → SeesOn a.seen seen → HasLooked a b
 has_looked a b place seen is free sees = subst (HasLooked a) (sym is) (record { same = refl; free = free; seen = sees })
@@ -105,7 +105,7 @@ module _ {segment : Segment} (known : Known) {first : Pass} (seated : IsSeated s
       ready = subst (λ (b : Actor). Ready b reference) (sym looked.view) (refl, (known, knows));
     }
 
-    -- the word is not off, and the buckets had no units beside it
+    -- the word is not off, and the buckets had no other units
     pub saw_on : word < 2 ^ 63 → (before totals : List (ℤ × ℕ)) → length before ≡ buckets_of known.spec → All (λ total. total.1 ≡ 0) before
         → HavePacked segment.setting.version word before totals → HasSeenBuckets known a totals one.me.0
     saw_on on before totals long blank packed = subst (HasSeenBuckets known a totals) (sym looked.view) (record {

@@ -1,4 +1,4 @@
--- Totals of buckets with the units that a single word holds beside them.
+-- Totals of buckets, with the units that a single word holds added to them.
 use Rattle.std.proofs.Common.{◌≡◌, ◌==◌, Bool, if◌then◌else◌, ℕ, ◌+◌, ◌<◌, ℤ, pos, List, length, set, get_or, Option, ⊎_elim, refl, sym, ap, ◌∙◌, subst, arith}
 use Rattle.std.proofs.lemmas.Bool.{eq-eqb, ne_eqb}
 use Rattle.std.proofs.Math.Seq.{map-set_same}

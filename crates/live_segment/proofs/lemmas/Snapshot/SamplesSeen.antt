@@ -1,4 +1,4 @@
--- A snapshot of a sparse histogram has gone through all samples, and is answered.
+-- A snapshot of a sparse histogram has gone through all samples, and gets its answer.
 use Rattle.std.proofs.Common.{◌≡◌, ◌≢◌, ℕ, ◌+◌, ◌≤◌, ℤ, true, true≢false, map, List, Some, inl, inr, ⊎_elim, refl, sym, ap, subst, ◌∙◌}
 use Rattle.std.specs.Int.{cast_signed, cast_unsigned, w64}
 use Rattle.std.specs.List.{All, Contains}

@@ -1,4 +1,4 @@
--- What a recorder saw since its call began to look it has still seen when the call went on.
+-- What a recorder saw since its call began to look it has still seen when the call has continued.
 use Rattle.std.proofs.Common.{ℕ, ◌≤◌, ℤ, List, length, ap}
 use Rattle.segment_machine.specs.declared.actor.Actor.{Actor}
 use Rattle.segment_promises.specs.Calls as calls
@@ -9,7 +9,7 @@ use Rattle.live_segment.specs.List.Values.{OnlySeesMore}
 pub began : (a : Actor) → a.since.singles ≤ length a.seen.singles → a.since.counts ≤ length a.seen.counts → calls.BeganBefore a
 began a singles counts = record { singles = singles; counts = counts }
 
--- a delta that went on has seen no less
+-- a delta that has continued has seen no less
 pub takes_sees : (a b : Actor) (more : List (ℤ × ℕ)) → TakesOn more a b → calls.SeesMore a b
 takes_sees a b more on = sees_more a b (ap (λ (x : Actor). x.segment) on.view) (ap (λ (x : Actor). x.since) on.view) on.seen
 

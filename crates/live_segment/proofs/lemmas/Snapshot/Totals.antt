@@ -18,7 +18,7 @@ use Rattle.live_segment.specs.Holders.{MayStep}
 use Rattle.live_segment.specs.Snapshot.Counts.{StandsAt, MayLookAt, HasLookedAt}
 use Rattle.live_segment.specs.Steps.{Pass, IsSame, Stepped}
 
--- a recorder that has loaded a count stands at the same counts
+-- a recorder that has loaded a count is at the same counts
 stands_on : (a : Actor) (look : Look) (known : Known) (at found : ℕ) → StandsAt a look known
     → StandsAt (next a (taking_event (load_count at)) found) look known
 stands_on a look known at found stands =

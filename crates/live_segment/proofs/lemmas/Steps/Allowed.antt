@@ -29,7 +29,7 @@ module _ (given : Opening) (slots id : ℕ) (me : Sat) (word : ℕ) (records : i
       let (view, act, valid, holds, told) = does (event at) is ready s run wide mine small in
       (view, act, valid, holds, λ y same. subst (λ (x : ℕ). Does (event x) me (slice_index s.words word) (view, carried_after me.1 act)) (one y same) told)
 
-  -- the free pointer is exchanged, for a block that is said to want so many words
+  -- the free pointer is exchanged, for a block that needs as many words as announced
   pub raises : (old new words : ℕ) → word ≡ spot given.setting.shape.size (allocating_event (exchange_free old new words)) + 1
       → Ready me.0 (allocating_event (exchange_free old new words))
       → Allows (Runs given) slots id me word (change given.setting.version (allocating_event (exchange_free old new words)))

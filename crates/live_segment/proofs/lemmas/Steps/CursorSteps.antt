@@ -42,9 +42,9 @@ module _ (given : Opening) (slots id : ℕ) (me : Sat) (word : ℕ) (records : i
       let fits = run.running.kept.each id me.0 (ap (λ list. get_elem? list id) (sym run.running.views) ∙ mine) live in
       (view, act, valid, holds, (told, fits.ahead.many ∙ sym fits.numbered))
 
--- ---- the segment beside its cursors
+-- ---- the words of the segment, apart from its cursors
 
--- where a number behind them changes, the words of a segment stay
+-- if a number after them changes, the words of a segment stay the same
 words_stay : (words others shared more all : List ℕ) (anchor other word n : ℕ) → all ≡ anchor ∷ words ++ shared → set all word n ≡ other ∷ others ++ more
     → length words ≡ length others → length words < word → words ≡ others
 words_stay words others shared more all anchor other word n were are long behind = ext_get_or 0 words others long
@@ -56,7 +56,7 @@ words_stay words others shared more all anchor other word n were are long behind
 
 -- ---- in order
 
--- what an exchange leaves as it was
+-- what an exchange leaves unchanged
 after_role : (took : Bool) (a : Actor) (cursor new found : ℕ) → (after_cursor took a cursor new found).role ≡ a.role
 after_role true a cursor new found = refl
 after_role false a cursor new found = refl
@@ -88,7 +88,7 @@ module _ (shape : Dimensions) (opened others : Anatomy) (before after : State) (
   )
 
 module _ (given : Opening) (slots id : ℕ) (me : Sat) (word : ℕ) (records : is_opener me.0.role ≡ false) where
-  -- a cursor is moved on, or comes too late
+  -- a cursor is moved, or its exchange comes too late
   pub moves_cursor : (old new cursor : ℕ) → word ≡ spot given.setting.shape.size (cursor_event (move_cursor cursor old new)) + 1
       → ((y : ℕ) → word ≡ spot me.0.segment.shape.size (cursor_event (move_cursor y old new)) + 1 → cursor ≡ y)
       → Ready me.0 (cursor_event (move_cursor cursor old new))

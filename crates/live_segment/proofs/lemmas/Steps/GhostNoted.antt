@@ -1,4 +1,4 @@
--- A step with notes keeps the rule, and tells what any account of it says, since one account alone fits it.
+-- A step with notes keeps the rule, and reports what any account of it says, since only one account fits it.
 use Rattle.std.proofs.Common.{◌≡◌, ℕ, ◌+◌, ◌≤◌, false, List, [], ◌∷◌, ⊎_elim, sym, ap, ◌∙◌, subst, slice_index, arith, Option, Some, w64}
 use Rattle.std.specs.Int.{cast_unsigned, cast_signed}
 use Rattle.std.proofs.lemmas.Int.{to_z-of_z}
@@ -27,16 +27,16 @@ use Rattle.live_segment.proofs.lemmas.Steps.Allowed.{does}
 
 -- ---- one account fits
 
--- a histogram that is known alone by its reference
+-- a histogram that is the only known one with its reference
 pub one_known : (a : Actor) (x y : Known) → x.reference ≡ y.reference → KnowsAlone a x → KnowsAlone a y → x ≡ y
 one_known a x y same one other =
     let both : Some x ≡ Some y = sym one ∙ (ap (known_at a.answers.names) same ∙ other) in cc
 
--- units and a bucket make one packed word alone
+-- a packed word has only one bucket and one number of units
 one_word : (b c j k : ℕ) → j ≤ 65535 → k ≤ 65535 → packed_word b j ≡ packed_word c k → (b ≡ c) × (j ≡ k)
 one_word b c j k small few same = (omega arith, omega arith)
 
--- an exchange packs one bucket's units alone
+-- an exchange packs the units of only one bucket
 one_packing : (b c k l old new : ℕ) → IsPacking b k old new → IsPacking c l old new → (b ≡ c) × (k ≡ l)
 one_packing b c k l old new (few, first) (small, second) =
     ⊎_elim
@@ -57,7 +57,7 @@ one_packed a word old new x y here there (_, knows, packs) (_, known, packed) =
     let parts = one_packing x.bucket y.bucket x.units y.units old new packs packed in
     (λ i. record { known = same i; bucket = parts.0 i; units = parts.1 i })
 
--- a place looks at one histogram alone
+-- a place looks at only one histogram
 abbrev looks : Place → Option Look
 looks (Looking look) = Some look
 looks _ = Option.None
@@ -122,7 +122,7 @@ module _ (given : Opening) (slots id : ℕ) (me : Sat) (word : ℕ) (records : i
             (λ i. (where_is i, which i)) told,
       )
 
--- a step of a recorder's seat on a word that stands so far behind where it happens
+-- a step of a recorder's seat on a word at an offset from where it happens
 module _ (segment : Segment) {seat : Pass} {slots word : ℕ} (id offset : ℕ) (event : ℕ → Event) (at : ℕ) (here : word ≡ at + offset + 1) where
   -- its notes are the same wherever it happens
   pub tells_at : {before behind : List Note} → MayDo seat before (event at) behind

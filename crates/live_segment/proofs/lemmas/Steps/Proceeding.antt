@@ -1,4 +1,4 @@
--- A call of a recorder goes on, step by step.
+-- A call of a recorder continues, step by step.
 use Rattle.std.proofs.Common.{ℕ, ◌+◌, ◌==◌, List, ◌++◌, refl, ap, ◌∙◌, arith}
 use Rattle.segment_machine.specs.declared.actor.Actor.{Actor}
 use Rattle.segment_machine.specs.declared.actor.Done.{Done}
@@ -15,7 +15,7 @@ use Rattle.live_segment.specs.Add.Progress.{FrameOfCall, LooksOn}
 pub does_not : (a : Done) → DoesOn a a
 does_not a = record { same = refl; claimed = grows_not a.claimed; raised = grows_not a.raised; published = grows_not a.published; filled = λ e. e; lacked = grows_not a.lacked; spoiled = λ e. refl }
 
--- it has come to more of what it sees
+-- what it has seen has grown
 pub sees_lists : (a : Seen) {chain ends tails : List ℕ} {singles counts words cursors : List Sighting} → Grows a.chain chain → Grows a.ends ends
     → Grows a.tails tails → Grows a.singles singles → Grows a.counts counts → Grows a.words words → Grows a.cursors cursors
     → SeesOn a (record a { chain = chain; ends = ends; tails = tails; singles = singles; counts = counts; words = words; cursors = cursors })
@@ -87,7 +87,7 @@ sees_on a b c first second = record {
   cursors = grows_on a.cursors b.cursors c.cursors first.cursors second.cursors;
 }
 
--- ---- a call that goes on
+-- ---- a call that continues
 
 pub proceeds_on : (a b c : Actor) → FrameOfCall a b → FrameOfCall b c → FrameOfCall a c
 proceeds_on a b c first second = record {

@@ -7,10 +7,10 @@ use Rattle.live_segment.specs.Steps.{Does, Pass, Stepped}
 use Rattle.live_segment.specs.Steps.GhostNotes.{Noted}
 
 module _ {old new : Pass} {event : Event} {found : ℕ} (table : new.table_id ≡ old.table_id) (id : new.id ≡ old.id) where
-  -- of an event alone
+  -- for an event without notes
   pub stepped : Does event old.me found new.me → Stepped old event found new
   stepped (view, slots, learned) = record { same = (table, id, slots); view = view; learned = learned }
 
-  -- and of one with notes before and behind it
+  -- and for one with notes before and after it
   pub noted : {before behind : List Note} → GhostNoted before event (λ n. behind) old.me found new.me → Noted old before event behind found new
   noted (view, slots, learned) = record { same = (table, id, slots); view = view; learned = learned }

@@ -1,4 +1,4 @@
--- The histograms so far are readable; and where one is not, they are not all.
+-- The histograms so far are readable; and if one is not, not all are.
 use Rattle.std.proofs.Common.{rules, ◌<◌, ℕ, List, get_or, length, map, arith, refl, sym, subst, ◌∙◌}
 use Rattle.std.specs.List.{All}
 use Rattle.std.proofs.lemmas.List.{get_or-map, length-map, take_all}
@@ -12,7 +12,7 @@ use Rattle.live_texts.proofs.readable.are_readable.Goals as goal
 abbrev can_be : HistReading → Type 0
 can_be hist = IsReadable (histogram_view hist)
 
--- each of the code's histograms is readable where all of their views are
+-- each of the code's histograms is readable if all of their views are
 one_of_all : (hists : List HistReading) (i : ℕ) (hist : HistReading) → i < length hists → All IsReadable (map histogram_view hists)
     → can_be (get_or hists i hist)
 one_of_all hists i hist below all =

@@ -11,7 +11,7 @@ use Rattle.segment_machine.specs.declared.actor.Actor.{Actor}
 use Rattle.segment_machine.specs.Entry.{batch_cost}
 use Rattle.live_segment.specs.Add.Batch.{batch_checks}
 
--- where no item is without units, each has some
+-- if no item is without units, each has some
 all_some : (items : List (ℤ × ℕ)) → list_any (λ item. item.1 == 0) items ≡ false → All (λ item. 1 ≤ item.1) items
 all_some [] none = All-nil _
 all_some (x ∷ xs) none =
@@ -30,7 +30,7 @@ passed a items sum none =
     let (some, enough) = neither (list_any (λ item. item.1 == 0) items) (nat_lt a.units.share (batch_cost items sum)) ZeroCount NoUnits none in
     (all_some items some, ltb-false a.units.share (batch_cost items sum) enough)
 
--- what is answered where the checks pass, and where one of them fails
+-- what is returned if the checks pass, and if one of them fails
 pub passes_all : (a : Actor) (items : List (ℤ × ℕ)) (sum : ℤ) (P : Type 0) (Q : Refusal → Type 0) → first_fault (batch_checks a items sum) ≡ None → P
     → MatchOption (first_fault (batch_checks a items sum)) P Q
 passes_all a items sum P Q none p = subst (λ (o : Option Refusal). MatchOption o P Q) (sym none) p

@@ -15,7 +15,7 @@ use Rattle.live_segment.specs.Alloc.Claims.{ClaimsAtMostOne, ClaimsFor, ClaimsFo
 use Rattle.live_segment.specs.Steps.GhostNotes.{Noted}
 use Rattle.live_segment.specs.Steps.{Pass, Stepped}
 
--- units are noted, and the call goes on or ends
+-- units are noted, and the call continues or ends
 pub keeps_noted : (histogram units found : ℕ) (old new : Pass) → Stepped old (counting_event (add_redundant histogram units)) found new
     → KeepsBlocks old.me.0 new.me.0
 keeps_noted histogram units found old new step =
@@ -26,7 +26,7 @@ pub keeps_last : (histogram units found : ℕ) (old new : Pass) → Noted old []
 keeps_last histogram units found old new noted =
     subst (KeepsBlocks old.me.0) (sym noted.view) (record { segment = refl; done = refl; own = refl; chain = refl; words = refl; ends = grows_not old.me.0.seen.ends })
 
--- one item more
+-- one more item
 pub each_more : (known : Known) (items : List (ℤ × ℕ)) (item : ℤ × ℕ) (a b c : Actor) → ClaimsForEach known items a b → ClaimsFor known item.0 b c
     → ClaimsForEach known (items ++ item ∷ []) a c
 each_more known [] item a b c same claims = (c, subst (λ (x : Actor). ClaimsFor known item.0 x c) same claims, refl)

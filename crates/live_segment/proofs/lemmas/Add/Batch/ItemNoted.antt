@@ -1,4 +1,4 @@
--- An item that is counted is noted: its units are added to the redundant count, its entry has ended, and its call goes on.
+-- An item that is counted is noted: its units are added to the redundant count, its entry has ended, and its call continues.
 use Rattle.std.proofs.Common.{◌≡◌, ℕ, ◌+◌, not, true, false, ℤ, List, [], ◌∷◌, ◌++◌, filter, refl, sym, ap, ◌∙◌, subst}
 use Rattle.segment_machine.specs.declared.actor.Actor.{Actor}
 use Rattle.segment_machine.specs.declared.actor.Known.{Known}
@@ -32,7 +32,7 @@ module _ (known : Known) (value : ℤ) (units : ℕ) (old mid : Pass) (may : Cou
   pub waits : EntryWaits (noted_by old.me.0 (entry_notes old.me.0 entry)) entry
   waits = then_waits old.me.0 known entry may
 
-  -- its entry is counted, behind those that have ended
+  -- its entry is counted, after those that have ended
   pub runs_counted : mid.me.0.entries.running ≡ waits.before ++ last ∷ []
   runs_counted =
       ap (λ e. e.running) has.entries_are

@@ -1,4 +1,4 @@
--- The entries of a batch's items: what they add up to, and that a call which holds their units may go on with one more.
+-- The entries of a batch's items: what they add up to, and that a call which holds their units may continue with one more.
 use Rattle.std.proofs.Common.{◌≡◌, ℕ, ◌+◌, ◌*◌, ◌<◌, ◌≤◌, not, Bool, true, false, if◌then◌else◌, ℤ, pos, List, [], ◌∷◌, ◌++◌, map, filter, length, take, get_or, All, refl, sym, ap, ◌∙◌, subst, arith}
 use Rattle.std.specs.Prelude.{unsigned_abs, fold, ◌+ℤ◌}
 use Rattle.std.specs.Ordering.{int_eq}
@@ -54,7 +54,7 @@ module _ (name boundaries : List ℕ) where
     amount = subst (λ (z : ℤ). unsigned_abs z ≤ 2147483648 * units_of items) (sym (items_amount items)) (omega arith);
   }
 
-  -- one more has its units more
+  -- one more item adds its units
   pub one_more : (items : List (ℤ × ℕ)) (item : ℤ × ℕ) → units_of (items ++ item ∷ []) ≡ units_of items + item.1
   one_more items item = let both = sum_by-append (λ (x : ℤ × ℕ). x.1) items (item ∷ []) in omega (arith, both)
 

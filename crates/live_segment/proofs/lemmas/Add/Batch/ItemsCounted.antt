@@ -57,7 +57,7 @@ module _ (known : Known) (item : ℤ × ℕ) (old a : Actor) (rest : IsAtRest ol
   abbrev entry : Entry
   entry = item_of known item.0 item.1
 
-  -- what a call holds that goes on
+  -- what a call that continues holds
   module _ (first : ℤ × ℕ) (behind : List (ℤ × ℕ)) (has : HasItems known (first ∷ behind) old a) where
     abbrev items : List (ℤ × ℕ)
     items = first ∷ behind

@@ -50,7 +50,7 @@ notes_refused : (before : List EntryProgress) (c : EntryProgress) → refusing_n
 notes_refused [] c = refl
 notes_refused (x ∷ xs) c = refl
 
--- what a call holds that has begun with one more
+-- what a call that has begun with one more holds
 pub holds_more : (name : List ℕ) (items : List (ℤ × ℕ)) (item : ℤ × ℕ) (u : Units)
     → holding name (items ++ item ∷ []) u
     ≡ record u { share = u.share - units_of (items ++ item ∷ []); held = record { name = name; units = units_of (items ++ item ∷ []) } ∷ [] }
@@ -65,7 +65,7 @@ pub record IsBack (known : Known) (items : List (ℤ × ℕ)) (old last new : Ac
   pub entries_are : new.entries ≡ record old.entries { log = old.entries.log ++ over known items; running = [] }
   pub else_as_last : new ≡ record last { units = new.units; entries = new.entries; since = new.since }
 
--- a call that held so many units notes that it is refused
+-- a call that held these units notes that it is refused
 module _ (known : Known) (items : List (ℤ × ℕ)) (old last new : Actor) (held k : ℕ) (running : List EntryProgress)
     (units_are : last.units ≡ record old.units { share = old.units.share - held; held = record { name = known.name; units = held } ∷ [] })
     (entries_are : last.entries ≡ record old.entries { running = running }) (first : take k running ≡ over known items) (least : units_of items ≤ held)

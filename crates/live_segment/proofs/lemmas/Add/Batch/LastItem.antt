@@ -31,7 +31,7 @@ use Rattle.live_segment.proofs.lemmas.Add.Batch.ItemsRefused.{holds_more}
 use Rattle.segment_promises.proofs.Growing.{grows_on}
 use Rattle.live_segment.proofs.lemmas.Steps.Proceeding.{proceeds_on}
 
--- no items and no sum are nothing
+-- a batch without a sum costs the units of its items
 pub cost_of_items : (items : List (ℤ × ℕ)) → batch_cost items (pos 0) ≡ units_of items
 cost_of_items items = omega arith
 

@@ -1,4 +1,4 @@
--- The sum of a batch is added behind its items, and the batch ends.
+-- The sum of a batch is added after its items, and the batch ends.
 use Rattle.std.proofs.Common.{◌≡◌, ◌≢◌, ℕ, ◌+◌, ◌-◌, ◌≤◌, not, ◌||◌, ◌&&◌, Bool, true, false, true≢false, if◌then◌else◌, ℤ, pos, List, [], ◌∷◌, ◌++◌, map, filter, All, refl, sym, ap, ◌∙◌, subst, arith}
 use Rattle.std.specs.Ordering.{int_eq}
 use Rattle.std.specs.Str.{bytes_eq}

@@ -1,4 +1,4 @@
--- A batch's sum behind its items: what their entries add up to, and what they cost.
+-- A batch's sum after its items: what their entries add up to, and what they cost.
 use Rattle.std.proofs.Common.{◌≡◌, ℕ, ◌+◌, ◌-◌, ◌*◌, ◌/◌, ◌≤◌, not, Bool, true, false, if◌then◌else◌, ℤ, pos, List, [], ◌∷◌, ◌++◌, map, filter, length, refl, sym, ap, ◌∙◌, subst, arith}
 use Rattle.std.specs.Prelude.{unsigned_abs, fold, ◌+ℤ◌}
 use Rattle.std.specs.Ordering.{int_eq}

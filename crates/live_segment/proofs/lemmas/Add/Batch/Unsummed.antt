@@ -1,4 +1,4 @@
--- A batch without a sum: its first items and its last one. Where the first ones are cut short, all of it is.
+-- A batch without a sum: its first items and its last one. If the first ones are cut short, all of it is.
 use Rattle.std.proofs.Common.{◌≡◌, ◌+◌, ◌-◌, ◌<◌, ◌≤◌, ℤ, pos, ℕ, List, [], ◌∷◌, ◌++◌, map, take, length, get_or, Bool, true, false, if◌then◌else◌, refl, sym, ap, ◌∙◌, subst, arith}
 use Rattle.std.specs.List.{All}
 use Rattle.std.proofs.Math.Seq.{take-length}
@@ -29,7 +29,7 @@ nothing : (b : Bool) → ◌≡◌ {A = ℕ} (if b then 0 else 0) 0
 nothing true = refl
 nothing false = refl
 
--- a batch of nothing is counted where nothing happens
+-- an empty batch is counted by doing nothing
 pub batched_none : (known : Known) (items : List (ℤ × ℕ)) (a : Actor) → length items < 1 → IsBatched known items (pos 0) a a
 batched_none known [] a none = record {
   logged = sym (append-nil (log_of a));

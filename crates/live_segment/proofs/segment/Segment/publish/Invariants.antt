@@ -5,7 +5,7 @@ use Rattle.live_segment.specs.List.Publish.{IsFilledAs}
 use Rattle.live_segment.proofs.lemmas.List.Published.{IsWaiting}
 use Rattle.live_segment.proofs.segment.Segment.publish.Given as goal
 
--- the block waits, filled as what is said
+-- the block waits, filled as what is announced
 abbrev pub invariant-loop-seat : goal.invariant-loop-seat
 invariant-loop-seat l = (made : Made) → asked_for l.said ≡ Some made → (is : IsFilledAs l.fn.seat.me.0 l.at made)
     → IsWaiting l.fn.seat l.seat l.at made is.own

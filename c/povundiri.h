@@ -57,7 +57,7 @@
 extern "C" {
 #endif
 
-/* A segment, a recorder, a sum, or nothing. It begins as zeros, and is so again when it is closed, joined or dropped. */
+/* A segment, a recorder, a sum, or nothing. It begins as zeros, and is zeros again when it is closed, joined or dropped. */
 struct povundiri_handle {
     bool full;
     void *at;
@@ -94,7 +94,7 @@ enum povundiri_kind {
 };
 
 /* How a histogram splits the values. The last three are for a linear one: the number of buckets counts the one below the minimum and the
- * one from the maximum on. Of a scale the last is its number of bits. The other kinds ignore them. */
+ * one from the maximum on. For a scale the last one is the number of bits. The other kinds ignore them. */
 struct povundiri_spec {
     uint32_t kind;
     uint32_t minimum;
@@ -114,7 +114,7 @@ struct povundiri_count {
     uint64_t count;
 };
 
-/* What a delta or a snapshot returns beside its counts. It is not the totals of a sum, which are a text. */
+/* What a delta or a snapshot returns along with its counts. These are not the totals of a sum, which are a text. */
 struct povundiri_totals {
     size_t length;      /* how many counts it wrote; on POVUNDIRI_SHORT, how many the array has to have room for */
     int64_t sum;
@@ -128,7 +128,7 @@ enum povundiri_status {
     POVUNDIRI_BAD_ROOM = 2,      /* the room is not aligned to 16, or no multiple of 16 bytes, or has none */
     POVUNDIRI_EMPTY = 3,         /* the handle holds nothing: it was never filled, or is closed, joined or dropped */
     POVUNDIRI_NOT_EMPTY = 4,     /* the handle that is to be filled holds something */
-    POVUNDIRI_OTHER_KIND = 5,    /* the handle is of another kind than is needed: a recorder's where a segment's is, and so on */
+    POVUNDIRI_OTHER_KIND = 5,    /* the handle is of another kind than the call needs: a recorder's instead of a segment's, and so on */
     POVUNDIRI_OTHER_SEGMENT = 6, /* the recorder is of another segment */
     POVUNDIRI_SHORT = 7,         /* the array is too short: the length that it needs is returned, and nothing was taken */
     POVUNDIRI_UNKNOWN = 8,       /* no call returned such a histogram to this recorder */
@@ -137,14 +137,14 @@ enum povundiri_status {
     POVUNDIRI_IN_USE = 11,       /* the segment has recorders */
     POVUNDIRI_LIST_ENDS = 12,    /* there is no record after the cursor yet */
     POVUNDIRI_NO_MEMORY = 13,    /* out of memory for a handle, a name, or a text */
-    POVUNDIRI_ELSEWHERE = 14,    /* the recorder's own segment has met it, by a call of another thread there: its handle is empty */
+    POVUNDIRI_ELSEWHERE = 14,    /* the recorder's own segment took it, in a call of another thread there: its handle is empty */
     POVUNDIRI_BUSY = 15,         /* another thread passes a recorder of the same segment at this moment, or somebody folds the same folder:
                                   * nothing has happened, try again */
     POVUNDIRI_SYSTEM = 16,       /* of files and folders: the system's fault, whose number (errno.h) is returned beside it */
     POVUNDIRI_TOO_MANY_KEYS = 17, /* the image has more keys than the caller allows, and is not reported */
     POVUNDIRI_BAD_PREFIX = 18,    /* no name of a metric may begin with the prefix */
     POVUNDIRI_TOO_MANY = 19,      /* a total of the sum would not fit: units, marks, redundant counts or images 64 bits, amounts 128 */
-    POVUNDIRI_BAD_TOTALS = 20,    /* the text is no totals; where a sum is to be written: it is not well formed, which no call makes it */
+    POVUNDIRI_BAD_TOTALS = 20,    /* the text is no totals; of a sum that is to be written: it is not well formed, which no call makes it */
 
     /* Why a call is refused. */
     POVUNDIRI_REFUSED_BAD_NAME = 101,
@@ -331,13 +331,13 @@ inline uint32_t povundiri_recorder(struct povundiri_handle *segment, uint32_t un
     return segment == out ? (uint32_t)POVUNDIRI_NOT_EMPTY : povundiri_proved_recorder(segment, units, out);
 }
 
-/* Lends a recorder so many more of its segment's units, which may be 0, while it runs: what the segment has left it may still spend then,
- * and nothing else changes. Its histograms keep their numbers. Also where the segment has 256 recorders. It asks for no memory.
- * Statuses: NULL, EMPTY, OTHER_KIND; REFUSED_NO_UNITS: the segment has fewer, whichever segment the recorder is of; OTHER_SEGMENT. Then
- * the recorder is in its handle as it was. Where two threads each lend or join a recorder of the other's segment at the same moment: a
- * lend that is done leaves a recorder of the segment in the handle, and that may be the one of the other thread; or it returns
- * ELSEWHERE, and the handle is empty: the recorder was joined to its own segment, or is in the other thread's handle. Either may return
- * BUSY, and so may one that lends rightly beside such a thread: nothing has happened. For a recorder that is passed with its own segment
+/* Lends a running recorder `units` more of its segment's units, or 0: it may spend these too, and nothing else changes. Its histograms
+ * keep their numbers. It works even if the segment has 256 recorders, and asks for no memory.
+ * Statuses: NULL, EMPTY, OTHER_KIND; REFUSED_NO_UNITS: the segment has fewer, whichever segment the recorder is of; OTHER_SEGMENT. After
+ * any of these the recorder is unchanged in its handle. If two threads each lend or join a recorder of the other's segment at the same
+ * moment: a lend that is done leaves a recorder of the segment in the handle, which may be the other thread's; or it returns ELSEWHERE,
+ * and the handle is empty: the recorder was joined to its own segment, or is in the other thread's handle. Either may return BUSY, and so
+ * may a correct lend that runs at the same time: nothing has happened. If the recorder is of the segment that it is passed with,
  * OTHER_SEGMENT and ELSEWHERE are never returned. NO_MEMORY is for 2^63 recorders of a segment, which no program has.
  * Keep: pointers; handles; turns: those of both; process. */
 POVUNDIRI_CHECKED
@@ -348,9 +348,10 @@ inline uint32_t povundiri_lend(struct povundiri_handle *segment, struct povundir
 }
 
 /* Takes a recorder back: its handle is empty then, and the units that it has left are the segment's.
- * Statuses: NULL, EMPTY, OTHER_KIND, OTHER_SEGMENT. Where one thread joins a recorder to a segment that is not its own while another
+ * Statuses: NULL, EMPTY, OTHER_KIND, OTHER_SEGMENT. If one thread joins a recorder to a segment that is not its own while another
  * joins any to the recorder's own: the first may return ELSEWHERE or DONE, and the recorder is joined to its own segment; either may
- * return BUSY, and nothing has happened. For a recorder that is passed with its own segment OTHER_SEGMENT and ELSEWHERE are never returned.
+ * return BUSY, and nothing has happened. If the recorder is of the segment that it is passed with, OTHER_SEGMENT and ELSEWHERE are never
+ * returned.
  * Keep: pointers; handles; turns: those of both; process. */
 POVUNDIRI_CHECKED
 inline uint32_t povundiri_join(struct povundiri_handle *segment, struct povundiri_handle *recorder) {
@@ -533,7 +534,7 @@ inline uint32_t povundiri_next_shared(struct povundiri_handle *recorder, size_t 
  * `words` are those of the segment, such as those of a mapped file from its byte 8 on: its own, or another process's. `length` is how many
  * may be read: at least as many as the segment has. `needed`, which may be null, is how many words the image has, also on SHORT.
  * Statuses: NULL; SHORT; NO_MEMORY; IMAGE_..: the header has this fault; ADOPT_OLD_VERSION: the segment is of version 1.
- * Keep: pointers, but that others may store to the words meanwhile, as recorders do; process. */
+ * Keep: pointers, except that others may store to the words meanwhile, as recorders do; process. */
 uint32_t povundiri_look(const uint64_t *words, size_t length, uint64_t *image, size_t image_length, size_t *needed) POVUNDIRI_CHECKED;
 
 /* The same of a segment by its handle, also of one in the heap.
@@ -549,8 +550,8 @@ inline uint32_t povundiri_segment_look(struct povundiri_handle *segment, uint64_
 /* ---- Readers ---- */
 
 /* The report of an image as CSV, without a zero byte at the end. Any words may be passed. `needed`, which may be null, is how many bytes it
- * has, also on SHORT. It needs as much memory as its output: a reading of the image, of at least 24 bytes for each key, and the report
- * beside it. A valid image of 8 MiB may have 65 million keys, 1.5 GiB, and a forged one may have a report of more than 5 GiB. For words
+ * has, also on SHORT. The memory that it needs grows with the output: a reading of the image, at least 24 bytes for each key, and the
+ * report as well. A valid image of 8 MiB may have 65 million keys, 1.5 GiB, and a forged one may have a report of more than 5 GiB. For words
  * that you do not trust, call povundiri_report_bounded.
  * Statuses: NULL; IMAGE_..: its header has this fault; IMAGE_NO_MEMORY, NO_MEMORY; SHORT.
  * Keep: pointers; process. */
@@ -577,8 +578,8 @@ inline uint32_t povundiri_report_bounded(const uint64_t *words, size_t length, c
 }
 
 /* The metrics of an image in the Prometheus text format, as `persist_report export` writes them. Their names begin with `prefix`, a letter
- * of ASCII or '_' and then such characters and digits, and with `povundiri` where it is null. Labels of all lines cannot be given here.
- * All else is as for povundiri_report; of words that you do not trust, ask povundiri_report_bounded first.
+ * of ASCII or '_' and then such characters and digits, or with `povundiri` if it is null. Labels for all lines cannot be given here.
+ * All else is as for povundiri_report; if you do not trust the words, call povundiri_report_bounded first.
  * Statuses: NULL; BAD_PREFIX; IMAGE_..: its header has this fault; IMAGE_NO_MEMORY, NO_MEMORY; SHORT.
  * Keep: pointers; process. */
 POVUNDIRI_CHECKED
@@ -591,8 +592,8 @@ inline uint32_t povundiri_export(const uint64_t *words, size_t length, const cha
 }
 
 /* The text of an image for people, of all its histograms, as `persist_report show` writes it: UTF-8 with a bar for each bucket that has
- * units. A line has `width` cells, and 80 where it is 0; what does not fit makes a longer line. All else is as for povundiri_report; of
- * words that you do not trust, ask povundiri_report_bounded first. The bars take three bytes for each cell.
+ * units. A line has `width` cells, or 80 if it is 0; what does not fit makes a longer line. All else is as for povundiri_report; if you do
+ * not trust the words, call povundiri_report_bounded first. The bars take three bytes for each cell.
  * Statuses: NULL; IMAGE_..: its header has this fault; IMAGE_NO_MEMORY, NO_MEMORY; SHORT.
  * Keep: pointers; process. */
 POVUNDIRI_CHECKED
@@ -622,9 +623,9 @@ inline uint32_t povundiri_sums_new(struct povundiri_handle *out) {
     return out == NULL ? (uint32_t)POVUNDIRI_NULL : povundiri_proved_sums_new(out);
 }
 
-/* Reads an image and adds it, under a number, which may be any. A text shows of each name the histograms of one spec: that which the image
- * with the least number has. Any words may be passed; of words that you do not trust, ask povundiri_report_bounded first, since a reading
- * takes at least 24 bytes for each key. On any status but DONE the sum is as it was.
+/* Reads an image and adds it under a number, which may be any. For each name, a text shows the histograms of one spec: that of the image
+ * with the least number. Any words may be passed; if you do not trust them, call povundiri_report_bounded first, since a reading takes at
+ * least 24 bytes for each key. On any status but DONE the sum is unchanged.
  * Statuses: NULL, EMPTY, OTHER_KIND; IMAGE_..: the header has this fault; IMAGE_NO_MEMORY, NO_MEMORY; TOO_MANY.
  * Keep: pointers; handles; turns; process. */
 POVUNDIRI_CHECKED
@@ -633,9 +634,9 @@ inline uint32_t povundiri_sums_add(struct povundiri_handle *sums, uint64_t numbe
     return povundiri_proved_sums_add(sums, number, (const uint64_t *)povundiri_address(words), length);
 }
 
-/* Adds the sum that a text says which povundiri_sums_totals or `persist_report report --totals` wrote. Any bytes may be passed. `line`,
- * which may be null, is the number of a line that is wrong, from 1, on BAD_TOTALS, and else 0. On any status but DONE the sum is as it was.
- * Which segments and which fold the text names, if any, is not kept.
+/* Adds the sum in a text that povundiri_sums_totals or `persist_report report --totals` wrote. Any bytes may be passed. `line`, which may
+ * be null, is the number of a line that is wrong, from 1, on BAD_TOTALS, and else 0. On any status but DONE the sum is unchanged. If the
+ * text names segments and a fold, these names are not kept.
  * Statuses: NULL, EMPTY, OTHER_KIND; BAD_TOTALS: these are no totals; NO_MEMORY; TOO_MANY.
  * Keep: pointers; handles; turns; process. */
 POVUNDIRI_CHECKED
@@ -652,9 +653,10 @@ inline uint32_t povundiri_sums_drop(struct povundiri_handle *sums) {
     return povundiri_drop(sums);
 }
 
-/* Adds another sum, which stays as it is; its images come behind. A sum may be added to itself. On any status but DONE both are as they were.
+/* Adds another sum, which stays as it is; its images come after those of this one. A sum may be added to itself. On any status but DONE
+ * both are unchanged.
  * Statuses: NULL, EMPTY, OTHER_KIND, NO_MEMORY, TOO_MANY.
- * Keep: pointers, but that both may be one handle; handles; turns: those of both; process. */
+ * Keep: pointers, except that both may be one handle; handles; turns: those of both; process. */
 POVUNDIRI_CHECKED
 inline uint32_t povundiri_sums_append(struct povundiri_handle *sums, struct povundiri_handle *other) {
     struct povundiri_handle copy = {false, NULL};
@@ -668,9 +670,9 @@ inline uint32_t povundiri_sums_append(struct povundiri_handle *sums, struct povu
     return status;
 }
 
-/* The report of a sum, as povundiri_report writes that of an image. Where it is of several images, lines follow that begin with '!images',
- * '!other' and a name that also has histograms of another spec, and '!left'. `needed`, which may be null, is how many bytes it has, also on
- * SHORT.
+/* The report of a sum, as povundiri_report writes that of an image. If the sum is of several images, lines follow that begin with
+ * '!images', '!other' and a name that also has histograms of another spec, and '!left'. `needed`, which may be null, is how many bytes the
+ * report has, also on SHORT.
  * Statuses: NULL, EMPTY, OTHER_KIND, NO_MEMORY, SHORT, BAD_TOTALS.
  * Keep: pointers; handles; turns; process. */
 POVUNDIRI_CHECKED
@@ -702,7 +704,7 @@ inline uint32_t povundiri_sums_export(struct povundiri_handle *sums, const char 
                                         needed != NULL ? needed : &own);
 }
 
-/* The text of a sum for people, with `width` cells in a line, 80 where it is 0, as povundiri_show writes that of an image.
+/* The text of a sum for people, with `width` cells in a line, 80 if it is 0, as povundiri_show writes that of an image.
  * Statuses: those of povundiri_sums_report.
  * Keep: pointers; handles; turns; process. */
 POVUNDIRI_CHECKED

@@ -64,9 +64,9 @@ constexpr Shape shape(std::uint64_t size, std::uint64_t page, std::uint64_t id =
     return {size, page, id, cursors, version};
 }
 
-// The shape of a segment in so many bytes, whose page and version are chosen; the id is the caller's. It has as few pages as hold these
-// bytes if a page has at most 4,096 words, all of one size, which is a multiple of 16 words; so it has at most the bytes, and less than 16
-// words for each page are left over. The shape is valid from 512 bytes to 8,388,608 (8 MiB); 'create' and 'open' refuse others with
+// The shape of a segment in 'bytes' bytes, with a page and a version that are chosen here; the id is the caller's. It has as few pages as
+// hold these bytes if a page has at most 4,096 words, all of one size, which is a multiple of 16 words; so it has at most 'bytes', and less
+// than 16 words for each page are left over. The shape is valid from 512 bytes to 8,388,608 (8 MiB); 'create' and 'open' refuse others with
 // OpenBadShape. From 32,768 bytes on, a histogram of 1,000 buckets fits in a page; below that a page is the whole segment.
 constexpr Shape shape_for(std::uint64_t bytes, std::uint64_t id = 0, std::size_t cursors = 0) noexcept {
     const std::uint64_t words = bytes / 8, pages = words / 4096 + (words % 4096 != 0);
@@ -484,7 +484,7 @@ private:
 
     using Counting = std::uint32_t (*)(povundiri_handle*, std::size_t, povundiri_count*, std::size_t, povundiri_totals*);
 
-    // By what is in this object itself: what it shares is beside the mutex, which others write.
+    // Reads only this object itself: what it shares is next to the mutex, which others write.
     bool is_own(Hist hist) const noexcept { return hist.tag_ == tag_ && generation_ == povundiri_fork_number; }
 
     // Why a call with a histogram of another recorder is refused.
@@ -868,7 +868,7 @@ inline std::string export_text(Span<const std::uint64_t> words, const char* pref
     return text;
 }
 
-// The text of an image for people, with 'width' cells in a line, 80 where it is 0 (povundiri_show).
+// The text of an image for people, with 'width' cells in a line, 80 if it is 0 (povundiri_show).
 [[nodiscard]] inline Status try_show_text(Span<const std::uint64_t> words, std::string& text, std::uint16_t width = 0) {
     text.resize(kUsualReport);
     return detail::filled(text, [&](char* data, std::size_t size, std::size_t* needed) {
@@ -899,7 +899,7 @@ public:
     }
     ~Sums() { reset(); }
 
-    // Begins anew, with no images.
+    // Begins again, with no images.
     void reset() noexcept { povundiri_sums_drop(&handle_); }
 
     // Adds an image (povundiri_sums_add): the words of one, or of a look.

@@ -4,9 +4,9 @@
 //     exposer.RegisterCollectable(metrics);                            // the exposer does not own it: keep 'metrics'
 //
 // It returns the families of Recording::prometheus, with all their values, of which those above 2^53 are rounded to doubles. The exposer may
-// ask from several threads. As long as it may ask, the Recording is not moved, assigned, ended or destroyed. Where there is no text, as on a
-// fault of the system or with a prefix that is none, it returns no family; std::bad_alloc is thrown. As each text is of the whole folder,
-// let one process of a folder be scraped.
+// ask from several threads. As long as it may ask, the Recording is not moved, assigned, ended or destroyed. If there is no text, as after a
+// fault of the system or with an invalid prefix, it returns no family; std::bad_alloc is thrown. As each text is of the whole folder, let
+// one process of a folder be scraped.
 #ifndef POVUNDIRI_COLLECTABLE_HPP
 #define POVUNDIRI_COLLECTABLE_HPP
 
@@ -92,7 +92,7 @@ private:
         return {};
     }
 
-    // A metric has all lines of one histogram, which stand together.
+    // A metric has all lines of one histogram, which follow one another.
     static prometheus::ClientMetric& metric_of(prometheus::MetricFamily& family, const Labels& labels) {
         if (family.metric.empty() || family.metric.back().label != labels) {
             family.metric.emplace_back();

@@ -66,7 +66,7 @@ enum povundiri_file_flag {
     POVUNDIRI_FILE_ANY_OWNER = 2,    /* the file may be another user's, who is trusted as well */
     POVUNDIRI_FILE_FOLLOW = 4,       /* the last part of the path may be a symbolic link */
     POVUNDIRI_FILE_KEEP_ON_FORK = 8, /* children of fork have the file, as povundiri_file_keep_on_fork says */
-    POVUNDIRI_FILE_EXISTING = 16     /* no file is made: ENOENT if there is none, also behind one that was set aside */
+    POVUNDIRI_FILE_EXISTING = 16     /* no file is made: ENOENT if there is none, also after one was set aside */
 };
 
 /* How a file is opened. All zeros, or a null in its place, are what is usual.
@@ -90,10 +90,10 @@ size_t povundiri_file_bytes(uint64_t words, size_t cursors);
  *
  * Returns 0, or the number of the system's fault (errno.h). Then nothing is open, and the bytes and the length of the file are unchanged. A
  * file that was made stays, empty: the next open takes it as new.
- *   EINVAL      bytes are 0, or more than of the largest segment; a flag or mode is not valid; `file` is open; the path is that of
- *               something that is no file, such as a directory, a pipe or a device
+ *   EINVAL      bytes are 0, or more than of the largest segment; a flag or mode is not valid; `file` is open; the path leads to
+ *               something that is no regular file, such as a directory, a pipe or a device
  *   EEXIST      the file is neither new nor a segment's: it is not touched
- *   EBUSY       somebody held its lock for 100 ms, in which it is tried again and again: a reader may probe for a moment
+ *   EBUSY       somebody held its lock for 100 ms, during which it was tried again and again: a reader may probe for a moment
  *   ELOOP       the last part of the path is a symbolic link
  *   EPERM       another user owns the file, or the group or others may write it
  *   EFBIG       the process may not write files of this length (RLIMIT_FSIZE)
@@ -198,7 +198,7 @@ uint32_t povundiri_open(const char *path, struct povundiri_shape shape, enum pov
  * and the file has to be readable, no more. The file holds a segment as povundiri_open makes it, or it is an image.
  *
  * POVUNDIRI_DONE: *image are the words of an image, for free(), and *length is how many. Else these are NULL and 0.
- *   POVUNDIRI_SYSTEM   *fault is the system's (errno.h): of opening or reading; EINVAL if the path is that of no regular file. Else *fault is 0
+ *   POVUNDIRI_SYSTEM   *fault is the system's (errno.h): of opening or reading; EINVAL if the path leads to no regular file. Else *fault is 0
  *   POVUNDIRI_NULL, POVUNDIRI_NO_MEMORY
  *   POVUNDIRI_IMAGE_..   the header has this fault; IMAGE_BAD_SIZE also if the file became shorter meanwhile
  *   POVUNDIRI_ADOPT_OLD_VERSION   the segment is of version 1

@@ -1,5 +1,5 @@
-/* The folder of recordings (povundiri_recording.h), for whoever reads it or keeps it small. Any process of the same user may do that, also
- * while others record.
+/* The folder of recordings (povundiri_recording.h), for programs that read it or keep it small. Any process of the same user may do that,
+ * also while others record.
  *
  *     recording           a regular file without bytes, which says what the folder is: without it a folder is no recording's
  *     0000000001.seg ..   segments in files (povundiri_file.h), each with an id of its own
@@ -33,12 +33,12 @@ extern "C" {
 
 /* The sum of all that a folder has: of its totals, and of a look at each segment that these do not name, under its number. `sums` is filled
  * with it, for povundiri_sums_report and its like, and ends by povundiri_sums_drop. What was counted before the call is in it, once, whatever
- * is begun or folded meanwhile: where a fold has ended, or a segment has gone, the folder is read again, sixteen times in all.
- * `left`, which may be null, is how many segments were left out, since their headers have a fault, or they are of version 1.
+ * is begun or folded meanwhile: if a fold has ended, or a segment is gone, the folder is read again, sixteen times in all.
+ * `left`, which may be null, is how many segments were left out because their headers have a fault or they are of version 1.
  *
  *   POVUNDIRI_NULL, POVUNDIRI_NOT_EMPTY (`sums`), POVUNDIRI_NO_MEMORY, POVUNDIRI_IMAGE_NO_MEMORY, POVUNDIRI_TOO_MANY
  *   POVUNDIRI_BAD_TOTALS   the file `totals` is damaged
- *   POVUNDIRI_BUSY         each of the sixteen times a fold has ended or a segment has gone meanwhile: try again
+ *   POVUNDIRI_BUSY         all sixteen times a fold ended or a segment went away meanwhile: try again
  *   POVUNDIRI_SYSTEM       *fault is the system's (errno.h), EINVAL also of a folder that is no recording's; else *fault is 0
  * On any but DONE `sums` holds nothing.
  * Keep: pointers; handles: `sums` begins as zeros; process. */
@@ -48,19 +48,19 @@ uint32_t povundiri_folder_sums(const char *folder, struct povundiri_handle *sums
  * holds stays. The totals are written whole and synced before any is removed, so a kill at any moment, or a crash of the machine, loses
  * nothing that is in them, and nothing is counted twice. `folded`, which may be null, is how many were added, also on a fault, if some were
  * before it: 256 are added at once, or as many as the process may open, each of them open until it is removed, and then the next ones. So
- * where the process may open fewer, its other threads can open nothing meanwhile.
+ * if the process may open fewer, its other threads can open nothing meanwhile.
  * A segment whose header has a fault, that may not be read, or with which a total would not fit, stays. Of one whose list of records is
  * damaged, what can be read is added, as in a report.
  *
  *   POVUNDIRI_NULL, POVUNDIRI_NO_MEMORY, POVUNDIRI_IMAGE_NO_MEMORY
  *   POVUNDIRI_BAD_TOTALS   the file `totals` is damaged: nothing was done
  *   POVUNDIRI_BUSY         somebody else folds
- *   POVUNDIRI_SYSTEM       *fault is the system's (errno.h), EINVAL also of a folder that is no recording's, EMFILE where the process may not
- *                          open four files, EFBIG where it may not write totals of that length; else *fault is 0
+ *   POVUNDIRI_SYSTEM       *fault is the system's (errno.h), EINVAL also of a folder that is no recording's, EMFILE if the process may not
+ *                          open four files, EFBIG if it may not write totals of that length; else *fault is 0
  * Keep: pointers; process. */
 uint32_t povundiri_folder_fold(const char *folder, uint64_t *folded, int *fault) POVUNDIRI_CHECKED;
 
-/* How many segments stand in a folder, whatever folder it is: files whose names are those of segments. Returns 0, or the system's fault
+/* How many segments are in a folder, whatever folder it is: files whose names are those of segments. Returns 0, or the system's fault
  * (errno.h), which is EINVAL for a null; then *segments is of no use.
  * Keep: pointers; process. */
 int povundiri_folder_count(const char *folder, uint64_t *segments) POVUNDIRI_CHECKED;
@@ -79,7 +79,7 @@ struct povundiri_owned {
 
 /* What a start has found in a folder. */
 struct povundiri_found {
-    struct povundiri_owned *newest;       /* the newest segment, if it is continued, or begun where nothing was begun before; else null */
+    struct povundiri_owned *newest;       /* the newest segment, if it is continued, or begun because nothing was begun before; else null */
     bool is_adopted;                      /* it is continued */
     uint32_t refused;                     /* what is wrong with the image of the newest; else POVUNDIRI_DONE */
     char set_aside[POVUNDIRI_PATH_BYTES]; /* the new name of one whose header has a fault; else empty */
@@ -93,7 +93,7 @@ bool povundiri_folder_watch(void);
 int povundiri_folder_enter(const char *folder, char **absolute);
 
 /* Adopts the newest segment, if it is final, has this shape, units and room, and the totals do not name it; or makes one in its file, if
- * nothing was begun there. No file is made. POVUNDIRI_DONE also where neither is done; POVUNDIRI_NO_MEMORY; POVUNDIRI_SYSTEM and *fault: the
+ * nothing was begun there. No file is made. POVUNDIRI_DONE also if neither is done; POVUNDIRI_NO_MEMORY; POVUNDIRI_SYSTEM and *fault: the
  * folder could not be listed. */
 uint32_t povundiri_folder_adopt(const char *folder, struct povundiri_shape shape, struct povundiri_found *found, int *fault);
 

@@ -18,7 +18,7 @@ struct povundiri_held {
     int descriptor;
 };
 
-/* What stands in a folder. */
+/* What is in a folder. */
 struct povundiri_listing {
     uint64_t *numbers; /* of segments, ascending */
     size_t count, room;
@@ -44,7 +44,7 @@ struct povundiri_totals_file {
     uint64_t serial; /* 0: no fold made it */
 };
 
-/* The words of the image in a file, and how many; the words begin behind the first one. */
+/* The words of the image in a file, and how many; the words begin after the first one. */
 struct povundiri_image {
     uint64_t *bytes;
     const uint64_t *words;

@@ -1,4 +1,4 @@
-// How the calls of povundiri.hpp end that throw. The library has this compiled with exceptions; a program without them compiles this file
+// How calls of povundiri.hpp that throw end. The library has this compiled with exceptions; a program without them compiles this file
 // into itself, without them too.
 
 #include <cstdio>

@@ -1,4 +1,4 @@
-/* A recording: any thread counts samples at any time, through kills and restarts, into a folder, for as long as the device has room.
+/* A recording: any thread counts samples into a folder at any time, across kills and restarts, for as long as the device has room.
  *
  *     struct povundiri_recording *recording = NULL;
  *     struct povundiri_began began;
@@ -8,46 +8,46 @@
  *     povundiri_recording_add(recording, latency, elapsed_us, 1);       any thread; no lock in the usual sample
  *     status = povundiri_recording_export(recording, NULL, &text, &length, &fault);
  *
- * SEGMENTS have a fixed size and 4,294,967,295 units. A recording counts in one segment of the folder, its present one. Where that is full,
+ * SEGMENTS have a fixed size and 4,294,967,295 units. A recording counts in one segment of the folder, its present one. If that is full,
  * or has too few units left, it begins the next one and counts the same sample there. Others may record into the folder as well, each into
- * segments of its own. povundiri_folder.h says what stands there; povundiri_recording_fold keeps it small.
+ * segments of its own. povundiri_folder.h says what is in the folder; povundiri_recording_fold keeps it small.
  *
- * SIZE. All histograms that are in use have to fit in a segment together, and better many times. Where one of them finds no room in a segment
+ * SIZE. All histograms that are in use have to fit in a segment together, and better many times. If one of them finds no room in a segment
  * less than a second after this was begun, the next one is twice as large, and so are later ones of this recording, up to 8,388,608 bytes.
- * Where that is too small as well, one is begun each second, and what finds no room meanwhile is missed, as ROLLING. A histogram takes 15
- * words of 8 bytes, its name and, of a scale or a custom one, a word for each value; and for its counts 4 words and 2 for each bucket. Each
+ * If that is too small as well, one is begun each second, and what finds no room meanwhile is missed, as ROLLING. A histogram takes 15
+ * words of 8 bytes, its name and, for a scale or a custom one, a word for each value; and for its counts 4 words and 2 for each bucket. Each
  * value of a sparse histogram takes 8 words. So the usual 1 MiB has room for about 64 histograms like the one above, or 1,000 linear ones of
  * 50 buckets.
  *
  * THREADS need no handles, and all calls may come from any threads at any time. A thread gets a recorder when it first counts a sample or
- * asks for a histogram, and gives it back when it ends. A sample takes the recording's mutex where it is the first of its thread in a
- * segment, or the thread's first of a histogram there; where the thread borrows units, about 1,048,576 at once; where a segment is begun for
- * it; and where it is missed. All others take none. One of the threads that took it also makes the file of the segment after the present one,
- * a spare, if there is none. Above 250 threads further ones share a recorder, and each of their samples takes the mutex.
+ * asks for a histogram, and gives it back when it ends. A sample takes the recording's mutex if it is the first of its thread in a segment,
+ * or the thread's first of a histogram there; if the thread borrows units for it, about 1,048,576 at once; if a segment is begun for it; and
+ * if it is missed. All others take none. One of the threads that took it also makes the file of the segment after the present one, a spare,
+ * if there is none. Beyond 250 threads, further ones share a recorder, and each of their samples takes the mutex.
  *
  * WHAT COULD NOT BE COUNTED is counted, by reason: povundiri_recording_missed. It is in the texts of this process as well.
  *
- * SPECS. A histogram whose buckets change should get another name. Of a name with several specs, texts show the one that the oldest segment
+ * SPECS. A histogram whose buckets change should get another name. If a name has several specs, texts show the one that the oldest segment
  * had, also when that is folded; of the others the report has only how many units there are (!other), and the totals of
  * povundiri_recording_sums have all.
  *
  * USERS. The folder is made with mode 0700, and its files with 0600: it is for the processes of one user, also for folds. A segment that this
- * user may not read is a fault of each text; so are totals, such as those of a fold by root, and then no segment can be begun either. Only
- * users who are trusted like the program itself may write in the folder, or in those that it is in.
+ * user may not read is a fault of each text; so are totals that it may not read, such as those of a fold by root, and then no segment can be
+ * begun either. Only users who are trusted like the program itself may write in the folder, or in those that it is in.
  *
  * A KILL, exit and _exit lose no sample whose call had returned; a spare may be left, which the next open removes. A crash of the machine may
  * lose what no fold has synced.
  *
  * FORK. A child of fork has no part in the recordings of its parent: there each sample is missed, as FORKED, and povundiri_recording_end and
  * _leave do nothing. To count, the child opens a recording of its own, which may be in the same folder, and asks that for its
- * histograms. So 'process', which calls below ask to keep, lets a child of fork make calls here, and forbids them in signal handlers and in
- * handlers of pthread_atfork. _Fork and a raw clone are not seen: such a child makes no call.
+ * histograms. So 'process', which calls below ask to keep, allows calls in a child of fork here, and forbids them in signal handlers and
+ * in handlers of pthread_atfork. _Fork and a raw clone are not seen: such a child makes no call.
  *
- * ENDS. A recording's state is never freed, so a call after povundiri_recording_end is no fault: a sample is missed, as ENDED. A shared
- * object that this is linked into is linked with -z nodelete, since threads call it when they end.
+ * ENDS. A recording's state is never freed, so a call after povundiri_recording_end is no fault: a sample is missed, as ENDED. If this is
+ * linked into a shared object, link that with -z nodelete, since threads call it when they end.
  *
- * For Linux with glibc, and file systems with hard links and flock(2). Nothing here is proved; what it stands on is (povundiri.h), but the
- * files. */
+ * For Linux with glibc, and file systems with hard links and flock(2). Nothing here is proved; what it is built on is (povundiri.h), except
+ * the files. */
 #ifndef POVUNDIRI_RECORDING_H
 #define POVUNDIRI_RECORDING_H
 
@@ -66,7 +66,7 @@ struct povundiri_recording;
 /* All zeros, or a null in its place, are what is usual.
  *   bytes     that a segment has at most, from 512 to 8,388,608, until one is too small (SIZE, above); 0: 1 MiB. From 32,768 on, every
  *             histogram of 1,000 buckets fits in one
- *   fold_at   povundiri_recording_export folds first where so many segments or more stand; 0: 64; UINT64_MAX: never
+ *   fold_at   povundiri_recording_export folds first if the folder has this many segments or more; 0: 64; UINT64_MAX: never
  *   apart     the least nanoseconds from the beginning of a segment to that of the next one; 0: 1,000,000. The first segment of a recording
  *             may be followed at once. One of the largest size that has no room is not followed before a second has passed
  *   random    returns random numbers, for ids and names, another one each time; null: getrandom(2). Threads call it as they record, also
@@ -81,12 +81,12 @@ struct povundiri_recording_options {
 };
 
 /* How a recording began.
- *   number     that of its segment; 0: there is none yet, since none could be made. A sample tries it again, a second later at the earliest
+ *   number     that of its segment; 0: there is none yet, since none could be made. A sample tries again, a second later at the earliest
  *   adopted    whether that segment was in the folder before, and is continued
  *   refused    what is wrong with the image of the folder's newest segment, so that it is not continued (povundiri_adopt, povundiri_report);
- *              else POVUNDIRI_DONE, also where that segment is in use, full, or of another size or user
+ *              else POVUNDIRI_DONE, also if that segment is in use, full, or of another size or user
  *   fault      the system's (errno.h), if the status is POVUNDIRI_SYSTEM, or if no segment could be made; else 0
- *   set_aside  the new path of the newest segment, NUMBER.damaged, where its header has a fault; else empty */
+ *   set_aside  the new path of the newest segment, NUMBER.damaged, if its header has a fault; else empty */
 struct povundiri_began {
     uint64_t number;
     bool adopted;
@@ -126,13 +126,13 @@ enum povundiri_missed {
  * The newest segment of the folder is continued, if nobody records into it, it has the size that the options ask for, it is this user's, it
  * has units and was never full, and povundiri_adopt would take its image. Else the next one is begun; the newest stays, and is in the sum if
  * its header has no fault. So a restart continues where the process before stopped, unless segments had grown (SIZE, above), and a process
- * that starts beside it has its own segment.
+ * that starts while it runs has its own segment.
  *
- * POVUNDIRI_DONE: *recording is not null. It is so also where no segment can be made, as on a full disk: then began->fault says why, samples
- * are missed, as NO_SPACE, and it is tried again, a second later at the earliest. On any other status *recording is as it was, and on NULL and
- * NOT_EMPTY *began as well.
+ * POVUNDIRI_DONE: *recording is not null. This is returned also if no segment can be made, as on a full disk: then began->fault says why,
+ * samples are missed, as NO_SPACE, and it is tried again, a second later at the earliest. On any other status *recording is unchanged, and
+ * on NULL and NOT_EMPTY *began as well.
  *   POVUNDIRI_NULL (any but the options), POVUNDIRI_NOT_EMPTY (*recording), POVUNDIRI_NO_MEMORY, POVUNDIRI_OPEN_NO_MEMORY
- *   POVUNDIRI_OPEN_BAD_SHAPE   no segment has so many bytes
+ *   POVUNDIRI_OPEN_BAD_SHAPE   no segment has as many bytes as the options say
  *   POVUNDIRI_SYSTEM           began->fault says what: EEXIST: the folder is neither empty nor a recording's (povundiri_folder.h), and nothing
  *                              is changed in it; ENOTDIR: it is no folder;
  *                              ENOENT: that which it would be in is not there; ENAMETOOLONG, EACCES, EROFS and others as the calls say
@@ -140,7 +140,7 @@ enum povundiri_missed {
 uint32_t povundiri_recording_open(const char *folder, const struct povundiri_recording_options *options,
                                   struct povundiri_recording **recording, struct povundiri_began *began) POVUNDIRI_CHECKED;
 
-/* Ends it: from now on samples are missed, as ENDED. Texts, sums and folds are as before. With a null, or a second time, nothing happens.
+/* Ends it: from now on samples are missed, as ENDED. Texts, sums and folds work as before. With a null, or a second time, nothing happens.
  * This thread gives back what it has of the recording. A segment that others recorded into is final, so that a fold takes it, when each of
  * them has ended, or has called povundiri_recording_add or _leave once more.
  * Keep: process. */
@@ -148,7 +148,7 @@ void povundiri_recording_end(struct povundiri_recording *recording);
 
 /* ---- Samples ---- */
 
-/* For povundiri_recording_add alone: what the usual sample takes, and what to do where that is not DONE. */
+/* For povundiri_recording_add alone: what the usual sample takes, and what to do if that is not DONE. */
 uint32_t povundiri_recording_add_usual(struct povundiri_recording *recording, size_t metric, int32_t value, uint32_t count);
 bool povundiri_recording_add_other(struct povundiri_recording *recording, size_t metric, int32_t value, uint32_t count);
 
@@ -181,12 +181,12 @@ inline bool povundiri_recording_add(struct povundiri_recording *recording, size_
 }
 
 /* Gives back what this thread has of the recording. It is for a thread that has counted a sample, or asked for a histogram, and will count
- * none for long: when others begin the next segment, it holds the old one, which no fold takes then. Its next sample begins anew. With a
- * null nothing happens.
+ * none for a long time: otherwise it keeps its segment after others have begun the next one, and no fold can take that segment. Its next
+ * sample is like its first one again. With a null nothing happens.
  * Keep: process. */
 void povundiri_recording_leave(struct povundiri_recording *recording);
 
-/* How many units this process has missed for a reason since it opened the recording, or since it was forked. 0 of a null, and of what is
+/* How many units this process has missed for a reason since it opened the recording, or since it was forked. 0 for a null, and for what is
  * no reason.
  * Keep: process. */
 uint64_t povundiri_recording_missed(const struct povundiri_recording *recording, enum povundiri_missed reason);
@@ -199,17 +199,18 @@ uint32_t povundiri_recording_sums(struct povundiri_recording *recording, struct 
                                   int *fault) POVUNDIRI_CHECKED;
 
 /* Texts of the sum: its report as CSV, its metrics for Prometheus, and its text for people (povundiri_sums_report, _export, _show, which say
- * what `prefix` and `width` are). Behind each is what this process has missed, with a REASON in lower case, such as no_space:
+ * what `prefix` and `width` are). Each is followed by what this process has missed, with a REASON in lower case, such as no_space:
  *   report   !missed,REASON,UNITS for each reason with units; before that !left,SEGMENTS, if some were left out (povundiri_folder_sums)
  *   export   a counter, PREFIX_missed_total{reason="REASON"}, for each reason
  *   show     `missed, REASON: UNITS` for each reason with units
  *
  * A text is of the whole folder, so let one of the processes that record there be scraped. The flag `full` in it says that some segment was
- * full, which is how each one ends. A text takes no mutex of the recording, and reads each segment three times. An export folds first where
- * `fold_at` segments stand, and then waits for the device; whether that fold is done makes no difference to the text or the status.
+ * full, which is how each one ends. A text takes no mutex of the recording, and reads each segment three times. An export folds first if
+ * the folder has `fold_at` segments or more, and then waits for the device; whether that fold is done makes no difference to the text or
+ * the status.
  *
- * POVUNDIRI_DONE: *text is for free(), and has *length bytes and a zero behind them. Else it is null, and *length 0.
- *   those of povundiri_folder_sums, of which POVUNDIRI_SYSTEM sets *fault; of an export also POVUNDIRI_BAD_PREFIX
+ * POVUNDIRI_DONE: *text is for free(), and has *length bytes, with a zero after them. Else it is null, and *length 0.
+ *   those of povundiri_folder_sums, of which POVUNDIRI_SYSTEM sets *fault; for an export also POVUNDIRI_BAD_PREFIX
  * Keep: pointers; process. */
 uint32_t povundiri_recording_report(struct povundiri_recording *recording, char **text, size_t *length, int *fault) POVUNDIRI_CHECKED;
 uint32_t povundiri_recording_export(struct povundiri_recording *recording, const char *prefix, char **text, size_t *length,

@@ -77,7 +77,7 @@ public:
     }
     ~Recording() { end(); }
 
-    // Opens one in 'recording', which has to be empty: NotEmpty else, and it is unchanged. Where no fault is returned it holds a recording,
+    // Opens one in 'recording', which has to be empty: NotEmpty else, and it is unchanged. If no fault is returned, it holds a recording,
     // also if no segment could be made yet, as on a full disk: then 'began().fault' is not 0.
     [[nodiscard]] static std::error_code try_open(const char* folder, Recording& recording, const RecordingOptions& options = {}) noexcept {
         const std::uint32_t status = povundiri_recording_open(folder, &options, &recording.recording_, &recording.began_);
@@ -130,8 +130,8 @@ public:
         return all;
     }
 
-    // What the folder has: its report as CSV, its metrics for Prometheus, its text for people. They fail with Busy where folds have ended
-    // sixteen times meanwhile, and as povundiri_folder_sums says; 'prometheus' also with BadPrefix. Of 'try_prometheus' the text is unchanged
+    // What the folder has: its report as CSV, its metrics for Prometheus, its text for people. They fail with Busy if folds have ended
+    // sixteen times meanwhile, and as povundiri_folder_sums says; 'prometheus' also with BadPrefix. 'try_prometheus' leaves its text unchanged
     // then. A 'width' of 0 is 80 cells.
     std::string report() {
         return text("report",

@@ -130,7 +130,7 @@ public:
 };
 
 // Ends a call that throws, with its fault and what was asked. That of the library throws a Fault, or a std::system_error for a fault of the
-// system; where povundiri_raise.cpp is compiled without exceptions, it says so on the error stream and calls std::abort.
+// system; if povundiri_raise.cpp is compiled without exceptions, it reports this on the error stream and calls std::abort.
 [[noreturn]] void raise(std::error_code fault, const std::string& asked);
 
 }  // namespace povundiri

@@ -7,7 +7,7 @@ use Rattle.fault_texts.specs.declared.complaint.Complaint.TheVariants as complai
 use Rattle.fault_texts.specs.declared.complaint.RecordForm.{RecordForm}
 use Rattle.fault_texts.specs.declared.complaint.RecordForm.TheVariants.{Segment, Add, Delta, Hist, Alone, Linear, Custom}
 
--- whether a record of this form may have so many fields; of a histogram by itself not more is said than that it has a kind
+-- whether a record of this form may have this many fields; for a histogram by itself, this only says that it has a kind
 abbrev pub may_have : RecordForm → ℕ → Bool
 may_have Segment count = count == 4
 may_have Add count = count == 4
@@ -17,8 +17,8 @@ may_have Alone count = count == 3
 may_have Linear count = count == 6
 may_have Custom count = nat_le 4 count
 
--- what a complaint says of the fields is so: the field with this index is none that may stand there; there are not as many as the form has.
--- What it says of the records before is not looked at here.
+-- what a complaint says of the fields is true: the field with this index is not allowed there; or their number is not right for the form.
+-- What it says of the records before is not covered here.
 abbrev pub IsRightComplaint : List (List ℕ) → Complaint → Type 0
 IsRightComplaint fields (complaint.Field index wanted) = option_map (may_stand wanted) (field_at fields index) ≡ Some false
 IsRightComplaint fields (complaint.Count form) = may_have form (length fields) ≡ false

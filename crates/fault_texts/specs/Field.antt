@@ -1,4 +1,4 @@
--- What may stand in a field of a script.
+-- What may be in a field of a script.
 use Rattle.std.specs.Prelude.{Bool, ◌||◌, ℕ, List, codes, is_some}
 use Rattle.std.specs.Str.{bytes_eq}
 use Rattle.persist_report_core.specs.Number.{unsigned_number, long_number, signed_number}
@@ -15,7 +15,7 @@ abbrev pub is_kind : List ℕ → Bool
 is_kind field =
     bytes_eq field (codes "boolean") || bytes_eq field (codes "linear") || bytes_eq field (codes "custom") || bytes_eq field (codes "sparse")
 
--- whether the bytes may stand where this is wanted
+-- whether the bytes may be in a field that needs this
 abbrev pub may_stand : Wanted → List ℕ → Bool
 may_stand Word field = is_word field
 may_stand Kind field = is_kind field

@@ -4,7 +4,7 @@ use Rattle.segment_image.specs.declared.fault.ImageFault.{ImageFault}
 use Rattle.segment_image.specs.declared.fault.ImageFault.TheVariants.{TooShort, BadCookie, BadVersion, BadPage, BadSize, NotReady, Deleted, BadFree, BadQueue, BadRef, BadBlock, Loop, NoMemory}
 use Rattle.segment_image.specs.declared.layout.TheConstants.{COOKIE_WORD, VERSION_WORD, SIZE_WORD, PAGE_WORD, STATE_WORD, FREE_WORD, QUEUE}
 
--- the index of the word that has this fault, where one has it; of the queue block, that of the first of its three
+-- the index of the word that has this fault, if one has it; for the queue block, that of the first of its three words
 abbrev pub word_of : ImageFault → Option ℕ
 word_of TooShort = None
 word_of BadCookie = Some COOKIE_WORD

@@ -1,4 +1,4 @@
-//! What is told of an image that is recorded into again, and of the script that is to be recorded there.
+//! What is reported of an image in which recording is to continue, and of the script that is to be recorded there.
 
 use crate::damage::{bad_lines, stopped_lines};
 use crate::lines::{Source, image_lines, word_at};
@@ -12,8 +12,8 @@ use segment_image::layout::{
 };
 use std::alloc::{AllocError, Global};
 
-/// What is wrong with an image that may not be recorded into again: its word, its size or its record, as far as one of
-/// these tells it.
+/// What is wrong with an image in which recording may not continue: its word, its size or its record, if one of these
+/// shows it.
 pub fn adopt_lines(
     alloc: Global,
     base: Source<'_, '_>,
@@ -56,8 +56,8 @@ fn damage_lines(alloc: Global, base: Source<'_, '_>) -> Result<String, AllocErro
     }
 }
 
-/// What the image has that is recorded into again, where the record of the script with this number does not fit it: its
-/// segment, the spec that it gives a name, or the units that it has used.
+/// What the image in which recording is to continue has, if the record of the script with this number does not fit it:
+/// its segment, the spec that it gives a name, or the units that it has used.
 pub fn base_lines(
     alloc: Global,
     base: Source<'_, '_>,

@@ -1,4 +1,5 @@
-//! Which fault somebody asks for: by its name in any case, by the constant of its status in C, or by a name that is nearly that.
+//! Which fault somebody asks for: by its name in any case, by the constant of its status in C, or by a name that is
+//! close to one.
 
 use crate::c_table::C_TEXTS;
 use crate::table::{FaultText, TEXTS};
@@ -10,10 +11,10 @@ use strsim::levenshtein;
 // What the constants of statuses in C begin with.
 const LIBRARY: &str = "povundiri_";
 
-// What the constants then begin with that have the name of a fault behind it.
+// What then comes before the name of a fault in the constants that have one.
 const GROUPS: [&str; 5] = ["refused_", "open_", "adopt_", "spec_", "image_"];
 
-// The name of the fault that a constant of C stands for, both in small letters; the constant has no `povundiri_` in front.
+// The name of the fault that a constant of C means, both in small letters; the constant has no `povundiri_` in front.
 fn name_of_constant(alloc: Global, constant: &str) -> Result<String, AllocError> {
     match constant {
         "empty" => String::from_str(alloc, "emptyhandle"),
@@ -42,7 +43,7 @@ fn plain_name(alloc: Global, asked: &str) -> Result<String, AllocError> {
     }
 }
 
-// Puts the texts of a table at the end that have this name, in any case.
+// Appends the texts of a table that have this name, in any case.
 fn push_texts(
     alloc: Global,
     texts: &mut String,
@@ -66,8 +67,8 @@ fn push_texts(
     Ok(())
 }
 
-/// The texts of the faults that are asked for by this name, one after the other; none if no fault has it. A name may be in any case,
-/// may be the last of two words, and may be the constant of a status in C.
+/// The texts of the faults that are asked for by this name, one after the other; none if no fault has it. A name may be
+/// in any case, may be the last of two words, and may be the constant of a status in C.
 pub fn texts_for(alloc: Global, asked: &str) -> Result<Option<String>, AllocError> {
     let name = plain_name(alloc, asked)?;
     let mut texts = String::new(alloc);
@@ -106,7 +107,8 @@ fn nearer<'a>(
     Ok(near)
 }
 
-/// The name of a fault that differs least from what is asked for, in at most a third of its characters. None if there is no such name.
+/// The name of a fault that differs least from what is asked for, in at most a third of its characters. None if there
+/// is no such name.
 pub fn nearest_name(alloc: Global, asked: &str) -> Result<Option<&'static str>, AllocError> {
     let lower = asked.to_ascii_lowercase(alloc)?;
     let none = Near {

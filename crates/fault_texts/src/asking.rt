@@ -1,4 +1,4 @@
-//! Whether the lines that follow the line of a fault are asked for, where no word of the command line says so.
+//! Whether the lines that follow the line of a fault are asked for, if no word of the command line says so.
 
 use std::os::unix::fs::{FileTypeExt, MetadataExt};
 use std::rt::{Env, Files};
@@ -15,8 +15,8 @@ fn major(device: u64) -> u64 {
     device >> 8 & 0xfff
 }
 
-/// Whether the open file of the program with this path in `/proc/self/fd` is a terminal: a device of one of the kinds that Linux
-/// has for them. If the system does not say, it is none.
+/// Whether the open file of the program with this path in `/proc/self/fd` is a terminal: a device of one of the kinds
+/// that Linux has for them. If the system does not say, it is none.
 pub fn is_terminal_at<R: Files>(rt: &R, open: &str) -> bool {
     fs::metadata(rt, open).is_ok_and(|found| {
         found.file_type().is_char_device() && matches!(major(found.rdev()), 4 | 5 | 136..=143)

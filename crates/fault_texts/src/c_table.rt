@@ -1,4 +1,4 @@
-//! What those statuses of the calls from C and C++ mean that no other program prints, and what to do.
+//! What the statuses that only programs in C and C++ see mean, and what to do.
 
 /// Each status by the name that `povundiri_status_text` has for it, with what it means and what to do, as in `TEXTS`.
 pub const C_TEXTS: [(&str, &str, &str); 20] = [

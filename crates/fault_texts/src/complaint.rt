@@ -27,26 +27,26 @@ pub enum RecordForm {
 pub enum Complaint {
     /// The script has no record of that number.
     NoRecord,
-    /// The field with this index, from 0, is none that may stand there.
+    /// The field with this index, from 0, is not allowed there.
     Field { index: usize, wanted: Wanted },
-    /// It has not as many fields as its form.
+    /// Its number of fields is not right for its form.
     Count(RecordForm),
     /// It is the first record, and no `segment` record.
     NotFirst,
-    /// Its size and its page are no lawful shape.
+    /// Its size and its page are no valid shape.
     Shape,
-    /// Its shape is lawful, but not that of the image that is recorded into; or its id is another.
+    /// Its shape is valid, but not that of the image in which recording continues; or its id is another.
     OtherSegment,
     /// It is a `segment` record, and not the first.
     LateSegment,
-    /// It is a `hist` record behind an `add` or a `delta` record.
+    /// It is a `hist` record after an `add` or a `delta` record.
     LateHist,
     /// No `hist` record before it has its name.
     UnknownName,
 }
 
 impl RecordForm {
-    // Whether a record of this form may have so many fields.
+    // Whether a record of this form may have this many fields.
     fn may_have(self, count: usize) -> bool
         ensures { result ≡ may_have self count }
     {
@@ -60,7 +60,7 @@ impl RecordForm {
         }
     }
 
-    // The complaint where a record has not as many fields as this form.
+    // The complaint if the number of a record's fields is not right for this form.
     fn check(self, fields: &ByteRecord) -> Option<Complaint>
         ensures { IfSome result (IsRightComplaint (fields_of fields.now)) }
     {
@@ -72,7 +72,7 @@ impl RecordForm {
     }
 }
 
-// The complaint where a field is none that may stand there.
+// The complaint if a field is not allowed there.
 fn check(fields: &ByteRecord, index: usize, wanted: Wanted) -> Option<Complaint>
     ensures { IfSome result (IsRightComplaint (fields_of fields.now)) }
 {
@@ -119,7 +119,7 @@ fn check_hist(fields: &ByteRecord) -> Option<Complaint>
     }
 }
 
-/// Returns what is wrong with the form of a record by itself, which is so: the first field that may not stand there,
+/// Returns what is wrong with the form of a record by itself, which is true: the first field that is not allowed there,
 /// or that there are too many or too few.
 pub fn complaint_of(fields: &ByteRecord) -> Option<Complaint>
     ensures { IfSome result (IsRightComplaint (fields_of fields.now)) }

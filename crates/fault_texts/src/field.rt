@@ -1,4 +1,4 @@
-//! What may stand in a field of a script.
+//! What may be in a field of a script.
 
 ghost use Rattle.std.specs.Prelude.{◌≡◌};
 ghost use Rattle.fault_texts.specs.Field.{is_kind, is_word, may_stand};
@@ -6,7 +6,7 @@ ghost use Rattle.fault_texts.specs.Field.{is_kind, is_word, may_stand};
 use persist_report_core::{long_number, signed_number, unsigned_number};
 use std::fmt;
 
-/// What may stand in a field of a script.
+/// What may be in a field of a script.
 #[derive(Clone, Copy, Debug, PartialEq, Eq)]
 pub enum Wanted {
     /// The word with which a record begins.
@@ -42,7 +42,7 @@ fn is_kind(field: &[u8]) -> bool
 }
 
 impl Wanted {
-    /// Returns whether a field may stand there.
+    /// Returns whether a field is allowed there.
     pub fn allows(self, field: &[u8]) -> bool
         ensures { result ≡ may_stand self field.now }
     {

@@ -8,8 +8,8 @@ use segment_image::layout::{
     COOKIE_WORD, FREE_WORD, PAGE_WORD, QUEUE, SIZE_WORD, STATE_WORD, VERSION_WORD,
 };
 
-/// Returns the index of the word that has this fault, where one has it; of the queue block, that of the first of its
-/// three.
+/// Returns the index of the word that has this fault, if one has it; for the queue block, that of the first of its
+/// three words.
 pub fn word_of(fault: ImageFault) -> Option<usize>
     ensures { result ≡ word_of fault }
 {

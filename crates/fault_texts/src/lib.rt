@@ -1,9 +1,9 @@
 //! What faults mean, and what a fault of a script or of an image is about: its line and field, its word, its two specs.
 //!
 //! The texts are four tables: `TEXTS`, `TEXT_FAULTS` of texts that have families or several inputs, `WORLD_TEXTS` of
-//! `stepped`, and `C_TEXTS` of statuses that only programs in C see. What a complaint about a record says of its fields is
-//! so (`specs/Complaint.antt`), and a line of a file is one more than the line feeds before it. The lines themselves are
-//! only tested.
+//! `stepped`, and `C_TEXTS` of statuses that only programs in C see. Proved: what a complaint about a record says of
+//! its fields is true (`specs/Complaint.antt`), and a line of a file is one more than the line feeds before it. The
+//! lines themselves are only tested.
 #![tactic(auto)]
 
 mod adopting;

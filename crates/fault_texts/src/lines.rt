@@ -74,7 +74,7 @@ pub fn remedy_lines(alloc: Global, fault: &CliFault) -> Result<String, AllocErro
     remedy_lines_of(alloc, line.as_str())
 }
 
-/// The file of a device that failed, and the system's reason, where it gave one.
+/// The file of a device that failed, and the system's reason, if it gave one.
 pub fn device_lines(
     alloc: Global,
     origin: Origin<'_>,
@@ -86,7 +86,7 @@ pub fn device_lines(
     }
 }
 
-/// How many bytes of an input were read, where there are too many, or no whole words.
+/// How many bytes of an input were read, if they are too many, or no whole words.
 pub fn size_lines(alloc: Global, input: Source<'_, '_>) -> Result<String, AllocError> {
     format!(in alloc;
         "  {}: {} bytes were read\n",
@@ -149,8 +149,8 @@ impl fmt::Display for Finding {
     }
 }
 
-/// The line of the record of a script that has this number; and what is wrong with it, where it is a `BadLine`, or how many words it
-/// needs, where it is `TooLarge`.
+/// The line of the record of a script that has this number; and what is wrong with it if it is a `BadLine`, or how many
+/// words it needs if it is `TooLarge`.
 pub fn script_lines(
     alloc: Global,
     script: Source<'_, '_>,

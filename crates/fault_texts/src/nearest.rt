@@ -10,7 +10,7 @@ use std::alloc::{AllocError, Global};
 use std::str;
 use strsim::osa_distance;
 
-// So many names are near a name at most.
+// How many names are near a name at most.
 const MOST_NEAR: usize = 3;
 
 // A name of an image, and how many edits lead to it.
@@ -20,7 +20,7 @@ struct Near<'a> {
     name: &'a [u8],
 }
 
-// How many edits lead from one name to the other, where they are so many at most; a swap of neighbours is one.
+// How many edits lead from one name to the other, if they are no more than this bound; a swap of neighbours is one.
 fn edits_within(
     alloc: Global,
     from: &str,
@@ -34,7 +34,7 @@ fn edits_within(
     Ok(if edits <= most { Some(edits) } else { None })
 }
 
-// The names of a reading to which at most a third as many edits lead as the name has characters.
+// The names of a reading that are at most a third as many edits away as the name has characters.
 fn all_near<'a>(
     alloc: Global,
     reading: &'a Reading,
@@ -55,8 +55,8 @@ fn all_near<'a>(
     Ok(near)
 }
 
-/// Returns the names of a reading that are nearest to a name, three at most, the nearest first. To each lead at most a third as
-/// many edits as the name has characters.
+/// Returns the names of a reading that are nearest to a name, three at most, the nearest first. Each is at most a third
+/// as many edits away as the name has characters.
 pub fn names_near<'a>(
     alloc: Global,
     reading: &'a Reading,
@@ -70,7 +70,7 @@ pub fn names_near<'a>(
     near.iter().map(|one| one.name).collect(alloc)
 }
 
-// What is said of the names that are near.
+// What is reported of the names that are near.
 fn near_text(alloc: Global, names: &[&[u8]]) -> Result<String, AllocError> {
     let mut text = String::new(alloc);
     for name in names {

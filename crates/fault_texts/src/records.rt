@@ -1,4 +1,4 @@
-//! The records of a script, and where each stands in its file.
+//! The records of a script, and where each is in its file.
 
 ghost use Rattle.std.specs.Prelude.{◌≡◌, ◌+◌, ◌≤◌, ◌==◌, count_by, length, take, IfSome, IfOk};
 
@@ -7,18 +7,18 @@ use std::alloc::{AllocError, Global};
 use std::io;
 use std::io::Read;
 
-/// A record of a script, and where it stands.
+/// A record of a script, and where it is.
 #[derive(Drop)]
 pub struct ScriptRecord {
     /// Its fields.
     pub fields: ByteRecord,
-    /// How many bytes stand before it.
+    /// How many bytes are before it.
     pub start: usize,
-    /// Whether an `add` or a `delta` record stands before it.
+    /// Whether an `add` or a `delta` record comes before it.
     pub is_behind_calls: bool,
 }
 
-// A text that is read byte by byte: so it is known where a record ends.
+// A text that is read byte by byte, so that it is known where a record ends.
 #[derive(Drop)]
 struct Bytewise<'a> {
     text: &'a [u8],
@@ -46,7 +46,7 @@ fn records_of(alloc: Global, text: &[u8]) -> Reader<Bytewise<'_>> {
         .from_reader(alloc, Bytewise { text, taken: 0 })
 }
 
-// Whether there is a next record, whose fields are then these. Bytes in memory fail for want of memory alone.
+// Whether there is a next record, whose fields are then these. A read of bytes in memory fails only if memory runs out.
 fn next(records: &mut Reader<Bytewise<'_>>, fields: &mut ByteRecord) -> Result<bool, AllocError> {
     records.read_byte_record(fields).map_err(|_| AllocError)
 }
@@ -56,7 +56,7 @@ fn begins_with(fields: &ByteRecord, word: &[u8]) -> bool {
     fields.get(0).is_some_and(|first| first == word)
 }
 
-// Where the next record begins, so many bytes on: behind line ends, and behind a byte order mark at the start.
+// Where the next record begins after this many bytes: after line ends, and after a byte order mark at the start.
 fn start_of(text: &[u8], taken: usize) -> usize
     ensures { result ≤ length text.now }
 {
@@ -73,7 +73,7 @@ fn start_of(text: &[u8], taken: usize) -> usize
     text.len() - rest.len() + ends
 }
 
-/// The record of a script with this number, from 1, where there is one.
+/// The record of a script with this number, from 1, if there is one.
 pub fn record_of(
     alloc: Global,
     text: &[u8],
@@ -103,7 +103,7 @@ pub fn record_of(
     }))
 }
 
-/// Whether one of so many first records of a script is a `hist` record of the name.
+/// Whether one of the first `count` records of a script is a `hist` record of the name.
 pub fn is_named(alloc: Global, text: &[u8], count: u32, name: &[u8]) -> Result<bool, AllocError> {
     let mut records = records_of(alloc, text);
     let mut fields = ByteRecord::new(alloc);
@@ -125,7 +125,7 @@ fn line_feeds(text: &[u8]) -> usize
     text.iter().filter(|byte| **byte == b'\n').count()
 }
 
-/// Returns the line of a file in which a byte stands, from 1: one more than the line feeds before it.
+/// Returns the line of a file in which a byte is, from 1: one more than the line feeds before it.
 pub fn line_of(text: &[u8], start: usize) -> usize
     requires { start ≤ length text.now }
     ensures { result ≡ 1 + count_by (λ byte. byte == 10) (take start text.now) }

@@ -14,11 +14,11 @@ pub struct Finding {
     pub fields: ByteRecord,
     /// Its line in the file, from 1.
     pub line: usize,
-    /// What is wrong, where it is known.
+    /// What is wrong, if it is known.
     pub complaint: Option<Complaint>,
 }
 
-// Whether the size and the page of a `segment` record are a lawful shape.
+// Whether the size and the page of a `segment` record are a valid shape.
 fn has_shape(fields: &ByteRecord) -> bool {
     let (Some(size), Some(page)) = (fields.get(1), fields.get(2)) else {
         return false;
@@ -29,7 +29,7 @@ fn has_shape(fields: &ByteRecord) -> bool {
     Shape::of(u64::from(size), u64::from(page)).is_ok()
 }
 
-// What is wrong with the first record, whose form is lawful.
+// What is wrong with the first record, whose form is valid.
 fn misbegun(fields: &ByteRecord) -> Complaint {
     if fields.get(0) != Some(b"segment".as_slice()) {
         Complaint::NotFirst
@@ -40,7 +40,7 @@ fn misbegun(fields: &ByteRecord) -> Complaint {
     }
 }
 
-// What is wrong with the place of a record, whose form is lawful.
+// What is wrong with the place of a record, whose form is valid.
 fn misplaced(
     alloc: Global,
     text: &[u8],

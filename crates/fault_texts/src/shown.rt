@@ -3,13 +3,13 @@
 use bucket_ranges::Spec;
 use std::fmt;
 
-// So many bytes of a field are shown, and so many values of a custom spec.
+// How many bytes of a field are shown, and how many values of a custom spec.
 const MOST_BYTES: usize = 64;
 
 const MOST_VALUES: usize = 16;
 
-/// Bytes of a file: printable ASCII as it is, any other byte, backquotes and backslashes by their number. Of a long one the
-/// first 64 alone.
+/// Bytes of a file: printable ASCII as it is, any other byte, backquotes and backslashes by their number. Of a long
+/// field, the first 64 alone.
 #[derive(Clone, Copy)]
 pub struct Shown<'a>(pub &'a [u8]);
 
@@ -34,7 +34,7 @@ impl fmt::Display for Shown<'_> {
     }
 }
 
-/// A spec as the fields of a script have it. Of many custom values the first 16 alone.
+/// A spec as the fields of a script have it. Of many custom values, the first 16 alone.
 #[derive(Clone, Copy)]
 pub struct ShownSpec<'a>(pub &'a Spec);
 

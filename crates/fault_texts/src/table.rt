@@ -64,14 +64,14 @@ fn find_text<'a>(table: &'a [(&'a str, &'a str, &'a str)], name: &str) -> Option
     None
 }
 
-/// Returns the text of a fault of a world of `stepped` by its name, where there is one; it has that name.
+/// Returns the text of a fault of a world of `stepped` by its name, if there is one; it has that name.
 pub fn world_text(name: &str) -> Option<FaultText<'static>>
     ensures { IfSome result (λ text. text.name.now ≡ name.now) }
 {
     find_text(&WORLD_TEXTS, name)
 }
 
-/// Returns the text of a fault by its name, where there is one in `TEXTS` or `TEXT_FAULTS`; it has that name.
+/// Returns the text of a fault by its name, if there is one in `TEXTS` or `TEXT_FAULTS`; it has that name.
 pub fn fault_text(name: &str) -> Option<FaultText<'static>>
     ensures { IfSome result (λ text. text.name.now ≡ name.now) }
 {
@@ -81,8 +81,8 @@ pub fn fault_text(name: &str) -> Option<FaultText<'static>>
     }
 }
 
-/// Each fault by its name, with what it means and what to do: those of the program, of the header of an image, of what is
-/// refused, of specs, and of the lines of a report that begin with `!`.
+/// Each fault by its name, with what it means and what to do: those of the program, of the header of an image, of what
+/// is refused, of specs, and of the lines of a report that begin with `!`.
 pub const TEXTS: [(&str, &str, &str); 55] = [
     (
         "Read",

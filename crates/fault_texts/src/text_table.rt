@@ -1,4 +1,4 @@
-//! What the faults of a text mean that has families, or that is of several inputs, and what to do.
+//! What the faults of texts with families or of several inputs mean, and what to do.
 
 /// Each such fault by its name, with what it means and what to do, as in `TEXTS`.
 pub const TEXT_FAULTS: [(&str, &str, &str); 4] = [

@@ -1,4 +1,4 @@
-//! How many words a histogram needs that is too large for a page.
+//! How many words a histogram that is too large for a page needs.
 
 use crate::lines::{Source, word_at};
 use crate::records::record_of;
@@ -11,7 +11,7 @@ use segment_image::Shape;
 use segment_image::layout::{BLOCK_HEADER, MAX_PAGE, PAGE_WORD};
 use std::alloc::{AllocError, Global};
 
-// What the words of a histogram are that are more than a page has, after a colon; nothing if none are.
+// The words of the block of a histogram that does not fit in a page, after a colon; nothing if all fit.
 fn size_text(alloc: Global, page: u64, name: &[u8], spec: &Spec) -> Result<String, AllocError> {
     // In the largest page each histogram has room.
     let Ok(widest) = Shape::of(MAX_PAGE, MAX_PAGE) else {
@@ -46,7 +46,7 @@ fn page_of(alloc: Global, script: &[u8]) -> Result<Option<u32>, AllocError> {
     }
 }
 
-/// How many words the histogram of a script's record needs, after a colon, where these are more than a page has.
+/// How many words the histogram of a script's record needs, after a colon, if these are more than a page has.
 pub(crate) fn record_size_text(
     alloc: Global,
     script: &[u8],
@@ -64,7 +64,7 @@ pub(crate) fn record_size_text(
     }
 }
 
-/// How many words the histogram of DEAD needs at which a merge stopped, where these are more than a page of BASE has.
+/// How many words the histogram of DEAD at which a merge stopped needs, if these are more than a page of BASE has.
 pub fn merge_size_lines(
     alloc: Global,
     base: Source<'_, '_>,

@@ -1,4 +1,4 @@
--- What the image of a new segment reads as in which a script was run, and that of one which continues from an image.
+-- What the image of a segment in which a script was run reads as: of a new segment, and of one that continues from an image.
 use Rattle.std.proofs.Common.{◌≡◌, ℕ, ◌+◌, ℤ, List, [], map, false, Contains, sym, ap, ◌∙◌, refl, arith, ⊎_elim, inl, inr}
 use Rattle.std.specs.Prelude.{◌+ℤ◌, ◌⊎◌, pos}
 use Rattle.std.proofs.Math.IntN.{+ℤ_idl}

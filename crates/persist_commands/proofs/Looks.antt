@@ -1,4 +1,4 @@
--- What comes of three reads of a file that is in use.
+-- What results from three reads of a file that is in use.
 use Rattle.std.proofs.Common.{◌≡◌, ◌⊎◌, inl, inr, ℕ, List, Result, Ok, Err, MatchResult, refl, sym, ap}
 use Rattle.std.proofs.Common.{Option, Some, None, subst}
 use Rattle.std.specs.Prelude.{IfOk, IfErr, IfSome, IsErrOf, OnOk, ⊤, ◌↔◌}
@@ -15,7 +15,7 @@ pub look_taken : (IsLookAt : SegmentHead → Type 0) (made : Result SegmentHead 
 look_taken IsLookAt (Ok head) image e = (head, refl, e)
 look_taken IsLookAt (Err fault) image e = absurd (cc)
 
--- others have a fault, where there was memory
+-- others have a fault, unless memory ran out
 pub look_refused : (made : Result SegmentHead LookFault) (why : LookFault) (Same : LookFault → Type 0)
     → ((fault : LookFault) → Same fault → why ≡ fault) → MatchResult made (λ head. why ≡ NoMemory) Same
     → (why ≡ NoMemory) ⊎ (made ≡ Err why)
@@ -62,6 +62,6 @@ pub looks_well : (r : Result ⊤ CliFault) (P : Type 0) → IfErr r (λ fault. f
 looks_well (Ok x) P err none = (λ is. absurd (cc is), λ p. absurd (none p))
 looks_well (Err fault) P err none = (λ is. absurd (cc (is, err)), λ p. absurd (none p))
 
--- a call that returned tells of no failure
+-- a call that returned reports no failure
 pub not_told : {X : Type 0} (r : Result X CliFault) (x : X) (P : Type 0) → r ≡ Ok x → (IsErrOf r cli.Read ↔ P) → P → ⊥
 not_told r x P was told p = cc (was, told.1 p)

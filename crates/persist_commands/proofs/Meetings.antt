@@ -57,7 +57,7 @@ got_same zero i v y e = absurd (cc e)
 got_same (suc n) zero v y e = cc e
 got_same (suc n) (suc i) v y e = got_same n i v y e
 
--- a property of each element at its number, where one element was put at the end
+-- a property of each element at its number, if one element was put at the end
 pub each_pushed : {X : Type 0} (P : ℕ → X → Type 0) (xs : List X) (x : X) → ((k : ℕ) (d : X) → k < length xs → P k (get_or xs k d)) → P (length xs) x
     → (k : ℕ) (d : X) → k < length (xs ++ x ∷ []) → P k (get_or (xs ++ x ∷ []) k d)
 each_pushed P [] x each last zero d below = last

@@ -42,9 +42,9 @@ use Rattle.persist_commands.proofs.MergeFilled.{Lacks, counts_long, lacks_room, 
 
 -- ---- one histogram
 
--- It is asked for and counted after others that are merged, by a recorder that knows histograms of these alone. Since its segment was new and
--- only it recorded there, it saw no record of a name that it does not know with another spec, and no corrupt flag. Where a block passed the end,
--- there was no room.
+-- It is asked for and counted after others that are merged, by a recorder that knows histograms of these alone. Since its segment was new
+-- and only it recorded there, it saw no record of a name that it does not know with another spec, and no corrupt flag. If a block passed
+-- the end, there was no room.
 module _ (first : SegmentHead) (units : ℕ) (front : List Histogram) (h : Histogram) (old new : Actor)
     (knows : (known : Known) → Contains old.answers.names known → IsOneOf front known)
     (unseen : (asked : Asked) → FirstHasOtherSpec asked new → KnowsNone asked.name.items new → ⊥) (sound : new.seen.corrupt ≡ true → ⊥)

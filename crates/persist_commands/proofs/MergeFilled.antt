@@ -84,7 +84,8 @@ Lacks h a block =
 
 -- ---- a segment that is closed
 
--- One recorder had all units of a new segment, has merged some histograms, and has stopped at the next after this many items. It is joined, and the segment is closed.
+-- One recorder had all units of a new segment, has merged some histograms, and has stopped at the next after this many items. It is joined,
+-- and the segment is closed.
 module _ (setting : Setting) (front : List Histogram) (h : Histogram) (items : ℕ) (why : Refusal) (until last : Actor) (words : List ℕ)
     (merged : IsMerged front (newcomer (offering (first_view setting) 4294967295)) until) (stops : StopsAt h items why until last)
     (closed : IsClosed setting last words) where

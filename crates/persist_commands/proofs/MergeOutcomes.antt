@@ -1,4 +1,4 @@
--- What a merge of two images comes to, by how its parts ended.
+-- What a merge of two images results in, by how its parts ended.
 use Rattle.std.proofs.Common.{◌≡◌, ℕ, List, ◌++◌, Bool, true, false, Option, Some, None, Result, Ok, Err, inl, inr, ◌⊎◌, refl, sym, ap, subst}
 use Rattle.std.specs.Prelude.{MatchOption, ◌≢◌, ◌↔◌, ⊤, IfErr, IfSome, IsErrOf, OnOk, is_err}
 use Rattle.segment_image.specs.Checks.{first_fault}

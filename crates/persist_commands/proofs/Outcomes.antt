@@ -1,4 +1,4 @@
--- What a run of a script comes to, by how its parts ended.
+-- What a run of a script results in, by how its parts ended.
 use Rattle.std.proofs.Common.{◌≡◌, ◌⊎◌, ℕ, ◌-◌, ◌≤◌, Bool, true, false, List, length, Option, Some, None, Result, Ok, Err, inl, inr, refl, sym, ap, ◌∙◌, subst}
 use Rattle.std.specs.Prelude.{MatchResult, ◌≢◌, ◌↔◌, ⊤, IfErr, IfOk, IfSome, IsErrOf, OnOk}
 use Rattle.segment_image.specs.Head.{head_of}

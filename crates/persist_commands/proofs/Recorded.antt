@@ -1,4 +1,4 @@
--- What the image of a segment reads as in which a script was run, by what its opener stood for when it was opened.
+-- What the image of a segment in which a script was run reads as, by what its opener began with when it was opened.
 use Rattle.std.proofs.Common.{◌≡◌, ℕ, ◌+◌, ◌<◌, ◌≤◌, List, [], ◌∷◌, ◌++◌, map, length, All, Contains, take, refl, sym, ap, ◌∙◌, subst, arith, append_assoc, append-nil, ⊎_elim, inl, inr}
 use Rattle.std.specs.Prelude.{◌==◌, ◌%◌, ◌+ℤ◌, ◌||◌, ◌⊎◌, Bool, true, false, suc, ℤ, pos, if◌then◌else◌, sum_by, fold}
 use Rattle.std.specs.List.{flat_map, range_with_len}
@@ -73,7 +73,7 @@ entries_come_to add total is sums script workers some =
 
 -- ---- the marks
 
--- a list of which nothing comes is empty
+-- a list that maps to the empty one is empty
 nil_from_map : {X Y : Type 0} (f : X → Y) (xs : List X) → map f xs ≡ [] → xs ≡ []
 nil_from_map f [] is = refl
 nil_from_map f (x ∷ xs) is = cc is

@@ -10,7 +10,7 @@ use Rattle.persist_report_core.specs.Report.{AreWordsOf, IsCausedByImage}
 use Rattle.persist_report_core.specs.declared.fault.CliFault.{CliFault}
 use Rattle.persist_report_core.specs.declared.fault.CliFault.TheVariants.{Image, Adopt, NoMemory, Changed}
 
--- what tells a segment from another while it is in use: its cookie, version, size, page and id
+-- what distinguishes a segment from others while it is in use: its cookie, version, size, page and id
 abbrev pub identity : List ℕ → List ℕ
 identity words = take (ID_WORD + 1) words
 
@@ -31,7 +31,7 @@ pub record IsLookOfFiles (first second third words : List ℕ) : Type 0 where
   pub look_is : IsLook head one two three words
   pub same : AreOfOneSegment one two three
 
--- the fault of a call whose copies give no look; an old version is one in which nothing can be recorded again
+-- the fault of a call whose copies give no look; in an old version recording cannot continue
 abbrev pub fault_of_look : LookFault → CliFault
 fault_of_look (look.Image fault) = Image fault
 fault_of_look look.OldVersion = Adopt adopting.OldVersion
@@ -66,7 +66,7 @@ abbrev pub IsFaultOfCopies : List ℕ → List ℕ → List ℕ → CliFault →
 IsFaultOfCopies first second third fault =
     HaveNoLook first second third fault ⊎ ((fault ≡ Changed) × AreOfSeveral first second third)
 
--- A fault has its cause in the bytes of one read, or in all of them. Devices that fail and want of memory have none there.
+-- A fault has its cause in the bytes of one read, or in all of them. If a device fails or memory runs out, the cause is not there.
 abbrev pub IsFaultOfLook : List ℕ → List ℕ → List ℕ → CliFault → Type 0
 IsFaultOfLook first second third fault =
     IsCausedByImage first fault ⊎ (IsCausedByImage second fault ⊎ (IsCausedByImage third fault ⊎ IsFaultOfCopies first second third fault))

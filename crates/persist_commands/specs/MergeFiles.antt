@@ -34,8 +34,8 @@ pub record AreImageBytes (bytes : List ℕ) (head : SegmentHead) (reading : Read
 abbrev pub IsImage : List ℕ → Type 0
 IsImage bytes = (head : SegmentHead) × (reading : Reading) × AreImageBytes bytes head reading
 
--- words are the image that a merge of two images writes: of the size, the page and the id of the first, with the histograms of the first and
--- then of the second
+-- words are the image that a merge of two images writes: of the size, the page and the id of the first, with the histograms of the first
+-- and then of the second
 pub record AreMerged (base dead words : List ℕ) : Type 0 where
   pub head : SegmentHead
   pub reading : Reading
@@ -51,7 +51,8 @@ pub record AreMerged (base dead words : List ℕ) : Type 0 where
 abbrev pub HaveOtherSpec : List Histogram → Histogram → Type 0
 HaveOtherSpec hists h = (other : Histogram) × Contains hists other × (other.name ≡ h.name) × (¬ (SameSpec other.spec h.spec))
 
--- a histogram needs a block of this many words in a segment that reads so: its record, if none has the name; else its counts or a sample
+-- a histogram needs a block of this many words in a segment with this reading: its record, if none has the name; else its counts or a
+-- sample
 abbrev pub NeedsBlockOf : List Histogram → Histogram → ℕ → Type 0
 NeedsBlockOf read h block =
     ((block ≡ record_words h.name h.spec) × ((g : Histogram) → Contains read g → g.name ≢ h.name))
@@ -61,9 +62,9 @@ NeedsBlockOf read h block =
 abbrev pub entries_until : List Histogram → Histogram → ℕ → List Entry
 entries_until front h items = flat_map entries_left front ++ map (item_entry h.name (boundaries_of h.spec)) (take items (items_left h))
 
--- There is no room for a histogram in a segment into which others were merged. The words of that segment are an image of the size and the page
--- of the first one that is merged. They read as exactly these others and, if there was room for it, a record of the histogram,
--- with what was left of those and of as many of its items. From the free pointer the next block that it needs passes the end.
+-- There is no room for a histogram in a segment into which others were merged. The words of that segment are an image of the size and the
+-- page of the first one that is merged. They read as exactly these others and, if there was room for it, a record of the histogram, with
+-- what was left of those and some of its first items. From the free pointer on, the next block that it needs passes the end.
 pub record LacksRoomFor (first : SegmentHead) (front : List Histogram) (h : Histogram) : Type 0 where
   pub words : List ℕ
   pub header : header_of words ≡ Ok (head_of words)
@@ -81,8 +82,9 @@ pub record LacksRoomFor (first : SegmentHead) (front : List Histogram) (h : Hist
   pub passes : first.shape.size < (head_of words).free + block
 
 -- Why a merge stops at a histogram, in a new segment of the size and the page of the first one that is merged, after others that are merged
--- and with this many units for all of them: its name or its spec is not valid; its record or its counts have more words than a page; they cost more
--- units than there are; one of those before it has its name and another spec; or there is no room for it. No such segment is corrupt.
+-- and with this many units for all of them: its name or its spec is not valid; its record or its counts have more words than a page; they
+-- cost more units than there are; one of those before it has its name and another spec; or there is no room for it. No such segment is
+-- corrupt.
 abbrev pub MayStop : SegmentHead → ℕ → List Histogram → Histogram → Refusal → Type 0
 MayStop first units front h refusal.BadName = is_name h.name ≡ false
 MayStop first units front h (refusal.BadSpec fault) = spec_fault h.spec ≡ Some fault

@@ -2,7 +2,7 @@
 use Rattle.std.specs.Prelude.{◌==◌, ℕ, ◌%◌, List, map}
 use Rattle.std.specs.List.{enumerate_from, filter}
 
--- of a list whose first element has this number the elements whose number leaves `part` when it is divided by the number of parts
+-- the elements whose number leaves `part` when it is divided by the number of parts, of a list whose first element has this number
 abbrev pub part_from : {X : Type 0} → ℕ → ℕ → ℕ → List X → List X
 part_from first parts part xs = map (λ numbered. numbered.1) (filter (λ numbered. numbered.0 % parts == part) (enumerate_from first xs))
 

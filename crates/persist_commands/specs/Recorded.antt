@@ -1,4 +1,5 @@
--- What a segment reads as in which a script was run, by what its opener stood for when the segment was opened: a new one, or an image's.
+-- What a segment in which a script was run reads as, by what its opener began with when the segment was opened: nothing in a new segment,
+-- or the counts of an image.
 use Rattle.std.specs.Prelude.{◌≡◌, ◌↔◌, ◌⊎◌, false, ℕ, ◌+◌, ℤ, ◌+ℤ◌, List, [], ◌∷◌, ◌++◌, Ok}
 use Rattle.std.specs.List.{Contains}
 use mathlib.Core.Option.{some}
@@ -23,7 +24,7 @@ pub record LastDelta (deeds : List ScriptAction) (name : List ℕ) : Type 0 wher
   pub split : deeds ≡ front ++ Takes name ∷ behind
   pub last : ¬ (Contains (deltas_among behind) name)
 
--- what the new segment of a script is opened as
+-- how the new segment of a script is opened
 abbrev pub setting_for : Script → Setting
 setting_for script = record { shape = script.shape; version = 2; id = script.id; cursors = 0; full = false }
 
@@ -51,10 +52,10 @@ pub record AreTakenFrom (first : Actor) (entries : List Entry) (h : Histogram) :
   pub marks : (key : ℤ) → mark_read h key ≡ tally_units first.entries.first h.name key + tally_units entries h.name key
   pub sum_mark : h.sum_mark ≡ tally_sum first.entries.first h.name +ℤ tally_sum entries h.name
 
--- A reading of what a script records by this many workers in a segment that was opened so. The names are exactly those that its opener knew and those
--- of the `hist` records, each once and with their spec. Each histogram has what the opener began with and the tally of the `add` records.
--- One of which no `delta` record takes has the marks of the opening. Of each other a single worker has taken all that was there, and what the
--- `add` records before its last `delta` record add up to.
+-- A reading of what a script records by this many workers in a segment that was opened so. The names are exactly those that its opener knew
+-- and those of the `hist` records, each once and with their spec. Each histogram has what the opener began with and the tally of the `add`
+-- records. A histogram that no `delta` record names has the marks of the opening. With a single worker, deltas have taken of each other one
+-- all that was there and what the `add` records before its last `delta` record add up to.
 pub record IsRecordedFrom (setting : Setting) (first : Actor) (script : Script) (workers : ℕ) (reading : Reading) : Type 0 where
   pub lawful : HasNoFault reading
   pub named : (name : List ℕ) → ((h : Histogram) × Contains reading.hists h × (h.name ≡ name))

@@ -37,7 +37,7 @@ pub record IsFresh (a : Actor) : Type 0 where
 abbrev pub IsAskedIn : List HistRecord → Known → Type 0
 IsAskedIn hists known = (hist : HistRecord) × Contains hists hist × (known.name ≡ hist.name) × SameSpec known.spec hist.spec
 
--- It has taken a delta of a name, which began when its log had this many entries, and after it deltas of these names.
+-- It has taken a delta of a name, which began when its log had this many entries, and after that deltas of these names.
 pub record HasDelta (name : List ℕ) (entries : ℕ) (later : List (List ℕ)) (a : Actor) : Type 0 where
   pub front : List Taken
   pub delta : Taken
@@ -51,8 +51,8 @@ pub record HasDelta (name : List ℕ) (entries : ℕ) (later : List (List ℕ)) 
 abbrev pub BeganAtRole : Role → List Taken → Type 0
 BeganAtRole role taken = All (λ t. (t.moment.before ≡ made_of role) × (t.moment.outstanding ≡ outstanding_of role)) taken
 
--- A recorder, or an opener, has done these deeds: the entries are at the end of its log, and the deltas after those that it
--- had taken, each with what was in the log when it began. All histograms that it came to know are those of `hist` records, and it has set no flag.
+-- A recorder, or an opener, has done these deeds: the entries are at the end of its log, and the deltas after those that it had taken, each
+-- with what was in the log when it began. All histograms that it came to know are those of `hist` records, and it has set no flag.
 pub record WentOn (hists : List HistRecord) (deeds : List ScriptAction) (old new : Actor) : Type 0 where
   pub first : new.entries.first ≡ old.entries.first
   pub first_noted : new.entries.first_noted ≡ old.entries.first_noted
@@ -103,7 +103,7 @@ pub record HasOpened (hists : List HistRecord) (old new : Actor) : Type 0 where
 
 -- ---- workers
 
--- what a worker of some does
+-- what one of several workers does
 abbrev pub deeds_of_part : Script → ℕ → ℕ → List ScriptAction
 deeds_of_part script workers part = deeds_of script.hists (part_of workers part script.calls)
 
@@ -111,8 +111,8 @@ deeds_of_part script workers part = deeds_of script.hists (part_of workers part 
 abbrev pub HasWorked : Script → ℕ → ℕ → Actor → Actor → Type 0
 HasWorked script workers part old new = HasRecorded script.hists (deeds_of_part script workers part) old new
 
--- a worker that is to be started: its number, the script, and a recorder of a segment that has done nothing; as many were made before it
--- and are outstanding, besides those that its opener had made
+-- a worker that is to be started: its number, the script, and a recorder of a segment that has done nothing; as many recorders as its
+-- number were made before it and are outstanding, besides those that its opener had made
 pub record IsWorkerReady (segment : TableId) (opener : Actor) (script : code.Script) (workers number : ℕ) (part : Part) (has : code.Script) (recorder : Recorder) : Type 0 where
   pub number_is : part.part ≡ number
   pub workers_are : part.workers ≡ workers
@@ -152,8 +152,8 @@ all_joined opener (recorder ∷ rest) = all_joined (joined opener recorder) rest
 abbrev pub deeds_of_all : Script → ℕ → List ScriptAction
 deeds_of_all script workers = flat_map (deeds_of_part script workers) (range_with_len 0 workers)
 
--- The calls of a script were made by this many workers, whose recorders are joined. Of a single one each delta is that of the youngest recorder, made
--- when no more were outstanding than before.
+-- The calls of a script were made by this many workers, whose recorders are joined. A single worker's deltas are all of the youngest
+-- recorder, taken when no more were outstanding than before.
 pub record HasRun (script : Script) (workers : ℕ) (old new : Actor) : Type 0 where
   pub recorded : WentOn script.hists (deeds_of_all script workers) old new
   pub knows : All (KnowsOf old) script.hists → All (KnowsOf new) script.hists

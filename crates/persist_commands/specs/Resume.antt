@@ -47,7 +47,8 @@ amount_had_of amount hists name = fold ◌+ℤ◌ (pos 0) (map (λ h. if bytes_e
 
 -- ---- what is read
 
--- a histogram has what those of an image have of its name, and what entries add up to: the units of each key, the sum and the redundant count
+-- a histogram has what those of an image have of its name, and what entries add up to: the units of each key, the sum and the redundant
+-- count
 pub record IsTallyOnto (base : List Histogram) (entries : List Entry) (h : Histogram) : Type 0 where
   pub units : (key : ℤ) → units_read h key ≡ had_of (λ g. units_read g key) base h.name + tally_units entries h.name key
   pub sum : h.sum ≡ amount_had_of (λ g. g.sum) base h.name +ℤ tally_sum entries h.name
@@ -63,10 +64,11 @@ pub record AreTakenOnto (base : List Histogram) (entries : List Entry) (h : Hist
   pub marks : (key : ℤ) → mark_read h key ≡ had_of (λ g. units_read g key) base h.name + tally_units entries h.name key
   pub sum_mark : h.sum_mark ≡ amount_had_of (λ g. g.sum) base h.name +ℤ tally_sum entries h.name
 
--- A reading of what a script records by this many workers onto an image which reads as `base`: no record is bad, and the list does not stop. The names
--- are exactly those of the image and of the `hist` records, each once and with the spec of each. Each histogram has what the image had
--- of it and the tally of the `add` records. The id and the full flag are the image's. One of which no `delta` record takes has the image's
--- marks. Of each other a single worker has taken all that the image had, and what the `add` records before its last `delta` record add up to.
+-- A reading of what a script records by this many workers onto an image which reads as `base`: no record is bad, and the list does not
+-- stop. The names are exactly those of the image and of the `hist` records, each once and with the spec of each. Each histogram has what
+-- the image had of it and the tally of the `add` records. The id and the full flag are the image's. A histogram that no `delta` record
+-- names has the image's marks. With a single worker, deltas have taken of each other one all that the image had and what the `add` records
+-- before its last `delta` record add up to.
 pub record IsRecordingOnto (base : Reading) (script : Script) (workers : ℕ) (reading : Reading) : Type 0 where
   pub lawful : HasNoFault reading
   pub named : (name : List ℕ) → ((h : Histogram) × Contains reading.hists h × (h.name ≡ name))
@@ -82,7 +84,8 @@ pub record IsRecordingOnto (base : Reading) (script : Script) (workers : ℕ) (r
   pub taken : workers ≡ 1 → (h : Histogram) → Contains reading.hists h → (delta : LastDelta (deeds_of script.hists script.calls) h.name)
       → AreTakenOnto base.hists (entries_among delta.front) h
 
--- words are the image of a segment that continued from an image, in which a script was run: of the size, the page and the id of that, and of version 2
+-- words are the image of a segment that continued from an image, in which a script was run: of the size, the page and the id of that, and
+-- of version 2
 pub record IsImageOfResume (head : SegmentHead) (base : Reading) (script : Script) (workers : ℕ) (words : List ℕ) : Type 0 where
   pub header : header_of words ≡ Ok (head_of words)
   pub shape : (head_of words).shape ≡ head.shape
@@ -90,8 +93,8 @@ pub record IsImageOfResume (head : SegmentHead) (base : Reading) (script : Scrip
   pub id : (head_of words).id ≡ head.id
   pub reads : (reading : Reading) → IsReading words (head_of words) reading → IsRecordingOnto base script workers reading
 
--- The bytes of BASE are an image that may be adopted. The bytes of the script are one for its segment, with the units that the image has not
--- used, and not too many. The words are the image of the segment in which it was run by this many workers, and the text is its report.
+-- The bytes of BASE are an image that may be adopted. The bytes of the script are one for its segment, with the units that the image has
+-- not used, and not too many. The words are the image of the segment in which it was run by this many workers, and the text is its report.
 pub record IsResumeOf (workers : ℕ) (base bytes words text : List ℕ) : Type 0 where
   pub head : SegmentHead
   pub reading : Reading
@@ -104,15 +107,15 @@ pub record IsResumeOf (workers : ℕ) (base bytes words text : List ℕ) : Type 
 
 -- ---- faults
 
--- A fault of BASE has its cause in its bytes: they are too many, or no words, or their words may not be adopted for this. A device that fails and
--- out of memory have none there.
+-- A fault of BASE has its cause in its bytes: they are too many, or no words, or their words may not be adopted for this. If a device fails
+-- or memory runs out, the cause is not there.
 abbrev pub IsFaultOfBase : List ℕ → CliFault → Type 0
 IsFaultOfBase bytes (cli.Adopt fault) = (words : List ℕ) × AreWordsOf bytes words × IsFaultOf words 0 fault × (fault ≢ adoption.NoMemory)
 IsFaultOfBase bytes (cli.Image fault) = ⊥
 IsFaultOfBase bytes cli.Write = ⊥
 IsFaultOfBase bytes fault = IsCausedByImage bytes fault
 
--- the fault of an input that was not read: a device that fails, or one that its bytes cause; else want of memory
+-- the fault of an input that was not read: a device that fails, or one that its bytes cause; else out of memory
 abbrev pub fault_of_input : CliFault → CliFault
 fault_of_input cli.Read = cli.Read
 fault_of_input cli.TooLong = cli.TooLong

@@ -32,8 +32,9 @@ pub record AreTaken (entries : List Entry) (h : Histogram) : Type 0 where
   pub sum_mark : h.sum_mark ≡ tally_sum entries h.name
 
 -- A reading of what a script records by this many workers: no record is bad, the list does not stop, and no flag is set. The names are
--- exactly those of the `hist` records, each once and with their spec. Each histogram has the tally of the `add` records. One of which no
--- `delta` record takes has no marks. Of each other a single worker has taken what the `add` records before its last `delta` record add up to.
+-- exactly those of the `hist` records, each once and with their spec. Each histogram has the tally of the `add` records. A histogram that
+-- no `delta` record names has no marks. With a single worker, deltas have taken of each other one what the `add` records before its last
+-- `delta` record add up to.
 pub record IsRecordingOf (script : Script) (workers : ℕ) (reading : Reading) : Type 0 where
   pub lawful : HasNoFault reading
   pub named : (name : List ℕ) → ((h : Histogram) × Contains reading.hists h × (h.name ≡ name)) ↔ ((hist : HistRecord) × Contains script.hists hist × (hist.name ≡ name))
@@ -47,8 +48,8 @@ pub record IsRecordingOf (script : Script) (workers : ℕ) (reading : Reading) :
   pub taken : workers ≡ 1 → (h : Histogram) → Contains reading.hists h → (delta : LastDelta (deeds_of script.hists script.calls) h.name)
       → AreTaken (entries_among delta.front) h
 
--- Words are the image of a segment in which a script was run by this many workers: it has the script's shape and id and is of version 2, and is read as what
--- the script records.
+-- Words are the image of a segment in which a script was run by this many workers: it has the script's shape and id and is of version 2,
+-- and is read as what the script records.
 pub record IsImageOfRun (script : Script) (workers : ℕ) (words : List ℕ) : Type 0 where
   pub header : header_of words ≡ Ok (head_of words)
   pub shape : (head_of words).shape ≡ script.shape
@@ -60,7 +61,8 @@ pub record IsImageOfRun (script : Script) (workers : ℕ) (words : List ℕ) : T
 abbrev pub IsReportOfImage : List ℕ → List ℕ → Type 0
 IsReportOfImage words text = (reading : Reading) × IsReading words (head_of words) reading × IsTextOf reading text
 
--- The bytes are a script, and not too many, that was run by this many workers: the words are the image of the segment in which it was run, and the text is its report.
+-- The bytes are a script, and not too many, that was run by this many workers: the words are the image of the segment in which it was run,
+-- and the text is its report.
 pub record IsRunOf (workers : ℕ) (bytes words text : List ℕ) : Type 0 where
   pub few : length bytes ≤ 16777216
   pub script : Script
@@ -88,8 +90,8 @@ MayEndRun cli.Gate = ⊤
 MayEndRun (cli.Refused number why) = ⊤
 MayEndRun _ = ⊥
 
--- A fault of a run has its cause in the bytes of the script, which mean this: they are too many; or it is the first fault that they have as a
--- script; or they have none, and it came later. A device that fails and out of memory have none there.
+-- A fault of a run has its cause in the bytes of the script, which mean this: they are too many; or it is the first fault that they have as
+-- a script; or they have none, and it came later. If a device fails or memory runs out, the cause is not there.
 abbrev pub IsFaultOfScript : Result Script ScriptFault → List ℕ → CliFault → Type 0
 IsFaultOfScript meaning bytes cli.Read = ⊤
 IsFaultOfScript meaning bytes cli.NoMemory = ⊤

@@ -23,7 +23,8 @@ TellsWant _ = ⊤
 abbrev pub StopTellsWant : Stop → Type 0
 StopTellsWant stop = TellsWant (fault_of_stop stop)
 
--- the place of a stop in the order in which stops are reported: no thread, out of memory, the gate, and refusals in the order of their records
+-- the place of a stop in the order in which stops are reported: no thread, out of memory, the gate, and refusals in the order of their
+-- records
 abbrev pub rank_of : Stop → ℕ
 rank_of NoThread = 0
 rank_of NoMemory = 1

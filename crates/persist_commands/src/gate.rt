@@ -1,9 +1,9 @@
-//! When the calls of workers come.
+//! When the calls of workers are made.
 
 ghost use Rattle.std.specs.Prelude.{◌≡◌, true};
 
-/// Decides when each call of each worker is made, and whether it is made at all. Workers and the calls of each are numbered
-/// from 1.
+/// Decides when each call of each worker is made, and whether it is made at all. Workers and the calls of each are
+/// numbered from 1.
 pub trait Gate {
     /// Whether a worker may make a call. If not, the worker ends.
     fn before(&self, worker: u32, call: u64) -> bool;

@@ -1,16 +1,18 @@
 //! The commands of the program that record: a script is run by workers, each in a thread of its own, in a new
 //! segment or in one that continues from an image; and two images are merged.
 //!
-//! A script is read whole, and its histograms are made. Then its calls are shared out among workers, which record at the
-//! same time through a gate. When all of them have ended, the image of their segment and then its report are written:
-//! both, or nothing, unless a writer fails.
+//! A script is read whole, and its histograms are made. Then its calls are shared out among workers, which record at
+//! the same time through a gate. When all of them have ended, the image of their segment and then its report are
+//! written: both, or nothing, unless a writer fails.
 //!
-//! If a script is resumed, its segment continues from an image, which is read whole and adopted before the script is read.
+//! If a script is resumed, its segment continues from an image, which is read whole and adopted before the script is
+//! read.
 //!
-//! A segment in a file that is in use is looked at: the file is read three times, and the image that these reads give is
+//! A segment in a file that is in use is looked at: the file is read three times, and the image that these reads give
+//! is written.
+//!
+//! Images to be merged are read whole too. What their deltas had not taken is added to a new segment, whose image is
 //! written.
-//!
-//! Images to be merged are read whole too. What their deltas had not taken is added to a new segment, whose image is written.
 #![tactic(auto)]
 
 mod gate;

@@ -27,7 +27,7 @@ fn fault_of_look(fault: LookFault) -> CliFault
     }
 }
 
-// The words that tell a segment from another while it is in use: its cookie, version, size, page and id.
+// The words that distinguish a segment from others while it is in use: its cookie, version, size, page and id.
 fn identity(words: &[u64]) -> &[u64]
     ensures { result.now ≡ identity_of words.now }
 {
@@ -93,12 +93,12 @@ fn read_look<A: Read, B: Read, C: Read>(
 /// On `Ok` the images in what the readers had left are of one segment and give a look, and the bytes of its words were
 /// written [image]. The writer is flushed [flushed].
 ///
-/// A fault has its cause in the bytes of one read: `TooLong` and `NotWords` as for a report. Or all were read, and give no
-/// look: `Image` with the first fault of the header of the last, or with `BadSize` where the images have different
-/// lengths; `Adopt` with `OldVersion` where the segment is of version 1; `Changed` where the headers of the reads are of
-/// different segments [cause]. `Read` comes exactly where a read failed
-/// [read], and `Write` exactly where the write or the flush did [write]. `NoMemory` comes where memory runs out. After
-/// every fault but `Write` nothing was written [untouched].
+/// A fault has its cause in the bytes of one read: `TooLong` and `NotWords` as for a report. Or all were read, and give
+/// no look: `Image` with the first fault of the header of the last, or with `BadSize` if the images have different
+/// lengths; `Adopt` with `OldVersion` if the segment is of version 1; `Changed` if the headers of the reads are of
+/// different segments [cause]. `Read` comes exactly if a read failed [read], and `Write` exactly if the write or the
+/// flush did [write]. `NoMemory` comes if memory runs out. After every fault but `Write` nothing was written
+/// [untouched].
 pub fn look_file<A: Read, B: Read, C: Read, W: Write>(
     alloc: Global,
     first: &mut Watched<A>,

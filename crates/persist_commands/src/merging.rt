@@ -142,7 +142,7 @@ fn merge_inputs(alloc: Global, base: &Input, dead: &Input) -> Result<Image, CliF
 /// - `BadName`, `BadSpec`: its name or its spec is not valid.
 /// - `OtherSpec`: a histogram before it has the same name and another spec. So both images have the name.
 /// - `Full`: there was no room for it. A segment with the size and the page of BASE has words that read as exactly
-///   what was merged before it, and of as many of its items. From the free pointer of these words its next block
+///   what was merged before it, and some of its first items. From the free pointer of these words on, its next block
 ///   passes the end: its record, if the name is not there, else its counts or a sample.
 ///
 /// `Read` comes exactly if a read of one failed [read]; DEAD is read only if BASE was, and is an image

@@ -80,9 +80,9 @@ fn read_base<B: Read>(alloc: Global, reader: &mut Watched<B>) -> Result<Base, Cl
     adopt_words(alloc, &words)
 }
 
-/// Continues from the image in what the first reader, BASE, has left, a closed image or a mapped file, and runs the script that the second one has left
-/// in its segment, by 1 to 16 workers, as [`run_script`](crate::run_script) does in a new one. Writes the image of
-/// that segment, and then the report of that image.
+/// Continues from the image in what the first reader, BASE, has left, a closed image or a mapped file, and runs the
+/// script that the second one has left in its segment, by 1 to 16 workers, as [`run_script`](crate::run_script) does in
+/// a new one. Writes the image of that segment, and then the report of that image.
 ///
 /// BASE is read and adopted before the script is read. The script's `segment` record has to name the size, the page
 /// and the id of BASE, and its `add` records may take the units that BASE has not used. The readers and writers have
@@ -94,17 +94,16 @@ fn read_base<B: Read>(alloc: Global, reader: &mut Watched<B>) -> Result<Base, Cl
 /// records, each once, and with a spec that is the same as each that they have for it. No record is bad, the list
 /// does not stop, and the full flag alone is set, if BASE has it. The units of each key, the sum and the redundant
 /// count are what BASE has and what the script's `add` records add up to, whatever the number of workers. A histogram
-/// of which no `delta` record takes has the marks and the sum mark of BASE, or 0 if BASE has not the name. With one
-/// worker the marks of each other are the units, and its sum mark the sum, that BASE has and that the `add` records
-/// before its last `delta` record add up to [recorded]. Both outputs are flushed [flushed].
+/// that no `delta` record names has the marks and the sum mark of BASE, or 0 if BASE does not have the name. With
+/// one worker, the marks of each other histogram are the units, and its sum mark the sum, that BASE has and that the
+/// `add` records before its last `delta` record add up to [recorded]. Both outputs are flushed [flushed].
 ///
 /// A fault has its cause in BASE: `TooLong` if there are more than 8,388,608 bytes, or in a mapped file 80 more;
 /// `NotWords` if their number is no multiple of eight; `Adopt` with a fault for which its words may not be adopted
-/// without shared cursors. Or
-/// BASE is an image that may be adopted, and the fault is one of the script or of its run, as of `run_script`; then
-/// `BadLine` of record 1 comes also if that names another segment than BASE, and `Refused` with `NoUnits` also for
-/// the first record that adds more than BASE has left [cause]. Out of memory is `NoMemory`: no `Refused` has it as
-/// its cause [tells].
+/// without shared cursors. Or BASE is an image that may be adopted, and the fault is one of the script or of its run,
+/// as of `run_script`; then `BadLine` of record 1 comes also if that names another segment than BASE, and `Refused`
+/// with `NoUnits` also for the first record that adds more than BASE has left [cause]. Out of memory is `NoMemory`: no
+/// `Refused` has it as its cause [tells].
 ///
 /// `Read` comes exactly if a read of one failed [read]; that of the script fails only if that of BASE has not,
 /// and BASE may be adopted [base_first]. `Write` comes exactly if a write or a flush of one of the writers failed

@@ -149,8 +149,8 @@ fn write_both<I: Write, W: Write>(
     write_and_flush(report_out, text)
 }
 
-/// Runs a script in a segment that was just opened, a new one or one that continues from an image. Writes the image of that
-/// segment, and then the report of that image.
+/// Runs a script in a segment that was just opened, a new one or one that continues from an image. Writes the image of
+/// that segment, and then the report of that image.
 pub(crate) fn run_in<R: Threads + Wait, I: Write, W: Write, G: Gate + Sync>(
     rt: &R,
     alloc: Global,
@@ -198,19 +198,18 @@ fn new_segment(alloc: Global, script: &Script) -> Result<(Segment, Opener), CliF
 /// Runs the script that the reader has left, by 1 to 16 workers, each in a thread of its own. Writes the image of the
 /// segment in which it was run, and then the report of that image. The reader and the writers have not failed before.
 ///
-/// The histograms of the script are made first, in their order. Then each worker makes its calls, those whose number,
-/// from 0, leaves the worker's, less 1, when it is divided by the number of workers. The gate is called before each
-/// and after it.
+/// The histograms of the script are made first, in their order. Then each worker makes its calls: worker `w` of `n`
+/// those whose number, from 0, leaves `w - 1` when it is divided by `n`. The gate is called before each and after it.
 ///
 /// On `Ok` the script has at most 16,777,216 bytes and no fault. The bytes of an image were written, of the script's
 /// shape and id and of version 2, and then the report of that image. It reads as exactly the histograms of the
 /// script's `hist` records, each once and with its spec. No record is bad, the list does not stop, and no flag is
 /// set. The units of each key, the sum and the redundant count are what the script's `add` records add up to,
-/// whatever the number of workers. A histogram of which no `delta` record takes has marks and a sum mark of 0. With
-/// one worker the marks of each other are the units, and its sum mark the sum, that the `add` records before its last
-/// `delta` record add up to [recorded]. Both outputs are flushed [flushed].
+/// whatever the number of workers. A histogram that no `delta` record names has marks and a sum mark of 0. With
+/// one worker, the marks of each other histogram are the units, and its sum mark the sum, that the `add` records before
+/// its last `delta` record add up to [recorded]. Both outputs are flushed [flushed].
 ///
-/// `TooLong` comes only if there are more than 16,777,216 bytes. Of a script with a fault the first one is
+/// `TooLong` comes only if there are more than 16,777,216 bytes. If the script has faults, the first one is
 /// reported: `BadLine` with the record that has no valid form, or `Refused` with one that adds no unit, or more than
 /// a segment has. A script without a fault may end with `Write`, or, by the first of these: `NoThread` if a worker
 /// could not be started, `NoMemory`, `Gate` if the gate did not let a call come, and `Refused` with the least

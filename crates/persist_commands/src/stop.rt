@@ -7,8 +7,8 @@ use persist_report_core::CliFault;
 use segment_calls::Refusal;
 use std::alloc::AllocError;
 
-/// Why nothing is written. If workers stop for several reasons, the first kind of these is reported, and of refusals that of
-/// the record with the least number.
+/// Why nothing is written. If workers stop for several reasons, the first kind of these is reported, and of refusals
+/// that of the record with the least number.
 #[derive(Clone, Copy, Debug, PartialEq, Eq)]
 pub(crate) enum Stop {
     /// A worker could not be started.

@@ -105,7 +105,8 @@ fn record_call(recorder: &mut Recorder, histogram: Hist, kind: CallKind) -> Resu
     }
 }
 
-// Makes a call of a worker between the two calls of the gate. `place` has the numbers of the worker and the call, from 1.
+// Makes a call of a worker between the two calls of the gate. `place` has the numbers of the worker and the call, from
+// 1.
 fn make_call<G: Gate>(
     recorder: &mut Recorder,
     hists: &[ScriptHist],

@@ -13,7 +13,7 @@ use Rattle.persist_report.specs.declared.failure.Failure.TheVariants.{Usage, Fau
 use Rattle.persist_report.specs.declared.lock.Unopened.{Unopened}
 use Rattle.persist_report.specs.declared.lock.Unopened.TheVariants as unopened
 
--- the status of a fault: 3 if the bytes are no image or no script, what they ask for is refused, or what is wanted of them is
+-- the status of a fault: 3 if the bytes are no image or no script, what they ask for is refused, or what they should have is
 -- not there; 4 if a device failed; 5 if a thread could not be started or memory ran out
 abbrev pub fault_status : CliFault → ℕ
 fault_status Read = 4
@@ -41,8 +41,8 @@ input_status (of_input.BadTotals line) = 3
 input_status of_input.TooMany = 3
 
 -- the status of a failure: 2 for a command line that the program does not support, 4 for a file that another process has
--- locked, and 3 for a scale that has a fault, for families that clash, for a sum that is not after another or does not fit less it, for
--- an image that is not whole, and for inputs that were left out
+-- locked, and 3 for a scale that has a fault, for families that clash, for a sum to subtract that is not part of the other, for a
+-- difference that does not fit, for an image that is not whole, and for inputs that were left out
 abbrev pub failure_status : Failure → ℕ
 failure_status (Usage error) = 2
 failure_status (Fault fault) = fault_status fault

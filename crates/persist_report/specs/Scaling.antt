@@ -15,7 +15,7 @@ doubled byte = if byte == 34 then 34 ∷ 34 ∷ [] else byte ∷ []
 abbrev pub script_field : List ℕ → List ℕ
 script_field field = if has_special field then 34 ∷ (flat_map doubled field ++ 34 ∷ []) else field
 
--- a value, behind a comma
+-- a comma and a value
 abbrev pub value_field : ℕ → List ℕ
 value_field value = 44 ∷ decimal value
 

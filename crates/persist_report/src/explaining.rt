@@ -99,9 +99,9 @@ fn is_unread(fault: &CliFault, known: FaultContext<'_, '_>) -> bool {
     }
 }
 
-/// Returns the failure of a fault, with the lines that follow it if the command explains its faults. `Usage` comes
-/// only for a mistake on the command line. If memory runs out for the lines, there are none; nor are there if standard output
-/// is a pipe whose reader has closed it.
+/// Returns the failure of a fault, with the lines that follow it if the command explains its faults. `Usage` comes only
+/// for a mistake on the command line. If memory runs out for the lines, there are none; nor are there if standard
+/// output is a pipe whose reader has closed it.
 pub fn failure_of<R: AllocGlobal>(
     context: &Context<'_, R>,
     fault: CliFault,
@@ -118,7 +118,8 @@ pub fn failure_of<R: AllocGlobal>(
     }
 }
 
-/// Returns the lines of what a fault means whose line is this, if the command explains its faults; none if memory runs out.
+/// Returns the lines that say what the fault with this line means, if the command explains its faults; none if memory
+/// runs out.
 pub fn remedies_of<R: AllocGlobal>(context: &Context<'_, R>, line: &str) -> String {
     if !context.explains {
         return String::new(context.alloc());

@@ -22,8 +22,8 @@ pub enum Failure {
     Fault(CliFault),
     /// It failed, and these lines follow the line of the fault.
     Explained(CliFault, String),
-    /// Another process has the lock of the file that it writes, or folds kept ending beside the reading of a folder. These lines follow, if there
-    /// are any.
+    /// Another process has the lock of the file that it writes, or folds kept ending while it read a folder. These
+    /// lines follow, if there are any.
     Busy(String),
     /// The scale that it asks for has this fault. These lines follow, if there are any.
     Scale(SpecFault, String),
@@ -39,17 +39,18 @@ pub enum Failure {
         name: String,
         lines: String,
     },
-    /// The sum that is to be taken off has more of a name, or another spec of it. These lines follow, if there are any.
+    /// The sum that is to be subtracted has more of a name, or another spec of it. These lines follow, if there are
+    /// any.
     Since {
         fault: &'static str,
         name: Vec<u8>,
         lines: String,
     },
-    /// A sum less the one that is to be taken off does not fit. These lines follow, if there are any.
+    /// The difference of two sums does not fit. These lines follow, if there are any.
     TooMany(String),
     /// One of several images is not whole, and has to be. These lines follow, if there are any.
     NotWhole(String),
-    /// Some inputs were left out, which was told.
+    /// Some inputs were left out, as was reported.
     Left,
 }
 
@@ -82,8 +83,8 @@ fn input_status(fault: &InputFault) -> u8
     }
 }
 
-/// Returns the exit status of a fault: 3 if the bytes are no image or no script, what they ask for is refused, or what is
-/// wanted of them is not there; 4 if a device failed; 5 if a thread could not be started or memory ran out.
+/// Returns the exit status of a fault: 3 if the bytes are no image or no script, what they ask for is refused, or what
+/// they should have is not there; 4 if a device failed; 5 if a thread could not be started or memory ran out.
 fn fault_status(fault: &CliFault) -> u8
     ensures { result ≡ fault_status fault.now }
 {
@@ -117,7 +118,7 @@ impl From<AllocError> for Failure {
 impl From<clap::Error> for Failure {
     ghost from_gives = { IsFailureOf };
 
-    // Reading the command line takes memory too. If it runs out, that is no mistake in the words.
+    // Reading the command line takes memory too. If memory runs out, that is no mistake in the words.
     fn from(error: clap::Error) -> Failure {
         if error.kind() == ErrorKind::OutOfMemory {
             Failure::Fault(CliFault::NoMemory)

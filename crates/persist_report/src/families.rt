@@ -22,7 +22,7 @@ use std::random::RandomSource;
 use std::rt::Files;
 use std::time::Clock;
 
-// The text of an image with a family for each histogram, and the reading of which it is.
+// The text of an image with a family for each histogram, and the reading that it shows.
 #[derive(Drop)]
 struct Families {
     text: Vec<u8>,
@@ -70,8 +70,8 @@ fn read_families<R: Read>(
     }
 }
 
-/// Returns the failure of two names that clash. If memory runs out for the lines that explain it, there are none; `Usage` comes
-/// only for a mistake on the command line.
+/// Returns the failure of two names that clash. If memory runs out for the lines that explain it, there are none;
+/// `Usage` comes only for a mistake on the command line.
 pub fn clash_failure<R: AllocGlobal>(
     context: &Context<'_, R>,
     first: Vec<u8>,
@@ -103,9 +103,10 @@ fn damage<R>(context: &Context<'_, R>, reading: &Reading) -> Result<(), CliFault
     }
 }
 
-/// Writes the metrics of the image in what a reader has left, a family for each histogram: to the file `to`, or to standard output if there is none. If two
-/// histograms are no families side by side, nothing is written. If what was read is not whole and has to be, that is a fault,
-/// which comes after the text. `Usage` comes only for a mistake on the command line.
+/// Writes the metrics of the image in what a reader has left, a family for each histogram: to the file `to`, or to
+/// standard output if there is none. If the families of two histograms clash, nothing is written. If what was read is
+/// not whole and has to be, that is a fault, which comes after the text. `Usage` comes only for a mistake on the
+/// command line.
 pub fn write_families<
     'a,
     R: Files<File = File> + Clock + Print + RandomSource + AllocGlobal,

@@ -1,5 +1,6 @@
-//! The commands over files. Each opens its inputs in the order of its arguments, and then the file that it writes, before it
-//! reads anything. That file is unchanged until the command has done all else. `-` is standard input, and as OUT standard output.
+//! The commands over files. Each opens its inputs in the order of its arguments, and then the file that it writes,
+//! before it reads anything. That file is unchanged until the command has done all else. `-` is standard input, and as
+//! OUT standard output.
 
 ghost use Rattle.std.specs.Prelude.{◌≡◌, false, IfErr, IfOk};
 ghost use Rattle.persist_report.specs.Failure.{UsageIsMistake};
@@ -30,8 +31,8 @@ use std::thread::Threads;
 use std::time::Clock;
 use std::{fs, io};
 
-/// Opens a file that is there, to read it, or standard input for `-`. What is read is put into the copy, if there is one.
-/// On `Ok` the file has not failed [file]; `Usage` comes only for a mistake on the command line [fault].
+/// Opens a file that is there, to read it, or standard input for `-`. What is read is put into the copy, if there is
+/// one. On `Ok` the file has not failed [file]; `Usage` comes only for a mistake on the command line [fault].
 pub fn open<'a, R: Files + Input + AllocGlobal>(
     context: &Context<'_, R>,
     path: &'a str,
@@ -50,8 +51,8 @@ pub fn open<'a, R: Files + Input + AllocGlobal>(
     }
 }
 
-/// Opens the file that is written, or standard output for `-`. On `Ok` it has not failed [file]; `Usage` comes only for a
-/// mistake on the command line [fault].
+/// Opens the file that is written, or standard output for `-`. On `Ok` it has not failed [file]; `Usage` comes only for
+/// a mistake on the command line [fault].
 pub fn open_out<'a, 'r, R: Files<File = File> + Clock + Print + RandomSource + AllocGlobal>(
     context: &Context<'r, R>,
     path: &'a str,
@@ -69,8 +70,8 @@ pub fn open_out<'a, 'r, R: Files<File = File> + Clock + Print + RandomSource + A
     }
 }
 
-/// Returns the failure of a fault. BASE, if there is one, is read before the input; `output` is where a write failed, and why.
-/// `Usage` comes only for a mistake on the command line.
+/// Returns the failure of a fault. BASE, if there is one, is read before the input; `output` is where a write failed,
+/// and why. `Usage` comes only for a mistake on the command line.
 pub fn failed<'a, R: AllocGlobal, I>(
     context: &Context<'_, R>,
     fault: CliFault,
@@ -121,8 +122,8 @@ pub fn end<'a, R: Files<File = File> + AllocGlobal, I, P: Drop>(
     Err(failed(context, cause.fault, base, input, output))
 }
 
-/// Says what is wrong with a reading of which the text is written: it is not whole, where that is wanted; or it lacks a
-/// histogram that is asked for by its name.
+/// Returns what is wrong with a reading whose text was written: it is not whole, and has to be; or it lacks a histogram
+/// that is asked for by its name.
 pub fn check(
     alloc: Global,
     form: Form<'_>,
@@ -138,8 +139,8 @@ pub fn check(
     }
 }
 
-/// Writes a form of what a reader has left to standard output, and then sees what is wrong with what was read. `Usage` comes only
-/// for a mistake on the command line.
+/// Writes a form of what a reader has left to standard output, and then sees what is wrong with what was read. `Usage`
+/// comes only for a mistake on the command line.
 pub fn write_from<R: Print + AllocGlobal, I: Read + Drop>(
     context: &Context<'_, R>,
     form: Form<'_>,
@@ -160,8 +161,8 @@ pub fn write_from<R: Print + AllocGlobal, I: Read + Drop>(
     Err(failed(context, fault, None, &reader.into_inner(), output))
 }
 
-// Says on the error stream that standard input is read, if that is a terminal: a user may have forgotten FILE. If this cannot be
-// written, the image is read all the same.
+// Says on the error stream that standard input is read, if that is a terminal: a user may have forgotten FILE. If this
+// cannot be written, the image is read all the same.
 fn say_what_is_read<R: Files + Eprint>(rt: &R) {
     if reads_terminal(rt) {
         let _ = rt.eprint(
@@ -170,8 +171,9 @@ fn say_what_is_read<R: Files + Eprint>(rt: &R) {
     }
 }
 
-/// Opens the file of an image, or standard input if no file is named, or `-`; or a look at the file, if that is asked for. If no
-/// file is named and standard input is a terminal, this is said. On `Ok` it has not failed [file]; `Usage` comes only for a mistake on the command line [fault].
+/// Opens the file of an image, or standard input if no file is named, or `-`; or a look at the file, if that is asked
+/// for. If no file is named and standard input is a terminal, a line on the error stream reports this. On `Ok` it has
+/// not failed [file]; `Usage` comes only for a mistake on the command line [fault].
 pub fn open_image<'a, R: Files<File = File> + Input + Eprint + AllocGlobal>(
     context: &Context<'_, R>,
     file: Option<&'a str>,
@@ -188,9 +190,10 @@ pub fn open_image<'a, R: Files<File = File> + Input + Eprint + AllocGlobal>(
     open(context, file.unwrap_or(DASH), context.copy())
 }
 
-/// Writes a form of the image in a file to standard output; of that on standard input if no file is named, or `-`. If no file
-/// is named and standard input is a terminal, this is said. If what was read is not whole and has to be, or lacks a histogram
-/// of a name, that is a fault, which comes after the text. `Usage` comes only for a mistake on the command line.
+/// Writes a form of the image in a file to standard output; of that on standard input if no file is named, or `-`. If
+/// no file is named and standard input is a terminal, a line on the error stream reports this. If what was read is not
+/// whole and has to be, or lacks a histogram that was named, that is a fault, which comes after the text. `Usage` comes
+/// only for a mistake on the command line.
 pub fn write_file<R: Files<File = File> + Input + Print + Eprint + AllocGlobal>(
     context: &Context<'_, R>,
     form: Form<'_>,

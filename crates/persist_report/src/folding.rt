@@ -1,8 +1,8 @@
 //! The fold of a recording's folder: segments that are final are added to its totals, and removed.
 //!
-//! The new totals are written beside the old ones, brought to the device, and get their place by a renaming; only then is a segment
-//! removed. They name the segments that they have, so a fold that is killed at any moment leaves a folder with the same sum, and the next
-//! one removes what this one did not.
+//! The new totals are written to a file of their own, synced, and renamed over the old ones; only then is a segment
+//! removed. They name the segments that they have, so a fold that is killed at any moment leaves a folder with the same
+//! sum, and the next one removes what this one did not.
 //!
 //! A segment that somebody records into has its lock, and stays. A fold waits for none.
 
@@ -38,13 +38,13 @@ use std::{fs, io};
 use sum_commands::{InputFault, Left};
 use sum_texts::{Totals, totals_text};
 
-// So many segments are added at once, since each is open until it is removed.
+// How many segments are added at once: each is open until it is removed.
 const MOST_AT_ONCE: usize = 256;
 
 // Who may use a new file.
 const OWNER_ALONE: u32 = 0o600;
 
-// What taking the lock of a segment came to.
+// What came of taking the lock of a segment.
 #[derive(Drop)]
 enum Locked {
     Held(File),
@@ -94,7 +94,8 @@ fn lock_segment<R: Files<File = File>>(rt: &R, path: &PathBuf) -> io::Result<Loc
     }
 }
 
-// Removes a segment if it has the id that the totals name with its number. Returns whether the named one may still stand.
+// Removes a segment if it has the id that the totals name with its number. Returns whether the named one may still be
+// there.
 fn still_stands<R: Files<File = File> + AllocGlobal>(rt: &R, segment: &Segment, id: u64) -> bool {
     let mut file = match lock_segment(rt, &segment.path) {
         Ok(Locked::Held(file)) => file,
@@ -108,7 +109,7 @@ fn still_stands<R: Files<File = File> + AllocGlobal>(rt: &R, segment: &Segment, 
     }
 }
 
-// Removes the segments that totals name already. Returns those that may still stand.
+// Removes the segments that totals name already. Returns those that may still be there.
 fn remove_named<R: Files<File = File> + AllocGlobal>(
     rt: &R,
     segments: &[Segment],
@@ -194,7 +195,7 @@ impl Work {
         }
     }
 
-    // Adds those of some segments that are final.
+    // Adds the final ones among some segments.
     fn add_finals<'s, R: Files<File = File> + AllocGlobal>(
         &mut self,
         rt: &R,
@@ -220,12 +221,12 @@ impl Work {
     }
 }
 
-// Brings to the device what was removed from a folder, or got a name there.
+// Syncs a folder: what was removed from it, or got a name there.
 fn sync_folder<R: Files<File = File>>(rt: &R, folder: &str) -> io::Result<()> {
     fs::open(rt, folder)?.sync_all()
 }
 
-// Writes a new file, and brings it to the device.
+// Writes a new file, and syncs it.
 fn write_new<R: Files<File = File>>(rt: &R, path: &str, text: &[u8]) -> io::Result<()> {
     match fs::remove_file(rt, path) {
         Ok(()) => {}
@@ -239,7 +240,7 @@ fn write_new<R: Files<File = File>>(rt: &R, path: &str, text: &[u8]) -> io::Resu
     file.sync_all()
 }
 
-// Gives the totals of a folder a new text. What is left of a failure is removed.
+// Gives the totals of a folder a new text. If that fails, the new file is removed.
 fn replace_totals<R: Files<File = File> + AllocGlobal>(
     rt: &R,
     folder: &str,
@@ -273,7 +274,7 @@ fn unwritten<R: AllocGlobal>(
     }
 }
 
-// The totals of a sum with a fold of segments that are final: what comes behind these totals.
+// The totals of a sum with a fold of segments that are final: what comes after these totals.
 fn next_totals<R: AllocGlobal>(
     context: &Context<'_, R>,
     folder: &str,
@@ -298,7 +299,7 @@ fn next_totals<R: AllocGlobal>(
     Ok(folded_totals(totals.sums, next))
 }
 
-// Folds those of some segments that are final.
+// Folds the final ones among some segments.
 fn fold_some<R: Files<File = File> + AllocGlobal>(
     context: &Context<'_, R>,
     folder: &str,
@@ -365,7 +366,7 @@ fn fold_locked<R: Files<File = File> + AllocGlobal>(
     Ok(work)
 }
 
-// Sees that a folder is a recording's.
+// Checks that a folder is a recording's.
 fn check_mark<R: Files + AllocGlobal>(context: &Context<'_, R>, folder: &str) -> Result<(), Failure>
     ensures { IfErr result UsageIsMistake }
 {
@@ -400,8 +401,9 @@ fn lock_folds<R: Files<File = File> + Clock + AllocGlobal>(
     }
 }
 
-/// Adds the segments of a recording's folder that are final to its totals, and removes them. Those that cannot be read stay, and are told:
-/// then it ends with `Left`. `Busy` comes if another fold is at work, and `Usage` only for a mistake on the command line.
+/// Adds the final segments of a recording's folder to its totals, and removes them. Those that cannot be read stay, and
+/// are reported: then it ends with `Left`. `Busy` comes if another fold is at work, and `Usage` only for a mistake on
+/// the command line.
 pub fn fold_folder<R: Files<File = File> + Clock + Eprint + AllocGlobal>(
     context: &Context<'_, R>,
     folder: &str,

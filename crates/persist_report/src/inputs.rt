@@ -27,7 +27,7 @@ pub fn is_of_many<R: Files>(rt: &R, inputs: &Inputs<'_>) -> bool {
 pub enum What {
     /// A file that was named, or standard input.
     Named,
-    /// A file that was found in a folder, where those that are neither images nor totals are passed over.
+    /// A file that was found in a folder. Of these, files that are neither images nor totals are passed over.
     Found,
     /// A recording's folder, which was read.
     Recorded(Recorded),
@@ -56,13 +56,13 @@ pub fn is_folder<R: Files>(rt: &R, path: &str) -> bool {
     }
 }
 
-// Puts an input behind others.
+// Appends an input.
 fn put_named(names: &mut Vec<Named>, path: String, what: What) -> Result<(), AllocError> {
     names.push(Named { path, what })?;
     Ok(())
 }
 
-// Puts the path of a name in a folder behind others, if it is a regular file that no running command is writing.
+// Appends the path of a name in a folder, if it is a regular file that no running command is writing.
 fn put_found<R: Files + AllocGlobal>(
     rt: &R,
     names: &mut Vec<Named>,
@@ -83,7 +83,7 @@ fn put_found<R: Files + AllocGlobal>(
     Ok(())
 }
 
-// Puts the regular files in a folder behind others, by their names.
+// Appends the regular files in a folder, in the order of their names.
 fn put_folder<R: Files + AllocGlobal>(
     rt: &R,
     names: &mut Vec<Named>,
@@ -97,8 +97,8 @@ fn put_folder<R: Files + AllocGlobal>(
     Ok(())
 }
 
-// Puts what a recording's folder has behind others, and then its segments that could not be looked at: these are read as any other
-// input is, or told.
+// Appends what a recording's folder has, and then its segments that could not be looked at: these are read as any other
+// input is, or reported.
 fn put_recorded<R: Files<File = File> + AllocGlobal>(
     context: &Context<'_, R>,
     names: &mut Vec<Named>,
@@ -115,8 +115,8 @@ fn put_recorded<R: Files<File = File> + AllocGlobal>(
     Ok(())
 }
 
-/// Puts a file behind others, what a recording's folder has, or the regular files in another folder by their names. `Busy` comes where
-/// folds kept ending beside it.
+/// Appends a file, what a recording's folder has, or the regular files in another folder in the order of their names.
+/// `Busy` comes if folds kept ending while a folder was read.
 pub fn put_input<R: Files<File = File> + AllocGlobal>(
     context: &Context<'_, R>,
     names: &mut Vec<Named>,
@@ -148,7 +148,7 @@ fn list_bytes<R: Files<File = File> + Input + AllocGlobal>(
     fs::read_to_string(rt, list)
 }
 
-// Puts what the lines of a text name behind others; empty lines name nothing.
+// Appends what the lines of a text name; empty lines name nothing.
 fn put_lines<R: Files<File = File> + AllocGlobal>(
     context: &Context<'_, R>,
     names: &mut Vec<Named>,
@@ -164,7 +164,7 @@ fn put_lines<R: Files<File = File> + AllocGlobal>(
     Ok(())
 }
 
-// Puts what the lines of a list name behind others.
+// Appends what the lines of a list name.
 fn put_list<R: Files<File = File> + Input + AllocGlobal>(
     context: &Context<'_, R>,
     names: &mut Vec<Named>,
@@ -178,7 +178,7 @@ fn put_list<R: Files<File = File> + Input + AllocGlobal>(
     }
 }
 
-// How many of some names are standard input, counted on from a number.
+// How many of some names are standard input, and of the others together.
 fn dashes_among(names: &[Named], others: usize) -> usize {
     let mut count = others;
     for name in names {
@@ -189,7 +189,7 @@ fn dashes_among(names: &[Named], others: usize) -> usize {
     count
 }
 
-// Refuses standard input as two of some names, or as one of them beside so many others.
+// Refuses standard input if it is named twice: among some names, and by the others, which name it `others` times.
 fn check_dashes_among(alloc: Global, names: &[Named], others: usize) -> Result<(), Failure>
     ensures { IfErr result UsageIsMistake }
 {
@@ -199,7 +199,7 @@ fn check_dashes_among(alloc: Global, names: &[Named], others: usize) -> Result<(
     Ok(())
 }
 
-// Puts files behind others, each by its name, or what is in the folder.
+// Appends files, each by its name, or what is in the folder.
 fn put_files<R: Files<File = File> + AllocGlobal>(
     context: &Context<'_, R>,
     names: &mut Vec<Named>,
@@ -213,7 +213,7 @@ fn put_files<R: Files<File = File> + AllocGlobal>(
     Ok(())
 }
 
-// Puts the files that are named behind others, or standard input where nothing is.
+// Appends the files that are named, or standard input if nothing is.
 fn put_named_files<R: Files<File = File> + AllocGlobal>(
     context: &Context<'_, R>,
     names: &mut Vec<Named>,
@@ -227,7 +227,7 @@ fn put_named_files<R: Files<File = File> + AllocGlobal>(
     put_files(context, names, &inputs.files)
 }
 
-// Puts what the list names behind others, if there is one. Of them all and so many others one may be standard input.
+// Appends what the list names, if there is one. Standard input may be named once, by these and the others together.
 fn put_listed_files<R: Files<File = File> + Input + AllocGlobal>(
     context: &Context<'_, R>,
     names: &mut Vec<Named>,
@@ -241,7 +241,7 @@ fn put_listed_files<R: Files<File = File> + Input + AllocGlobal>(
     check_dashes_among(context.alloc(), names, others)
 }
 
-// Puts the names of all inputs behind others, in their order.
+// Appends the names of all inputs, in their order.
 fn put_names<R: Files<File = File> + Input + AllocGlobal>(
     context: &Context<'_, R>,
     names: &mut Vec<Named>,
@@ -255,8 +255,8 @@ fn put_names<R: Files<File = File> + Input + AllocGlobal>(
     put_listed_files(context, names, inputs.list, others)
 }
 
-/// Returns the names of all inputs, in their order. `Usage` comes only for a mistake on the command line, as where standard
-/// input is named twice.
+/// Returns the names of all inputs, in their order. `Usage` comes only for a mistake on the command line, such as
+/// standard input that is named twice.
 pub fn names_of<R: Files<File = File> + Input + AllocGlobal>(
     context: &Context<'_, R>,
     inputs: &Inputs<'_>,

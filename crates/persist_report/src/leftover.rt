@@ -1,7 +1,7 @@
 //! The new files that killed runs left in a folder.
 //!
-//! A run has the lock of its new file until that has OUT's name, or is removed. So a file with such a name whose lock is free
-//! was left by a run that was killed. The next run of the same user that writes into the folder removes it.
+//! A run has the lock of its new file until that has OUT's name, or is removed. So a file with such a name whose lock
+//! is free was left by a run that was killed. The next run of the same user that writes into the folder removes it.
 
 use std::fs::{File, Metadata, OpenOptions};
 use std::io::{BufRead, BufReader};
@@ -43,8 +43,8 @@ fn folder_of(path: &PathBuf) -> &str {
     }
 }
 
-// Removes the file at a path if a killed run of this owner left it. It is opened for reading and writing, since that waits for
-// nobody, even if it were a pipe by now.
+// Removes the file at a path if a killed run of this owner left it. It is opened for reading and writing, since that
+// waits for nobody, even if it were a pipe by now.
 fn remove_left<R: Files<File = File>>(rt: &R, owner: u32, path: &PathBuf) -> io::Result<()> {
     let seen = fs::symlink_metadata(rt, path)?;
     if !seen.is_file() || seen.uid() != owner {
@@ -61,7 +61,7 @@ fn remove_left<R: Files<File = File>>(rt: &R, owner: u32, path: &PathBuf) -> io:
     Ok(())
 }
 
-// Removes what this owner's killed runs left beside a new file.
+// Removes what this owner's killed runs left in the folder of a new file.
 fn remove_beside<R: Files<File = File> + AllocGlobal>(
     rt: &R,
     owner: u32,
@@ -81,8 +81,8 @@ fn remove_beside<R: Files<File = File> + AllocGlobal>(
     Ok(())
 }
 
-/// Removes what killed runs of the same user left in the folder of a new file: regular files with such names, of the new
-/// file's owner, whose lock is free. What cannot be removed stays, and nothing is reported.
+/// Removes what killed runs of the same user left in the folder of a new file: regular files with such names, of the
+/// new file's owner, whose lock is free. What cannot be removed stays, and nothing is reported.
 pub fn tidy<R: Files<File = File> + AllocGlobal>(rt: &R, file: &File, new: &PathBuf) {
     if let Ok(own) = file.metadata() {
         let _ = remove_beside(rt, own.uid(), new);

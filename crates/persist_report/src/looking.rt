@@ -62,8 +62,8 @@ fn open_at<'a, R: Files<File = File> + Input + AllocGlobal>(
 }
 
 /// Looks at the segment in a file that is in use, which is read three times, and writes its image to another, or to
-/// standard output if none is named. If a byte is named, the segment begins there, as in the memory of a process. `Usage` comes
-/// only for a mistake on the command line.
+/// standard output if none is named. If a byte is named, the segment begins there, as in the memory of a process.
+/// `Usage` comes only for a mistake on the command line.
 pub fn look_into<'a, R: Files<File = File> + Clock + Input + Print + RandomSource + AllocGlobal>(
     context: &Context<'_, R>,
     file: &'a str,
@@ -88,8 +88,8 @@ pub fn look_into<'a, R: Files<File = File> + Clock + Input + Print + RandomSourc
     end(context, outcome, None, last, image.into_inner(), None)
 }
 
-/// Returns the bytes of the image of a look at the segment in a file, which is read three times. `Usage` comes only for a mistake
-/// on the command line.
+/// Returns the bytes of the image of a look at the segment in a file, which is read three times. `Usage` comes only for
+/// a mistake on the command line.
 pub fn look_at<R: Files<File = File> + Input + AllocGlobal>(
     context: &Context<'_, R>,
     file: &str,
@@ -118,8 +118,8 @@ pub fn look_at<R: Files<File = File> + Input + AllocGlobal>(
     Err(failed(context, fault, None, last, (Origin::Output, None)))
 }
 
-/// Opens the image of a look at the segment in a file that is in use. On `Ok` it has not failed [file]; `Usage` comes only for
-/// a mistake on the command line, as where no file is named, or `-` [fault].
+/// Opens the image of a look at the segment in a file that is in use. On `Ok` it has not failed [file]; `Usage` comes
+/// only for a mistake on the command line, as when no file is named, or `-` [fault].
 pub fn open_look<'a, R: Files<File = File> + Input + AllocGlobal>(
     context: &Context<'_, R>,
     file: Option<&'a str>,

@@ -1,6 +1,6 @@
-//! The program `persist_report`: writes the histograms of an image as a report, as metrics or for people, runs scripts in
-//! new segments and in those of images, merges images, looks at files in use, extracts images from any file, folds the
-//! folders of recordings, prints scales, and explains faults.
+//! The program `persist_report`: writes the histograms of an image as a report, as metrics or for people, runs scripts
+//! in new segments and in those of images, merges images, looks at files in use, extracts images from any file, folds
+//! the folders of recordings, prints scales, and explains faults.
 #![tactic(auto)]
 
 mod cause;

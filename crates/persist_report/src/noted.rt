@@ -1,4 +1,4 @@
-//! A reader or a writer that keeps why it failed, where it is, and what was read if this is asked for.
+//! A reader or a writer that keeps why it failed, where it leads, and, if this is asked for, what was read.
 
 ghost use Rattle.std.specs.Prelude.{◌≡◌, false};
 ghost use Rattle.segment_image.specs.Watched.{has_failed};

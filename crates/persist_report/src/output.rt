@@ -1,14 +1,14 @@
 //! The file that a command writes. OUT is the old file or the whole new one, whatever happens.
 //!
-//! So no byte is written to OUT itself. The bytes go to a new file in its folder, and a flush brings them to the device. The
-//! new file takes OUT's name when all else is done, and is removed if the command fails. A kill may leave it there, and leaves
+//! So no byte is written to OUT itself. The bytes go to a new file in its folder, and a flush syncs them. The new file
+//! takes OUT's name when all else is done, and is removed if the command fails. A kill may leave it there, and leaves
 //! OUT unchanged. So the new file is locked until then, and what killed runs left is removed (`leftover.rt`).
 //!
-//! An OUT that has no bytes to keep, such as a device or a pipe, is written itself.
+//! An OUT that has no bytes to keep, such as a device or a pipe, is written directly.
 //!
-//! A process that records into a file has its lock. So a command takes the lock of an old OUT before it does anything else, and
-//! has it until the new file has OUT's name. It replaces no file that another process has locked, and none that appeared at OUT
-//! meanwhile.
+//! A process that records into a file has its lock. So a command takes the lock of an old OUT before it does anything
+//! else, and has it until the new file has OUT's name. It replaces no file that another process has locked, and none
+//! that appeared at OUT meanwhile.
 
 ghost use Rattle.std.specs.Prelude.{◌≡◌, IfErr, IsErrAnd, OnOk};
 
@@ -39,7 +39,8 @@ const OWNER_ALONE: u32 = 0o600;
 /// The file that a command writes, or standard output.
 #[derive(Drop)]
 pub enum Output<F, P> {
-    /// A new file at the path `new`, which is to take the path `out`, and the locked file that is there, if there is one.
+    /// A new file at the path `new`, which is to take the path `out`, and the locked file that is there, if there is
+    /// one.
     New {
         file: F,
         new: PathBuf,
@@ -125,10 +126,10 @@ fn rename<R: Files>(rt: &R, new: &PathBuf, out: &PathBuf, stood: bool) -> Result
     }
 }
 
-/// Opens the output for OUT, which is unchanged. What killed runs left beside it is removed.
+/// Opens the output for OUT, which is unchanged. What killed runs left in its folder is removed.
 ///
-/// `Busy` if another process has had the lock of OUT for 100 ms. `Write` if OUT cannot be written, or no new file can be made
-/// in its folder.
+/// `Busy` if another process has had the lock of OUT for 100 ms. `Write` if OUT cannot be written, or no new file can
+/// be made in its folder.
 pub fn open_output<P: Drop, R: Files<File = File> + Clock + RandomSource + AllocGlobal>(
     rt: &R,
     out: &str,
@@ -245,8 +246,8 @@ fn create_new<R: Files<File = File> + RandomSource + AllocGlobal>(
     Err(Cause::from(CliFault::Write))
 }
 
-// Takes the lock of a new file; whether it has that, and still its name. Before it was locked, another run could take it for one
-// that was left, and remove it. Where the system has no locks, no other run takes it.
+// Takes the lock of a new file; whether it has that, and still its name. Before it was locked, another run could take
+// it for one that was left, and remove it. If the system has no locks, no other run takes it.
 fn is_kept<R: Files>(rt: &R, file: &File, new: &PathBuf) -> bool {
     if let Err(TryLockError::WouldBlock) = file.try_lock() {
         return false;

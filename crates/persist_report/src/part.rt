@@ -9,7 +9,7 @@ use std::io::{Read, Seek, SeekFrom};
 // The bytes that are read to see how long the segment is: those of a word of zeros, and of the first words of an image.
 const FRONT: usize = 8 * (1 + SIZE_WORD + 1);
 
-/// What a file has from some byte on: as many bytes as the segment has that begins there, by its header.
+/// What a file has from some byte on: all bytes of the segment that begins there, by its header.
 #[derive(Drop)]
 pub struct Part<F> {
     front: VecDeque<u8>,
@@ -23,7 +23,7 @@ fn word_at(bytes: &[u8], place: usize) -> Option<u64> {
     Some(u64::from_le_bytes(word.try_into().ok()?))
 }
 
-// How many bytes the segment has whose first these are, if a segment begins here: those of an image, or of a mapped file.
+// The number of bytes of the segment that begins with these, if one does: as an image, or as a mapped file.
 fn length_of(front: &[u8]) -> Option<u64> {
     let ahead = if word_at(front, 0)? == SEGMENT_COOKIE {
         0
@@ -38,8 +38,8 @@ fn length_of(front: &[u8]) -> Option<u64> {
 }
 
 impl<F: Read + Seek + Drop> Part<F> {
-    /// Goes to a byte of a file, and reads as many bytes there as tell how long the segment is. If none begins there, the part has these
-    /// bytes alone.
+    /// Goes to a byte of a file, and reads the first bytes there, which say how long the segment is. If none begins
+    /// there, the part has these bytes alone.
     pub fn of(alloc: Global, mut file: F, at: u64) -> io::Result<Part<F>> {
         file.seek(SeekFrom::Start(at))?;
         let mut bytes = [0; FRONT];

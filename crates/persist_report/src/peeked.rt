@@ -6,8 +6,8 @@ use std::io;
 use std::io::Read;
 use sum_commands::{FRONT, InputKind, kind_of};
 
-/// A reader whose first bytes were looked at. It gives all of them again, and then what came behind them: the end or a failure,
-/// if one did.
+/// A reader whose first bytes were looked at. It gives all of them again, and then what came after them, such as the
+/// end or a failure.
 #[derive(Drop)]
 pub struct Peeked<T> {
     front: VecDeque<u8>,
@@ -16,7 +16,7 @@ pub struct Peeked<T> {
 }
 
 impl<T: Read + Drop> Peeked<T> {
-    /// Reads the first bytes of a reader, and tells what begins so.
+    /// Reads the first bytes of a reader, and returns what begins with them.
     pub fn of(alloc: Global, mut inner: T) -> Result<(InputKind, Peeked<T>), AllocError> {
         let mut bytes = [0; FRONT];
         let mut count = 0;

@@ -12,8 +12,8 @@ use std::{fs, io};
 // How many links are followed in a row: as many as the system follows.
 const MOST_LINKS: u32 = 40;
 
-/// The path to which a path leads when its links are followed. None if one of the links stands for an open file, as
-/// `/dev/stdout` leads to one.
+/// The path to which a path leads when its links are followed. None if one of the links is to an open file, as for
+/// `/dev/stdout`.
 ///
 /// `Write` if a link cannot be read, or too many follow one another.
 pub fn place_of<R: Files + AllocGlobal>(rt: &R, path: &str) -> Result<Option<PathBuf>, Cause> {
@@ -33,7 +33,7 @@ pub fn place_of<R: Files + AllocGlobal>(rt: &R, path: &str) -> Result<Option<Pat
     Err(Cause::from(CliFault::Write))
 }
 
-// Whether a link is one of those by which the system shows open files: only these are in /proc.
+// Whether a link is one by which the system shows an open file: only these are in /proc.
 fn is_open_file<R: Files>(rt: &R, link: &Metadata) -> bool {
     fs::metadata(rt, "/proc").is_ok_and(|proc| proc.dev() == link.dev())
 }

@@ -1,4 +1,4 @@
-//! The line that tells how far a sum is, where adding up takes long and somebody looks at the error stream.
+//! The line that shows how far a sum is, if adding up takes long and the error stream is a terminal.
 
 use crate::terminal::tells_terminal;
 use reading_sums::{HistSum, Sums};
@@ -7,23 +7,23 @@ use std::rt::Files;
 use std::time::{Clock, Duration, Instant};
 use sum_commands::Progress;
 
-// So many milliseconds adding up goes on without a line.
+// How many milliseconds adding up takes before there is a line.
 const PATIENCE: u64 = 2_000;
 
-// So many milliseconds a line stands at least.
+// How many milliseconds a line stays at least.
 const PAUSE: u64 = 200;
 
-// Goes to the start of the line, and erases what stands there.
+// Goes to the start of the line, and erases what is there.
 const ERASE: &str = "\r\u{1b}[K";
 
-/// A line on the error stream that is written again and again in place: where this is a terminal, and adding up takes more than two
-/// seconds. If it cannot be written, nothing is said.
+/// A line on the error stream that is written again and again in place: if this is a terminal, and adding up takes more
+/// than two seconds. If it cannot be written, nothing is reported.
 #[derive(Drop)]
 pub struct ProgressLine<'r, R> {
     rt: &'r R,
     // How many inputs there are.
     inputs: usize,
-    // When it is written next; none where it is never.
+    // When it is written next; none if it never is.
     next: Option<Instant>,
     is_shown: bool,
 }
@@ -51,7 +51,7 @@ impl fmt::Display for Far {
     }
 }
 
-// The units of a histogram and others; more than 2^64 - 1 count as that.
+// The units of a histogram, added to others; at most 2^64 - 1.
 fn units_with(others: u64, hist: &HistSum) -> u64 {
     let mut units = others;
     for key in &hist.keys {
@@ -60,7 +60,7 @@ fn units_with(others: u64, hist: &HistSum) -> u64 {
     units
 }
 
-// The units of a sum; more than 2^64 - 1 count as that.
+// The units of a sum; at most 2^64 - 1.
 fn units_of(sums: &Sums) -> u64 {
     let mut units = 0;
     for hist in sums.hists() {
@@ -69,13 +69,13 @@ fn units_of(sums: &Sums) -> u64 {
     units
 }
 
-// The time so many milliseconds behind another; none where there is none.
+// The time some milliseconds after another; none if there is none.
 fn later(time: Option<Instant>, millis: u64) -> Option<Instant> {
     time?.checked_add(Duration::from_millis(millis))
 }
 
 impl<'r, R: Clock + Files> ProgressLine<'r, R> {
-    /// Returns the line of a sum of so many inputs, of which none is read yet.
+    /// Returns the line of a sum of this many inputs, none of which is read yet.
     pub fn of(rt: &'r R, inputs: usize) -> ProgressLine<'r, R> {
         let next = if tells_terminal(rt) {
             later(Instant::now(rt).ok(), PATIENCE)

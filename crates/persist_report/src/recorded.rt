@@ -1,10 +1,12 @@
-//! The reading of a recording's folder, beside processes that record there, and beside folds.
+//! The reading of a recording's folder, while other processes record there, or fold.
 //!
-//! It reads the totals, lists the folder, looks at each segment, and reads the totals again. If a fold has ended meanwhile, or a file
-//! of the listing is gone, it begins again. So each segment is counted once: in the totals, which name it, or by itself.
+//! It reads the totals, lists the folder, looks at each segment, and reads the totals again. If a fold has ended
+//! meanwhile, or a file of the listing is gone, it begins again. So each segment is counted once: in the totals, which
+//! name it, or by itself.
 //!
-//! A fold may end at any moment, so little is done between the two readings of the totals. Looks are kept, and added up behind the second
-//! one; and where it begins again, it looks at new segments alone: what had ended before it first began is in the looks that it has.
+//! A fold may end at any moment, so little is done between the two readings of the totals. Looks are kept, and added up
+//! after the second one; and if it begins again, it looks at new segments alone: what had ended before it first began
+//! is in the looks that it has.
 
 ghost use Rattle.std.specs.Prelude.{◌≡◌, IfErr, IfOk, OnErr};
 ghost use Rattle.persist_report.specs.Failure.{UsageIsMistake};
@@ -33,7 +35,7 @@ use sum_texts::Totals;
 // How often a reading begins.
 const MOST_TIMES: u32 = 16;
 
-// Looks are kept of files that have so many bytes together. Those at others are added up at once.
+// Looks are kept as long as their files have at most this many bytes together. Other looks are added up at once.
 const MOST_KEPT: u64 = 1 << 26;
 
 /// What a recording's folder has: the sum of its totals, and of a look at each segment that they do not name.
@@ -51,7 +53,7 @@ pub struct FolderReading {
     pub others: Vec<String>,
 }
 
-// What a segment is that was listed.
+// What was found of a segment that was listed.
 #[derive(Drop)]
 enum Seen {
     // Its file is gone.
@@ -73,7 +75,7 @@ struct Look {
     reading: Reading,
 }
 
-// The looks that are kept, and of how many bytes of files they are.
+// The looks that are kept, and how many bytes their files have.
 #[derive(Drop)]
 struct Looks {
     all: Vec<Look>,
@@ -88,7 +90,7 @@ impl Looks {
             .position(|look| look.number == number && look.reading.id == id)
     }
 
-    // Whether the look at a file of so many bytes is kept too.
+    // Whether the look at a file of this many bytes is kept too.
     fn has_room(&self, bytes: u64) -> bool {
         self.bytes.saturating_add(bytes) <= MOST_KEPT
     }
@@ -105,8 +107,8 @@ impl Looks {
     }
 }
 
-/// Adds what a recording's folder has to a sum: one input more, behind its readings [added]. Returns whether an image there is damaged.
-/// If it is left out, the sum is as it was [refused].
+/// Adds what a recording's folder has to a sum: one input more, after its readings [added]. Returns whether an image
+/// there is damaged. If it is left out, the sum is unchanged [refused].
 pub fn add_recorded(sums: &mut Sums, recorded: &Recorded) -> Result<bool, InputFault>
     ensures added { IfOk result (λ is_damaged. AddsSome is_damaged sums.old sums.new) }
     ensures refused { OnErr result (sums.new ≡ sums.old) }
@@ -115,7 +117,7 @@ pub fn add_recorded(sums: &mut Sums, recorded: &Recorded) -> Result<bool, InputF
     Ok(recorded.is_damaged)
 }
 
-// What the look at a segment reads as, whose file was opened three times.
+// What the look at a segment reads as; its file was opened three times.
 fn reading_of_look(alloc: Global, files: (File, File, File)) -> Result<Reading, CliFault> {
     let mut first = Watched::new(files.0);
     let mut second = Watched::new(files.1);
@@ -218,7 +220,7 @@ impl<'s> Round<'s> {
         Ok(())
     }
 
-    // Takes a segment up that was listed. Returns whether its file is still there.
+    // Takes up a segment that was listed. Returns whether its file is still there.
     fn take<R: Files<File = File> + AllocGlobal>(
         &mut self,
         rt: &R,
@@ -240,7 +242,7 @@ impl<'s> Round<'s> {
         Ok(true)
     }
 
-    // Takes all segments up that were listed. Returns whether the files of all are still there.
+    // Takes up all segments that were listed. Returns whether all their files are still there.
     fn take_all<R: Files<File = File> + AllocGlobal>(
         &mut self,
         rt: &R,
@@ -315,8 +317,8 @@ fn read_once<R: Files<File = File> + AllocGlobal>(
     Ok(Some(round.end(context.alloc())?))
 }
 
-/// Returns the reading of a recording's folder. `Busy` comes if folds ended, or files went away, as often as it was read; `Usage` only for
-/// a mistake on the command line.
+/// Returns the reading of a recording's folder. `Busy` comes if folds ended, or files went away, as often as it was
+/// read; `Usage` only for a mistake on the command line.
 pub fn read_folder<R: Files<File = File> + AllocGlobal>(
     context: &Context<'_, R>,
     folder: &str,

@@ -52,14 +52,14 @@ impl fmt::Display for TimeLine {
     }
 }
 
-// The time, to the second; where the system has none, or one that has no date, none.
+// The time, to the second; none if the system has none, or one that has no date.
 fn now<R: Clock>(rt: &R) -> Option<Timestamp> {
     let now = Timestamp::now(rt).ok()?;
     Timestamp::from_second(now.as_second()).ok()
 }
 
-/// Begins a text on standard output: a terminal is cleared, and elsewhere a line of the time comes before each text but the first. The one
-/// fault is `Write`.
+/// Begins a text on standard output: a terminal is cleared, and elsewhere a line of the time comes before each text but
+/// the first. The one fault is `Write`.
 pub fn begin<R: Clock + Files + Print>(
     context: &Context<'_, R>,
     division: Division,
@@ -90,7 +90,7 @@ pub struct Shown<'a> {
     pub to: Option<&'a str>,
 }
 
-// The form of a text: with what came since an earlier reading, if there is one.
+// The form of a text: with what was counted since an earlier reading, if there is one.
 fn form_since<'a>(shown: Shown<'a>, earlier: Option<&'a Reading>) -> Form<'a> {
     let Shown { style, choice, .. } = shown;
     match earlier {
@@ -103,7 +103,7 @@ fn form_since<'a>(shown: Shown<'a>, earlier: Option<&'a Reading>) -> Form<'a> {
     }
 }
 
-// Writes the text of a look, and returns what was read; none where it failed, which is then the fault.
+// Writes the text of a look, and returns what was read; none if it failed, which is then the fault.
 fn show_look<
     'a,
     R: Files<File = File> + Clock + Input + Print + Eprint + RandomSource + AllocGlobal,
@@ -134,8 +134,8 @@ fn show_look<
     Ok(reading)
 }
 
-/// Writes texts of looks, one after the other, each but the first with what came since the one before. The first fault ends it.
-/// `Usage` comes only for a mistake on the command line.
+/// Writes texts of looks, one after the other, each but the first with what was counted since the one before. The first
+/// fault ends it. `Usage` comes only for a mistake on the command line.
 pub fn show_again<
     R: Files<File = File> + Clock + Input + Print + Eprint + RandomSource + AllocGlobal,
 >(

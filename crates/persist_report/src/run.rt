@@ -125,7 +125,7 @@ fn report_form<'a>(has_rows_alone: bool) -> Form<'a> {
     }
 }
 
-// How histograms are written for people: as a page where a source is named, as a list, or as text.
+// How histograms are written for people: as a page if a source is named, as a list, or as text.
 fn form_of<'a>(
     style: Style,
     page: Option<Source<'a>>,
@@ -145,7 +145,7 @@ fn form_of<'a>(
     }
 }
 
-// Does what a task says, if `-` stands only where it may.
+// Does what a task says, if it names `-` only where it may.
 fn meet<
     R: Files<File = File>
         + Clock

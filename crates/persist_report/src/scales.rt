@@ -56,7 +56,7 @@ fn write_text<R: Print + AllocGlobal>(context: &Context<'_, R>, text: &[u8]) -> 
 
 /// Writes the record of a script that asks for a custom histogram of a name, whose values are those of a scale.
 ///
-/// `Scale` comes where the scale has a fault; `Usage` comes only for a mistake on the command line.
+/// `Scale` comes if the scale has a fault; `Usage` comes only for a mistake on the command line.
 pub fn print_scale<R: Print + AllocGlobal>(
     context: &Context<'_, R>,
     name: &str,

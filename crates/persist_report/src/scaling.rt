@@ -49,7 +49,7 @@ fn put_field(text: &mut Vec<u8>, field: &[u8]) -> Result<(), AllocError>
     }
 }
 
-// Appends a value, behind a comma.
+// Appends a comma and a value.
 fn put_value(alloc: Global, text: &mut Vec<u8>, value: u32) -> Result<(), AllocError>
     ensures { OnOk result (text.new.items ≡ text.old.items ++ value_field value) }
 {
@@ -58,7 +58,7 @@ fn put_value(alloc: Global, text: &mut Vec<u8>, value: u32) -> Result<(), AllocE
     text.extend_from_slice(digits.as_bytes())
 }
 
-// Appends values, each behind a comma.
+// Appends values, each after a comma.
 fn put_values(alloc: Global, text: &mut Vec<u8>, values: &[u32]) -> Result<(), AllocError>
     ensures { OnOk result (text.new.items ≡ text.old.items ++ flat_map value_field values.now) }
 {

@@ -19,7 +19,7 @@ use std::alloc::{AllocError, Global};
 use std::io::{Read, Write};
 use std::rt::Files;
 
-// The words of a page if neither an option nor a script says it.
+// The words of a page if neither an option nor a script says how many.
 const USUAL_PAGE: u64 = 4096;
 
 // The units that the `add` records of a script may have: all of a segment.
@@ -43,8 +43,8 @@ fn fault_of(fault: ScriptFault) -> CliFault {
     }
 }
 
-// The fault of the first histogram that does not fit in a page, or of the last if a segment has no room for all; none if there is a
-// size.
+// The fault of the first histogram that does not fit in a page, or of the last if a segment has no room for all; none
+// if there is a size.
 fn fault_in(sizes: &Sizes<'_>) -> Option<CliFault> {
     if sizes.needed.is_ok() {
         return None;
@@ -158,8 +158,8 @@ fn size_hists<R: Print + AllocGlobal>(
     }
 }
 
-/// Says how large a segment has to be: for the script in a file, or for the histograms of options. Comes with `Usage` only for a mistake
-/// on the command line.
+/// Says how large a segment has to be: for the script in a file, or for the histograms of options. `Usage` comes only
+/// for a mistake on the command line.
 pub fn size_of_task<R: Files + Input + Print + AllocGlobal>(
     context: &Context<'_, R>,
     task: &SizeTask<'_>,

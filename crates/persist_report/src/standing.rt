@@ -1,4 +1,4 @@
-//! What stands in a recording's folder. `docs/FORMAT.md` has the names.
+//! What is in a recording's folder. `docs/FORMAT.md` has the names.
 
 ghost use Rattle.std.specs.Prelude.{IfErr};
 ghost use Rattle.persist_report.specs.Failure.{UsageIsMistake};
@@ -37,7 +37,7 @@ pub const FOLD_LOCK: &str = "fold.lock";
 // The bytes that are read to see the id of a segment: those of a word of zeros, and of the first words of an image.
 const FRONT: usize = 8 * (1 + ID_WORD + 1);
 
-/// A segment: its number, and the path of its file, which had so many bytes when it was listed.
+/// A segment: its number, the path of its file, and how many bytes that had when it was listed.
 #[derive(Drop)]
 pub struct Segment {
     pub number: u64,
@@ -69,7 +69,7 @@ pub fn cause_of_read(reason: io::Error) -> Cause {
     }
 }
 
-// Puts a segment behind others, if its name is that of a regular file, or its file is gone.
+// Appends a segment, if its name is that of a regular file, or its file is gone.
 fn put_segment<R: Files + AllocGlobal>(
     rt: &R,
     segments: &mut Vec<Segment>,
@@ -102,7 +102,7 @@ pub fn names_in<R: Files + AllocGlobal>(rt: &R, folder: &str) -> io::Result<Vec<
     Ok(names)
 }
 
-/// Returns the segments that stand in a folder, by their numbers.
+/// Returns the segments in a folder, in the order of their numbers.
 pub fn segments_in<R: Files + AllocGlobal>(rt: &R, folder: &str) -> io::Result<Vec<Segment>> {
     let alloc = rt.alloc();
     let names = names_in(rt, folder)?;
@@ -130,7 +130,8 @@ fn read_totals<R: Files + AllocGlobal>(rt: &R, path: &str) -> io::Result<Option<
     }
 }
 
-/// Returns the text of the totals of a folder; none if there is no such file. `Usage` comes only for a mistake on the command line.
+/// Returns the text of the totals of a folder; none if there is no such file. `Usage` comes only for a mistake on the
+/// command line.
 pub fn totals_text_in<R: Files + AllocGlobal>(
     context: &Context<'_, R>,
     folder: &str,
@@ -144,8 +145,8 @@ pub fn totals_text_in<R: Files + AllocGlobal>(
     }
 }
 
-/// Returns what the text of the totals of a folder says: without a text, that nothing was folded. `Usage` comes only for a mistake
-/// on the command line.
+/// Returns what the text of the totals of a folder says: without a text, that nothing was folded. `Usage` comes only
+/// for a mistake on the command line.
 pub fn totals_from<R: AllocGlobal>(
     context: &Context<'_, R>,
     folder: &str,
@@ -170,8 +171,8 @@ pub fn totals_from<R: AllocGlobal>(
     }
 }
 
-/// Returns the id of the segment in an open file that stands at its start, and does again then; none if the file is too short to have
-/// one.
+/// Returns the id of the segment in an open file that is at its start, and sets it back there; none if the file is too
+/// short to have one.
 pub fn id_in(alloc: Global, file: &mut File) -> io::Result<Option<u64>> {
     let mut front = [0; FRONT];
     match file.read_exact(&mut front) {

@@ -92,7 +92,7 @@ fn first_failure<R: AllocGlobal>(
     Ok(())
 }
 
-// The failure of a sum of which another is no earlier one.
+// The failure of a subtraction: the sum to subtract is not part of the other, or the difference does not fit.
 fn minus_failure<R: AllocGlobal>(context: &Context<'_, R>, fault: MinusFault) -> Failure
     ensures { UsageIsMistake result }
 {
@@ -156,7 +156,7 @@ fn families_of<R: AllocGlobal>(
     }
 }
 
-// What the page of a sum says of its inputs, of which so many are left out.
+// What the page of a sum says of its inputs, and how many of them are left out.
 fn head_of(alloc: Global, sums: &Sums, left: u64) -> Result<SumHead, AllocError> {
     let notes = sums.notes();
     let others = sums.others(alloc)?;
@@ -171,8 +171,8 @@ fn head_of(alloc: Global, sums: &Sums, left: u64) -> Result<SumHead, AllocError>
     })
 }
 
-// The text of a sum in a form, of which so many inputs are left out. A page names where the sum comes from. An overview is of one image
-// alone.
+// The text of a sum in a form, with how many inputs are left out. A page names where the sum comes from. An overview is
+// of one image alone.
 fn form_text<R: AllocGlobal>(
     context: &Context<'_, R>,
     form: Form<'_>,
@@ -314,7 +314,7 @@ fn compose<R: Files<File = File> + Clock + Input + Eprint + AllocGlobal + Thread
     )
 }
 
-// Writes a text to a file, or to standard output if there is none, and then tells what is wrong with what was read.
+// Writes a text to a file, or to standard output if there is none, and then returns what is wrong with what was read.
 fn write_composed<R: Files<File = File> + Clock + Print + RandomSource + AllocGlobal>(
     context: &Context<'_, R>,
     composed: Composed,
@@ -342,8 +342,8 @@ fn write_composed<R: Files<File = File> + Clock + Print + RandomSource + AllocGl
     Err(failure_of(context, cause.fault, known))
 }
 
-/// Writes a text of the sum of inputs: to the file `to`, or to standard output if there is none. Inputs that cannot be read are
-/// told and left out, or the first ends it. `Usage` comes only for a mistake on the command line.
+/// Writes a text of the sum of inputs: to the file `to`, or to standard output if there is none. Inputs that cannot be
+/// read are reported and left out, or the first of them ends it. `Usage` comes only for a mistake on the command line.
 pub fn write_sum<
     R: Files<File = File>
         + Clock
@@ -367,7 +367,7 @@ pub fn write_sum<
     write_composed(context, composed, to)
 }
 
-// Where a page says that it comes from.
+// Where a page comes from, as it says.
 fn place_in<'a>(text: Text<'a>) -> Place<'a> {
     match text {
         Text::Form(Form::Page { source, .. }) => source,
@@ -375,7 +375,8 @@ fn place_in<'a>(text: Text<'a>) -> Place<'a> {
     }
 }
 
-/// Writes a text of the totals that a reader has left, as that of a sum. `Usage` comes only for a mistake on the command line.
+/// Writes a text of the totals that a reader has left, as that of a sum. `Usage` comes only for a mistake on the
+/// command line.
 pub fn write_totals<
     R: Files<File = File> + Clock + Print + RandomSource + AllocGlobal,
     I: Read + Drop,

@@ -30,7 +30,7 @@ use sum_commands::{
     any_fault_may_come, nothing_is_added, sum_of_inputs,
 };
 
-// A totals has at most so many bytes.
+// How many bytes a totals has at most.
 const MAX_TOTALS: usize = 1 << 40;
 
 // The line of an input that is left out.
@@ -63,8 +63,8 @@ pub fn path_of<'a>(origin: Origin<'a>) -> &'a str {
     }
 }
 
-/// Adds what a reader has left to a sum, which is an image or a totals: one input more, behind the readings of the sum [added]. Returns
-/// whether it is damaged. If it is left out, the sum is as it was [refused].
+/// Adds an image or a totals, which a reader has left, to a sum: one input more, after the readings of the sum [added].
+/// Returns whether it is damaged. If it is left out, the sum is unchanged [refused].
 pub fn add_from<R: Read>(
     alloc: Global,
     sums: &mut Sums,
@@ -200,7 +200,7 @@ struct NamedInputs<'a, 'r, R> {
     is_live: bool,
 }
 
-// Whether a regular file is at a path, whose reading waits for nobody.
+// Whether a regular file is at a path: to read it waits for nobody.
 fn is_regular<R: Files>(rt: &R, path: &str) -> bool {
     match fs::metadata(rt, path) {
         Ok(found) => path != DASH && found.is_file(),
@@ -265,10 +265,10 @@ pub struct Reading {
     pub workers: usize,
 }
 
-/// Returns the sum of inputs in their order, but for those that are left out, which it lists; up to the first of these if it is
-/// strict. It is so for any number of workers. Of what is in the inputs nothing is known, so this says how many were reached and which
-/// were left out [sum]; that each counts once `sum_of_inputs` promises for any source. Where it takes long and the error stream is a
-/// terminal, a line there says how far it is.
+/// Returns the sum of inputs in their order, without those that are left out, which it lists; up to the first of these
+/// if it is strict. The result is the same for any number of workers. Nothing is known of what is in the inputs, so
+/// this promises how many were reached and which were left out [sum]; that each counts once is what `sum_of_inputs`
+/// promises for any source. If it takes long and the error stream is a terminal, a line there shows how far it is.
 pub fn sum_of_names<R: Files<File = File> + Clock + Input + Eprint + AllocGlobal + Threads + Wait>(
     context: &Context<'_, R>,
     names: &[Named],
@@ -298,7 +298,7 @@ pub fn sum_of_names<R: Files<File = File> + Clock + Input + Eprint + AllocGlobal
     Ok(summed?)
 }
 
-/// Tells which inputs are left out, a line each, on the error stream. If that cannot be written, nothing is said.
+/// Reports which inputs are left out, a line each, on the error stream. If that cannot be written, nothing is reported.
 pub fn tell_left<R: Eprint>(rt: &R, names: &[Named], left: &[Left]) {
     for one in left {
         if let Some(name) = names.get(one.place) {

@@ -1,4 +1,5 @@
-//! The commands that write a text of an image: to standard output, or to a file that is replaced when the text is complete.
+//! The commands that write a text of an image: to standard output, or to a file that is replaced when the text is
+//! complete.
 
 ghost use Rattle.std.specs.Prelude.{◌≡◌, false, IfErr};
 ghost use Rattle.persist_report.specs.Failure.{UsageIsMistake};
@@ -29,8 +30,8 @@ use std::thread::Threads;
 use std::time::Clock;
 use sum_commands::InputKind;
 
-/// Ends the output of a text with how its writing ended, and what is wrong with what was read: a file is replaced if the text is
-/// complete. `Usage` comes only for a mistake on the command line.
+/// Ends the output of a text with how its writing ended, and what is wrong with what was read: a file is replaced if
+/// the text is complete. `Usage` comes only for a mistake on the command line.
 pub fn end_text<'a, R: Files<File = File> + AllocGlobal, I: Drop, P: Drop>(
     context: &Context<'_, R>,
     reader: Stream<'a, I>,
@@ -60,8 +61,8 @@ pub fn end_text<'a, R: Files<File = File> + AllocGlobal, I: Drop, P: Drop>(
     Err(failure_of(context, cause.fault, known))
 }
 
-// Writes a form of what a reader has left to a file, which is replaced when the text is complete, and then sees what is wrong
-// with what was read.
+// Writes a form of what a reader has left to a file, which is replaced when the text is complete, and then sees what is
+// wrong with what was read.
 fn write_to<'a, R: Files<File = File> + Clock + Print + RandomSource + AllocGlobal, I: Read + Drop>(
     context: &Context<'_, R>,
     form: Form<'_>,
@@ -82,9 +83,10 @@ fn write_to<'a, R: Files<File = File> + Clock + Print + RandomSource + AllocGlob
     end_text(context, reader, writer, written, found)
 }
 
-/// Writes a text of the one image that is named, or of that on standard input if no file is named, or `-`, or of the sum of all
-/// inputs: to the file `to`, or to standard output if there is none. If no file is named and standard input is a terminal, this is
-/// said. What is wrong with what was read comes after the text. `Usage` comes only for a mistake on the command line.
+/// Writes a text of the one image that is named, or of that on standard input if no file is named, or `-`, or of the
+/// sum of all inputs: to the file `to`, or to standard output if there is none. If no file is named and standard input
+/// is a terminal, a line on the error stream reports this. What is wrong with what was read comes after the text.
+/// `Usage` comes only for a mistake on the command line.
 pub fn write_inputs<
     'a,
     R: Files<File = File>
@@ -138,8 +140,9 @@ fn labels_of<'a>(alloc: Global, words: &[&'a str]) -> Result<Option<Vec<Label<'a
     Ok(Some(labels))
 }
 
-/// Writes the metrics of an image, if their names may begin with the prefix, and all lines may have these labels, each given as
-/// KEY=VALUE; with a family for each histogram where that is asked for. `Usage` comes only for a mistake on the command line.
+/// Writes the metrics of an image, if their names may begin with the prefix, and all lines may have these labels, each
+/// given as KEY=VALUE; with a family for each histogram if that is asked for. `Usage` comes only for a mistake on
+/// the command line.
 pub fn write_export<
     'a,
     R: Files<File = File>

@@ -41,7 +41,7 @@ of_recorder empty other g f Calls each (Some (contents.Segment owned)) new answe
 of_recorder empty other g f Calls each (Some (contents.Sums sums)) new answer is = is
 of_recorder empty other g f Calls each (Some contents.Nothing) new answer is = is
 
--- the same, where a status has a length beside it
+-- the same, if a status comes with a length
 pub of_sized : {A F : Type 0} (empty other : Refused) (g : Once F (MutBor JoinableRecorder × Unit {0}) (Result A Refused × (MutBor JoinableRecorder × Unit {0}))) (f : F) (Calls : OwnedRecorder → Result A Refused → OwnedRecorder → Type 0)
     → empty ≡ refused_with 3 → other ≡ refused_with 5
     → ((shown left : MutBor JoinableRecorder) (answer : Result A Refused) → g.post f (shown, tt) (answer, (left, tt)) → (left.now.mailbox ≡ shown.now.mailbox) × Calls shown.now.owned answer left.now.owned)

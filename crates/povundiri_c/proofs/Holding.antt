@@ -50,7 +50,7 @@ pub lent : (units : ℕ) (result : Result (Unit {0}) Refusal) (old new : Opener)
 lent units (Ok done) old new before after has enough mine theirs = (mine, theirs)
 lent units (Err why) old new before after has enough mine theirs = absurd (omega (arith, has.1, enough))
 
--- where one was made, nothing was at fault
+-- if one was made, there was no fault
 pub unrefused : {T : Type 0} (fault : Option T) (result : Result OwnedRecorder T) (owned : OwnedRecorder) (P : OwnedRecorder → Type 0)
     → MatchOption fault (MatchResult result P (λ _. ⊥)) (λ why. result ≡ Err why) → result ≡ Ok owned → (fault ≡ None) × P owned
 unrefused {T} None result owned P held is = (refl, MatchResult-at_ok P (λ _. ⊥) owned is held)

@@ -44,7 +44,7 @@ module _ (joinable : JoinableRecorder) (old : OwnedSegment) (its own : Mailbox) 
       let it = subst Says is said in
       (it.1.0, it.1.1, it.2, λ e. absurd (cc (ap (λ (x : Option OwnedRecorder × Option OwnedRecorder). x.1) (it.3 e))))
 
-  -- what was met is of the segment
+  -- what was found is of the segment
   pub met_is : (met back : Option OwnedRecorder) → result ≡ Ok (met, back) → IsOfOpener key met
   met_is met back is = (subst Says is said).0
 
@@ -65,7 +65,7 @@ module _ (joinable : JoinableRecorder) (old : OwnedSegment) (its own : Mailbox) 
   pub busy_is : (back : OwnedRecorder) → result ≡ Err back → (back ≡ joinable.owned) × (after ≡ (old.keeper, old.gone))
   busy_is back is = subst Says is said
 
--- what was met is joined, if anything
+-- what was found is joined, if anything
 pub met_or : (met : Option OwnedRecorder) (old mid new : OwnedSegment) → (met ≡ None → IsSameSegment old mid) → MatchOption met (new ≡ mid) (λ owned. HasJoined owned old new)
     → IsSameSegment old new ⊎ ((owned : OwnedRecorder) × HasJoined owned old new)
 met_or None old mid new same is = inl (subst (IsSameSegment old) (sym is) (same refl))

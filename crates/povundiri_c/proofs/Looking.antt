@@ -1,4 +1,4 @@
--- What comes of three copies is what C is given.
+-- What three copies give is what C is given.
 use Rattle.std.proofs.Common.{◌≡◌, ◌≤◌, ◌⊎◌, ℕ, List, length, subst, inl, inr, refl, ap, ◌∙◌, Result, Ok, Err, MatchResult, IfOk, IfErr}
 use Rattle.std.specs.Arc.{arc_value}
 use Rattle.live_segment.specs.Look.{IsLookTaken}
@@ -52,7 +52,7 @@ pub fault_said : (made : Result SegmentHead LookFault) (why : LookFault) (status
 fault_said (Ok head) why status Same same is says = tt
 fault_said (Err fault) why status Same same is says = says ∙ ap status_of_look_fault (same fault is)
 
--- where they have none, memory ran out
+-- if they have none, memory ran out
 pub valid_said : (made : Result SegmentHead LookFault) (why : LookFault) (status : ℕ) (Same : LookFault → Type 0)
     → MatchResult made (λ head. why ≡ NoMemory) Same → status ≡ status_of_look_fault why → IfOk made (λ _. (status ≡ 0) ⊎ (status ≡ 13))
 valid_said (Ok head) why status Same is says = inr (says ∙ ap status_of_look_fault is)

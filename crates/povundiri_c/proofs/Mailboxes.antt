@@ -15,7 +15,7 @@ use Rattle.povundiri_c.specs.Mailbox.{AreSo, FitsNumber, FitsState, HasLaid, Has
 
 -- ---- what threads know
 
--- what a thread knows is so when another has brought the number up
+-- what a thread knows is still true when another has brought the number up
 later : (number next : ℕ) (home home' : Home) (last last' id : ℕ) (keeper : Bool) (at : ℕ) (state : SeatState) → number < next → (number % 2 ≡ 1 → id ≡ last → ⊥)
     → (keeper ≡ true → number % 4 ≡ 2 → id ≡ last → ⊥) → IsSo number home last id keeper at state → IsSo next home' last' id keeper at state
 later number next home home' last last' id keeper at Nothing up out alone is = omega (arith, up, is)
@@ -28,7 +28,7 @@ later number next home home' last last' id keeper at (Laid recorder) up out alon
   λ k. absurd (alone k (ap (λ n. n % 4) (is.3 k) ∙ is.1) (is.2 (is.3 k)).1),
 )
 
--- what a seat knows is so, and it is of the opener, and the keeper's where it says so
+-- what a seat knows is true, and it is of the opener, and the keeper's if it says so
 abbrev IsSeat : Opener → ℕ → Home → ℕ → ℕ → ℕ → View → Type 0
 IsSeat opener number home last kept_by id view = (view.0 ≡ opener) × (view.1 ≡ true → id ≡ kept_by) × IsSo number home last id view.1 view.2 view.3
 
@@ -116,7 +116,7 @@ alone number last kept_by id home keeper at Reaches mine is may other apart kept
 alone number last kept_by id home keeper at (Laid recorder) mine is may other apart kept two reached = apart (reached ∙ sym (is.2 may).1)
 alone number last kept_by id home keeper at (Met recorder) mine is may other apart kept two reached = may
 
--- what a seat knows that has missed the number is so
+-- what a seat knows that has missed the number is true
 missed_is : (n number : ℕ) (home : Home) (last id : ℕ) (keeper : Bool) (at : ℕ) (state : SeatState) → n ≢ number → MayReachFrom number keeper at state
     → IsSo n home last id keeper at state → IsSo n home last id keeper at (missed_state state)
 missed_is n number home last id keeper at Nothing other may is = is
@@ -124,7 +124,7 @@ missed_is n number home last id keeper at Reaches other may is = is
 missed_is n number home last id keeper at (Laid recorder) other may is = omega (arith, is.0, (λ (e : n ≡ at). other (e ∙ sym may)))
 missed_is n number home last id keeper at (Met recorder) other may is = is
 
--- the same mailbox, where a seat knows something else
+-- the same mailbox, if a seat knows something else
 noticed : (opener : Opener) (s_words : List ℕ) (homes : List (maybe.Option (Option OwnedRecorder))) (views : List View) (id : ℕ) (mine : View) (last kept_by : ℕ)
     → IsSeat opener (get_or s_words 0 0) (get_elem? homes 0) last kept_by id mine
     → ((j : ℕ) (view : View) → get_elem? views j ≡ some view → IsSeat opener (get_or s_words 0 0) (get_elem? homes 0) last kept_by j view)
@@ -210,7 +210,7 @@ places opener slots id number me new even at state one passed right s g wide min
 
 -- ---- seats
 
--- where nothing was laid, a seat that has missed a number is the same
+-- if nothing was laid, a seat that has missed a number is the same
 pub missed_same : (me : Me (Option OwnedRecorder) View) → me.0.3 ≡ Nothing → missed me ≡ me
 missed_same me nothing = λ i. ((me.0.0, me.0.1, me.0.2, (ap missed_state nothing ∙ sym nothing) i), me.1)
 
@@ -223,7 +223,7 @@ abbrev taken_last : List (ℕ × Option OwnedRecorder) → Option OwnedRecorder
 taken_last [] = None
 taken_last (one ∷ _) = one.1
 
--- what was put in its place at a number, and what was there, where the mailbox had that number
+-- what was put in its place at a number, and what was there, if the mailbox had that number
 pub replaced : (number seen : ℕ) (recorder found : Option OwnedRecorder) (s0 s1 s2 s3 : MailboxSeat) → seen ≡ number → s1.table_id ≡ s0.table_id → HasReached number s0.me seen s1.me
     → s2.table_id ≡ s1.table_id → s1.me.1 ≡ (0, found) ∷ rest s1.me.1 → s2.me ≡ (s1.me.0, (0, recorder) ∷ rest s1.me.1) → s3.table_id ≡ s2.table_id → IsPut (number + 2) s2.me s3.me
     → Replaces number recorder s0 (Ok found) s3

@@ -120,11 +120,11 @@ pub laid_at : (other number : ℕ) (view : View) (recorder : OwnedRecorder) → 
 laid_at other number view recorder laid keeper fits =
     subst (λ (x : ℕ × SeatState). FitsState other view.1 x.0 x.1) (λ i. (laid.0 i, laid.1 i)) fits keeper
 
--- a seat that has nothing there is the same where it does not lay it
+-- a seat that has nothing there is the same if it does not lay it
 still : (number : ℕ) (recorder back : Option OwnedRecorder) (before after : MailboxSeat) → before.me.0.3 ≡ Nothing → Replaces number recorder before (Err back) after → after ≡ before
 still number recorder back before after nothing is = same_seat after before is.1 is.2 (is.3 ∙ missed_same before.me nothing)
 
--- where neither of two seats has laid it, it comes back
+-- if neither of two seats has laid it, it comes back
 pub refused : (number : ℕ) (recorder back : Option OwnedRecorder) (k0 s0 k1 s1 : MailboxSeat) → k0.me.0.3 ≡ Nothing → ReplacesBy number recorder (k0, s0) (Err back) (k1, s1)
     → (back ≡ recorder) × (k1 ≡ k0)
 refused number recorder back k0 s0 k1 s1 nothing is =
@@ -140,7 +140,7 @@ missed_by number back k0 k2 (Laid recorder) has keeper may fits is =
     let other = laid_at is.4.0 k0.me.0.2 k0.me.0 recorder (refl, has) keeper is.4.2 in
     absurd (is.4.1 (other ∙ sym one))
 
--- a keeper does not miss what it has found, but where it had nothing there itself
+-- a keeper does not miss what it has found, unless it had nothing there itself
 pub missed_keeper : (number : ℕ) (back : Option OwnedRecorder) (k0 k1 k2 : MailboxSeat) → k0.me.0.1 ≡ true → MayTake k0.me.0.2 k0.me.0.3 → k1.table_id ≡ k0.table_id → k1.id ≡ k0.id
     → k1.me ≡ k0.me → FitsNumber number k0.me.0 → Replaces number None k1 (Err back) k2 → KeeperTakes k0 None k2
 missed_keeper number back k0 k1 k2 keeper may table id me fits is =
@@ -197,12 +197,12 @@ may_reach number keeper at Reaches may is fits = may
 may_reach number keeper at (Laid recorder) may is fits = fits is
 may_reach number keeper at (Met recorder) may is fits = may
 
--- where both are of one mailbox, the keeper takes what it has laid
+-- if both are of one mailbox, the keeper takes what it has laid
 met_own : (number : ℕ) (recorder : OwnedRecorder) (k0 k1 k2 : MailboxSeat) (met : Option OwnedRecorder) → HasPut number recorder k0 k1 → KeeperTakes k1 met k2 → met ≡ Some recorder
 met_own number recorder k0 k1 k2 met put takes =
     takes.1 (number + 2) recorder (ap (λ (x : Me (Option OwnedRecorder) View). x.0.2) put.1, ap (λ (x : Me (Option OwnedRecorder) View). x.0.3) put.1)
 
--- what it knows then, where it has taken something
+-- what it knows then, if it has taken something
 took : (k1 k2 : MailboxSeat) (met : Option OwnedRecorder) (found : OwnedRecorder) → met ≡ Some found → KeeperTakes k1 met k2
     → (number : ℕ) × (k2.table_id ≡ k1.table_id) × (k2.me ≡ ((k1.me.0.0, true, number + 2, Nothing), [])) × IsOfOpener k1.me.0.0 (Some found) × FitsNumber number k1.me.0
 took k1 k2 met found is takes = (subst (λ (one : Option OwnedRecorder). KeeperTakes k1 one k2) is takes).0
@@ -229,7 +229,7 @@ seats_2 from to key number recorder k0 s0 k1 s1 k2 met is at empty (inl own) tak
 seats_2 from to key number recorder k0 s0 k1 s1 k2 met is at empty (inr other) takes =
     ((keeper_2 to key number recorder k0 s0 k1 s1 k2 met is (inr other) takes).1, other.1.0 ∙ at, ap (λ (x : Me (Option OwnedRecorder) View). x.1) other.1.1)
 
--- where both are of one mailbox, it does not lie there any more
+-- if both are of one mailbox, it does not lie there any more
 gone : (number : ℕ) (recorder : OwnedRecorder) (k0 k1 k2 : MailboxSeat) (met : Option OwnedRecorder) → k0.me.0.1 ≡ true → HasPut number recorder k0 k1 → KeeperTakes k1 met k2
     → FitsNumber (number + 2) k2.me.0 → ⊥
 gone number recorder k0 k1 k2 met keeper put takes fits =
@@ -260,7 +260,7 @@ came to key number recorder k0 s0 k1 s1 k2 None is put takes = tt
 came to key number recorder k0 s0 k1 s1 k2 (Some found) is put takes =
     subst (λ (one : Opener). IsOfOpener one (Some found)) (keeps_1 to key number recorder k0 s0 k1 s1 is put).2 takes.0.3
 
--- where nothing has come, the keeper's seat is the same
+-- if nothing has come, the keeper's seat is the same
 idle : (number : ℕ) (recorder : OwnedRecorder) (k0 s0 k1 s1 k2 : MailboxSeat) (met : Option OwnedRecorder) → IsLaid number recorder k0 s0 k1 s1 → KeeperTakes k1 met k2 → met ≡ None → k2 ≡ k0
 idle number recorder k0 s0 k1 s1 k2 met (inl own) takes none = absurd (cc (sym none ∙ met_own number recorder k0 k1 k2 met own.1 takes))
 idle number recorder k0 s0 k1 s1 k2 met (inr other) takes none = (subst (λ (one : Option OwnedRecorder). KeeperTakes k1 one k2) none takes).0 ∙ other.2
@@ -270,7 +270,7 @@ own_met : (from to : TableId) (key : Opener) (number : ℕ) (recorder : OwnedRec
 own_met from to key number recorder k0 s0 k1 s1 k2 met is at (inl own) takes e = met_own number recorder k0 k1 k2 met own.1 takes
 own_met from to key number recorder k0 s0 k1 s1 k2 met is at (inr other) takes e = absurd (other.0 (is.0 ∙ sym e ∙ sym at))
 
--- where it is back, that is the one which was laid there
+-- if it is back, it is the one that was laid there
 pub passes_in_ok : (from to : TableId) (key : Opener) (number : ℕ) (recorder : OwnedRecorder) (k0 s0 k1 s1 k2 k3 s3 l0 : MailboxSeat) (met back : Option OwnedRecorder)
     (result : Result (Option OwnedRecorder) (Option OwnedRecorder)) → IsKeeper to key k0 → s0.table_id ≡ from → IsLaid number recorder k0 s0 k1 s1 → KeeperTakes k1 met k2
     → result ≡ Ok back → ReplacesBy (number + 2) None (k2, s1) result (k3, s3) → Passes from to key recorder (k0, l0) (Ok (met, back)) (k3, l0)
@@ -290,7 +290,7 @@ passes_in_ok from to key number recorder k0 s0 k1 s1 k2 k3 s3 l0 met back result
       λ e. absurd (other.0 (is.0 ∙ sym e ∙ sym at)),
     )
 
--- where it is not, another has taken it
+-- if it is not, another has taken it
 has_met : (from to : TableId) (key : Opener) (number : ℕ) (recorder : OwnedRecorder) (k0 s0 k1 s1 k2 k3 s3 : MailboxSeat) (met back : Option OwnedRecorder) → IsKeeper to key k0
     → s0.table_id ≡ from → IsLaid number recorder k0 s0 k1 s1 → KeeperTakes k1 met k2 → ReplacesBy (number + 2) None (k2, s1) (Err back) (k3, s3) → from ≢ to
     → HasMetRecorder from recorder s3

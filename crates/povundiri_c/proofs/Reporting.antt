@@ -49,7 +49,7 @@ keys_said words (Ok head) result most more same held is =
 keys_said words (Err fault) result most more same held is =
     absurd (subst (λ (read : Result Bool ImageFault). MatchResult read (λ _. Unit {0}) (λ _. ⊥)) (sym is ∙ held) tt)
 
--- so nothing is said of a fault of it
+-- so there is no fault of it to speak of
 pub no_fault_of : (words : List ℕ) (most : ℕ) (more : Bool) (status : ℕ) → SayKeys words most more
     → IfErr (header_of words) (λ fault. status ≡ status_of_image_fault fault)
 no_fault_of words most more status (head, valid, said) =

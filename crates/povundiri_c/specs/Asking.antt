@@ -1,4 +1,4 @@
--- What C passes beside a handle, and what a call returns.
+-- What C passes in addition to a handle, and what a call returns.
 use Rattle.std.specs.Prelude.{◌≡◌, ◌≢◌, ◌+◌, ◌<◌, ◌≤◌, ◌⊎◌, ◌==◌, ◌++◌, if◌then◌else◌, ℕ, ℤ, List, length, map, drop, Option, Some, None, is_none, Result, Ok, Err}
 use Rattle.std.specs.declared.vec.Vec.{Vec}
 use Rattle.std.specs.declared.alloc.Global.{Global}
@@ -34,18 +34,18 @@ status_of_scale_fault None = 10
 abbrev pub scale_status : ℕ → ℕ → ℕ → ℕ
 scale_status minimum maximum bits = status_of_scale_fault (scale_fault minimum maximum bits)
 
--- the spec that C asks for, if its kind is one, and it is no scale with a fault
+-- the spec that C asks for, if there is such a kind, and it is no scale with a fault
 abbrev pub spec_asked : HistSpec → List ℕ → Option Spec
 spec_asked asked values =
     if asked.kind == 1 then Some (Linear asked.minimum asked.maximum asked.buckets)
     else (if asked.kind == 2 then Some Boolean else (if asked.kind == 3 then Some (Custom values) else (if asked.kind == 4 then Some Sparse
     else (if asked.kind == 5 then scale_asked asked.minimum asked.maximum asked.buckets else None))))
 
--- the status where there is no such spec: that of the fault of a scale, or that there is no such kind
+-- the status if there is no such spec: that of the fault of a scale, or that there is no such kind
 abbrev pub no_spec_status : HistSpec → ℕ
 no_spec_status asked = if asked.kind == 5 then scale_status asked.minimum asked.maximum asked.buckets else 10
 
--- The handle is empty, there is no such spec, or there was no memory for the values.
+-- The handle is empty, there is no such spec, or memory ran out for the values.
 abbrev pub IsNoHist : Option Contents → Option Spec → ℕ → ℕ → Type 0
 IsNoHist held spec none status = ((held ≡ None) × (status ≡ 3)) ⊎ (((spec ≡ None) × (status ≡ none)) ⊎ (status ≡ 13))
 
@@ -61,12 +61,12 @@ AnswersHistCall name asked none held status place place' held' =
 abbrev pub pair_of : Item → ℤ × ℕ
 pair_of item = (item.value, item.count)
 
--- All items are counted; or the status says why not, and it comes with how many are counted all the same.
+-- All items are counted; or the status says why not, and comes with how many are counted all the same.
 abbrev pub IsBatchStatus : ℕ → Result (Unit {0}) Refused → ℕ → ℕ → Type 0
 IsBatchStatus all (Ok _) status added = (status ≡ 0) × (added ≡ all)
 IsBatchStatus all (Err refused) status added = (status ≡ refused.status) × (added ≡ refused.length)
 
--- The batch is counted, or the status says why not. Or nothing was called, since the handle is empty or there was no memory for the items, and
+-- The batch is counted, or the status says why not. Or nothing was called, since the handle is empty or memory ran out for the items, and
 -- all is unchanged.
 abbrev pub AnswersBatchCall : ℕ → List Item → ℤ → Option Contents → ℕ → ℕ → ℕ → Option Contents → Type 0
 AnswersBatchCall place items sum held status added added' held' =
@@ -104,7 +104,7 @@ IsSnapshotGiven (Ok snapshot) status totals totals' old new =
     × AreGiven snapshot.counts.items old new
 IsSnapshotGiven (Err refused) status totals totals' old new = IsRefusalStatus refused status totals totals' old new
 
--- a delta of the histogram at a place is returned, where the array has room for all of its keys, or the status says why not
+-- a delta of the histogram at a place is returned, if the array has room for all of its keys; or the status says why not
 abbrev pub AnswersDeltaCall : ℕ → Option Contents → ℕ → Totals → Totals → List Count → List Count → Option Contents → Type 0
 AnswersDeltaCall place held status totals totals' old new held' =
     (answer : Result Delta Refused) × SizesOfRecorder (AtPlaceInRoom place (length old) TakesDelta) held answer held'
@@ -118,8 +118,8 @@ AnswersSnapshotCall place held status totals totals' old new held' =
 
 -- ---- `records`
 
--- How many there are is returned. Where there is room for all, they are at the front of the array; else the array is unchanged. Where there
--- are none for another reason, the status says why, and all is unchanged.
+-- How many there are is returned. If there is room for all, they are at the front of the array; else the array is unchanged. If there are
+-- none for another reason, the status says why, and all is unchanged.
 abbrev pub AreListed : Result (Vec ℕ Global) ℕ → ℕ → ℕ → ℕ → List ℕ → List ℕ → Type 0
 AreListed (Ok found) status needed needed' old new =
     (needed' ≡ length found.items)
@@ -127,7 +127,7 @@ AreListed (Ok found) status needed needed' old new =
     × (length old < length found.items → (status ≡ 7) × (new ≡ old))
 AreListed (Err why) status needed needed' old new = (status ≡ why) × (needed' ≡ needed) × (new ≡ old)
 
--- the records of the list are returned so
+-- the records of the list are returned in this way
 abbrev pub AnswersRecordsCall : Option Contents → ℕ → ℕ → ℕ → List ℕ → List ℕ → Option Contents → Type 0
 AnswersRecordsCall held status needed needed' old new held' =
     (answer : Result (Vec ℕ Global) ℕ) × GivesOfRecorder WalksAll held answer held' × AreListed answer status needed needed' old new

@@ -10,7 +10,7 @@ use Rattle.povundiri_c.specs.declared.status.Refused.{Refused}
 use Rattle.povundiri_c.specs.declared.joinable_recorder.JoinableRecorder.{JoinableRecorder}
 use Rattle.povundiri_c.specs.Recorders.{refused_with}
 
--- ---- what a call only asks
+-- ---- calls that only ask
 
 -- the units that a segment has left to give, or that a recorder may still spend
 abbrev pub units_of : Contents → Result ℕ ℕ
@@ -26,12 +26,12 @@ outstanding_in (contents.Recorder joinable) = Err 5
 outstanding_in (contents.Sums sums) = Err 5
 outstanding_in contents.Nothing = Err 5
 
--- of a handle, which may be empty
+-- the same of a handle, which may be empty
 abbrev pub asked_of : (Contents → Result ℕ ℕ) → Option Contents → Result ℕ ℕ
 asked_of ask None = Err 3
 asked_of ask (Some held) = ask held
 
--- what is returned is written where C asked for it; else the status says why not, and what stood there is unchanged
+-- what is returned is written where C asked for it; or the status says why not, and what was there is unchanged
 abbrev pub IsWritten : {A : Type 0} → Result A ℕ → ℕ → A → A → Type 0
 IsWritten (Ok found) status old new = (status ≡ 0) × (new ≡ found)
 IsWritten (Err why) status old new = (status ≡ why) × (new ≡ old)

@@ -23,7 +23,7 @@ use Rattle.povundiri_c.specs.Mailbox.{BelongsTo, HasMetRecorder}
 
 -- ---- a call of a segment
 
--- What is no segment returns that, and is unchanged; else the call is of the segment.
+-- If it is no segment, that is returned, and it is unchanged; else the call is of the segment.
 abbrev pub BySegment : {A : Type 0} → A → (OwnedSegment → A → OwnedSegment → Type 0) → Contents → A → Contents → Type 0
 BySegment other Calls (contents.Segment owned) answer new = (after : OwnedSegment) × (new ≡ contents.Segment after) × Calls owned answer after
 BySegment other Calls (contents.Recorder joinable) answer new = (answer ≡ other) × (new ≡ contents.Recorder joinable)
@@ -64,7 +64,7 @@ abbrev pub IsHanded : Result JoinableRecorder ℕ → ℕ → Option Contents �
 IsHanded (Ok joinable) status out = (status ≡ 0) × (out ≡ Some (contents.Recorder joinable))
 IsHanded (Err why) status out = (status ≡ why) × (out ≡ None)
 
--- A recorder of the segment is returned, or the status says why not. Or there was no memory for it, and the segment is unchanged.
+-- A recorder of the segment is returned, or the status says why not. Or memory ran out for it, and the segment is unchanged.
 abbrev pub AnswersRecorderCall : ℕ → Option Contents → ℕ → Option Contents → Option Contents → Type 0
 AnswersRecorderCall units segment status segment' out =
     ((answer : Result JoinableRecorder ℕ) × GivesOfSegment (GivesRecorder units) segment answer segment' × IsHanded answer status out)
@@ -72,7 +72,7 @@ AnswersRecorderCall units segment status segment' out =
 
 -- ---- which segment a recorder is of
 
--- A recorder is one of a segment where they have one mailbox: no other segment has the same.
+-- A recorder is of a segment if they have one mailbox: no other segment has the same.
 abbrev pub mailbox_of_recorder : JoinableRecorder → TableId
 mailbox_of_recorder joinable = (arc_value joinable.mailbox).table.shared.table_id
 
@@ -101,22 +101,22 @@ abbrev pub HasJoined : OwnedRecorder → OwnedSegment → OwnedSegment → Type 
 HasJoined owned old new =
     KeepsSegment old new × IsRecorderOf owned old.opener × (view_of_opener new.opener ≡ joined (view_of_opener old.opener) (view_of_owned owned))
 
--- It comes back, since it is of another segment. One of this segment, which another thread passed to another, may have been met.
+-- It comes back, since it is of another segment. One of this segment, which another thread passed to another, may have been taken back.
 abbrev pub IsOfOther : JoinableRecorder → OwnedSegment → ℕ → Option JoinableRecorder → OwnedSegment → Type 0
 IsOfOther joinable old status back new =
     (status ≡ 6) × (back ≡ Some joinable) × (IsSameSegment old new ⊎ ((owned : OwnedRecorder) × HasJoined owned old new))
 
--- It was laid in its own mailbox, and that one's keeper has taken it from there: the segment has the seat then that had laid it.
+-- It was laid in its own mailbox, and that mailbox's keeper has taken it from there: now the segment has the seat that had laid it.
 abbrev pub HasGone : JoinableRecorder → OwnedSegment → Type 0
 HasGone joinable new = HasMetRecorder (mailbox_of_recorder joinable) joinable.owned new.gone
 
--- it does not come back, and nothing was met here
+-- it does not come back, and none was found here
 abbrev pub IsElsewhere : OwnedSegment → ℕ → Option JoinableRecorder → OwnedSegment → Type 0
 IsElsewhere old status back new = (status ≡ 14) × (back ≡ None) × HasOpener old new
 
 -- ---- how a segment finds a recorder
 
--- A recorder of the segment is found. It is the one that was passed where that is of this segment; else that one has gone.
+-- A recorder of the segment is found. If the one that was passed is of this segment, it is that one; else that one has gone.
 abbrev pub IsRecorderFound : JoinableRecorder → OwnedRecorder → OwnedSegment → OwnedSegment → Type 0
 IsRecorderFound joinable found old new =
     HasOpener old new × BelongsTo found (arc_value old.mailbox).table.shared.key
@@ -124,15 +124,16 @@ IsRecorderFound joinable found old new =
     × (mailbox_of_recorder joinable ≢ mailbox_of_segment old → HasGone joinable new)
 
 -- None is found. One of this segment comes back, since another thread passes one of this segment at the same moment. One of another segment
--- comes back too, unless its own has met it, by a call of another thread.
+-- comes back too, unless its own segment took it, in a call of another thread.
 abbrev pub IsNotFound : JoinableRecorder → OwnedSegment → ℕ → Option JoinableRecorder → OwnedSegment → Type 0
 IsNotFound joinable old status back new =
     (mailbox_of_recorder joinable ≡ mailbox_of_segment old → (status ≡ 15) × IsKept joinable old back new)
     × (mailbox_of_recorder joinable ≢ mailbox_of_segment old
     → IsOfOther joinable old status back new ⊎ ((status ≡ 15) × IsKept joinable old back new) ⊎ (HasGone joinable new × IsElsewhere old status back new))
 
--- What is done with a recorder of the segment that is found, or one of these statuses says why nothing was: then it comes back. One of
--- another segment comes back too, unless its own has met it, by a call of another thread; it is done then with what this segment has met.
+-- This is done with a recorder of the segment that is found, or one of these statuses says why nothing was done: then it comes back. One
+-- of another segment comes back too, unless its own segment took it, in a call of another thread; then none was found here, or this is done
+-- with the one that was.
 abbrev pub IsPassed : (OwnedRecorder → OwnedSegment → ℕ → Option JoinableRecorder → OwnedSegment → Type 0) → (ℕ → Type 0)
     → JoinableRecorder → OwnedSegment → ℕ → Option JoinableRecorder → OwnedSegment → Type 0
 IsPassed Does Refuses joinable old status back new =
@@ -147,14 +148,14 @@ IsPassed Does Refuses joinable old status back new =
 abbrev pub IsJoinDone : OwnedRecorder → OwnedSegment → ℕ → Option JoinableRecorder → OwnedSegment → Type 0
 IsJoinDone owned old status back new = (status ≡ 0) × (back ≡ None) × HasJoined owned old new
 
--- What is returned where a segment is given a recorder back. It comes back where another thread passes one of the same segment at the same
+-- What is returned if a segment is given a recorder back. It comes back if another thread passes one of the same segment at the same
 -- moment.
 abbrev pub Joins : JoinableRecorder → OwnedSegment → ℕ → Option JoinableRecorder → OwnedSegment → Type 0
 Joins = IsPassed IsJoinDone (λ status. status ≡ 15)
 
 -- ---- a recorder is lent units
 
--- a recorder of the segment was lent units of its opener, as `lend` says, and what C holds of it then is this
+-- a recorder of the segment was lent units of its opener, as `lend` says, and this is what C then holds of it
 abbrev pub HasLent : ℕ → OwnedRecorder → OwnedSegment → JoinableRecorder → OwnedSegment → Type 0
 HasLent units owned old joinable new =
     KeepsSegment old new × IsRecorderOf owned old.opener × (arc_value joinable.mailbox ≡ arc_value new.mailbox) × (joinable.owned.segment ≡ owned.segment)
@@ -169,12 +170,12 @@ IsLendDone units owned old status back new = (status ≡ 0) × ((after : Joinabl
 abbrev pub units_left : OwnedSegment → ℕ
 units_left owned = (view_of_opener owned.opener).units.share
 
--- What is returned where the segment has the units. It comes back unchanged if no more may share its mailbox, or another thread passes
--- one of the same segment at the same moment.
+-- What is returned if the segment has the units. It comes back unchanged if no more recorders may share its mailbox, or another thread
+-- passes one of the same segment at the same moment.
 abbrev pub LendsOrNot : ℕ → JoinableRecorder → OwnedSegment → ℕ → Option JoinableRecorder → OwnedSegment → Type 0
 LendsOrNot units = IsPassed (IsLendDone units) (λ status. (status ≡ 13) ⊎ (status ≡ 15))
 
--- where the segment has fewer, that is returned, whichever segment the recorder is of, and all is unchanged
+-- if the segment has fewer, that is returned, whichever segment the recorder is of, and all is unchanged
 abbrev pub Lends : ℕ → JoinableRecorder → OwnedSegment → ℕ → Option JoinableRecorder → OwnedSegment → Type 0
 Lends units joinable old status back new =
     ((units_left old < units) × (status ≡ status_of_refusal NoUnits) × IsKept joinable old back new)
@@ -194,14 +195,14 @@ recorder_in (contents.Segment owned) = None
 recorder_in (contents.Sums sums) = None
 recorder_in contents.Nothing = None
 
--- What is passed and is no recorder comes back for that, and the segment is unchanged; else the recorder is served, and may come back. What
--- is returned is the status, and what was passed if it comes back.
+-- If what is passed is no recorder, it comes back, and the segment is unchanged; else the recorder is served, and may come back. What is
+-- returned is the status, and what was passed if it comes back.
 abbrev pub ServesPassed : JoinOrLend → Contents → OwnedSegment → ℕ × Option Contents → OwnedSegment → Type 0
 ServesPassed request passed old answer new =
     MatchOption (recorder_in passed) ((answer ≡ (5, Some passed)) × (new ≡ old))
     (λ joinable. (back : Option JoinableRecorder) × (answer.1 ≡ option_map contents.Recorder back) × JoinsOrLends request joinable old answer.0 back new)
 
--- the same by contents: from those that are no segment what is passed comes back too
+-- the same of contents: if these are no segment, what is passed comes back too
 abbrev pub ServesContents : JoinOrLend → Contents → Contents → ℕ × Option Contents → Contents → Type 0
 ServesContents request passed = BySegment (5, Some passed) (ServesPassed request passed)
 

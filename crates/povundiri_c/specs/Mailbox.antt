@@ -36,7 +36,7 @@ View = Opener × Bool × ℕ × SeatState
 abbrev pub MailboxSeat : Type 0
 MailboxSeat = Seat (Option OwnedRecorder) View
 
--- a place, whose recorder or none is in it or was taken out of it
+-- a place: in it is a recorder or none, or what was in it was taken out
 abbrev pub Home : Type 0
 Home = maybe.Option (maybe.Option (Option OwnedRecorder))
 
@@ -44,13 +44,13 @@ Home = maybe.Option (maybe.Option (Option OwnedRecorder))
 abbrev pub begins : Opener → View
 begins opener = (opener, true, 0, Nothing)
 
--- a thread that comes by
+-- a thread that knows nothing yet
 abbrev pub stranger : Opener → View
 stranger opener = (opener, false, 0, Nothing)
 
--- What a seat knows is so: the mailbox's number is that or a later one. Or the thread reaches into the mailbox at that number, and no other does.
--- Or its recorder is there while the mailbox has that number still; and where it is the keeper's seat, the mailbox has it still. Or the mailbox
--- has a later number.
+-- What a seat knows is true: the mailbox's number is that or a later one. Or the thread reaches into the mailbox at that number, and no
+-- other does. Or its recorder is there while the mailbox still has that number; and if it is the keeper's seat, the mailbox still has it.
+-- Or the mailbox has a later number.
 abbrev pub IsSo : ℕ → Home → ℕ → ℕ → Bool → ℕ → SeatState → Type 0
 IsSo number home last id keeper at Nothing = at ≤ number
 IsSo number home last id keeper at Reaches = (number ≡ at) × (number % 2 ≡ 1) × (id ≡ last)
@@ -60,7 +60,7 @@ IsSo number home last id keeper at (Met recorder) = at < number
 
 -- ---- the rule
 
--- at an even number, there is no recorder exactly where 4 divides it
+-- at an even number, there is no recorder exactly if 4 divides it
 abbrev pub IsRight : ℕ → Option OwnedRecorder → Type 0
 IsRight number value = MatchOption value (number % 4 ≡ 0) (λ _. number % 4 ≡ 2)
 
@@ -69,7 +69,7 @@ abbrev pub IsInPlace : Opener → ℕ → Home → Type 0
 IsInPlace opener number home =
     number % 2 ≡ 0 → (value : Option OwnedRecorder) × (home ≡ some (some value)) × IsOfOpener opener value × IsRight number value
 
--- There is one keeper's seat at most, and what each seat knows is so. One of them was the last that reached into the mailbox.
+-- There is one keeper's seat at most, and what each seat knows is true. One of them was the last that reached into the mailbox.
 abbrev pub AreSo : Opener → ℕ → Home → List View → Type 0
 AreSo opener number home views =
     (last kept_by : ℕ) × ((id : ℕ) (view : View) → get_elem? views id ≡ some view
@@ -98,7 +98,8 @@ FitsNumber number view = FitsState number view.1 view.2 view.3
 abbrev pub HasLaid : ℕ → OwnedRecorder → View → Type 0
 HasLaid number recorder view = (view.2 ≡ number) × (view.3 ≡ Laid recorder)
 
--- Into an empty mailbox any thread may reach, and the keeper where a recorder is there. A thread that has laid a recorder there may reach for that.
+-- Any thread may reach into an empty mailbox, and the keeper also if a recorder is there. A thread that has laid a recorder there may reach
+-- for that one.
 abbrev pub MayReachFrom : ℕ → Bool → ℕ → SeatState → Type 0
 MayReachFrom number keeper at Nothing = (number % 4 ≡ 0) ⊎ (keeper ≡ true)
 MayReachFrom number keeper at Reaches = ⊥
@@ -109,7 +110,7 @@ MayReachFrom number keeper at (Met recorder) = ⊥
 abbrev pub MayReachInto : ℕ → View → Type 0
 MayReachInto number view = MayReachFrom number view.1 view.2 view.3
 
--- what was there at a number is the recorder that was laid there at that
+-- what was there at a number is the recorder that was laid there at this number
 abbrev pub IsOfNote : ℕ → View → Option OwnedRecorder → Type 0
 IsOfNote number view value = (recorder : OwnedRecorder) → HasLaid number recorder view → value ≡ Some recorder
 
@@ -119,7 +120,7 @@ IsTaken number before after =
     (value : Option OwnedRecorder) × (after.0 ≡ (before.0, before.1, number + 1, Reaches)) × (after.1 ≡ (0, value) ∷ [])
     × IsOfOpener before.0 value × IsOfNote number before value × IsRight number value
 
--- what it knows where the mailbox had another number
+-- what it knows if the mailbox had another number
 abbrev pub missed_state : SeatState → SeatState
 missed_state Nothing = Nothing
 missed_state Reaches = Reaches
@@ -129,12 +130,12 @@ missed_state (Met recorder) = Met recorder
 abbrev pub missed : Me (Option OwnedRecorder) View → Me (Option OwnedRecorder) View
 missed me = ((me.0.0, me.0.1, me.0.2, missed_state me.0.3), me.1)
 
--- It was taken from there where the mailbox had that number. Else nothing was done, and a recorder that was laid there was met.
+-- If the mailbox had that number, it was taken from there. Else nothing was done, and a recorder that was laid there was taken by another.
 abbrev pub HasReached : ℕ → Me (Option OwnedRecorder) View → ℕ → Me (Option OwnedRecorder) View → Type 0
 HasReached number before found after =
     FitsNumber found before.0 × (found ≡ number → IsTaken number before.0 after) × (found ≢ number → after ≡ missed before)
 
--- what a seat knows that puts this there at a number
+-- what a seat knows when it has put this there at a number
 abbrev pub noted : ℕ → Opener → Bool → Option OwnedRecorder → View
 noted number opener keeper None = (opener, keeper, number, Nothing)
 noted number opener keeper (Some recorder) = (opener, keeper, number, Laid recorder)
@@ -150,8 +151,8 @@ IsPut number before after = (after.0 ≡ noted_of number before.0 before.1) × (
 
 -- ---- calls
 
--- At a number, this was put there by a seat, and what was there was taken. Or the mailbox had another number: it comes back, and the seat is
--- the same.
+-- At a number, this was put there by a seat, and what was there was taken. Or the mailbox had another number: it comes back, and the seat
+-- is the same.
 abbrev pub Replaces : ℕ → Option OwnedRecorder → MailboxSeat → Result (Option OwnedRecorder) (Option OwnedRecorder) → MailboxSeat → Type 0
 Replaces number recorder before result after =
     MatchResult result
@@ -160,13 +161,13 @@ Replaces number recorder before result after =
     (λ back. (back ≡ recorder) × (after.table_id ≡ before.table_id) × (after.id ≡ before.id) × (after.me ≡ missed before.me)
     × ((other : ℕ) × (other ≢ number) × FitsNumber other before.me.0))
 
--- of two seats, the first does so where both are of one mailbox, and else the second; the other one is the same
+-- of two seats, the first does so if both are of one mailbox, and else the second; the other one is the same
 abbrev pub ReplacesBy : ℕ → Option OwnedRecorder → MailboxSeat × MailboxSeat → Result (Option OwnedRecorder) (Option OwnedRecorder) → MailboxSeat × MailboxSeat → Type 0
 ReplacesBy number recorder old result new =
     (old.0.table_id ≡ old.1.table_id → Replaces number recorder old.0 result new.0 × (new.1 ≡ old.1))
     × (old.0.table_id ≢ old.1.table_id → Replaces number recorder old.1 result new.1 × (new.0 ≡ old.0))
 
--- whichever of them it is may reach into the mailbox
+-- whichever of the two does so may reach into the mailbox
 abbrev pub MayReachBy : ℕ → MailboxSeat × MailboxSeat → Type 0
 MayReachBy number seats =
     (seats.0.table_id ≡ seats.1.table_id → MayReachInto number seats.0.me.0) × (seats.0.table_id ≢ seats.1.table_id → MayReachInto number seats.1.me.0)
@@ -176,7 +177,7 @@ abbrev pub IsKeeper : TableId → Opener → MailboxSeat → Type 0
 IsKeeper table opener seat =
     (seat.table_id ≡ table) × (seat.me.1 ≡ []) × (seat.me.0.0 ≡ opener) × (seat.me.0.1 ≡ true) × (seat.me.0.3 ≡ Nothing)
 
--- a keeper may take what lies there, whose own recorder lies at a number that is not too high
+-- a keeper may take what lies there, if its own recorder, if any, was laid at a number that is not too high
 abbrev pub MayTake : ℕ → SeatState → Type 0
 MayTake at Nothing = Unit {0}
 MayTake at Reaches = ⊥
@@ -191,13 +192,13 @@ KeeperTakes before met after =
     × IsOfOpener before.me.0.0 (Some found) × FitsNumber number before.me.0)
     × ((number : ℕ) (recorder : OwnedRecorder) → HasLaid number recorder before.me.0 → met ≡ Some recorder)
 
--- a recorder was laid in a mailbox, and has been taken from it by that one's keeper
+-- a recorder was laid in a mailbox, and that mailbox's keeper has taken it
 abbrev pub HasMetRecorder : TableId → OwnedRecorder → MailboxSeat → Type 0
 HasMetRecorder table recorder seat = (seat.table_id ≡ table) × (seat.me.0.3 ≡ Met recorder)
 
--- A recorder is passed from its own mailbox to another, which has a keeper: what has come from that one's mailbox, and the recorder where it is
--- back. Where both are one mailbox, it has come; where they are not, and it is not back, its own mailbox's keeper has taken it. Or the mailbox was
--- in use, and the recorder is back, and nothing was done.
+-- A recorder is passed from its own mailbox to another, which has a keeper: what was taken from the other one, and the recorder if it is
+-- back. If both are one mailbox, the recorder is what was taken; if they are not, and it is not back, its own mailbox's keeper has taken
+-- it. Or its mailbox was in use: the recorder is back, and nothing was done.
 abbrev pub Passes : TableId → TableId → Opener → OwnedRecorder → MailboxSeat × MailboxSeat
     → Result (Option OwnedRecorder × Option OwnedRecorder) OwnedRecorder → MailboxSeat × MailboxSeat → Type 0
 Passes from to opener recorder before result after =

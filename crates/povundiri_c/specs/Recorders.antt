@@ -1,5 +1,5 @@
--- What a call of a recorder that C holds returns, and what it makes of the recorder: the clauses of `OwnedRecorder`, with a status in the
--- place of a refusal.
+-- What a call of a recorder that C holds returns, and what it makes of the recorder: the clauses of `OwnedRecorder`, with a status instead
+-- of a refusal.
 use Rattle.std.specs.Prelude.{◌≡◌, ◌≤◌, ◌<◌, ℕ, ℤ, List, length, Option, Some, None, Result, Ok, Err, ◌++◌, IfOk}
 use Rattle.std.specs.declared.vec.Vec.{Vec}
 use Rattle.std.specs.declared.alloc.Global.{Global}
@@ -41,7 +41,7 @@ abbrev pub status_of_answer : Result (Unit {0}) Refusal → ℕ
 status_of_answer (Ok _) = 0
 status_of_answer (Err why) = status_of_refusal why
 
--- an answer with a status in the place of a refusal
+-- an answer with a status instead of a refusal
 abbrev pub with_status : {A : Type 0} → Result A Refusal → Result A ℕ
 with_status (Ok value) = Ok value
 with_status (Err why) = Err (status_of_refusal why)
@@ -55,12 +55,12 @@ place_of_answer (Err why) = Err (status_of_refusal why)
 abbrev pub refused_with : ℕ → Refused
 refused_with status = record { status = status; length = 0 }
 
--- an answer with such a status in the place of a refusal
+-- an answer with such a status instead of a refusal
 abbrev pub with_refused : {A : Type 0} → Result A Refusal → Result A Refused
 with_refused (Ok value) = Ok value
 with_refused (Err why) = Err (refused_with (status_of_refusal why))
 
--- that of a batch, where the length is how many items are counted all the same
+-- the answer of a batch, for which the length is how many items are counted all the same
 abbrev pub with_refused_batch : Result (Unit {0}) BatchRefusal → Result (Unit {0}) Refused
 with_refused_batch (Ok value) = Ok value
 with_refused_batch (Err refusal) = Err (record { status = status_of_refusal refusal.why; length = refusal.added })
@@ -72,7 +72,7 @@ next_of None = Err 12
 
 -- ---- calls that name a histogram by its place
 
--- Where it knows none there, that is returned, and it is unchanged; else the call is of the histogram there.
+-- If it knows none there, that is returned, and it is unchanged; else the call is of the histogram there.
 abbrev pub AtPlace : {A : Type 0} → A → (Hist → OwnedRecorder → A → OwnedRecorder → Type 0) → ℕ → OwnedRecorder → A → OwnedRecorder → Type 0
 AtPlace unknown Calls place old answer new =
     (known_by old ≤ place → (answer ≡ unknown) × (new ≡ old))
@@ -90,13 +90,13 @@ Batches items sum histogram old given new =
     (answer : Result (Unit {0}) BatchRefusal) × (given ≡ with_refused_batch answer) × IsSameOwned old new
     × AnswersBatch histogram items sum old.state answer new.state × ClaimsBatch histogram items old.state answer new.state
 
--- ---- those that want room for all keys of the histogram
+-- ---- those that need room for all keys of the histogram
 
 -- how many keys the histogram may have
 abbrev pub AreMost : Hist → OwnedRecorder → ℕ → Type 0
 AreMost histogram owned most = (known : Known) → Means owned.state histogram known → AreMostKeys (arc_value owned.segment) known most
 
--- Where there is too little room, how much is needed is returned, and it is unchanged; else the call is made.
+-- If there is too little room, how much is needed is returned, and it is unchanged; else the call is made.
 abbrev pub InRoom : {A : Type 0} → ℕ → (Hist → OwnedRecorder → Result A Refused → OwnedRecorder → Type 0)
     → Hist → OwnedRecorder → Result A Refused → OwnedRecorder → Type 0
 InRoom room Calls histogram old given new =
@@ -104,7 +104,7 @@ InRoom room Calls histogram old given new =
     × (room < most → (given ≡ Err (record { status = 7; length = most })) × (new ≡ old))
     × (most ≤ room → Calls histogram old given new)
 
--- a call of the histogram at a place, where there is room for all of its keys
+-- a call of the histogram at a place, if there is room for all of its keys
 abbrev pub AtPlaceInRoom : {A : Type 0} → ℕ → ℕ → (Hist → OwnedRecorder → Result A Refused → OwnedRecorder → Type 0)
     → OwnedRecorder → Result A Refused → OwnedRecorder → Type 0
 AtPlaceInRoom place room Calls = AtPlace (Err (refused_with 8)) (InRoom room Calls) place
@@ -140,7 +140,7 @@ FindsHist name spec old place new =
 abbrev pub Marks : OwnedRecorder → ℕ → OwnedRecorder → Type 0
 Marks old status new = (status ≡ 0) × IsSameOwned old new × (view_of_state new.state ≡ spoiled (view_of_state old.state))
 
--- its indexes may have so many entries then, and all else is unchanged
+-- its indexes may have this many entries now, and all else is unchanged
 abbrev pub Limits : ℕ → OwnedRecorder → ℕ → OwnedRecorder → Type 0
 Limits entries old status new =
     (status ≡ 0) × IsSameOwned old new × (view_of_state new.state ≡ view_of_state old.state) × HasLimit entries new.state
@@ -151,7 +151,7 @@ WalksAll old given new =
     (answer : Result (Vec ℕ Global) Refusal) × (given ≡ with_status answer) × IsSameOwned old new × AnswersRecords old.state answer new.state
     × AnswersList (arc_value new.segment) answer new.state
 
--- the next record of a shared cursor, where the segment has that
+-- the next record of a shared cursor, if the segment has that cursor
 abbrev pub TakesNext : ℕ → OwnedRecorder → Result ℕ ℕ → OwnedRecorder → Type 0
 TakesNext cursor old given new =
     (cursors_by old ≤ cursor → (given ≡ Err 9) × (new ≡ old))

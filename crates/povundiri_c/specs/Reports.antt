@@ -14,11 +14,11 @@ use Rattle.povundiri_c.specs.declared.texts.TextAsked.TheVariants.{Report, Expor
 
 -- ---- which text
 
--- how many cells a line has where so many are asked for: 80 where none are
+-- how many cells a line has: as many as are asked for, or 80 if that is 0
 abbrev pub width_asked : ℕ → ℕ
 width_asked width = if width == 0 then 80 else width
 
--- how histograms are drawn: in lines of so many cells, and by no option
+-- how histograms are drawn: in lines of this many cells, and without options
 abbrev pub style_asked : ℕ → Style
 style_asked width = record {
   width = width_asked width;

@@ -31,11 +31,11 @@ HoldsSegment segment opener new =
 abbrev pub IsFilledWith : Segment → Opener → ℕ → Option Contents → Option Contents → Type 0
 IsFilledWith segment opener status old new = ((status ≡ 0) × HoldsSegment segment opener new) ⊎ ((status ≡ 13) × (new ≡ old))
 
--- a segment and an opener of this sort were made, and a handle is filled with them, or there was no memory for that
+-- a segment and an opener of this sort were made, and a handle is filled with them, or memory ran out for that
 abbrev pub IsHandleFilled : (Segment → Opener → Type 0) → ℕ → Option Contents → Option Contents → Type 0
 IsHandleFilled Is status old new = (segment : Segment) × (opener : Opener) × Is segment opener × IsFilledWith segment opener status old new
 
--- a handle is filled so, by a segment in a room; or there was no memory for what lends the room, and it is unchanged
+-- a handle is filled so, by a segment in a room; or memory ran out for what lends the room, and it is unchanged
 abbrev pub InLentRoom : (ℕ → Option Contents → Option Contents → Type 0) → ℕ → Option Contents → Option Contents → Type 0
 InLentRoom Fills status old new = Fills status old new ⊎ ((status ≡ 13) × (new ≡ old))
 
@@ -46,13 +46,13 @@ IntoEmpty Fills (Some it) status new = (status ≡ 4) × (new ≡ Some it)
 
 -- ---- `create` and `adopt`
 
--- what a segment is made as
+-- how a segment is made
 abbrev pub setting_asked : SegmentShape → Setting
 setting_asked asked =
     record { shape = record { size = asked.size; page = asked.page }; version = asked.version; id = asked.id; cursors = asked.cursors; full = false }
 
--- The first fault of the shape is returned, and the handle is unchanged. Where there is none, a new segment is made so; or there was no
--- memory for its words.
+-- The first fault of the shape is returned, and the handle is unchanged. If there is none, a new segment is made so; or memory ran out for
+-- its words.
 abbrev pub IsCreated : SegmentShape → ℕ → Option Contents → Option Contents → Type 0
 IsCreated asked status old new =
     MatchOption (first_fault (open_checks asked.size asked.page asked.cursors asked.version))
@@ -81,8 +81,8 @@ pub record IsImageFrom (segment : Segment) (opener : Opener) (image : List ℕ) 
   pub goes_on : MayGoOn image
   pub whole : length image ≡ segment.setting.shape.size
 
--- Why contents were not closed: so few words have no room for the image, whose length is returned; or recorders are left. What is no segment
--- is of another kind.
+-- Why contents were not closed: the image does not fit in this many words, and its length is returned; or recorders are left. Contents that
+-- are no segment are of another kind.
 abbrev pub IsNotClosed : ℕ → Contents → Refused → Type 0
 IsNotClosed room (contents.Segment owned) why =
     ((room < size_of owned) × (why.status ≡ 7) × (why.length ≡ size_of owned)) ⊎ ((size_of owned ≤ room) × (why.status ≡ 11) × (why.length ≡ 0))
@@ -103,7 +103,7 @@ IsClosedWith it (Ok image) status needed words words' new =
     (status ≡ 0) × (needed ≡ length image) × (words' ≡ image ++ drop (length image) words) × (new ≡ None)
 IsClosedWith it (Err why) status needed words words' new = (status ≡ why.status) × (needed ≡ why.length) × (words' ≡ words) × (new ≡ Some it)
 
--- Of an empty handle that is returned, and all is unchanged; else what it holds is closed so.
+-- If the handle is empty, that is returned, and all is unchanged; else what it holds is closed so.
 abbrev pub AnswersCloseCall : Option Contents → ℕ → ℕ → ℕ → List ℕ → List ℕ → Option Contents → Type 0
 AnswersCloseCall None status needed needed' words words' new = (status ≡ 3) × (needed' ≡ needed) × (words' ≡ words) × (new ≡ None)
 AnswersCloseCall (Some it) status needed needed' words words' new =

@@ -28,7 +28,7 @@ use Rattle.povundiri_c.specs.Status.{status_of_image_fault}
 
 -- ---- a call of a sum
 
--- What is no sum returns that, and is unchanged; else the call is of the sum.
+-- If it is no sum, that is returned, and it is unchanged; else the call is of the sum.
 abbrev pub BySums : {A : Type 0} → A → (Sums → A → Sums → Type 0) → Contents → A → Contents → Type 0
 BySums other Calls (contents.Sums sums) answer new = (after : Sums) × (new ≡ contents.Sums after) × Calls sums answer after
 BySums other Calls (contents.Segment owned) answer new = (answer ≡ other) × (new ≡ contents.Segment owned)
@@ -59,11 +59,12 @@ pub record IsImageAdded (number : ℕ) (words : List ℕ) (old new : Sums) : Typ
   pub reading_is : IsReading words head reading
   pub adds : IsReadingAdded number reading old new
 
--- what is returned for words whose header has no fault: they were added, memory ran out for that or for the reading, or a total would not fit
+-- what is returned for words whose header has no fault: they were added, memory ran out for that or for the reading, or a total would not
+-- fit
 abbrev pub IsSaidOfAdding : ℕ → Type 0
 IsSaidOfAdding status = (status ≡ 0) ⊎ (status ≡ 13) ⊎ (status ≡ 19) ⊎ (status ≡ 513)
 
--- The header's fault is returned, where it has one. Else the image is added, or the status says why not, and the sum is unchanged.
+-- The header's fault is returned, if it has one. Else the image is added, or the status says why not, and the sum is unchanged.
 pub record AddsImage (number : ℕ) (words : List ℕ) (old : Sums) (status : ℕ) (new : Sums) : Type 0 where
   pub fault : IfErr (header_of words) (λ fault. status ≡ status_of_image_fault fault)
   pub valid : IfOk (header_of words) (λ _. IsSaidOfAdding status)
@@ -84,17 +85,17 @@ sums_in (contents.Segment owned) = None
 sums_in (contents.Recorder joinable) = None
 sums_in contents.Nothing = None
 
--- The other sum is added; or memory ran out, or a total would not fit, and the sum is unchanged. Where there is no other, that is returned.
+-- The other sum is added; or memory ran out, or a total would not fit, and the sum is unchanged. If there is no other, that is returned.
 abbrev pub AddsOther : Option Sums → Sums → ℕ → Sums → Type 0
 AddsOther (Some other) old status new = ((status ≡ 0) × Appends other old new) ⊎ (((status ≡ 13) ⊎ (status ≡ 19)) × (new ≡ old))
 AddsOther None old status new = (status ≡ 5) × (new ≡ old)
 
--- the same, where a length is beside the status
+-- the same, with a length in addition to the status
 abbrev pub AppendsOrRefuses : Sums → Sums → Result (Unit {0}) Refused → Sums → Type 0
 AppendsOrRefuses other old (Ok _) new = Appends other old new
 AppendsOrRefuses other old (Err why) new = ((why ≡ refused_with 13) ⊎ (why ≡ refused_with 19)) × (new ≡ old)
 
--- that of two handles, either of which may be empty
+-- the same for two handles, either of which may be empty
 abbrev pub AnswersAppend : Option Contents → Option Contents → ℕ → Option Contents → Type 0
 AnswersAppend None held status new = (status ≡ 3) × (new ≡ held)
 AnswersAppend (Some other) held status new = OfSums (AddsOther (sums_in other)) held status new
@@ -119,7 +120,7 @@ abbrev pub AddsTotalsText : List ℕ → Sums → Result (Unit {0}) Refused → 
 AddsTotalsText text old (Ok _) new = (totals : Totals) × IsTotalsText text totals × Appends totals.sums old new
 AddsTotalsText text old (Err why) new = IsNotAdded text why × (new ≡ old)
 
--- it is returned with the number of a line, 0 where the text says a totals
+-- it is returned with the number of a line, 0 if the text is a totals
 abbrev pub IsSaidWithLine : Result (Unit {0}) Refused → ℕ → ℕ → Type 0
 IsSaidWithLine (Ok _) status line = (status ≡ 0) × (line ≡ 0)
 IsSaidWithLine (Err why) status line = (status ≡ why.status) × (line ≡ why.length)
@@ -139,7 +140,7 @@ pub record IsShownAs (sums : Sums) (reading : Reading) : Type 0 where
   pub corrupt : reading.corrupt ≡ nat_lt 0 sums.notes.corrupt
   pub rest : (reading.id ≡ 0) × (reading.bad ≡ []) × (reading.stopped ≡ None)
 
--- the report of a sum, of which no input was left out
+-- the report of a sum without inputs that were left out
 abbrev pub IsReportAsked : Sums → List ℕ → Type 0
 IsReportAsked sums text = endings.IsSumReport sums 0 text
 
@@ -171,7 +172,7 @@ abbrev pub IsTotalsOrStatus : Sums → Result (Vec ℕ Global) ℕ → Type 0
 IsTotalsOrStatus sums (Ok text) = text.items ≡ totals_text (totals_alone sums)
 IsTotalsOrStatus sums (Err why) = why ≡ 13
 
--- what is asked of contents, which are of another kind where they are no sum
+-- what is asked of contents; if they are no sum, they are of another kind
 abbrev pub AskedOfSums : (Sums → Result (Vec ℕ Global) ℕ → Type 0) → Contents → Result (Vec ℕ Global) ℕ → Type 0
 AskedOfSums Asks (contents.Sums sums) answer = Asks sums answer
 AskedOfSums Asks (contents.Segment owned) answer = answer ≡ Err 5

@@ -63,7 +63,7 @@ impl Contents {
         place
     }
 
-    // Its recorder, where it is one.
+    // Its recorder, if it is one.
     fn parted(self, _nothing: ()) -> (Contents, Option<JoinableRecorder>)
         ensures { (result.1 ≡ recorder_in self) × (recorder_in self ≡ None → result.0 ≡ self) }
     {
@@ -73,7 +73,7 @@ impl Contents {
         }
     }
 
-    /// Calls the recorder that it is. What is none returns `other`, and is unchanged.
+    /// Calls the recorder that it is. Anything else returns `other`, and is unchanged.
     pub(crate) fn call_recorder<B, F: FnOnce(&mut JoinableRecorder) -> B>(
         &mut self,
         other: B,
@@ -176,7 +176,7 @@ impl Contents {
         }
     }
 
-    /// Adds what a text of totals says to the sum.
+    /// Adds the sum that a text of totals says.
     pub(crate) fn add_totals(&mut self, alloc: Global, text: &[u8]) -> Result<(), Refused>
         ensures { BySums (Err (refused_with 5)) (AddsTotalsText text.now) self.old result self.new }
     {
@@ -219,7 +219,7 @@ impl Contents {
         }
     }
 
-    /// The text of the sum for people, with so many cells in a line.
+    /// The text of the sum for people, in lines of this many cells.
     pub(crate) fn sum_shown(&mut self, alloc: Global, width: u16) -> Result<Vec<u8>, u32>
         ensures { AskedOfSums (IsTextOrStatus (IsSumShow width)) self.old result × (self.new ≡ self.old) }
     {

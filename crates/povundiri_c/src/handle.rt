@@ -47,7 +47,7 @@ impl Handle {
         *self = Handle::of(boxed);
     }
 
-    /// What it holds. It is empty then: `none`, which is, takes its place.
+    /// Takes what it holds. It is empty then: `none`, which is empty, takes its place.
     pub(crate) fn take(&mut self, none: Handle) -> Result<Box<Contents>, u32>
         ensures taken { MatchResult result (λ boxed. (self.old.boxed.held ≡ Some boxed.value) × (self.new.boxed.held ≡ None)) (λ _. self.new ≡ self.old) }
         ensures full { is_some none.boxed.held ≡ true → result ≡ Err 4 }
@@ -77,7 +77,7 @@ impl Handle {
         self.boxed.get_mut().serve(passed, request)
     }
 
-    /// Adds the sum that another handle holds to its own. Either that holds nothing says so.
+    /// Adds the sum that another handle holds to its own. If one of them holds nothing, the status says so.
     pub(crate) fn add_other(&mut self, other: &mut Handle) -> u32
         ensures answer { AnswersAppend other.old.boxed.held self.old.boxed.held result self.new.boxed.held }
         ensures same { other.new.boxed.held ≡ other.old.boxed.held }
@@ -101,8 +101,8 @@ impl Handle {
         call(self.boxed.get_mut())
     }
 
-    /// Calls the recorder that it holds, which stays where it is. A handle that holds nothing returns `empty`, and one that holds a segment
-    /// `other`: it is unchanged.
+    /// Calls the recorder that it holds, which stays where it is. A handle that holds nothing returns `empty`, and one
+    /// that holds a segment `other`: it is unchanged.
     pub(crate) fn call_recorder<B, F: FnOnce(&mut JoinableRecorder) -> B>(
         &mut self,
         empty: B,

@@ -50,7 +50,7 @@ impl JoinableRecorder {
         }
     }
 
-    /// Counts a batch. Where it is refused, the status comes with how many items are counted all the same.
+    /// Counts a batch. If it is refused, the status comes with how many items are counted all the same.
     pub(crate) fn batch(
         &mut self,
         place: usize,
@@ -72,7 +72,7 @@ impl JoinableRecorder {
         }
     }
 
-    // The histogram at a place, where there is room for all of its keys.
+    // The histogram at a place, if there is room for all of its keys.
     fn hist_within(&self, place: usize, room: usize) -> Result<Hist, Refused>
         ensures known { IfOk result (Knows self.now.owned.state) }
         ensures answer { AtPlaceInRoom place room Finds self.now.owned result self.now.owned }
@@ -90,7 +90,7 @@ impl JoinableRecorder {
         Ok(histogram)
     }
 
-    /// A delta, where there is room for all keys of the histogram.
+    /// A delta, if there is room for all keys of the histogram.
     pub(crate) fn delta(&mut self, place: usize, room: usize) -> Result<Delta, Refused>
         ensures kept { self.new.mailbox ≡ self.old.mailbox }
         ensures answer { AtPlaceInRoom place room TakesDelta self.old.owned result self.new.owned }
@@ -102,7 +102,7 @@ impl JoinableRecorder {
         }
     }
 
-    /// A snapshot, where there is room for all keys of the histogram.
+    /// A snapshot, if there is room for all keys of the histogram.
     pub(crate) fn snapshot(&mut self, place: usize, room: usize) -> Result<Snapshot, Refused>
         ensures kept { self.new.mailbox ≡ self.old.mailbox }
         ensures answer { AtPlaceInRoom place room TakesSnapshot self.old.owned result self.new.owned }

@@ -1,8 +1,8 @@
-//! A live segment for programs in C and C++: in the heap, or in a room that the program gives, as a mapped file. And sums of any number of
-//! images.
+//! A live segment for programs in C and C++: in the heap, or in a room that the program gives, such as a mapped file.
+//! And sums of any number of images.
 //!
-//! C holds a segment, a recorder or a sum in a [`Handle`]. Each export returns a status: 0, or the number of what went wrong
-//! (`status`). The header is `c/povundiri.h`; it says call by call what C must keep.
+//! C holds a segment, a recorder or a sum in a [`Handle`]. Each export returns a status: 0, or the number of what went
+//! wrong (`status`). The header is `c/povundiri.h`; it says call by call what C must keep.
 #![tactic(auto)]
 
 mod contents;

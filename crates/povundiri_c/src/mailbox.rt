@@ -1,6 +1,7 @@
-//! A mailbox has room for one recorder of a segment. The segment and its recorders share it, and no other segment has it: so a recorder that
-//! was laid in its own mailbox, and is found in a segment's, is one of this segment. Only the segment has the keeper's seat, and takes what
-//! others have laid there: so a recorder of its own that it lays there itself is what it finds.
+//! A mailbox has room for one recorder of a segment. The segment and its recorders share it, and no other segment has
+//! it: so a recorder that was laid in its own mailbox, and is found in a segment's, is one of this segment. Only the
+//! segment has the keeper's seat, and takes what others have laid there: so it always finds a recorder of its own that
+//! it has laid there itself.
 
 ghost use Rattle.std.specs.Prelude.{◌≡◌, ◌+◌, ◌%◌, ◌^◌, ◌<◌, [], true, IfOk};
 ghost use Rattle.povundiri_c.specs.Mailbox.{BelongsTo, FitsNumber, IsKeeper, IsMailbox, IsOfOpener, IsPut, IsRight, MayReachInto, MayReachBy, MayTake, HasReached, Passes, Replaces, ReplacesBy, KeeperTakes, begins, stranger};
@@ -12,15 +13,15 @@ use live_segment::Opener;
 use owned_recorder::OwnedRecorder;
 use std::alloc::{AllocError, Global};
 
-// What a seat knows: an opener of the segment; whether it is the keeper's; a number that the mailbox has had; and what the thread has done at
-// that.
+// What a seat knows: an opener of the segment; whether it is the keeper's; a number that the mailbox has had; and what
+// the thread has done at that.
 pub(crate) type Note = (Opener, bool, u64, SeatState);
 
 /// A seat of a mailbox.
 pub(crate) type MailboxSeat = Seat<Option<OwnedRecorder>, Note>;
 
-// Each step adds 1 to a mailbox's number. It is odd while a thread reaches into the mailbox. Of the even numbers, a recorder is there at
-// those that are not a multiple of 4.
+// Each step adds 1 to a mailbox's number. It is odd while a thread reaches into the mailbox. Of the even numbers, a
+// recorder is there at those that are not a multiple of 4.
 const FIRST: u64 = 0;
 
 // No recorder is laid in a mailbox from here on.
@@ -49,7 +50,7 @@ impl Play<Option<OwnedRecorder>, Note> for See {
     ghost then = { λ _ before found after. (after ≡ before) × FitsNumber found before.0 };
 }
 
-// What is in the mailbox is taken, where its number is the one that was looked for.
+// What is in the mailbox is taken, if its number is the one that was looked for.
 struct Reach;
 
 impl Play<Option<OwnedRecorder>, Note> for Reach {
@@ -63,7 +64,7 @@ impl Play<Option<OwnedRecorder>, Note> for Put {
     ghost then = { λ _ before number after. IsPut number before after };
 }
 
-/// Where a recorder lies, or none.
+/// A place in which a recorder lies, or none.
 #[derive(Drop)]
 pub struct Mailbox {
     table: Table<Option<OwnedRecorder>, Note, Opener, MailboxRule, Global>,
@@ -90,8 +91,8 @@ impl Mailbox {
         self.table.shared.load_new_seat::<Look>(0)
     }
 
-    // Puts a recorder or none there at a number, and takes what was there. Where the mailbox has another number, it does nothing, and returns
-    // what it was to put there.
+    // Puts a recorder or none there at a number, and takes what was there. If the mailbox has another number, it does
+    // nothing, and returns what it was given to put there.
     fn replace(
         &self,
         seat: &mut MailboxSeat,
@@ -115,7 +116,7 @@ impl Mailbox {
         Ok(found)
     }
 
-    // The same, by a seat of a keeper where it is of this mailbox, and else by one that is.
+    // The same: by the keeper's seat if that is of this mailbox, and otherwise by the other seat, which is.
     fn replace_by(
         &self,
         keeper: &mut MailboxSeat,
@@ -152,9 +153,9 @@ impl Mailbox {
         }
     }
 
-    /// Lays a recorder in its own mailbox, takes what is in this one, and takes the recorder back if it is in its own mailbox still. Returns
-    /// what was taken here, and the recorder if it is back; if it is not, `gone` is the seat that had laid it. Or its mailbox was in use, and
-    /// the recorder comes back.
+    /// Lays a recorder in its own mailbox, takes what is in this one, and takes the recorder back if it is still in its
+    /// own mailbox. Returns what was taken here, and the recorder if it is back; if it is not, `gone` is the seat that
+    /// had laid it. Or its mailbox was in use: the error is the recorder.
     pub(crate) fn pass(
         &self,
         keeper: &mut MailboxSeat,

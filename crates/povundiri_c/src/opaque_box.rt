@@ -1,5 +1,5 @@
-// A `Box<Contents>` behind a pointer whose type does not name the contents, since no type that C holds may lead to a value that threads
-// share. Or nothing.
+// A `Box<Contents>` behind a pointer whose type does not name the contents, since no type that C holds may lead to a
+// value that threads share. Or nothing.
 ghost use Rattle.std.specs.Prelude.{◌≡◌, Option, Some};
 ghost use Rattle.povundiri_c.specs.declared.contents.Contents.{Contents};
 ghost use Rattle.povundiri_c.specs.OpaqueBoxes.{held_coded, opaque_owns};

@@ -33,7 +33,7 @@ pub struct OwnedSegment {
     keeper: MailboxSeat,
     // The seat that had laid the last recorder which another segment took from its own mailbox.
     gone: MailboxSeat,
-    // How many the recorders share.
+    // How many cursors the recorders share.
     cursors: usize,
     ghost made: { IsMadeWith (arc_value segment) opener },
     ghost first: { IsMadeWith (arc_value segment) (arc_value mailbox).table.shared.key },
@@ -47,7 +47,7 @@ impl OwnedSegment {
     ghost use Rattle.povundiri_c.specs.Looks.{IsLookOfOwned};
     ghost use Rattle.povundiri_c.specs.Segments.{IsImageFrom, size_of};
 
-    /// That of a segment and the opener that was made with it.
+    /// Owns a segment and the opener that was made with it.
     #[tactic(auto, using(crate::proofs::Holding::counts))]
     pub(crate) fn new(
         alloc: Global,
@@ -114,7 +114,7 @@ impl OwnedSegment {
         }
     }
 
-    /// A look at the segment, where there is room for its words.
+    /// A look at the segment, if there is room for its words.
     pub(crate) fn look(&self, alloc: Global, room: usize) -> Result<Image, Refused>
         ensures { IsLookOfOwned room self.now result }
     {
@@ -131,7 +131,7 @@ impl OwnedSegment {
         }
     }
 
-    /// Ends the segment, where no recorder is left.
+    /// Ends the segment, if no recorder is left.
     pub(crate) fn close(self) -> Result<Image, OwnedSegment>
         ensures { MatchResult result (IsImageFrom (arc_value self.segment) self.opener) (λ owned. owned ≡ self) }
     {

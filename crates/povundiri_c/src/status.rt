@@ -19,7 +19,7 @@ pub(crate) const EMPTY: u32 = 3;
 /// The handle that is to be filled, or that is to take another's place, holds something.
 pub(crate) const NOT_EMPTY: u32 = 4;
 
-/// A segment's handle where a recorder's is asked for, or the other way round.
+/// The handle is of another kind than the call needs: a segment's instead of a recorder's, and so on.
 pub(crate) const OTHER_KIND: u32 = 5;
 
 /// The recorder is one of another segment.
@@ -46,7 +46,7 @@ pub(crate) const LIST_ENDS: u32 = 12;
 /// Out of memory.
 pub(crate) const NO_MEMORY: u32 = 13;
 
-/// The recorder's own segment has found it, by a call of another thread, while it was passed to another segment.
+/// The recorder's own segment took it, in a call of another thread, while it was passed to another segment.
 pub(crate) const ELSEWHERE: u32 = 14;
 
 /// Another thread passes a recorder of the same segment at this moment.
@@ -64,11 +64,12 @@ pub(crate) const TOO_MANY: u32 = 19;
 /// The totals are those of no well-formed sum.
 pub(crate) const BAD_TOTALS: u32 = 20;
 
-/// A segment of version 1, which cannot be looked at: the number is that of an image which is not adopted for that.
+/// A segment of version 1, which cannot be looked at. The number is that of an image which is not adopted for this
+/// reason.
 const OLD_VERSION: u32 = 302;
 
-/// Why a call is refused: its status, and a length: how much room is needed where the status is `SHORT`; of a batch, how many items were
-/// counted; where the status is `BAD_TOTALS`, the number of a line; else 0.
+/// Why a call is refused: its status, and a length: how much room is needed if the status is `SHORT`; of a batch, how
+/// many items were counted; if the status is `BAD_TOTALS`, the number of a line; else 0.
 #[derive(Clone, Copy)]
 pub(crate) struct Refused {
     pub(crate) status: u32,
@@ -83,7 +84,7 @@ impl Refused {
     }
 }
 
-/// That of a refusal.
+/// The status of a refusal.
 pub(crate) fn of_refusal(why: Refusal) -> u32
     ensures { result ≡ status_of_refusal why }
 {
@@ -93,14 +94,14 @@ pub(crate) fn of_refusal(why: Refusal) -> u32
     }
 }
 
-/// That of a segment that was not made.
+/// The status of a segment that was not made.
 pub(crate) fn of_open_fault(fault: OpenFault) -> u32
     ensures { result ≡ status_of_open_fault fault }
 {
     200 + fault.number()
 }
 
-/// That of an image that was not adopted.
+/// The status of an image that was not adopted.
 pub(crate) fn of_adopt_fault(fault: AdoptFault) -> u32
     ensures { result ≡ status_of_adopt_fault fault }
 {
@@ -110,14 +111,14 @@ pub(crate) fn of_adopt_fault(fault: AdoptFault) -> u32
     }
 }
 
-/// That of a header with a fault.
+/// The status of a header with a fault.
 pub(crate) fn of_image_fault(fault: ImageFault) -> u32
     ensures { result ≡ status_of_image_fault fault }
 {
     500 + fault.number()
 }
 
-/// That of copies that give no look.
+/// The status of copies that give no look.
 pub(crate) fn of_look_fault(fault: LookFault) -> u32
     ensures { result ≡ status_of_look_fault fault }
 {
@@ -128,7 +129,7 @@ pub(crate) fn of_look_fault(fault: LookFault) -> u32
     }
 }
 
-/// That of a sum that was not added to.
+/// The status of a sum that was not added to.
 pub(crate) fn of_sums_fault(fault: SumsFault) -> u32
     ensures { result ≡ status_of_sums_fault fault }
 {

@@ -52,8 +52,8 @@ fn add_read(sums: &mut Sums, totals: &Totals) -> Result<(), Refused>
     }
 }
 
-/// Adds what a text of totals says. Or the status says why not, with the number of a line where the text is none, and the
-/// sum is unchanged.
+/// Adds the sum that a text of totals says. Or the status says why not, with the number of a line if the text is no
+/// totals, and the sum is unchanged.
 pub(crate) fn add_totals(alloc: Global, sums: &mut Sums, text: &[u8]) -> Result<(), Refused>
     ensures { AddsTotalsText text.now sums.old result sums.new }
 {

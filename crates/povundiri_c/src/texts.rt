@@ -1,4 +1,4 @@
-//! The texts of an image, of which C asks for one.
+//! The texts of an image; C asks for one of them.
 
 ghost use Rattle.std.specs.Prelude.{◌≡◌, ◌≢◌, All, IfOk, IfErr, map};
 ghost use Rattle.image_reader.specs.Readable.{IsReadable};
@@ -20,11 +20,11 @@ pub(crate) enum TextAsked<'a> {
     Report,
     // Its metrics, whose names begin with this prefix.
     Export { prefix: &'a [u8] },
-    // Its text for people, with so many cells in a line.
+    // Its text for people, in lines of this many cells.
     Show { width: u16 },
 }
 
-/// How histograms are drawn in lines of so many cells, 80 where 0 are asked for.
+/// How histograms are drawn in lines of this many cells; 80 if that is 0.
 pub(crate) fn style_of(width: u16) -> Style
     ensures { result ≡ style_asked width }
 {
@@ -51,7 +51,7 @@ fn text_of(alloc: Global, asked: TextAsked<'_>, reading: &Reading) -> Result<Vec
     }
 }
 
-// Writes a text of an image, where there is room for it, and how many bytes it has.
+// Writes a text of an image, if there is room for it, and how many bytes it has.
 pub(crate) fn write_text(
     alloc: Global,
     asked: TextAsked<'_>,

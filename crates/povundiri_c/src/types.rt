@@ -1,6 +1,6 @@
-//! What C passes beside handles.
+//! What C passes in addition to handles.
 
-/// What a segment is made as.
+/// How a segment is made.
 #[repr(C)]
 #[derive(Clone, Copy)]
 pub struct SegmentShape {
@@ -16,7 +16,7 @@ pub struct SegmentShape {
     pub version: u64,
 }
 
-/// How a histogram splits the values. Fields that its kind has no use for are not read.
+/// How a histogram splits the values. Fields that its kind does not need are not read.
 #[repr(C)]
 #[derive(Clone, Copy)]
 pub struct HistSpec {
@@ -50,7 +50,7 @@ pub struct Count {
     pub count: u64,
 }
 
-/// What a delta or a snapshot returns beside its counts.
+/// What a delta or a snapshot returns along with its counts.
 #[repr(C)]
 #[derive(Clone, Copy)]
 pub struct Totals {

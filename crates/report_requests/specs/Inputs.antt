@@ -3,12 +3,12 @@ use Rattle.std.specs.Prelude.{◌≡◌, ◌<◌, ◌≤◌, ◌⊎◌, length, 
 use Rattle.report_requests.specs.declared.inputs.Inputs.{Inputs}
 use Rattle.report_requests.specs.Dashes.{dash}
 
--- whether one file or folder is read, or standard input: no more is named, and no list
+-- whether one file or folder is read, or standard input: nothing else is named, and no list
 pub record AreOne (inputs : Inputs) : Type 0 where
   pub few : length inputs.files.items ≤ 1
   pub no_list : IsNone inputs.list
 
--- whether a sum is asked for, whatever the first file is: by a second file, a list, what is taken off, or an option of sums
+-- whether a sum is asked for, whatever the first file is: by a second file, a list, an earlier input to subtract, or an option of sums
 abbrev pub AskForSum : Inputs → Type 0
 AskForSum inputs =
     (1 < length inputs.files.items) ⊎ IsSome inputs.list ⊎ IsSome inputs.earlier
@@ -18,6 +18,6 @@ AskForSum inputs =
 abbrev pub ListIsDash : Inputs → Type 0
 ListIsDash inputs = MatchOption inputs.list ⊥ (λ path. path.now ≡ dash)
 
--- whether what is taken off is standard input
+-- whether what is subtracted is standard input
 abbrev pub EarlierIsDash : Inputs → Type 0
 EarlierIsDash inputs = MatchOption inputs.earlier ⊥ (λ path. path.now ≡ dash)

@@ -3,7 +3,7 @@
 use clap::{Arg, ArgAction, Command, value_parser};
 use std::alloc::{AllocError, Global};
 
-/// A command: its name, what it does in a line, an example that stands behind its help, and its arguments.
+/// A command: its name, what it does in a line, an example that comes after its help, and its arguments.
 pub fn command_with<'a>(
     alloc: Global,
     name: &'a str,
@@ -17,13 +17,13 @@ pub fn command_with<'a>(
         .args(args)
 }
 
-/// Puts an argument or a command behind others.
+/// Appends an argument or a command.
 pub fn put<T: Drop>(items: &mut Vec<T>, item: T) -> Result<(), AllocError> {
     items.push(item)?;
     Ok(())
 }
 
-/// Excludes others where this argument is used.
+/// Excludes others if this argument is used.
 pub fn excluding<'a>(arg: Arg<'a>, others: &[&'static str]) -> Result<Arg<'a>, AllocError> {
     let mut arg = arg;
     for other in others {
@@ -70,7 +70,7 @@ pub fn image<'a>(alloc: Global) -> Arg<'a> {
         .long_help("Image file; standard input if it is left out or -")
 }
 
-/// Where a segment begins that is looked at.
+/// Where the segment that is looked at begins.
 pub fn at_option<'a>(alloc: Global) -> Arg<'a> {
     option(alloc, "at", "BYTE", "Where the segment begins in FILE")
         .value_parser(value_parser!(u64))

@@ -1,7 +1,7 @@
 //! The command line of the program: all its commands.
 //!
-//! `-h` shows at most 24 lines and `--help` everything, in lines of at most 80 columns: `clap` does not wrap them, so each text
-//! has its line ends.
+//! `-h` shows at most 24 lines and `--help` everything, in lines of at most 80 columns: `clap` does not wrap them, so
+//! each text has its line ends.
 
 use crate::arguments::{explain_flag, put};
 use crate::explain::explain_command;
@@ -21,7 +21,7 @@ use clap::Command;
 use fault_texts::VARIABLE_HELP;
 use std::alloc::{AllocError, Global};
 
-// What `--help` of the program has behind the commands. The examples work in an empty folder, one after the other.
+// What `--help` of the program has after the commands. The examples work in an empty folder, one after the other.
 const EXAMPLES: &str = "Examples:
   printf '%s\\n' segment,256,64,7 hist,A,boolean add,A,1,2 > my.csv
   persist_report run my.csv my.img

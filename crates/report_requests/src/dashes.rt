@@ -1,4 +1,4 @@
-//! Where `-` may stand on a command line: it is standard input as an input, and standard output as OUT.
+//! Where a command line may name `-`: it is standard input as an input, and standard output as OUT.
 
 ghost use Rattle.std.specs.Prelude.{◌≡◌, IfErr, IfOk, IsOk, ◌↔◌};
 ghost use Rattle.clap.specs.Words.{kind_of};
@@ -10,7 +10,7 @@ use clap::Error;
 use clap::error::ErrorKind;
 use std::alloc::{AllocError, Global};
 
-/// What stands for standard input, and as OUT for standard output.
+/// The name of standard input and, as OUT, of standard output.
 pub const DASH: &str = "-";
 
 /// Returns what is wrong with a command line that names standard input twice. The one error is that memory runs out.
@@ -34,8 +34,8 @@ fn two_outputs(alloc: Global) -> Result<Error, AllocError>
     )
 }
 
-/// Returns what is wrong with a command line by which standard input would be read three times. The one error is that memory
-/// runs out.
+/// Returns what is wrong with a command line by which standard input would be read three times. The one error is that
+/// memory runs out.
 pub fn no_file(alloc: Global) -> Result<Error, AllocError>
     ensures { IfOk result (λ error. kind_of error ≡ ErrorKind.ArgumentConflict) }
 {
@@ -45,8 +45,9 @@ pub fn no_file(alloc: Global) -> Result<Error, AllocError>
     )
 }
 
-/// Refuses a task that names `-` where it cannot be meant: as two inputs, as a file that is read three times, or as OUT beside
-/// a report. It is `Ok` exactly if it names none there [fits]. The error is of such a mistake, or that memory ran out for it [mistake].
+/// Refuses a task that names `-` where it must not: as two inputs, as a file that is read three times, or as OUT if it
+/// also writes a report. It is `Ok` exactly if it names none there [fits]. The error is such a mistake, or that memory
+/// ran out for it [mistake].
 pub fn check_dashes(alloc: Global, task: &Task<'_>) -> Result<(), Error>
     ensures fits { IsOk result ↔ DashesFit task.now }
     ensures mistake { IfErr result (λ error. IsConflictOrNoMemory (kind_of error)) }

@@ -78,7 +78,8 @@ fn labels_found<'a>(alloc: Global, found: &ArgMatches<'a>) -> Result<Vec<&'a str
     }
 }
 
-/// What `export` is asked for; none if something is missing, which the parser refuses. The one error is that memory runs out.
+/// What `export` is asked for; none if something is missing, which the parser refuses. The one error is that memory
+/// runs out.
 pub fn export_task<'a>(
     alloc: Global,
     export: &ArgMatches<'a>,

@@ -14,9 +14,9 @@ pub struct Inputs<'a> {
     pub files: Vec<&'a str>,
     /// The file that has more of them, a line each.
     pub list: Option<&'a str>,
-    /// What is taken off the sum.
+    /// What is subtracted from the sum.
     pub earlier: Option<&'a str>,
-    /// How many workers add up, where that is said.
+    /// How many workers add up, if the command line says so.
     pub workers: Option<Workers>,
     /// Whether an input that cannot be read ends the command.
     pub is_strict: bool,
@@ -49,7 +49,8 @@ impl<'a> Inputs<'a> {
         self.files.len() <= 1 && self.list.is_none()
     }
 
-    /// Returns how many of the list and what is taken off are standard input: none [none], both [both], or one of them [few].
+    /// Returns how many of the list and what is subtracted are standard input: none [none], both [both], or one of them
+    /// [few].
     pub fn other_dashes(&self) -> usize
         ensures none { (result ≡ 0) ↔ (¬ ListIsDash self.now) × (¬ EarlierIsDash self.now) }
         ensures both { (result ≡ 2) ↔ ListIsDash self.now × EarlierIsDash self.now }
@@ -62,7 +63,8 @@ impl<'a> Inputs<'a> {
         }
     }
 
-    /// Returns how many workers add up: 1 where that is not said [said]. They are 1 or more [any] and 16 or fewer [few].
+    /// Returns how many workers add up: 1 if the command line does not say [said]. They are 1 or more [any] and 16 or
+    /// fewer [few].
     pub fn workers(&self) -> usize
         ensures said { MatchOption self.now.workers (result ≡ 1) (λ workers. result ≡ workers.count) }
         ensures any { 1 ≤ result }

@@ -1,8 +1,8 @@
 //! What the command line of `persist_report` asks for.
 //!
-//! `Request::of` reads the words of a command line. A mistake in words that the parser takes has an error of its own, whose
-//! kind is never help, the version or lack of memory (`mistakes.rt`, `size.rt`, `dashes.rt`). The numbers that a request has
-//! are in their ranges: there are 1 to 16 workers, and segments are counted from 1.
+//! `Request::of` reads the words of a command line. A mistake in words that the parser takes has an error of its own,
+//! whose kind is never help, the version or out of memory (`mistakes.rt`, `size.rt`, `dashes.rt`). The numbers that a
+//! request has are in their ranges: there are 1 to 16 workers, and segments are counted from 1.
 #![tactic(auto)]
 
 mod arguments;

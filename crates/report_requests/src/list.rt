@@ -8,7 +8,7 @@ use std::alloc::{AllocError, Global};
 // The orders of a list.
 static ORDERS: [&str; 2] = ["name", "units"];
 
-// What no list goes with. It excludes the order of a list too: `clap` asks for no list where one is excluded.
+// What does not go with a list. It excludes the order of a list too: `clap` asks for no list if one is excluded.
 static EXCLUDED: [&str; 4] = ["ascii", "log", "all", "html"];
 
 // Puts a comma between thousands.

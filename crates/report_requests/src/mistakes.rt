@@ -44,8 +44,8 @@ pub fn no_prefix(alloc: Global) -> Result<Error, AllocError>
     )
 }
 
-/// Returns what is wrong with a command line that asks for the overview of a sum, which has no header: a mistake in what goes
-/// together. The one error is that memory runs out.
+/// Returns what is wrong with a command line that asks for the overview of a sum, which has no header: a mistake in
+/// what goes together. The one error is that memory runs out.
 pub fn no_overview(alloc: Global) -> Result<Error, AllocError>
     ensures { IfOk result (λ error. kind_of error ≡ ErrorKind.ArgumentConflict) }
 {

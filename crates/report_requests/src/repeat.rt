@@ -2,7 +2,7 @@
 
 ghost use Rattle.std.specs.Prelude.{◌≡◌, MatchOption};
 
-/// How often a text is written: every so many seconds, and so many times, or until the program is ended.
+/// How often a text is written: the seconds in between, and how many times, or until the program is ended.
 #[derive(Clone, Copy)]
 pub struct Repeat {
     pub seconds: u32,
@@ -10,7 +10,7 @@ pub struct Repeat {
 }
 
 impl Repeat {
-    /// Returns how many times it is written: 2^64 - 1, where no number is said.
+    /// Returns how many times it is written: 2^64 - 1 if no number is given.
     pub fn times(self) -> u64
         ensures { MatchOption self.count (result ≡ 18446744073709551615) (λ count. result ≡ count) }
     {

@@ -37,11 +37,12 @@ pub struct Request<'a> {
     /// Whether a file in use is looked at, and where the segment begins in it.
     pub is_live: bool,
     pub at: Option<u64>,
-    /// How often its text is written; once where that is not said.
+    /// How often its text is written; once if this is none.
     pub repeat: Option<Repeat>,
 }
 
-// What a command of this name does, which is asked to explain or not; none if something is missing, which the parser refuses.
+// What a command of this name does, and whether it is asked to explain; none if something is missing, which the parser
+// refuses.
 fn task_of<'a>(
     alloc: Global,
     name: &str,
@@ -57,7 +58,7 @@ fn task_of<'a>(
     }
 }
 
-// The same, of each command but `show`, `size` and `export`.
+// The same, for each command except `show`, `size` and `export`.
 fn plain_task<'a>(name: &str, found: &ArgMatches<'a>) -> Option<Task<'a>> {
     match name {
         "report" => Some(report_task(found)),
@@ -68,7 +69,7 @@ fn plain_task<'a>(name: &str, found: &ArgMatches<'a>) -> Option<Task<'a>> {
     }
 }
 
-// The same, of the commands that write images and totals.
+// The same, for the commands that write images and totals.
 fn writing_task<'a>(name: &str, found: &ArgMatches<'a>) -> Option<Task<'a>> {
     match name {
         "run" => run_task(found),
@@ -82,8 +83,8 @@ fn writing_task<'a>(name: &str, found: &ArgMatches<'a>) -> Option<Task<'a>> {
 }
 
 impl<'a> Request<'a> {
-    /// Returns what a command line asks for, whose first word is the program's name. A line of a text has so many columns, unless the words
-    /// say how many.
+    /// Returns what a command line asks for, whose first word is the program's name. A line of a text has `columns`
+    /// columns, unless the words say how many.
     ///
     /// The error says what is wrong with the words, or has the help or the version that they ask for.
     pub fn of<S: AsStr>(alloc: Global, words: &'a [S], columns: u16) -> Result<Request<'a>, Error> {

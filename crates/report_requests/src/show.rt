@@ -118,7 +118,8 @@ pub fn show_command<'a>(alloc: Global) -> Result<Command<'a>, AllocError> {
         .args(args)
 }
 
-/// What `show` is asked for, in lines of so many columns unless it says how many. The one error is that memory runs out.
+/// What `show` is asked for, in lines of `columns` columns unless it says how many. The one error is that memory runs
+/// out.
 pub fn show_task<'a>(
     alloc: Global,
     show: &ArgMatches<'a>,

@@ -8,8 +8,8 @@ use clap::error::ErrorKind;
 use clap::{Arg, ArgAction, ArgMatches, Command, Error, value_parser};
 use std::alloc::{AllocError, Global};
 
-/// What `size` is asked for: the histograms of a script, or those of options; in pages of so many words, if not those of the script;
-/// and with so many values in each sparse one, if not those that the script records.
+/// What `size` is asked for: the histograms of a script, or those of options; how many words a page has, if not as many
+/// as in the script; and how many values each sparse histogram has, if not those that the script records.
 #[derive(Drop)]
 pub struct SizeTask<'a> {
     pub script: Option<&'a str>,

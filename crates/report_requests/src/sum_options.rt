@@ -16,7 +16,7 @@ pub fn images<'a>(alloc: Global) -> Arg<'a> {
         )
 }
 
-/// More images for a command that takes names behind the first.
+/// More images for a command that takes names after the first.
 pub fn also_option<'a>(alloc: Global) -> Arg<'a> {
     option(
         alloc,
@@ -29,7 +29,7 @@ pub fn also_option<'a>(alloc: Global) -> Arg<'a> {
     .long_help("Another FILE, whose histograms are added; may be given more than\nonce")
 }
 
-// An option of a sum, which comes in the long help alone.
+// An option of a sum, which is in the long help alone.
 fn sum_option<'a>(alloc: Global, name: &'a str, value: &'a str, help: &'a str) -> Arg<'a> {
     option(alloc, name, value, help).hide_short_help(true)
 }

@@ -6,8 +6,8 @@ use crate::size::SizeTask;
 use crate::workers::Workers;
 use reading_shows::{ListStyle, Style};
 
-/// What a command does. The image in `file` is that on standard input if there is no file. A text goes to the file `to`, or to
-/// standard output if there is none.
+/// What a command does. The image in `file` is that on standard input if there is no file. A text goes to the file
+/// `to`, or to standard output if there is none.
 #[derive(Drop)]
 pub enum Task<'a> {
     /// Write the report of an image, or the rows of that alone.
@@ -15,8 +15,8 @@ pub enum Task<'a> {
         has_rows_alone: bool,
         to: Option<&'a str>,
     },
-    /// Write the metrics of an image, whose names begin with the prefix, with these labels on all lines, each as KEY=VALUE; with
-    /// a family for each histogram where that is asked for.
+    /// Write the metrics of an image, whose names begin with the prefix, with these labels on all lines, each as
+    /// KEY=VALUE; with a family for each histogram if that is asked for.
     Export {
         prefix: &'a str,
         labels: Vec<&'a str>,
@@ -28,8 +28,8 @@ pub enum Task<'a> {
         file: Option<&'a str>,
         is_human: bool,
     },
-    /// Write histograms of an image for people, as text, as a list or as a web page: those with the names, those whose name
-    /// contains the part, or all.
+    /// Write histograms of an image for people, as text, as a list or as a web page: those with the names, those whose
+    /// name contains the part, or all.
     Show {
         file: Option<&'a str>,
         names: Vec<&'a str>,
@@ -45,8 +45,8 @@ pub enum Task<'a> {
         out: &'a str,
         workers: Workers,
     },
-    /// Continue from an image and run a script on it by workers. Write the new image to a file and its report to standard
-    /// output.
+    /// Continue from an image and run a script on it by workers. Write the new image to a file and its report to
+    /// standard output.
     Resume {
         base: &'a str,
         script: &'a str,
@@ -59,8 +59,8 @@ pub enum Task<'a> {
         dead: &'a str,
         out: &'a str,
     },
-    /// Look at the segment in a file that is in use, which begins at a byte if one is named. Write its image to another file, or to
-    /// standard output if there is none.
+    /// Look at the segment in a file that is in use, which begins at a byte if one is named. Write its image to another
+    /// file, or to standard output if there is none.
     Look {
         file: &'a str,
         at: Option<u64>,

@@ -55,7 +55,7 @@ pub fn put_repeat_options<'a>(alloc: Global, args: &mut Vec<Arg<'a>>) -> Result<
     put(args, count_option(alloc)?)
 }
 
-/// How often a text is to be written, if that is said.
+/// How often a text is to be written, if the command line says so.
 pub fn repeat_found(found: &ArgMatches<'_>) -> Option<Repeat> {
     found.get_one::<u32>("every").map(|seconds| Repeat {
         seconds,

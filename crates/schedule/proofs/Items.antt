@@ -13,7 +13,7 @@ items_in-two [] first second more = absurd (omega arith)
 items_in-two (a ∷ []) first second more = absurd (omega arith)
 items_in-two (a ∷ b ∷ rest) first second more = refl
 
--- where they are no item, there are no items
+-- if they are no item, there are no items
 pub items_in-none : (so_far : List (ℤ × ℕ)) (rest : List (Bor (List ℕ))) (first second : Bor (List ℕ)) → 2 ≤ length rest
     → item_in (get_or rest 0 first).now (get_or rest 1 second).now ≡ None → option_map (λ more. so_far ++ more) (items_in (texts rest)) ≡ None
 items_in-none so_far rest first second more none = rw (items_in-two rest first second more, none) refl
@@ -23,7 +23,7 @@ joined : (so_far : List (ℤ × ℕ)) (item : ℤ × ℕ) (more : Option (List (
 joined so_far item (Some more) = ap Some (sym (append_assoc so_far (item ∷ []) more))
 joined so_far item None = refl
 
--- where they are one, the rest follows it
+-- if they are one, the rest follows it
 pub items_in-more : (so_far : List (ℤ × ℕ)) (rest : List (Bor (List ℕ))) (first second : Bor (List ℕ)) (item : ℤ × ℕ) → 2 ≤ length rest
     → item_in (get_or rest 0 first).now (get_or rest 1 second).now ≡ Some item
     → option_map (λ more. so_far ++ more) (items_in (texts rest))

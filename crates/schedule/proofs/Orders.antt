@@ -44,7 +44,7 @@ first_bad first later opening orders i within opened so_far none = record {
     before zero less missing = cc (sym opened ∙ missing)
     before (suc j) less missing = lawful-before later orders i j (omega arith) (omega arith) so_far missing
 
--- what is told of it
+-- what is reported of it
 pub fault_told : (first : List (List ℕ)) (later : List (List (List ℕ))) (opening : WorldOpening) (orders : List Order) (i : ℕ) (fault : ScheduleFault)
     → i < length later → opening_in first ≡ Some opening → AreOrders (take i later) orders
     → (fault ≡ NoMemory) ⊎ ((fault ≡ BadLine (i + 2)) × (order_in (get_or later i []) ≡ None)) → IsRowFault (first ∷ later) fault

@@ -1,4 +1,4 @@
--- What call a record of a schedule begins, by its word and the fields behind its actor.
+-- What call a record of a schedule begins, by its word and the fields after its actor.
 use Rattle.std.specs.Prelude.{if◌then◌else◌, ℕ, ℤ, List, [], ◌∷◌, codes, Option, Some, None, option_map}
 use Rattle.std.specs.Str.{bytes_eq}
 use Rattle.bucket_ranges.specs.declared.spec.Spec.{Spec}
@@ -21,7 +21,7 @@ abbrev pub name_in : List (List ℕ) → Option (List ℕ)
 name_in (name ∷ []) = Some name
 name_in _ = None
 
--- a name, and a kind of histogram with what stands behind it
+-- a name, and a kind of histogram with what follows it
 abbrev pub hist_in : List (List ℕ) → Option Call
 hist_in (name ∷ kind ∷ behind) = option_map (Hist name) (spec_in kind behind)
 hist_in _ = None
@@ -39,7 +39,7 @@ sample_in _ = None
 abbrev pub add_in : List (List ℕ) → Option Call
 add_in fields = option_map (λ sample. Add sample.0 sample.1 sample.2) (sample_in fields)
 
--- values by turns with how often they are counted, and nothing behind them
+-- values, each followed by how often it is counted, and nothing after them
 abbrev pub items_in : List (List ℕ) → Option (List (ℤ × ℕ))
 items_in [] = Some []
 items_in (value ∷ []) = None
@@ -55,7 +55,7 @@ abbrev pub set_corrupt_in : List (List ℕ) → Option Call
 set_corrupt_in [] = Some SetCorrupt
 set_corrupt_in _ = None
 
--- the call that a word and the fields behind the actor begin, if they begin one
+-- the call that a word and the fields after the actor begin, if they begin one
 abbrev pub call_in : List ℕ → List (List ℕ) → Option Call
 call_in word behind =
     if bytes_eq word (codes "hist") then hist_in behind

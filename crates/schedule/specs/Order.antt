@@ -12,23 +12,23 @@ use Rattle.schedule.specs.declared.order.OrderKind as code
 use Rattle.schedule.specs.declared.order.OrderKind.TheVariants as kind
 use Rattle.schedule.specs.Call.{Call, call_in, call_view}
 
--- a value made of five parts, where all are there
+-- a value made of five parts, if all are there
 abbrev pub from_five : {A B C D E X : Type 0} → (A → B → C → D → E → X) → Option A → Option B → Option C → Option D → Option E → Option X
 from_five make (Some a) (Some b) (Some c) (Some d) (Some e) = Some (make a b c d e)
 from_five make _ _ _ _ _ = None
 
--- a world of a new segment: so many words, so many to a page, an id, so many actors and a version
+-- a world of a new segment: its words, the words of a page, its id, how many actors it has, and its version
 abbrev pub new_world_of : ℕ → ℕ → ℕ → ℕ → ℕ → NewWorld
 new_world_of size page id actors version = record { size = size; page = page; id = id; actors = actors; version = version }
 
--- what the first record asks for that makes a new segment
+-- what the first record asks for if it makes a new segment
 abbrev pub new_world_in : List (List ℕ) → Option NewWorld
 new_world_in (word ∷ size ∷ page ∷ id ∷ actors ∷ version ∷ []) =
     if bytes_eq word (codes "world") then from_five new_world_of (long_number size) (long_number page) (long_number id) (long_number actors) (long_number version)
     else None
 new_world_in _ = None
 
--- and one that goes on with an image: its file, and how many actors
+-- and if it continues from an image: its file, and how many actors
 abbrev pub image_in : List (List ℕ) → Option (List ℕ × ℕ)
 image_in (word ∷ file ∷ actors ∷ []) = if bytes_eq word (codes "adopt") then option_map (λ actors. (file, actors)) (long_number actors) else None
 image_in _ = None
@@ -56,13 +56,14 @@ abbrev pub word_in : List (List ℕ) → Option ℕ
 word_in (word ∷ []) = long_number word
 word_in _ = None
 
--- what an actor is to do: to begin a call, or to go on by so many events at most; or, beside the actors, a word is loaded into a copy
+-- what an actor is to do: begin a call, or continue its call by at most this many events; or, apart from the actors, a word is loaded into
+-- a copy
 pub data Kind : Type 0 where
   Begin : Call → Kind
   Step : (times : ℕ) → Kind
   Look : (at : ℕ) → Kind
 
--- by a word and the fields behind the actor
+-- what is to be done, by a word and the fields after the actor
 abbrev pub kind_in : List ℕ → List (List ℕ) → Option Kind
 kind_in word behind =
     if bytes_eq word (codes "step") then option_map Step (times_in behind)

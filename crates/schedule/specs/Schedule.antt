@@ -19,12 +19,13 @@ pub record IsReadAs (rows : List (List (List ℕ))) (schedule : Schedule) : Type
   pub opening : opening_in first ≡ Some (opening_view schedule.opening)
   pub orders : AreOrders later schedule.orders.items
 
--- a record has no lawful form for its place, which is counted from 0; one that is missing has none
+-- a record has no valid form for its place, which is counted from 0; a missing one has none
 abbrev pub IsBadAt : List (List (List ℕ)) → ℕ → Type 0
 IsBadAt rows zero = opening_in (slice_index_or rows zero []) ≡ None
 IsBadAt rows (suc before) = order_in (slice_index_or rows (suc before) []) ≡ None
 
--- the record of a number, from 1, is the first of these: there is none before it, and it is there or the first of none
+-- the record of a number, from 1, is the first of these: there is none before it, and it is there, or there are no records and it is number
+-- 1
 pub record IsFirstBad (rows : List (List (List ℕ))) (number : ℕ) : Type 0 where
   pub place : ℕ
   pub number_is : number ≡ place + 1
@@ -37,7 +38,7 @@ IsRowFault rows NoMemory = ⊤
 IsRowFault rows (BadLine number) = IsFirstBad rows number
 IsRowFault rows _ = ⊥
 
--- why later records are no orders, behind a first one that opens a world
+-- why later records are no orders, after a first one that opens a world
 abbrev pub IsLaterFault : List (List (List ℕ)) → ScheduleFault → Type 0
 IsLaterFault later fault = (first : List (List ℕ)) (opening : WorldOpening) → opening_in first ≡ Some opening → IsRowFault (first ∷ later) fault
 
@@ -49,7 +50,7 @@ rows_of bytes = records default_config (strip_bom bytes)
 abbrev pub IsScheduleOf : List ℕ → Schedule → Type 0
 IsScheduleOf bytes schedule = (length bytes ≤ 16777216) × IsReadAs (rows_of bytes) schedule
 
--- Why the bytes that a reader had left are no schedule. Want of memory and a device that fails have no cause there.
+-- Why the bytes that a reader had left are no schedule. If memory runs out or a device fails, the cause is not in the bytes.
 abbrev pub IsScheduleFault : List ℕ → ScheduleFault → Type 0
 IsScheduleFault bytes Read = ⊤
 IsScheduleFault bytes NoMemory = ⊤

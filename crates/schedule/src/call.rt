@@ -1,4 +1,4 @@
-//! What call a record begins, by its word and the fields behind its actor.
+//! What call a record begins, by its word and the fields after its actor.
 
 ghost use Rattle.std.specs.Prelude.{◌≡◌, IfOk, option_map, drop};
 ghost use Rattle.csv.specs.Records.{fields_of};
@@ -10,7 +10,7 @@ use persist_report_core::{read_spec, signed_long_number, signed_number, unsigned
 use segment_calls::Call;
 use std::alloc::{AllocError, Global};
 
-// The name, where nothing stands behind it.
+// The name, if nothing follows it.
 fn read_name(alloc: Global, behind: &[&[u8]]) -> Result<Option<Vec<u8>>, AllocError>
     ensures { IfOk result (λ name. option_map (λ name. name.items) name ≡ name_in (texts behind.now)) }
 {
@@ -53,7 +53,7 @@ fn read_add(alloc: Global, behind: &[&[u8]]) -> Result<Option<Call>, AllocError>
     }
 }
 
-// Values by turns with how often they are counted.
+// Values, each followed by how often it is counted.
 fn read_items(alloc: Global, behind: &[&[u8]]) -> Result<Option<Vec<(i32, u32)>>, AllocError>
     ensures { IfOk result (λ items. option_map (λ items. items.items) items ≡ items_in (texts behind.now)) }
 {
@@ -73,7 +73,7 @@ fn read_items(alloc: Global, behind: &[&[u8]]) -> Result<Option<Vec<(i32, u32)>>
     }
 }
 
-// A batch: a name, a sum, and values by turns with how often they are counted.
+// A batch: a name, a sum, and values, each followed by how often it is counted.
 fn read_batch(alloc: Global, behind: &[&[u8]]) -> Result<Option<Call>, AllocError>
     ensures { IfOk result (λ call. option_map call_view call ≡ batch_in (texts behind.now)) }
 {
@@ -89,7 +89,7 @@ fn read_batch(alloc: Global, behind: &[&[u8]]) -> Result<Option<Call>, AllocErro
     }
 }
 
-// A histogram: a name, and a kind with what stands behind it.
+// A histogram: a name, and a kind with what follows it.
 fn read_hist(
     alloc: Global,
     behind: &[&[u8]],
@@ -107,7 +107,7 @@ fn read_hist(
     }
 }
 
-/// The call that a word and the fields behind the actor begin, if they begin one.
+/// The call that a word and the fields after the actor begin, if they begin one.
 pub(crate) fn read_call(
     alloc: Global,
     word: &[u8],

@@ -13,10 +13,10 @@ pub enum ScheduleFault {
     /// The schedule has more than 16,777,216 bytes.
     #[error("TooLong")]
     TooLong,
-    /// There was no memory for the schedule.
+    /// Memory ran out for the schedule.
     #[error("NoMemory")]
     NoMemory,
-    /// The record of this number, from 1, has no lawful form, or a number out of its type.
+    /// The record of this number, from 1, has no valid form, or a number out of its type.
     #[error("BadLine {0}")]
     BadLine(u64),
 }

@@ -1,4 +1,4 @@
-//! Schedules of the stepped world: who begins which call, and who goes on by how many events.
+//! Schedules of the stepped world: which actor begins which call, and which one continues by how many events.
 //!
 //! A schedule is a CSV text. It is read whole and is then a value, or its first faulty record: `specs/Schedule.antt`.
 #![tactic(auto)]

@@ -17,22 +17,22 @@ use std::alloc::{AllocError, Global};
 pub enum Opening {
     /// A new segment.
     New(NewWorld),
-    /// The image in a file of this name, whether there is one or not, with so many actors, lawful or not.
+    /// The image in a file of this name, whether there is one or not, with this many actors, valid or not.
     Adopt(Vec<u8>, usize),
 }
 
-/// What a world of a new segment is made as.
+/// How a world of a new segment is made.
 #[derive(Clone, Copy, Debug, PartialEq, Eq)]
 pub struct NewWorld {
-    /// How many words its segment has, lawful or not.
+    /// How many words its segment has, valid or not.
     pub size: u64,
-    /// How many words a page has, lawful or not.
+    /// How many words a page has, valid or not.
     pub page: u64,
     /// The segment's id.
     pub id: u64,
-    /// How many actors it has, lawful or not.
+    /// How many actors it has, valid or not.
     pub actors: usize,
-    /// The version of the format, lawful or not.
+    /// The version of the format, valid or not.
     pub version: u64,
 }
 
@@ -50,7 +50,7 @@ pub struct Order {
 pub enum OrderKind {
     /// It begins a call.
     Begin(Call),
-    /// It goes on with its call by at least one event and at most so many, fewer where the call ends.
+    /// It continues its call by this many events, or fewer if the call ends; by one at least.
     Step(u64),
     /// No actor does anything: the word of this number, whether there is one or not, is loaded into a copy.
     Look(usize),
@@ -89,7 +89,7 @@ fn image_of<'a>(fields: &[&'a [u8]]) -> Option<(&'a [u8], usize)>
     Some((file, actors))
 }
 
-/// The world that the first record asks for, or nothing where it has no lawful form.
+/// The world that the first record asks for, or nothing if it has no valid form.
 pub(crate) fn read_opening(
     alloc: Global,
     record: &ByteRecord,
@@ -127,7 +127,7 @@ fn word_of(behind: &[&[u8]]) -> Option<usize>
     Some(long_number(word)? as usize)
 }
 
-// What an actor is to do, by a word and the fields behind the actor.
+// What an actor is to do, by a word and the fields after the actor.
 fn read_kind(
     alloc: Global,
     word: &[u8],
@@ -146,7 +146,7 @@ fn read_kind(
     }
 }
 
-/// What a later record asks for, or nothing where it has no lawful form.
+/// What a later record asks for, or nothing if it has no valid form.
 pub(crate) fn read_order(alloc: Global, record: &ByteRecord) -> Result<Option<Order>, AllocError>
     ensures { IfOk result (λ order. option_map order_view order ≡ order_in (fields_of record.now)) }
 {

@@ -17,7 +17,7 @@ use segment_image::{ReadFault, Watched, read_bytes};
 use std::alloc::Global;
 use std::io::Read;
 
-// A schedule has at most so many bytes.
+// How many bytes a schedule has at most.
 const MAX_BYTES: usize = 16_777_216;
 
 /// What is to be done in a world, in order.
@@ -88,13 +88,13 @@ fn bytes_of<R: Read>(alloc: Global, reader: &mut Watched<R>) -> Result<Vec<u8>, 
 /// `adopt,FILE,ACTORS` first, and then what the actors are to do.
 ///
 /// On `Ok` it is exactly the schedule that the bytes are: its world, a new one or one that continues from a file, and
-/// each later record in order. `TooLong` comes only where there are more than 16,777,216 bytes. `BadLine` comes with
+/// each later record in order. `TooLong` comes only if there are more than 16,777,216 bytes. `BadLine` comes with
 /// the number of the first record without a valid form, or with a number out of its type; a schedule without records
-/// is `BadLine` of record 1. `NoMemory` comes where memory runs out [answer]. Shapes, files, actors, names and specs
+/// is `BadLine` of record 1. `NoMemory` comes if memory runs out [answer]. Shapes, files, actors, names and specs
 /// are taken as they are, valid or not.
 ///
 /// The reader has not failed before. It is read whole before any record is looked at: on `Ok` it is at its end [end],
-/// and at most one byte more than these is taken from it [taken]. `Read` comes exactly where a read failed [read].
+/// and at most one byte more than these is taken from it [taken]. `Read` comes exactly if a read failed [read].
 pub fn read_schedule<R: Read>(
     alloc: Global,
     reader: &mut Watched<R>,

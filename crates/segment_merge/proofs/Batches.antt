@@ -1,4 +1,4 @@
--- What a batch of what is left of a histogram is answered.
+-- What the batch of what is left of a histogram returns.
 use Rattle.std.proofs.Common.{◌≡◌, ℕ, ◌-◌, ◌<◌, ◌≤◌, ◌-ℤ◌, unsigned_abs, w64, to_z, of_z, FitsSigned, ◌==◌, nat_lt, false, ℤ, List, [], ◌∷◌, if◌then◌else◌, Option, Some, None, Result, Ok, Err, inl, inr, refl, sym, ap, ◌∙◌, subst, arith}
 use Rattle.std.specs.Prelude.{MatchOption, MatchResult, ⊤}
 use Rattle.std.specs.List.{list_any, filter_map, cons_option}
@@ -41,7 +41,7 @@ none_empty : (pairs : List ((ℤ × ℕ) × ℕ)) → list_any (λ (item : ℤ �
 none_empty [] = refl
 none_empty (((key, units), mark) ∷ rest) = kept_some mark units key (filter_map left_of rest) (none_empty rest)
 
--- so the batch is refused before anything happens only where it costs more than the share has
+-- so the batch is refused before anything happens only if it costs more than the share has
 checks_are : (h : Histogram) (a : Actor)
     → first_fault (batch_checks a (items_left h) (sum_left h)) ≡ (if nat_lt a.units.share (cost_left h) then Some NoUnits else None)
 checks_are h a = rw (none_empty (marked h.counts h.marks)) refl
@@ -57,7 +57,7 @@ cheap h most =
       fits = fits_signed_from_abs w64 (h.sum -ℤ h.sum_mark) size;
     }
 
--- what is left of a histogram and cannot be said does
+-- what is left of a histogram costs more if it has no remainder
 pub too_dear : (h : HistReading) (share : ℕ) → share ≤ 4294967295 → ¬ (HasRemainder h) → share < cost_left (histogram_view h)
 too_dear h share few none = elim (cases_lt share (cost_left (histogram_view h))) [
   | inl short ↦ short
@@ -73,7 +73,7 @@ IsBatchAnswer h known a result b =
     (MatchResult result (λ _. IsBatched known (items_left h) (sum_left h) a b) (λ refusal. IsCutShort known (items_left h) refusal a b))
     (λ why. (result ≡ Err (record { added = 0; why = why })) × (b ≡ a))
 
--- and what comes of it
+-- and what results from it
 abbrev pub IsAddedOrStops : Histogram → Actor → Result ⊤ BatchRefusal → Actor → Type 0
 IsAddedOrStops h a result b =
     MatchResult result (λ _. IsMerged (h ∷ []) a b) (λ refusal. StopsAt h refusal.added refusal.why a b)

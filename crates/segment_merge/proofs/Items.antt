@@ -10,7 +10,7 @@ use Rattle.std.proofs.lemmas.List.Elements.{Contains-append_left, Contains-appen
 use Rattle.std.proofs.lemmas.Slice.Zip.{get_or-zip, length-zip}
 use Rattle.segment_merge.specs.Remainder.{items_of, left_of, marked}
 
--- each key has a mark beside it
+-- each key is paired with a mark
 pub length-marked : (counts : List (ℤ × ℕ)) (marks : List ℕ) → length (marked counts marks) ≡ length counts
 length-marked counts marks =
     let zeros : List ℕ = replicate (length counts) 0 in
@@ -18,7 +18,7 @@ length-marked counts marks =
     let many : length (replicate {A = ℕ} (length counts) 0) ≡ length counts = length-replicate (length counts) 0 in
     omega (arith, length-zip counts (marks ++ zeros), both, many)
 
--- which is 0 where there are no more
+-- which is 0 if there are no more
 mark_at : (counts : List (ℤ × ℕ)) (marks : List ℕ) (i : ℕ) → i < length counts → get_or (marks ++ replicate (length counts) 0) i 0 ≡ get_or marks i 0
 mark_at counts marks i near = elim (cases_lt i (length marks)) [
   | inl beside ↦ get_or-append marks (replicate (length counts) 0) 0 i beside

@@ -1,4 +1,4 @@
--- How histograms are merged: one behind the other.
+-- How histograms are merged, one after the other.
 use Rattle.std.proofs.Common.{◌≡◌, ℕ, ◌+◌, ◌<◌, ℤ, List, [], ◌∷◌, ◌++◌, map, take, flat_map, if◌then◌else◌, inl, inr, refl, sym, ap, ◌∙◌, subst, arith, append_assoc, append-nil}
 use Rattle.std.specs.List.{All, Contains}
 use Rattle.std.specs.Str.{bytes_eq}
@@ -30,7 +30,7 @@ use Rattle.live_segment.specs.Hist.Outcome.{ComesToKnow, LooksAround}
 use Rattle.live_segment.proofs.lemmas.Steps.Proceeding.{does_not, does_on, sees_not, sees_on}
 use Rattle.segment_merge.specs.Merge.{GoesOnWith, HasFound, IsMerged, IsOneOf, KnowsAs, StopsAt, cost_left, entries_left, items_left, sum_left}
 
--- ---- going on
+-- ---- continuing
 
 -- those of some are of more
 one_of_first : (xs ys : List Histogram) (known : Known) → IsOneOf xs known → IsOneOf (xs ++ ys) known
@@ -94,11 +94,11 @@ all_but a b segment entries deltas role = λ i. record {
   role = role i;
 }
 
--- entries that are the same are so but for the log
+-- entries that are the same are the same except for the log
 entries_but : (old new : Entries) → new ≡ old → new ≡ record old { log = new.log }
 entries_but old new same = same ∙ ap (λ (log : List EntryProgress). record old { log = log }) (sym (ap (λ (e : Entries). e.log) same))
 
--- a call that counts goes on with none
+-- a call that counts continues without a new histogram
 counts_on : (a b : Actor) → GoesOn a b → GoesOnWith [] a b
 counts_on a b on = record {
   same = all_but a b (ap (λ (m : Actor). m.segment) on.same) (ap (λ (m : Actor). m.entries) on.same) (ap (λ (m : Actor). m.deltas) on.same)
@@ -112,7 +112,7 @@ counts_on a b on = record {
 
 -- ---- a list of them
 
--- what is known is known still
+-- what is known is still known
 knows_still : (xs : List Histogram) (b c : Actor) (ys : List Histogram) → GoesOnWith ys b c → All (KnowsAs b) xs → All (KnowsAs c) xs
 knows_still xs b c ys on all =
     All-weaker (KnowsAs b) (KnowsAs c)
@@ -165,7 +165,7 @@ record IsFoundOnly (h : Histogram) (old new : Actor) : Type 0 where
   filled : new.done.filled ≡ old.done.filled
   onward : GoesOnWith (h ∷ []) old new
 
--- it goes on with it, and has come to know none
+-- it continues with a histogram, if it has come to know no other
 with_one : (h : Histogram) (a b : Actor) → GoesOnWith [] a b → GoesOnWith (h ∷ []) a b
 with_one h a b on = record {
   same = on.same;
@@ -176,7 +176,7 @@ with_one h a b on = record {
   of_these = All-weaker (IsOneOf []) (IsOneOf (h ∷ [])) (one_of_first [] (h ∷ [])) on.more on.of_these;
 }
 
--- looking around comes to know none
+-- looking around, it gets to know no new histogram
 looks_on : (a b : Actor) → LooksAround a b → GoesOnWith [] a b
 looks_on a b looks = record {
   same = all_but a b (ap (λ (m : Actor). m.segment) looks.same) (entries_but a.entries b.entries (ap (λ (m : Actor). m.entries) looks.same))
@@ -206,7 +206,7 @@ comes_on h asked reference a b name spec comes =
       of_these = All-cons (IsOneOf (h ∷ [])) (asked_at asked reference) [] (h, (0, omega arith, refl), name, spec) (All-nil (IsOneOf (h ∷ [])));
     }
 
--- it is answered with: nothing is counted yet
+-- it is returned: nothing is counted yet
 found_only : (h : Histogram) (histogram : Hist) (a b : Actor) → IsAnsweredWith h.name h.spec histogram a b → IsFoundOnly h a b
 found_only h histogram a b (inl (known, named, same, may, view)) =
     subst (IsFoundOnly h a) (sym view) (record { logged = refl; units_are = refl; filled = refl; onward = with_one h a a (goes_nowhere a) })
@@ -218,11 +218,11 @@ found_only h histogram a b (inr (none, index, (asked, reference, is, comes))) =
       onward = comes_on h asked reference a b is.named is.specified comes;
     }
 
--- so the share is as before
+-- so the share is unchanged
 pub share_found : (h : Histogram) (known : Known) (a b : Actor) → HasFound h known a b → b.units.share ≡ a.units.share
 share_found h known a b found = ap (λ (u : Units). u.share) (found_only h found.histogram a b found.answered).units_are
 
--- it is found, and goes on to count
+-- it is found, and then counted
 found_on : (h : Histogram) (a b c : Actor) → IsFoundOnly h a b → GoesOn b c → GoesOnWith (h ∷ []) a c
 found_on h a b c found on = goes_on_with (h ∷ []) [] a b c found.onward (counts_on b c on)
 

@@ -52,9 +52,9 @@ KnowsAs a h = (known : Known) × Contains a.answers.names known × (known.name �
 abbrev pub IsOneOf : List Histogram → Known → Type 0
 IsOneOf hists known = (h : Histogram) × Contains hists h × (known.name ≡ h.name) × (known.spec ≡ h.spec)
 
--- A recorder goes on with calls that find and count histograms: what it is, what its deltas and snapshots took, what shared cursors gave
--- it, and what was accepted before it are as they were. It has seen and done no less. The histograms that it has come to know stand behind
--- those that it knew, and are of these.
+-- A recorder continues with calls that find and count histograms: what it is, what its deltas and snapshots took, what shared cursors gave
+-- it, and what was accepted before it are unchanged. It has seen and done no less. The histograms that it has come to know come after those
+-- that it knew, and are of these.
 pub record GoesOnWith (hists : List Histogram) (old new : Actor) : Type 0 where
   pub same : new ≡ record old {
     units = new.units;
@@ -71,8 +71,8 @@ pub record GoesOnWith (hists : List Histogram) (old new : Actor) : Type 0 where
   pub names : new.answers.names ≡ old.answers.names ++ more
   pub of_these : All (IsOneOf hists) more
 
--- Histograms are merged: the batches of what is left of them stand at the end of the log, one behind the other in their order. What they
--- cost is taken from the share, and spent for each name. The recorder knows them all. No allocation was refused: it has not set the full flag.
+-- Histograms are merged: the batches of what is left of them are at the end of the log, one after the other in their order. What they cost
+-- is taken from the share, and spent for each name. The recorder knows them all. No allocation was refused: it has not set the full flag.
 pub record IsMerged (hists : List Histogram) (old new : Actor) : Type 0 where
   pub logged : log_of new ≡ log_of old ++ flat_map entries_left hists
   pub share : new.units.share + sum_by cost_left hists ≡ old.units.share
@@ -91,7 +91,7 @@ pub record HasFound (h : Histogram) (known : Known) (old new : Actor) : Type 0 w
   pub known_is : KnowsNamed h.name new histogram.index known
   pub same : SameSpec known.spec h.spec
 
--- Why one stops it, behind so many of its items: its `hist` is refused; or its batch is, since it costs more than the share has, or since
+-- Why one stops it, after this many of its items: its `hist` is refused; or its batch is, since it costs more than the share has, or since
 -- the next item needs a block and none can be claimed.
 abbrev pub HasStopCause : Histogram → ℕ → Refusal → Actor → Actor → Type 0
 HasStopCause h items why old new =
@@ -100,7 +100,7 @@ HasStopCause h items why old new =
     × (((items ≡ 0) × (why ≡ NoUnits) × (found.units.share < cost_left h) × (new ≡ found))
     ⊎ IsCutShort known (items_left h) (record { added = items; why = why }) found new))
 
--- It stops behind so many of its items: these are counted, and their units are taken from the share. Its sum is not added.
+-- It stops after this many of its items: these are counted, and their units are taken from the share. Its sum is not added.
 pub record StopsAt (h : Histogram) (items : ℕ) (why : Refusal) (old new : Actor) : Type 0 where
   pub logged : log_of new ≡ log_of old ++ map (item_entry h.name (boundaries_of h.spec)) (take items (items_left h))
   pub share : new.units.share + units_of (take items (items_left h)) ≡ old.units.share
@@ -122,7 +122,7 @@ pub record IsWholeMerge (hists : List Histogram) (report : MergeReport) (old new
   pub lines : report_lines report ≡ map line_of hists
 
 -- The histograms before one are merged, and the merge stops at that one, which is named. It is the last that is reported, with the units of
--- its items that are counted. Nothing has come of those behind it.
+-- its items that are counted. Nothing of those after it was added.
 pub record IsStopped (hists : List Histogram) (report : MergeReport) (stop : MergeStop) (old new : Actor) : Type 0 where
   pub front : List Histogram
   pub last : Histogram

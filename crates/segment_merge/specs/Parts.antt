@@ -11,7 +11,7 @@ use Rattle.segment_merge.specs.declared.merging.Part.{Part}
 use Rattle.segment_merge.specs.Merge.{IsMerged, StopsAt, items_left, units_left}
 use Rattle.segment_merge.specs.Remainder.{IsLeftOf}
 
--- it has the name twice, and what is left, where that can be said
+-- it has the name twice, and what is left, if there is a remainder
 pub record IsPartOf (h : HistReading) (part : Part) : Type 0 where
   pub name : part.name.items ≡ h.name.items
   pub stop_name : part.stop_name.items ≡ h.name.items
@@ -22,7 +22,7 @@ pub record ArePartsOf (hists : List HistReading) (parts : List Part) : Type 0 wh
   pub many : length parts ≡ length hists
   pub each : (i : ℕ) (h : HistReading) (part : Part) → i < length hists → IsPartOf (slice_index_or hists i h) (slice_index_or parts i part)
 
--- A line with the name stands at the end of the report. The histogram is merged, and the line has its units; or the merge stops there, and it
+-- A line with the name is at the end of the report. The histogram is merged, and the line has its units; or the merge stops there, and it
 -- has those of the items that are counted.
 pub record Merges (h : Histogram) (before : List (Vec ℕ Global × ℕ)) (stopped : Option MergeStop) (after : List (Vec ℕ Global × ℕ)) (old new : Actor) : Type 0 where
   pub line : Vec ℕ Global × ℕ

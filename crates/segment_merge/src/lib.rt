@@ -1,7 +1,7 @@
-//! What a dead segment counted is merged into a segment that lives.
+//! What a dead segment counted is merged into a live one.
 //!
-//! Of each histogram of a reading that is the units, and the part of the sum, that its deltas have not taken. [`merge`] adds them by a
-//! recorder of the segment that lives, one batch for each histogram, and reports what it added.
+//! For each histogram of a reading, these are the units and the part of the sum that its deltas have not taken.
+//! [`merge`] adds them by a recorder of the live segment, one batch for each histogram, and reports what it added.
 #![tactic(auto)]
 
 mod merging;

@@ -1,4 +1,4 @@
-//! What a dead segment counted is added to a segment that lives.
+//! What a dead segment counted is added to a live one.
 
 ghost use Rattle.std.specs.Prelude.{◌≡◌, ◌+◌, ◌≤◌, ◌<◌, ◌∷◌, [], vec_len, vec_capacity, IfOk, MatchResult};
 ghost use Rattle.bucket_ranges.specs.Tally.{units_of};
@@ -46,24 +46,24 @@ struct Part {
 
 /// Adds what deltas have not taken of a reading to a recorder's segment: for each of its histograms in order, `hist`
 /// of its name and spec, and then one `batch` of the units above their marks, with the sum less its mark. The first
-/// that is refused stops the merge, also where memory runs out in its `hist`; what was added before stays. So merging
+/// that is refused stops the merge, also if memory runs out in its `hist`; what was added before stays. So merging
 /// a reading twice adds it twice. Any reading may be given.
 ///
 /// The log of the recorder grew by the batches of the histograms, one after the other in the order of the reading;
-/// where one stopped the merge, by those of the histograms before it, and by its own first items, as many as the
-/// report says. Their costs are taken from the share, and spent for each name. The recorder knows a histogram of each
+/// if one stopped the merge, by those of the histograms before it, and by its own first items, as many as the report
+/// says. Their costs are taken from the share, and spent for each name. The recorder knows a histogram of each
 /// of these names, with the same spec. If nothing stopped the merge, it has not set the full flag. The report names
 /// each histogram that was reached, in order, with the units that were added to it. The one that stopped the merge
 /// has a cause: its `hist` was refused, for what a `hist` is refused for; or its batch costs more than the share has,
-/// as it does where [`remainder_of`] returns none, and no item is counted; or its next item needed a block, and none
+/// as it does if [`remainder_of`] returns none, and no item is counted; or its next item needed a block, and none
 /// could be claimed. The recorder's deltas and snapshots, and what shared cursors gave it, are unchanged, and it has
 /// seen and done no less. The histograms that it has come to know are of the reading [answer].
 ///
 /// It records into the same segment [kept], and each histogram that it knew it knows at the same place [same].
 ///
-/// The one error is `NoMemory`, where memory runs out for the report: the recorder is then unchanged [answer]. It
-/// asks for 120 bytes for each histogram, for its name twice, and for eight bytes for each of its keys; then for what
-/// the `hist` of each asks for.
+/// The one error is `NoMemory`, if memory runs out for the report: the recorder is then unchanged [answer]. It asks for
+/// 120 bytes for each histogram, for its name twice, and for eight bytes for each of its keys; then for what the `hist`
+/// of each asks for.
 pub fn merge(
     alloc: Global,
     recorder: &mut Recorder,
@@ -146,7 +146,7 @@ fn merge_next(
     }
 }
 
-// Adds what is left of a histogram, and tells the units that were added.
+// Adds what is left of a histogram, and returns the units that were added.
 fn add_left(
     recorder: &mut Recorder,
     histogram: &HistReading,

@@ -17,10 +17,11 @@ pub struct Remainder {
 }
 
 /// Returns what deltas have not taken of a histogram: of each key that has more units than its mark, those above it,
-/// in order, and the sum less its mark. A key without a mark beside it has the mark 0.
+/// in order, and the sum less its mark. A key without a mark has the mark 0.
 ///
-/// None exactly where more than 4,294,967,295 units of a key are left, or where the sum less its mark does not fit 64
-/// bits. No histogram that is read is so: a batch of what is left of it would cost more units than a segment has.
+/// None exactly if more than 4,294,967,295 units of a key are left, or if the sum less its mark does not fit 64 bits.
+/// No histogram that was read from an image is like this: a batch of what is left of it would cost more units than a
+/// segment has.
 pub fn remainder_of(alloc: Global, histogram: &HistReading) -> Result<Option<Remainder>, AllocError>
     ensures { IfOk result (IsLeftOf histogram.now) }
 {
@@ -41,7 +42,7 @@ pub fn remainder_of(alloc: Global, histogram: &HistReading) -> Result<Option<Rem
     Ok(Some(Remainder { items, sum }))
 }
 
-// What is left of the sum, where it fits 64 bits.
+// What is left of the sum, if it fits 64 bits.
 fn sum_left(histogram: &HistReading) -> Option<i64>
     ensures { MatchOption result (¬ (FitsSigned w64 (histogram.now.sum -ℤ histogram.now.sum_mark))) (λ left. left ≡ histogram.now.sum -ℤ histogram.now.sum_mark) }
 {
@@ -49,7 +50,7 @@ fn sum_left(histogram: &HistReading) -> Option<i64>
     i64::try_from(left).ok()
 }
 
-// The mark beside the key of an index, or 0.
+// The mark of the key at an index, or 0.
 fn mark_beside(histogram: &HistReading, index: usize) -> u64
     ensures { result ≡ slice_index histogram.now.marks.items index }
 {

@@ -12,9 +12,9 @@ pub const SAMPLE_WORDS: u64 = SAMPLE_LEAST as u64;
 /// The words of a histogram's blocks, their headers among them.
 #[derive(Clone, Copy, Debug, PartialEq, Eq)]
 pub struct Blocks {
-    /// Those of its record.
+    /// The words of its record.
     pub record: u64,
-    /// Those of its counts; none of a sparse one, which has a record of `SAMPLE_WORDS` for each value.
+    /// The words of its counts; none for a sparse one, which has a record of `SAMPLE_WORDS` for each value.
     pub counts: Option<u64>,
 }
 
@@ -24,8 +24,8 @@ impl Blocks {
 
     /// Returns the blocks of the histogram of a name and a spec: its record [record] and its counts [counts].
     ///
-    /// The error is why the histogram is refused in a segment with the widest pages, in which all blocks fit: `BadName` or `BadSpec`;
-    /// or that memory ran out.
+    /// The error is why the histogram is refused in a segment with the widest pages, in which all blocks fit: `BadName`
+    /// or `BadSpec`; or that memory ran out.
     pub fn of(alloc: Global, name: &[u8], spec: &Spec) -> Result<Blocks, Refusal>
         ensures record { IfOk result (λ blocks. IsRecordSize name.now spec.now blocks.record) }
         ensures counts { IfOk result (λ blocks. blocks.counts ≡ counts_size spec.now) }

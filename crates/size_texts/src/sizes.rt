@@ -46,7 +46,7 @@ fn fault_of(number: u32, why: Refusal) -> CliFault {
     }
 }
 
-// The words of the histogram of a `hist` record, with so many values if it is sparse.
+// The words of the histogram of a `hist` record, with this many values if it is sparse.
 fn size_of_hist<'a>(
     alloc: Global,
     hist: &'a ScriptHist,
@@ -66,7 +66,7 @@ fn size_of_hist<'a>(
     })
 }
 
-// Puts the blocks of a histogram at the end.
+// Appends the blocks of a histogram.
 fn push_blocks(blocks: &mut Vec<u64>, hist: &HistSize<'_>) -> Result<(), AllocError> {
     blocks.push(hist.blocks.record)?;
     if let Some(counts) = hist.blocks.counts {
@@ -101,11 +101,11 @@ fn hists_of<'a>(
     Ok(hists)
 }
 
-/// Returns the words of the histograms of a script, each name once, in pages of so many words, where each sparse one has as many values
-/// as `values` says at the place of its `hist` record, and the size that their blocks need.
+/// Returns the words of the histograms of a script, each name once, in pages of `page` words, and the size that their
+/// blocks need. Each sparse one has as many values as `values` says at the place of its `hist` record.
 ///
-/// The error is why a record is refused, `BadName` or `BadSpec`, or that memory ran out. Whether each histogram fits in a page is said
-/// of it, and is no error.
+/// The error is why a record is refused, `BadName` or `BadSpec`, or that memory ran out. A histogram that does not fit
+/// in a page is no error: `fits` says whether it does.
 pub fn sizes_of<'a>(
     alloc: Global,
     script: &'a Script,

@@ -7,7 +7,7 @@ use segment_sizes::SizeFault;
 use std::fmt;
 use std::fmt::Write;
 
-// What is said below the size.
+// What the text has below the size.
 const RACES: &str =
     "First uses at the same moment may take more: for each further thread a record of the histogram or of the value, \
                      and a block of counts.\n";

@@ -15,8 +15,8 @@ fn recorded(alloc: Global, script: &Script) -> Result<Vec<(u32, i32)>, AllocErro
     Ok(recorded)
 }
 
-/// Returns for each `hist` record of a script how many different values its `add` records have for it; for a name that has several
-/// `hist` records, all are at the first. The error is that memory ran out.
+/// Returns for each `hist` record of a script how many different values the `add` records have for it; for a name that
+/// has several `hist` records, all are at the first. The error is that memory ran out.
 pub fn values_of(alloc: Global, script: &Script) -> Result<Vec<u64>, AllocError> {
     let mut values = Vec::new(alloc);
     for _ in &script.hists {

@@ -32,9 +32,9 @@ image_of look one two three made image is_one is_two is_three promise is =
         (head, at, subst (λ (r : Result (List ℕ) LookFault). MatchResult r (λ words. IsLook head one two three words) (λ fault. fault ≡ NoMemory)) is told)
     by (Err fault) at told = absurd (cc (sym told ∙ is))
 
--- ---- lawful loads
+-- ---- valid loads
 
--- the first record whose load is not lawful, at the record of a place
+-- the first record whose load is not valid, at the record of a place
 pub first_bad-at : (size number begun : ℕ) (orders : List Order) (i : ℕ) (order : Order) → i < length orders → order ≡ get_or orders i order
     → first_bad size number begun (drop i orders)
     ≡ (if is_bad_load size begun order.actor order.kind then Some number

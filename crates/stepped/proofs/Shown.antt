@@ -107,7 +107,7 @@ units_more counts i one near is =
 
 -- ---- words
 
--- of words of which one is another now, at most, a word that differs is that one
+-- if at most one of some words has changed, a word that differs is that one
 one_differs : (old new : List ℕ) (change : Change) → ChangesOneWord old new → IsDifference old new change → new ≡ slice_set old change.at change.new
 one_differs old new change (at, word, is) differs =
     let found : slice_index (slice_set old at word) change.at ≡ change.new = ap (λ (l : List ℕ). slice_index l change.at) (sym is) ∙ differs.is in
@@ -126,7 +126,7 @@ differs_in a b old new change is_old is_new differs =
 pub new_words : (old new : List ℕ) (change : Change) → ∥ ChangesOneWord old new ∥₁ → IsDifference old new change → new ≡ slice_set old change.at change.new
 new_words old new change changes differs = ∥∥₁_elim changes (hlevel props) (λ one. one_differs old new change one differs)
 
--- a list of words has as many as before
+-- the number of words does not change
 pub same_length : (old new : List ℕ) → ∥ ChangesOneWord old new ∥₁ → length old ≡ length new
 same_length old new changes = ∥∥₁_elim changes (hlevel props) (λ (at, word, is). sym (ap length is ∙ length-set old at word))
 

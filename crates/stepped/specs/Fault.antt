@@ -19,19 +19,19 @@ replay_status (BadLine number) = 3
 replay_status (World number fault) = 3
 replay_status NoMemory = 5
 
--- what a fault of the world at the record of a number comes to: out of memory is no fault of the record
+-- the fault of a replay for a fault of the world at the record of a number: out of memory is no fault of the record
 abbrev pub fault_of_world : ℕ → WorldFault → ReplayFault
 fault_of_world number of_world.NoMemory = NoMemory
 fault_of_world number fault = World number fault
 
--- what a fault of the schedule comes to
+-- the fault of a replay for a fault of the schedule
 abbrev pub fault_of_schedule : ScheduleFault → ReplayFault
 fault_of_schedule of_schedule.Read = Read
 fault_of_schedule of_schedule.TooLong = TooLong
 fault_of_schedule of_schedule.NoMemory = NoMemory
 fault_of_schedule (of_schedule.BadLine number) = BadLine number
 
--- what a fault of an image's bytes comes to
+-- the fault of a replay for a fault of an image's bytes
 abbrev pub fault_of_read : ReadFault → ReplayFault
 fault_of_read of_read.NoMemory = NoMemory
 fault_of_read of_read.Device = Read

@@ -60,8 +60,8 @@ effect_of None None None = Quiet
 abbrev pub load_of : List ℕ → ℕ → Load
 load_of words at = record { at = at; value = word_at words at }
 
--- It begins; it begins and has ended with an answer, without an event; an event of it happens, which does this and leads to these words; or
--- it ends with its last event, and an answer. Or, beside all calls, a word of these is loaded into a copy.
+-- A call begins; it begins and ends at once with an answer, without an event; an event of it happens, which does this and leads to these
+-- words; or it has ended by its last event, with an answer. Or, apart from all calls, one of these words is loaded into a copy.
 pub data Deed : Type 0 where
   Begins : (call : Call) → Deed
   AtOnce : (call : Call) → (answer : Answer) → Deed

@@ -11,9 +11,9 @@ use Rattle.stepped.specs.declared.looking.Copies.{Copies}
 use Rattle.stepped.specs.Lines.{Deed}
 use Rattle.stepped.specs.Replay.{DoesOrder}
 
--- ---- which loads are lawful
+-- ---- which loads are valid
 
--- A record loads into a copy that is none of 1 to 3, or one before the last that was begun, or a word that is not there: of so many.
+-- whether a record loads into a copy that is none of 1 to 3, or one before the last that was begun, or loads a word that is not there
 abbrev pub is_bad_load : ℕ → ℕ → ℕ → OrderKind → Bool
 is_bad_load size begun copy (kind.Look at) = nat_lt copy (max begun 1) || nat_lt 3 copy || nat_le size at
 is_bad_load size begun actor (kind.Begin call) = false
@@ -25,7 +25,7 @@ begun_behind begun copy (kind.Look at) = copy
 begun_behind begun actor (kind.Begin call) = begun
 begun_behind begun actor (kind.Step times) = begun
 
--- the number of the first record with a load that is not lawful, from a number on, if there is one
+-- the number of the first record with a load that is not valid, from a number on, if there is one
 abbrev pub first_bad : ℕ → ℕ → ℕ → List Order → Option ℕ
 first_bad size number begun [] = None
 first_bad size number begun (order ∷ rest) =
@@ -34,7 +34,7 @@ first_bad size number begun (order ∷ rest) =
 
 -- ---- copies
 
--- three copies, of which so many are begun
+-- three copies, and how many of them are begun
 pub record Look : Type 0 where
   pub begun : ℕ
   pub one : List ℕ
@@ -45,7 +45,7 @@ pub record Look : Type 0 where
 abbrev pub look_of : Copies → Look
 look_of c = record { begun = c.begun; one = c.one.items; two = c.two.items; three = c.three.items }
 
--- the words of a copy of a number where these are begun up to another: a copy that is begun now has all words as they are
+-- the words of a copy with a number when the copies up to another are begun: one that is begun now has all words as they are
 abbrev pub begun_words : Look → ℕ → ℕ → List ℕ → List ℕ → List ℕ
 begun_words look upto copy words old = if nat_lt look.begun copy && nat_le copy upto then words else old
 
@@ -58,7 +58,7 @@ begun_look look upto words = record {
   three = begun_words look upto 3 words look.three;
 }
 
--- a word is put into a copy of a number, where it is this one
+-- a word is put into a copy of a number, if it is this one
 abbrev pub put_word : ℕ → ℕ → ℕ → List ℕ → List ℕ → List ℕ
 put_word into copy at words old = if into == copy then slice_set old at (word_at words at) else old
 
@@ -71,7 +71,7 @@ loaded_look look copy at words = let begun = begun_look look copy words in recor
   three = put_word copy 3 at words begun.three;
 }
 
--- what a record makes of the copies, where the words of the segment are these
+-- what a record makes of the copies, when the words of the segment are these
 abbrev pub look_behind : Look → ℕ → OrderKind → List ℕ → Look
 look_behind look copy (kind.Look at) words = loaded_look look copy at words
 look_behind look actor (kind.Begin call) words = look

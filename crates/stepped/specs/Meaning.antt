@@ -11,7 +11,7 @@ use Rattle.stepped.specs.declared.meaning.Role.TheVariants.{Histogram, Sample, C
 -- ---- blocks
 
 -- Where a block may begin: after the header, and then after each block, whose first word is its size. Words that are claimed are 0 until
--- their size is stored, so one that is 0 is passed by itself.
+-- their size is stored, so a word that is 0 is passed by itself.
 abbrev pub spot : List ℕ → ℕ → ℕ
 spot words zero = 16
 spot words (suc n) = spot words n + max (word_at words (spot words n)) 1
@@ -22,7 +22,7 @@ is_sought words (Holding at) block = nat_le block at && nat_lt (at - block) (wor
 is_sought words (CountingIn counts) block =
     nat_lt 0 (word_at words block) && (word_at words (block + 2) == 1 && word_at words (block + 8) == counts)
 
--- whether that is so of the block at a spot of the segment
+-- whether that is true of the block at a spot of the segment
 abbrev pub is_at : List ℕ → Sought → ℕ → Bool
 is_at words sought n = nat_lt (spot words n) (length words) && is_sought words sought (spot words n)
 
@@ -31,7 +31,7 @@ abbrev pub or_else : Option ℕ → Option ℕ → Option ℕ
 or_else None other = other
 or_else (Some n) other = Some n
 
--- the least number below a bound of which a test holds
+-- the least number below a bound for which a test holds
 abbrev pub least : (ℕ → Bool) → ℕ → Option ℕ
 least test zero = None
 least test (suc n) = or_else (least test n) (if test n then Some n else None)

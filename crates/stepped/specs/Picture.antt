@@ -24,9 +24,8 @@ call_text SetCorrupt = codes "set_corrupt"
 abbrev pub begin_cell : ℕ → Call → List ℕ
 begin_cell actor call = codes "actor " ++ decimal actor ++ codes ": " ++ call_text call
 
--- An event: what the word that it changed means as the words are then, what it was and what it is; or what the word means of an exchange
--- that did not go through, what that wanted and what it found; or what the word means that it loaded, and what it found; or that it changed
--- none.
+-- An event: what the word that it changed means as the words are then, what it was and what it is; or, for an exchange that failed, what
+-- its word means, what it expected and what it found; or, for a load, what its word means and what it found; or that it changed none.
 abbrev pub event_cell : List ℕ → Effect → List ℕ
 event_cell words Quiet = codes "-"
 event_cell words (Loaded load) = meaning words load.at ++ codes ": loaded " ++ value_text words load.at load.value

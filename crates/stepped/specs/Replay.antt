@@ -31,7 +31,7 @@ use Rattle.stepped.specs.Lines.Deed.{Begins, AtOnce, Steps, Ends, Looks}
 
 -- ---- moves
 
--- a word is another now, and no other is
+-- one word has changed, and no other
 pub record IsChange (old new : List ℕ) (change : Change) : Type 0 where
   pub near : change.at < length old
   pub was : slice_index old change.at ≡ change.old
@@ -50,7 +50,7 @@ pub record IsDifference (old new : List ℕ) (change : Change) : Type 0 where
   pub is : slice_index new change.at ≡ change.new
   pub other : change.old ≢ change.new
 
--- what an exchange of a word misses, if it finds these words: the word is another than it wants
+-- what an exchange of a word misses, if it finds these words: the word is not what it expects
 abbrev pub miss_in : List ℕ → Option Attempt → Option Miss
 miss_in words None = None
 miss_in words (Some attempt) =
@@ -117,8 +117,8 @@ DoesOrder actor (kind.Look at) left old new then_left deeds = (new ≡ old) × (
 abbrev pub placed : ℕ → ℕ → List Deed → List (LinePlace × Deed)
 placed number actor deeds = map (λ deed. (record { number = number; actor = actor }, deed)) deeds
 
--- What records from a number on lead to, one after the other, how many events they leave, and what is shown, each at its place. Where no
--- event is left nothing more is done.
+-- What records from a number on lead to, one after the other, how many events they leave, and what is shown, each at its place. If no
+-- event is left, nothing more is done.
 abbrev pub Replays : ℕ → List Order → ℕ → WorldState → WorldState → ℕ → List (LinePlace × Deed) → Type 0
 Replays number [] left old new then_left done = (new ≡ old) × (then_left ≡ left) × (done ≡ [])
 Replays number (order ∷ rest) zero old new then_left done = (new ≡ old) × (then_left ≡ 0) × (done ≡ [])

@@ -14,11 +14,11 @@ use Rattle.stepped.specs.Value.{units_text}
 abbrev pub key_text : ℤ × ℕ → List ℕ
 key_text count = if count.1 == 0 then [] else codes ", " ++ units_text count.1 ++ codes " at " ++ signed_decimal count.0
 
--- those of each key
+-- units of each key
 abbrev pub keys_text : List (ℤ × ℕ) → List ℕ
 keys_text counts = flat_map key_text counts
 
--- that a call is refused for its spec, with the fault of that
+-- that a call is refused for its spec, with the fault of the spec
 abbrev pub bad_spec_text : SpecFault → List ℕ
 bad_spec_text fault = codes "refused, BadSpec " ++ spec_fault_word fault
 
@@ -27,11 +27,11 @@ abbrev pub refusal_text : Refusal → List ℕ
 refusal_text (BadSpec fault) = bad_spec_text fault
 refusal_text why = codes "refused, " ++ refusal_word why
 
--- so many items, after which a batch is refused
+-- that a batch is refused after this many items
 abbrev pub items_text : ℕ → List ℕ
 items_text items = codes ", after " ++ decimal items ++ (if items == 1 then codes " item" else codes " items")
 
--- why a batch is refused, and after so many items
+-- why a batch is refused, and after how many items
 abbrev pub stopped_text : Refusal → ℕ → List ℕ
 stopped_text why items = refusal_text why ++ items_text items
 

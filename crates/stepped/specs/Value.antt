@@ -15,7 +15,7 @@ use Rattle.stepped.specs.Meaning.{block_of}
 
 -- ---- what a word has
 
--- In a histogram's record with so many buckets and so many words of its name: the single word, the sum and the sum mark, and the name.
+-- In a histogram's record, by its numbers of buckets and of words of its name: the single word, the sum and the sum mark, and the name.
 abbrev pub histogram_content : ℕ → ℕ → ℕ → Content
 histogram_content buckets letters place =
     if place == 9 then Single buckets
@@ -45,7 +45,7 @@ content_of words at = content_in words at (block_of words (Holding at))
 
 -- ---- texts
 
--- so many units
+-- a number of units
 abbrev pub units_text : ℕ → List ℕ
 units_text units = decimal units ++ (if units == 1 then codes " unit" else codes " units")
 
@@ -75,8 +75,8 @@ hex_digit digit = if nat_lt digit 10 then 48 + digit else 87 + digit
 abbrev pub is_plain : ℕ → Bool
 is_plain byte = nat_le 32 byte && nat_lt byte 127 && not (byte == 34) && not (byte == 92)
 
--- A byte of a name: itself, or its number if it is no printable one of ASCII, a quotation mark or a backslash. One that is 0 is none of the
--- name.
+-- A byte of a name: itself, or its number if it is a quotation mark, a backslash or not printable ASCII. A byte that is 0 does not belong
+-- to the name.
 abbrev pub letter_text : ℕ → List ℕ
 letter_text byte =
     if byte == 0 then []
@@ -91,7 +91,7 @@ letters_text bytes = flat_map letter_text bytes
 abbrev pub quoted_text : List ℕ → List ℕ
 quoted_text bytes = codes "\"" ++ letters_text bytes ++ codes "\""
 
--- a value of a word that has this, in a version of the format
+-- a value of a word with this content, in a version of the format
 abbrev pub text_as : ℕ → Content → ℕ → List ℕ
 text_as version Number value = decimal value
 text_as version Signed value = signed_decimal (cast_signed w64 value)

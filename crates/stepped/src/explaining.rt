@@ -100,9 +100,9 @@ fn lines_of(
     Ok(lines)
 }
 
-/// Returns the failure of a fault, with the lines that follow it if faults are explained. `Usage` comes only for a mistake on the
-/// command line. If memory runs out for the lines, there are none; nor are there if standard output is a pipe whose reader has
-/// closed it.
+/// Returns the failure of a fault, with the lines that follow it if faults are explained. `Usage` comes only for a
+/// mistake on the command line. If memory runs out for the lines, there are none; nor are there if standard output is a
+/// pipe whose reader has closed it.
 pub fn failure_of(alloc: Global, fault: ReplayFault, schedule: &str, seen: &Seen) -> Failure
     ensures { UsageIsMistake result }
 {

@@ -52,7 +52,7 @@ impl From<AllocError> for Failure {
 impl From<clap::Error> for Failure {
     ghost from_gives = { IsFailureOf };
 
-    // Reading the command line takes memory too. If it runs out, that is no mistake in the words.
+    // Reading the command line takes memory too. If memory runs out, that is no mistake in the words.
     fn from(error: clap::Error) -> Failure {
         if error.kind() == ErrorKind::OutOfMemory {
             Failure::Fault(ReplayFault::NoMemory)

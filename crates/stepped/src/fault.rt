@@ -16,7 +16,7 @@ pub enum ReplayFault {
     /// The schedule or the image cannot be opened, or a read of it failed.
     #[error("Read")]
     Read,
-    /// A write of what is shown failed, or its flush did. How much went out is not said.
+    /// A write of what is shown failed, or its flush did. Some of it may have been written.
     #[error("Write")]
     Write,
     /// The schedule has more than 16,777,216 bytes, or the image more than 8,388,608.
@@ -52,8 +52,8 @@ impl ReplayFault {
         }
     }
 
-    /// Returns what a fault of the world at the record of a number comes to: `World` with that number, but out of
-    /// memory is no fault of a record.
+    /// Returns the fault of a replay for a fault of the world at the record of a number: `World` with that number, but
+    /// out of memory is no fault of a record.
     pub fn of_world(number: u64, fault: WorldFault) -> ReplayFault
         ensures { result ≡ fault_of_world number fault }
     {

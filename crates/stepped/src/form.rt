@@ -15,7 +15,7 @@ use std::io::Write;
 /// How what is done is shown.
 #[derive(Clone, Copy)]
 pub enum Form {
-    /// By a line each.
+    /// By a line for each.
     Lines,
     /// By the rows of a picture, after those of this many events.
     Picture(u64),

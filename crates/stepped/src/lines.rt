@@ -30,12 +30,12 @@ pub struct Change {
     pub new: u64,
 }
 
-/// An exchange that failed, since the word was not what it wanted.
+/// An exchange that failed, since the word was not what it expected.
 #[derive(Clone, Copy)]
 pub struct Miss {
     /// The number of the word.
     pub at: usize,
-    /// What it wanted there.
+    /// What it expected there.
     pub wanted: u64,
     /// What it found.
     pub found: u64,
@@ -66,7 +66,7 @@ pub enum Effect {
 impl Effect {
     ghost use Rattle.stepped.specs.Lines.{effect_of};
 
-    /// Returns what an event did that changed this, or, if it changed nothing, that missed this, or else loaded this.
+    /// Returns what an event did: it changed this; or, if that is nothing, it missed this, or else loaded this.
     pub fn of(change: Option<Change>, miss: Option<Miss>, load: Option<Load>) -> Effect
         ensures { result ≡ effect_of change miss load }
     {

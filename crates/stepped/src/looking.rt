@@ -14,8 +14,8 @@ use segment_image::{Image, ImageFault};
 use segment_looks::{LookFault, compose};
 use std::alloc::{AllocError, Global};
 
-// Whether a record loads into a copy that is none of 1 to 3, or one before the last that was begun, or a word that is not
-// there.
+// Whether a record loads into a copy that is none of 1 to 3, or one before the last that was begun, or a word that is
+// not there.
 fn is_bad_load(size: usize, begun: usize, order: &Order) -> bool
     ensures { result ≡ is_bad_load_of size begun order.now.actor order.now.kind }
 {
@@ -35,9 +35,9 @@ fn begun_behind(begun: usize, order: &Order) -> usize
     }
 }
 
-/// Returns the number of the first record whose load is not lawful in a segment of so many words, if there is one: into
-/// a copy that is none of 1 to 3, or one before the last that was begun, or of a word that is not there. The records are
-/// numbered from 2.
+/// Returns the number of the first record whose load is not valid in a segment of this many words, if there is one: it
+/// is into a copy that is none of 1 to 3, or one before the last that was begun, or of a word that is not there. The
+/// records are numbered from 2.
 pub fn first_bad(orders: &[Order], size: usize) -> Option<u64>
     ensures { result ≡ first_bad_of size 2 0 orders.now }
 {
@@ -62,7 +62,7 @@ pub struct Copies {
 }
 
 impl Copies {
-    /// Returns copies of which none is begun.
+    /// Returns three copies, none of which is begun.
     pub fn none(alloc: Global) -> Copies
         ensures { look_of result ≡ no_look }
     {
@@ -148,7 +148,7 @@ fn put(copy: &mut [u64], loads: bool, at: usize, words: &[u64])
     }
 }
 
-// What a fault of the copies comes to.
+// The fault of a replay for a fault of the copies.
 fn fault_of(fault: LookFault) -> ReplayFault {
     match fault {
         LookFault::NoMemory | LookFault::Image(ImageFault::NoMemory) => ReplayFault::NoMemory,

@@ -6,8 +6,8 @@ use std::cell::Cell;
 use std::io;
 use std::io::{Read, Write};
 
-/// Passes reads and writes on. The last failure is put where it leads to, and the bytes that were read into the copy if there
-/// is one.
+/// Passes reads and writes on. The last failure is put into the cell that it refers to, and the bytes that were read
+/// into the copy, if there is one.
 #[derive(Drop)]
 pub struct Noted<'n, T> {
     pub inner: T,

@@ -153,7 +153,7 @@ impl Replay {
         }
     }
 
-    // What an actor misses by its next event: an exchange of a word that is not what it wants.
+    // What an actor misses by its next event: an exchange of a word that is not what it expects.
     fn next_miss(&self, actor: usize) -> Option<Miss>
         ensures { result ≡ next_miss self.now.world.world_state actor }
     {
@@ -288,8 +288,8 @@ impl Replay {
     /// as it says, and fewer only if the call ends or no event is left; once none is left, nothing more is done.
     /// Exactly what was done is written, as lines or as a picture: each begin, with its answer if it needs no
     /// event; each event, with the one word that it changed, from what to what, or none; and after it the answer of a
-    /// call that it ended. If an event changed no word, a picture says of an exchange what it wanted and what it
-    /// found, if the world says that it is one which wants another number than the word has; and of a load, if the
+    /// call that it ended. If an event changed no word, a picture shows: of an exchange what it expected and what it
+    /// found, if the world says that it is one that expects another number than the word has; and of a load, if the
     /// world says that it is one, what it found [replays].
     ///
     /// `Write` comes if a write failed. Else the fault is the first one that the world has at a move of a record,
@@ -307,8 +307,8 @@ impl Replay {
         Ok(())
     }
 
-    /// Does the same, and shows nothing. What the records load into copies is put there [looks]. The faults are those of
-    /// `run`, but for `Write`.
+    /// Does the same, and shows nothing. What the records load into copies is put there [looks]. The faults are those
+    /// of `run`, except `Write`.
     pub fn look_on(
         &mut self,
         alloc: Global,

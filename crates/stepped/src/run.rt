@@ -97,7 +97,7 @@ fn schedule_in<R: Files + AllocGlobal>(
     Ok(outcome?)
 }
 
-// The words in the file of an image. A name that is no text is one that cannot be opened.
+// The words in the file of an image. If its name is no text, it cannot be opened.
 fn words_in<R: Files + AllocGlobal>(
     rt: &R,
     name: &[u8],
@@ -109,7 +109,7 @@ fn words_in<R: Files + AllocGlobal>(
     Ok(read_words(rt.alloc(), &mut Watched::new(file), MAX_SIZE as usize)?)
 }
 
-// A world with what it starts with.
+// The world that a schedule starts with.
 fn start<R: Files + AllocGlobal>(
     rt: &R,
     opening: Opening,
@@ -198,7 +198,8 @@ fn show_look<W: Write>(
     write_image(writer, image.words())
 }
 
-// Shows a schedule as it is replayed, through a buffer, and gives the writer back. What was done before a fault is shown too.
+// Shows a schedule as it is replayed, through a buffer, and gives the writer back. What was done before a fault is
+// shown too.
 fn write_texts<W: Write + Drop>(
     alloc: Global,
     writer: Watched<W>,

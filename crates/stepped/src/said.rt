@@ -24,7 +24,7 @@ fn put_key<W: Write>(writer: &mut W, key: i32, units: u64) -> io::Result<()>
     write!(writer, " at {key}")
 }
 
-// Those of each key.
+// Units of each key.
 fn put_keys<W: Write>(writer: &mut W, counts: &[(i32, u64)]) -> io::Result<()>
     ensures { OnOk result (Appends (W.contents writer.old) (W.contents writer.new) (keys_text counts.now)) }
 {
@@ -48,7 +48,7 @@ fn put_fault<W: Write>(writer: &mut W, fault: SpecFault) -> io::Result<()>
     writer.write_all(spec_fault_word(fault))
 }
 
-// That a call is refused for its spec, with the fault of that.
+// That a call is refused for its spec, with the fault of the spec.
 fn put_bad_spec<W: Write>(writer: &mut W, fault: SpecFault) -> io::Result<()>
     ensures { OnOk result (Appends (W.contents writer.old) (W.contents writer.new) (bad_spec_text fault)) }
 {
@@ -69,7 +69,7 @@ fn put_refusal<W: Write>(writer: &mut W, why: Refusal) -> io::Result<()>
     }
 }
 
-// So many items, after which a batch is refused.
+// That a batch is refused after this many items.
 fn put_items<W: Write>(writer: &mut W, items: usize) -> io::Result<()>
     ensures { OnOk result (Appends (W.contents writer.old) (W.contents writer.new) (items_text items)) }
 {
@@ -80,7 +80,7 @@ fn put_items<W: Write>(writer: &mut W, items: usize) -> io::Result<()>
     }
 }
 
-// Why a batch is refused, and after so many items.
+// Why a batch is refused, and after how many items.
 fn put_stopped<W: Write>(writer: &mut W, why: Refusal, items: usize) -> io::Result<()>
     ensures { OnOk result (Appends (W.contents writer.old) (W.contents writer.new) (stopped_text why items)) }
 {

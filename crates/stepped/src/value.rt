@@ -23,13 +23,13 @@ pub enum Content {
     Number,
     /// A number with a sign, in two's complement.
     Signed,
-    /// The single word of a histogram with so many buckets.
+    /// The single word of a histogram with this many buckets.
     Single(u64),
     /// Eight bytes of a name.
     Letters,
 }
 
-// What a word of a histogram's record has, with so many buckets and so many words of its name.
+// What a word of a histogram's record has, by its numbers of buckets and of words of its name.
 fn histogram_content(buckets: u64, letters: usize, place: usize) -> Content
     requires { letters ≤ 16 }
     ensures { result ≡ histogram_content_of buckets letters place }
@@ -180,7 +180,7 @@ fn put_quoted<W: Write>(writer: &mut W, bytes: &[u8]) -> io::Result<()>
     writer.write_all(b"\"")
 }
 
-// A value of a word that has this, in a version of the format.
+// A value of a word with this content, in a version of the format.
 fn put_content<W: Write>(
     writer: &mut W,
     version: u64,

@@ -40,7 +40,7 @@ impl<J: Job<Output = X>, X> Promise<X> for Given<J> {
 pub enum NotRun {
     /// A thread could not be started.
     NoThread,
-    /// There was no memory for the results.
+    /// Memory ran out for the results.
     NoMemory,
 }
 
@@ -54,8 +54,8 @@ impl From<AllocError> for NotRun {
     }
 }
 
-// Starts a thread for the last job, then those for the jobs before it, and joins it. The vector gets room for all results. Where no
-// thread can be started, that is a fault, or the job is done behind those before it.
+// Starts a thread for the last job, then those for the jobs before it, and joins it. The vector gets room for all
+// results. If no thread can be started, that is a fault, or the job is done here, after those before it.
 fn run_from<'s, 'e: 's, R: Threads, J: Job<Output = X> + Send + Drop + 's, X: Send + Drop + 's>(
     rt: &R,
     scope: &'s Scope<'s, &'e ()>,
@@ -123,11 +123,11 @@ fn run_in_scope<R: Threads + Wait, J: Job<Output = X> + Send + Drop, X: Send + D
     )
 }
 
-/// Runs each job in a thread of its own, and returns their results in the order of the jobs: as many as these [len], each of them
-/// one that its job may return [each]. All threads that were started have ended then.
+/// Runs each job in a thread of its own, and returns their results in the order of the jobs: as many as these [len],
+/// each of them one that its job may return [each]. All threads that were started have ended then.
 ///
-/// `NoThread` if one could not be started: those before it in the list are then not started. `NoMemory` if there is no memory for
-/// the results.
+/// `NoThread` if one could not be started: those before it in the list are then not started. `NoMemory` if memory runs
+/// out for the results.
 pub fn run_beside<R: Threads + Wait, J: Job<Output = X> + Send + Drop, X: Send + Drop>(
     rt: &R,
     alloc: Global,
@@ -140,10 +140,11 @@ pub fn run_beside<R: Threads + Wait, J: Job<Output = X> + Send + Drop, X: Send +
     run_in_scope(rt, alloc, jobs, true)
 }
 
-/// Runs jobs in as many threads as can be started, and those that have none in this one. Returns their results in the order of
-/// the jobs: as many as these [len], each of them one that its job may return [each]. All threads have ended then.
+/// Runs jobs in as many threads as can be started, and those that have none in this one. Returns their results in the
+/// order of the jobs: as many as these [len], each of them one that its job may return [each]. All threads have ended
+/// then.
 ///
-/// The one error is that there is no memory for the results.
+/// The one error is that memory runs out for the results.
 pub fn run_within<R: Threads + Wait, J: Job<Output = X> + Send + Drop, X: Send + Drop>(
     rt: &R,
     alloc: Global,

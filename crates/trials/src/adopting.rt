@@ -1,13 +1,16 @@
-//! Images are adopted, recorded into, and read again.
+//! Images are adopted, recording continues in them, and they are read again.
 //!
-//! Each image has the line `image,PATH`. If it may not be adopted, the line `fault,WHY` follows and nothing else. Else follow
+//! Each image has the line `image,PATH`. If it may not be adopted, the line `fault,WHY` follows and nothing else. Else
+//! follow
 //!
 //!     units,UNITS                                the units that are left
-//!     hist,NAME                                  for each histogram of the image, in the order of its records, and then for new ones
+//!     hist,NAME                                  for each histogram of the image in order, and then for new ones
 //!     delta,NAME,SUM,KEY,UNITS..                 what deltas have not taken yet
 //!     sample,NAME,VALUE,COUNT                    for each sample
 //!     batch,NAME,SUM,VALUE,COUNT..               for each batch
-//!     refused,NAME,CALL,WHY                      for each call that was refused, and for a batch after it how many items were counted
+//!     refused,NAME,hist,WHY                      for each histogram that was refused
+//!     refused,NAME,add,WHY,COUNT                 for each sample that was refused
+//!     refused,NAME,batch,WHY,ITEMS,VALUE,COUNT.. for each batch that was refused; ITEMS of its items were counted
 //!     left,UNITS                                 the units that are left then
 //!     report                                     and after this line the report of the image of its segment
 //!     end

@@ -1,9 +1,9 @@
 //! Each call that takes memory, so that a growth of it can be refused from outside.
 //!
-//! Before a call is the line `try NAME`: all memory that is asked for up to the next line is asked for by that call. If it is
-//! refused, the line `refused NAME WHY` follows, and the call is made again. After that is what it returned, with all that it has
-//! changed. So a run in which one growth is refused prints the lines of any other run and that one, except for a merge: what it
-//! added before stays, and it is made again into another segment.
+//! Before a call is the line `try NAME`: all memory that is asked for up to the next line is asked for by that call. If
+//! it is refused, the line `refused NAME WHY` follows, and the call is made again. After that is what it returned, with
+//! all that it has changed. So a run in which one growth is refused prints the lines of any other run and that one,
+//! except for a merge: what it added before stays, and it is made again into another segment.
 
 mod adopting;
 mod again;

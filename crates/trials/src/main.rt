@@ -1,10 +1,11 @@
-//! Runs that tests and measurements look at: of threads that record at the same time, of calls whose memory is refused from
-//! outside, and of calls that are timed.
+//! Runs that tests and measurements look at: of threads that record at the same time, of calls whose memory is refused
+//! from outside, and of calls that are timed.
 //!
-//! `trials record THREADS SEED ROUNDS [ENTRIES]`: each round is a new segment, in which each of THREADS threads makes some
-//! hundred calls by its own recorder, which SEED decides: samples and batches of all kinds of histograms, deltas and
-//! snapshots, readings of the whole segment and looks at it. The indexes of a recorder have at most ENTRIES entries, if that is
-//! given. Then all are joined, one more delta of each histogram is taken, and the segment is closed. A round prints
+//! `trials record THREADS SEED ROUNDS [ENTRIES]`: each round is a new segment, in which each of THREADS threads makes
+//! some hundred calls by its own recorder, which SEED decides: samples and batches of all kinds of histograms, deltas
+//! and snapshots, readings of the whole segment and looks at it. The indexes of a recorder have at most ENTRIES
+//! entries, if that is given. Then all are joined, one more delta of each histogram is taken, and the segment is
+//! closed. A round prints
 //!
 //!     round,NUMBER,VERSION
 //!     thread                                  before what each thread did
@@ -12,19 +13,21 @@
 //!     batch,NAME,SUM,VALUE,COUNT..            for each batch, those of a thread in their order
 //!     delta,NAME,SUM,KEY,UNITS..              for each delta
 //!     snapshot,NAME,SUM,REDUNDANT,KEY,UNITS.. for each snapshot
-//!     read,SAMPLES,BATCHES                    for each reading by a thread, of whose samples and batches so many came before
+//!     read,SAMPLES,BATCHES                    for each reading by a thread: how many of its own came before it
 //!     look,SAMPLES,BATCHES                    for each look of a thread, the same
-//!     fault,FAULT                             behind a look: why there is none, or what is bad or stops in its image
-//!     histogram,NAME,SUM,REDUNDANT,KEY,..     behind a reading or a look: what it has of each histogram
+//!     fault,FAULT                             after a look: why there is none, or what is bad or stops in its image
+//!     histogram,NAME,SUM,REDUNDANT,KEY,..     after a reading or a look: what it has of each histogram
 //!     report                                  and after this line the report of the image
 //!
-//! `trials walk THREADS RECORDS ROUNDS`: each round is a new segment with RECORDS records, along which THREADS
-//! threads go by one cursor that they share. It prints `round,NUMBER` and then `given,THREAD,REFERENCE` for each record that
+//! `trials walk THREADS RECORDS ROUNDS`: each round is a new segment with RECORDS records. THREADS threads walk along
+//! them by one cursor that they share. It prints `round,NUMBER` and then `given,THREAD,REFERENCE` for each record that
 //! a thread was given, those of a thread in their order.
 //!
-//! `trials growths`: each call that takes memory is made, and again if it is refused. The module `growths` has what it prints.
+//! `trials growths`: each call that takes memory is made, and again if it is refused. The module `growths` has what it
+//! prints.
 //!
-//! `trials adopt IMAGES..`: each image is adopted and recorded into, and its segment is read again. The module `adopting` has what it prints.
+//! `trials adopt IMAGES..`: each image is adopted, recording continues in it, and its segment is read again. The module
+//! `adopting` has what it prints.
 //!
 //! `trials time record FORM SHARING THREADS BURSTS`: how long threads take to record samples into a running segment.
 //! `trials time step ADDS TURNS`: how long a world takes for its steps.

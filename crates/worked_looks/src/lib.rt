@@ -1,7 +1,7 @@
-//! Tests of what only a running segment's own process sees, which no program shows: histograms that a recorder opens by the references
-//! of their records, and the texts of a reading. They go through public calls.
+//! Tests of what only a running segment's own process sees, which no program shows: histograms that a recorder opens by
+//! the references of their records, and the texts of a reading. They go through public calls.
 //!
-//! They stand above the libraries that they try, so that none of these is proved once more for its tests.
+//! This crate is above the libraries that it tests, so that none of these is proved once more for its tests.
 #![tactic(auto)]
 
 #[cfg(test)]

@@ -20,8 +20,8 @@ fn make_all(maker: &mut OwnedRecorder, specs: &[Spec; 4]) -> Result<(), Refusal>
     Ok(())
 }
 
-// Opens the histogram of a record, twice, and adds two units of 1 to it. Returns whether it has this name and this spec, and is the same
-// each time.
+// Opens the histogram of a record, twice, and adds two units of 1 to it. Returns whether it has this name and this
+// spec, and is the same each time.
 fn opens(
     recorder: &mut OwnedRecorder,
     reference: u64,
@@ -39,7 +39,7 @@ fn opens(
     Ok(same && recorder.open(reference)? == Some(histogram))
 }
 
-// Whether it opens a histogram of each kind so.
+// Whether it opens a histogram of each kind in this way.
 fn opens_all(recorder: &mut OwnedRecorder, specs: &[Spec; 4]) -> Result<bool, Refusal> {
     let records = recorder.records()?;
     let mut same = records.len() == 4;

@@ -1,4 +1,5 @@
-//! The texts of a boolean and a sparse histogram, as a snapshot may have them, and the report of a segment with histograms of all kinds.
+//! The texts of a boolean and a sparse histogram, as a snapshot may have them, and the report of a segment with
+//! histograms of all kinds.
 
 ghost use Rattle.live_segment.specs.Holders.{IsMadeWith};
 
@@ -55,7 +56,8 @@ fn add_odd(hists: &mut Vec<LiveHistogram>, alloc: Global) -> Result<(), AllocErr
     Ok(())
 }
 
-// Adds a boolean histogram with so many units of true, of which all but one are counted once more.
+// Adds a boolean histogram with one unit of false and this many of true. Its redundant count is one less than its
+// units.
 fn add_yes(hists: &mut Vec<LiveHistogram>, alloc: Global, units: u64) -> Result<(), AllocError> {
     let counts = [(0, 1), (1, units), (2, 0)];
     hists.push(histogram(alloc, b"yes", Spec::Boolean, &counts, 2, units)?)?;
@@ -78,7 +80,7 @@ fn is_text(text: Option<Vec<u8>>, wanted: &[u8]) -> bool {
     }
 }
 
-// Whether a text is there, and begins so.
+// Whether a text is there, and begins with this.
 fn begins(text: Option<Vec<u8>>, start: &[u8]) -> bool {
     match text {
         Some(text) => text.as_slice().starts_with(start),
@@ -138,7 +140,7 @@ fn text_for_people(rt: HostRuntime) -> Result<(), Fail> {
     Ok(())
 }
 
-// The text of what came since two units were there.
+// The text of what was counted since there were two units.
 fn since_two(alloc: Global, later: &LiveReading) -> Result<Option<Vec<u8>>, Fail> {
     let earlier = live(alloc, 2)?;
     Ok(show_since(alloc, later, &earlier, STYLE, Choice::Part("yes"))?)

@@ -13,8 +13,8 @@ const OFF: u64 = 1 << 63;
 // The cookie of a claimed block.
 const CLAIMED: u64 = 0xC879_9269;
 
-/// The words up to the last that is not 0 of a segment of 128 words in version 1: the boolean histogram `A` has two samples
-/// 1, which were packed in its single word, and then a sample 0.
+/// The words up to the last that is not 0 of a segment of 128 words in version 1: the boolean histogram `A` has two
+/// samples 1, which were packed in its single word, and then a sample 0.
 pub(crate) const THREE_SAMPLES: [u64; 38] = [
     0x4083_05DC,
     1,
@@ -56,7 +56,7 @@ pub(crate) const THREE_SAMPLES: [u64; 38] = [
     2,
 ];
 
-/// The words of three samples, but for these.
+/// The words of three samples, except these.
 pub(crate) fn three_samples(changes: &[(usize, u64)]) -> Words {
     changed(&THREE_SAMPLES, changes)
 }
@@ -66,7 +66,7 @@ pub(crate) fn frozen_samples() -> Words {
     three_samples(&[(1, 2), (25, OFF + (1 << 32) + 2), (37, 0)])
 }
 
-// The words that begin with these and are 0 after them, but for some.
+// The words that begin with these and are 0 after them, except some.
 fn changed(front: &[u64], changes: &[(usize, u64)]) -> Words {
     let mut words = [0; 128];
     for (word, value) in words.iter_mut().zip(front) {

@@ -1,5 +1,6 @@
-//! The tests of the libraries through their public calls, of what neither a proof nor a built program shows: calls that no program
-//! makes, with the words that the format gives them, texts that no program prints, gates, and readers and writers that fail.
+//! The tests of the libraries through their public calls, of what neither a proof nor a built program shows: calls that
+//! no program makes, with the words that the format gives them, texts that no program prints, gates, and readers and
+//! writers that fail.
 //!
 //! They are above all libraries, so that no other crate is proved once more for its tests.
 #![tactic(auto)]

@@ -1,4 +1,5 @@
-//! Recorders of a running segment: the words of samples, shares, a full segment, batches, units that sums use, and a shared cursor.
+//! Recorders of a running segment: the words of samples, shares, a full segment, batches, units that sums use, and a
+//! shared cursor.
 
 ghost use Rattle.std.specs.Prelude.{◌<◌, IfOk};
 ghost use Rattle.live_segment.specs.Holders.{HasCursor, IsMadeWith, SharesSegment};
@@ -16,8 +17,8 @@ use std::test::Fail;
 // One unit in bucket 1, in a single word.
 const IN_BUCKET_1: u64 = 1 << 32;
 
-// A call of a recorder, and what it has to return: why it is refused, if it is. Those that name no histogram are for the first that
-// the recorder knows.
+// A call of a recorder, and what it has to return: why it is refused, if it is. A call that names no histogram is for
+// the first one that the recorder knows.
 #[derive(Clone, Copy)]
 enum Act<'a> {
     // It asks for a boolean histogram of this name.
@@ -32,11 +33,11 @@ enum Act<'a> {
     Units(u32),
     // These records are on the list.
     Records(&'a [u64]),
-    // These are, which it was not given before.
+    // These records are on the list, and it was not given them before.
     Fresh(&'a [u64]),
 }
 
-// Why a batch is refused of which nothing is counted.
+// Why a batch is refused if nothing of it is counted.
 fn refusal_of(answer: Result<(), BatchRefusal>) -> Option<Refusal> {
     match answer {
         Err(BatchRefusal { added: 0, why }) => Some(why),
@@ -122,7 +123,8 @@ fn reads(
     })
 }
 
-// Whether the image that a recorder with these units leaves has one histogram, with these counts, this sum and this redundant count.
+// Whether the image that a recorder with these units leaves has one histogram, with these counts, this sum and this
+// redundant count.
 fn recorded_reads(
     rt: &impl Abort,
     alloc: Global,
@@ -173,7 +175,7 @@ fn follower<'a>(segment: &'a Segment, opener: &mut Opener) -> Result<Recorder<'a
     opener.recorder(segment, 0)
 }
 
-// Two recorders take the records of a list of two by turns, and then a third record is made.
+// Two recorders take turns at a list of two records, and then a third record is made.
 fn share_out(rt: &impl Abort, segment: &Segment, opener: &mut Opener) -> Result<(), Refusal>
     requires made { IsMadeWith segment.now opener.old }
     requires cursor { 0 < segment.now.setting.cursors }
@@ -255,7 +257,7 @@ fn refused_batches(rt: HostRuntime) -> Result<(), Fail> {
     Ok(())
 }
 
-// All units are used up by a sum, of which a delta takes much, and which then falls.
+// A sum uses up all units; a delta takes much of it, and then it falls.
 #[test]
 fn units_of_sums(rt: HostRuntime) -> Result<(), Fail> {
     let acts = [

@@ -12,7 +12,8 @@ use std::thread::Threads;
 
 const REPORT: &[u8] = b"A,boolean,0,1,2\nA,boolean,1,2,4\nA,total,6,4\n";
 
-// Why the script is not run by two workers that wait for each other, how many bytes of an image are written, and the report.
+// Why the script is not run by two workers that wait for each other, how many bytes of an image are written, and the
+// report.
 fn resume<R: Threads + Wait>(
     rt: &R,
     alloc: Global,

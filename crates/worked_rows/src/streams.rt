@@ -1,4 +1,5 @@
-//! A reader and a writer that fail once in mid-stream: the fault is returned, and what was written is the beginning of the text.
+//! A reader and a writer that fail once in mid-stream: the fault is returned, and what was written is the beginning of
+//! the text.
 
 ghost use Rattle.std.specs.Prelude.{◌≡◌, false};
 ghost use Rattle.segment_image.specs.Watched.{has_failed};
@@ -18,7 +19,7 @@ const WORDS: [u64; 2] = [(1 << 32) + 2, (1 << 63) + 1];
 
 const REPORT: &[u8] = b"A,boolean,0,1,1\nA,boolean,1,2,2\nA,total,3,2\n";
 
-// Counts calls: that of one number, from 0, fails, and later ones pass.
+// Counts calls: the one with this number, from 0, fails, and later ones succeed.
 #[derive(Drop)]
 struct FailAt {
     made: usize,
@@ -76,7 +77,7 @@ impl Write for Sink {
     }
 }
 
-// A reader of sixteen bytes of which one call fails.
+// A reader of sixteen bytes, one of whose calls fails.
 fn sixteen_bytes(failing: usize) -> Watched<Source<'static>>
     ensures { has_failed result ≡ false }
 {
@@ -88,7 +89,7 @@ fn sixteen_bytes(failing: usize) -> Watched<Source<'static>>
     })
 }
 
-// Whether both ways to read sixteen bytes say that the device failed, where this call of it fails.
+// Whether both ways to read sixteen bytes report that the device failed, if this call of it fails.
 fn both_fail(alloc: Global, failing: usize) -> bool {
     let bytes = read_bytes(alloc, &mut sixteen_bytes(failing), 16);
     let words = read_words(alloc, &mut sixteen_bytes(failing), 2);
@@ -119,7 +120,7 @@ fn words_below_the_greatest_limit(rt: HostRuntime) -> Result<(), Fail> {
     Ok(())
 }
 
-// Writes the report of an image to a writer of which one call fails: the fault, the calls, and what went out.
+// Writes the report of an image to a writer, one of whose calls fails: the fault, the calls, and what was written.
 fn report_to(alloc: Global, image: &[u8], failing: usize) -> (Option<CliFault>, usize, Vec<u8>) {
     let calls = FailAt::new(failing);
     let text = Vec::new(alloc);

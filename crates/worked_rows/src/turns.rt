@@ -1,5 +1,5 @@
-//! Each call of a worker is made between its two calls of the gate: the delta of a second worker, which the gate lets through while
-//! the first worker is in the call of the gate before or after its `add`, takes what was added before.
+//! Each call of a worker is made between its two calls of the gate: the delta of a second worker, which the gate lets
+//! through while the first worker is in the call of the gate before or after its `add`, takes what was added before.
 
 use image_reader::read;
 use persist_commands::{Gate, run_script};
@@ -25,7 +25,7 @@ const AFTER_DELTA: usize = 3;
 // How often a call of the gate looks for another.
 const LOOKS: u32 = 1_000_000;
 
-// A gate each of whose calls returns once another call of it was made.
+// A gate whose calls each return once another call of it was made.
 #[derive(Drop)]
 struct Turns {
     come: [AtomicU64; 4],
@@ -33,7 +33,7 @@ struct Turns {
 }
 
 impl Turns {
-    // A call, which returns once the one was made for which it waits. Returns whether that one was.
+    // A call, which returns once the call that it waits for was made. Returns whether that one was made.
     fn take(&self, call: usize) -> bool {
         let (Some(mine), Some(&other)) = (self.come.get(call), self.waits_for.get(call)) else {
             return false;
@@ -110,7 +110,8 @@ fn delta_before_an_add(rt: HostRuntime) -> Result<(), Fail> {
     Ok(())
 }
 
-// The delta is made after the worker that adds has made its second call of the gate, before that returns: it takes what was added.
+// The delta is made after the worker that adds has made its second call of the gate, before that returns: it takes what
+// was added.
 #[test]
 fn delta_behind_an_add(rt: HostRuntime) -> Result<(), Fail> {
     let waits_for = [BEFORE_DELTA, AFTER_DELTA, AFTER_ADD, AFTER_DELTA];

@@ -1,4 +1,4 @@
--- A source of readings in memory, each of which can be one input alone.
+-- A source of readings in memory, each of which can be only one input.
 use Rattle.std.specs.Prelude.{◌≡◌, false, ℕ, Option, None, Some, List, slice_get}
 use Rattle.image_reader.specs.declared.reading.Reading.{Reading}
 use Rattle.image_reader.specs.Views.{reading_view}
@@ -13,12 +13,12 @@ use Rattle.sum_commands.specs.Sources.Input.{Added, LeftOut}
 abbrev pub IsThatReading : Reading → Input → Type 0
 IsThatReading reading input = input ≡ Added false (addend_of_reading (reading_view reading))
 
--- it is that reading; where there is none, it cannot be read
+-- it is that reading; if there is none, it cannot be read
 abbrev pub IsReadingOrNone : Option Reading → Input → Type 0
 IsReadingOrNone (Some reading) input = IsThatReading reading input
 IsReadingOrNone None input = input ≡ LeftOut (Image Read)
 
--- the input at a place is the reading there; behind the last one there is none
+-- the input at a place is the reading there; after the last one there is none
 abbrev pub IsReadingAt : List Reading → ℕ → Input → Type 0
 IsReadingAt readings place input = IsReadingOrNone (slice_get readings place) input
 

@@ -1,4 +1,5 @@
-//! Readings in memory as a source: each input can be one thing alone, so their sum is the same for any number of workers.
+//! Readings in memory as a source: each input can be only one thing, so their sum is the same for any number of
+//! workers.
 
 ghost use Rattle.std.specs.Prelude.{◌≡◌, Bool, ℕ, IfErr, IfOk, OnErr};
 ghost use Rattle.std.specs.List.{All};
@@ -61,7 +62,7 @@ impl<'r> Source for Readings<'r> {
         Some(OneReading { reading })
     }
 
-    // A place behind the last reading has no input: it cannot be read.
+    // A place after the last reading has no input: it cannot be read.
     fn add_input(&self, sums: &mut Sums, place: usize) -> Result<bool, InputFault> {
         match self.readings.get(place) {
             Some(reading) => add_reading(sums, reading),
@@ -70,8 +71,8 @@ impl<'r> Source for Readings<'r> {
     }
 }
 
-/// Each input of readings in memory can be one thing alone [fixed]. So the sums of whole readings are alike, by any number of workers
-/// and also where some readings do not fit beside those before them [alike].
+/// Each input of readings in memory can be only one thing [fixed]. So the sums of whole readings are alike, for any
+/// number of workers and also if some readings do not fit into a sum with those before them [alike].
 ///
 /// It does nothing: what it promises is a law of the definition.
 pub fn readings_are_fixed(_source: &Readings)
@@ -91,7 +92,7 @@ mod tests {
     use std::thread::Threads;
     use sum_commands::{InputFault, Left, Manner, Progress, Summed, sum_of_inputs};
 
-    // Nobody who is told.
+    // Progress that is reported to nobody.
     #[derive(Drop)]
     struct Nobody;
 
@@ -99,14 +100,14 @@ mod tests {
         fn reached(&mut self, _place: usize, _sums: &Sums) {}
     }
 
-    // Puts units of a value, with a mark of 1, behind those of a histogram.
+    // Appends units of a value, with a mark of 1, to those of a histogram.
     fn put_units(hist: &mut HistReading, value: i32, units: u64) -> Result<(), AllocError> {
         hist.counts.push((value, units))?;
         hist.marks.push(1)?;
         Ok(())
     }
 
-    // Puts a sparse histogram with units of one value behind others.
+    // Appends a sparse histogram with units of one value.
     fn put_hist(
         alloc: Global,
         hists: &mut Vec<HistReading>,
@@ -129,7 +130,7 @@ mod tests {
         Ok(())
     }
 
-    // Puts a reading of one such histogram behind others.
+    // Appends a reading of one such histogram.
     fn put_reading(
         alloc: Global,
         readings: &mut Vec<Reading>,
@@ -160,7 +161,7 @@ mod tests {
         units: &'w [u64],
     }
 
-    // Whether the one reading that is left out is that at a place, since it does not fit; or none is.
+    // Whether the one reading that is left out is that at a place, since it does not fit; or none is left out.
     fn are_left(left: &[Left], place: Option<usize>) -> bool {
         match place {
             Some(place) => {
@@ -182,7 +183,7 @@ mod tests {
         Ok(found.as_slice() == units)
     }
 
-    // Whether a sum is the one that is wanted.
+    // Whether a sum is the expected one.
     fn is_wanted(alloc: Global, summed: &Summed, wanted: &Wanted) -> Result<bool, AllocError> {
         if summed.sums.notes().images != wanted.images || summed.reached != wanted.reached {
             return Ok(false);
@@ -193,7 +194,7 @@ mod tests {
         has_units(alloc, &summed.sums, wanted.units)
     }
 
-    // Whether the sum of readings is the one that is wanted.
+    // Whether the sum of readings is the expected one.
     fn is_sum<R: AllocGlobal + Threads + Wait>(
         rt: &R,
         readings: &[Reading],
@@ -208,7 +209,7 @@ mod tests {
         }
     }
 
-    // Puts nine readings into a list, two of each value but the last.
+    // Puts nine readings into a list, two of each value except the last.
     fn put_pairs(alloc: Global, readings: &mut Vec<Reading>) -> Result<(), AllocError> {
         for value in 0..9 {
             put_reading(alloc, readings, value / 2, 5)?;
@@ -237,7 +238,7 @@ mod tests {
         Ok(())
     }
 
-    // Puts three readings into a list, of which the second does not fit beside the first.
+    // Puts three readings into a list. The second does not fit into a sum with the first.
     fn put_too_many(alloc: Global, readings: &mut Vec<Reading>) -> Result<(), AllocError> {
         for units in [5, u64::MAX, 7] {
             put_reading(alloc, readings, 1, units)?;

@@ -3,7 +3,8 @@
 use recording_folders::{FileKind, damaged_name, kind_of, segment_name};
 use std::alloc::AllocError;
 
-// Names of kinds that no program tells apart. Which names are those of segments, the part `folders` of `tests/run` shows.
+// Names of kinds between which no program makes a difference. The part `folders` of `tests/run` shows which names are
+// those of segments.
 const KINDS: [(&[u8], FileKind); 8] = [
     (b"0000000004.damaged", FileKind::Damaged(4)),
     (b"spare-77-00ff", FileKind::Spare),

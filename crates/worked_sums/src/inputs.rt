@@ -19,7 +19,7 @@ use sum_texts::{Totals, totals_text};
 struct Texts<'r, R> {
     rt: &'r R,
     texts: &'r [&'r [u8]],
-    // Bit by bit, again and again: which of them no worker reads.
+    // Bit by bit, over and over: which of them no worker reads.
     kept: u64,
 }
 
@@ -82,7 +82,7 @@ impl<'r, R: AllocGlobal> Source for Texts<'r, R> {
     }
 }
 
-// How far a sum is, as it was told, and whether it ever fell.
+// How far a sum is, as was reported, and whether that ever fell.
 #[derive(Clone, Copy)]
 struct Told {
     place: usize,
@@ -106,14 +106,14 @@ fn spelled(alloc: Global, sums: Sums) -> Result<Vec<u8>, AllocError> {
     totals_text(alloc, &totals)
 }
 
-// Puts the totals of a sum behind a text.
+// Appends the totals of a sum to a text.
 fn put_totals(alloc: Global, text: &mut Vec<u8>, sums: Sums) -> Result<(), AllocError> {
     let totals = spelled(alloc, sums)?;
     text.extend_from_slice(&totals)?;
     Ok(())
 }
 
-// Puts a line for each input that is left out behind a text.
+// Appends a line for each input that is left out to a text.
 fn put_left(alloc: Global, text: &mut Vec<u8>, left: &[Left]) -> Result<(), AllocError> {
     for one in left {
         let line = format!(in alloc; "{}: {}\n", one.place, one.fault)?;
@@ -122,13 +122,13 @@ fn put_left(alloc: Global, text: &mut Vec<u8>, left: &[Left]) -> Result<(), Allo
     Ok(())
 }
 
-// Puts the totals of a sum behind a text, and a line for each input that is left out.
+// Appends the totals of a sum to a text, and a line for each input that is left out.
 fn put_summed(alloc: Global, text: &mut Vec<u8>, summed: Summed) -> Result<(), AllocError> {
     put_totals(alloc, text, summed.sums)?;
     put_left(alloc, text, &summed.left)
 }
 
-// Puts the sum of texts, some of which are kept from the workers, behind a text, and tells how far it is.
+// Appends the sum of texts, some of which are kept from the workers, to a text, and reports how far it is.
 fn put_sum<R: AllocGlobal + Threads + Wait>(
     rt: &R,
     texts: &[&[u8]],
@@ -145,7 +145,7 @@ fn put_sum<R: AllocGlobal + Threads + Wait>(
     }
 }
 
-// Whether the sum of texts is the one that is wanted, and how far it was told.
+// Whether the sum of texts is the expected one, and how far it came, as was reported.
 fn sum_by<R: AllocGlobal + Threads + Wait>(
     rt: &R,
     texts: &[&[u8]],
@@ -162,7 +162,7 @@ fn sum_by<R: AllocGlobal + Threads + Wait>(
     Ok((text.as_slice() == wanted, told))
 }
 
-// Neither the second nor the third fits beside the first, and the last has a negative amount.
+// Neither the second nor the third fits into a sum with the first, and the last has a negative amount.
 const TEXTS: [&[u8]; 5] = [
     b"totals,1\nimages,1,0,0,0,0\nhist,A,1,0,1,0,0,sparse\nkey,5,9223372036854775808,0\nend,1\n",
     b"totals,1\nimages,1,0,0,0,0\nhist,A,1,0,7,0,0,sparse\nkey,5,9223372036854775808,0\nend,1\n",
@@ -216,7 +216,7 @@ fn strict_sums_are_the_same_by_any_workers(rt: HostRuntime) -> Result<(), Fail> 
     Ok(())
 }
 
-// More texts than can be open at once, of which the eleventh is wrong, and each eleventh behind it.
+// How many texts there are: more than can be open at once. The eleventh is wrong, and each eleventh after it.
 const MANY: usize = 1300;
 
 const ONE: &[u8] = b"totals,1\nimages,1,0,0,0,0\nhist,A,1,0,5,0,0,sparse\nkey,5,1,0\nend,1\n";
@@ -229,7 +229,7 @@ fn put_many(texts: &mut Vec<&[u8]>) -> Result<(), AllocError> {
     Ok(())
 }
 
-// Puts the totals of all but the wrong ones, which are 118, and the lines of these behind a text.
+// Appends the totals of all but the wrong ones, which are 118, and the lines of these to a text.
 fn put_wanted_of_many(alloc: Global, wanted: &mut Vec<u8>) -> Result<(), AllocError> {
     wanted.extend_from_slice(
         b"totals,1\nimages,1182,0,0,0,0\nhist,A,1182,0,5910,0,0,sparse\nkey,5,1182,0\nend,1\n",
@@ -243,7 +243,7 @@ fn put_wanted_of_many(alloc: Global, wanted: &mut Vec<u8>) -> Result<(), AllocEr
     Ok(())
 }
 
-// Whether the sum of many texts is the one that is wanted, and how far it was told.
+// Whether the sum of many texts is the expected one, and how far it came, as was reported.
 fn sum_of_many<R: AllocGlobal + Threads + Wait>(
     rt: &R,
     texts: &[&[u8]],

@@ -1,7 +1,7 @@
-//! Worked examples of the workers that add inputs up, of jobs, and of names in the folder of a recording. They go through public calls.
-//! What sums, their texts and folds are, the parts `sums` and `folders` of `tests/run` show.
+//! Worked examples of the workers that add inputs up, of jobs, and of names in the folder of a recording. They go
+//! through public calls. The parts `sums` and `folders` of `tests/run` show what sums, their texts and folds are.
 //!
-//! They stand above the libraries that they try, so that none of these is proved once more for its tests.
+//! This crate is above the libraries that it tests, so that none of these is proved once more for its tests.
 #![tactic(auto)]
 
 mod fixed;

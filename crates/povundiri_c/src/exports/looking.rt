@@ -11,13 +11,13 @@ use crate::status::{DONE, EMPTY, Refused, SHORT, of_look_fault};
 use segment_looks::compose;
 use std::alloc::Global;
 
-/// Writes the image that three copies of the words of a segment give, which were taken one after the other, as the
-/// library's `compose` does. It has as many words as the third copy.
+/// Writes the image that three copies of the words of a segment give, taken one after the other, as the library's
+/// `compose` does. It has as many words as the third copy.
 ///
 /// - The status is 7 exactly if the array has fewer words than the third copy [short].
-/// - Else it is that of the first fault of the copies, where they have one: 500 and the number of a header's fault,
+/// - Else it is that of the first fault of the copies, if they have one: 500 and the number of a header's fault,
 ///   which is 505 also for copies of different lengths, or 302 for a segment of version 1 [fault]. Where they have
-///   none, it is 0; or 13, where memory runs out [valid].
+///   none, it is 0; or 13, if memory runs out [valid].
 /// - 0: the image is at the front of the array, and the words after it are unchanged [done]. On any other the array is
 ///   unchanged [untouched].
 #[unsafe(no_mangle)]
@@ -47,11 +47,11 @@ pub extern "C" fn povundiri_proved_compose(
     }
 }
 
-/// Writes a look at a handle's segment, which other threads may record into meanwhile, as the library's `Segment::look`
+/// Writes a look at a handle's segment, into which other threads may record meanwhile, as the library's `Segment::look`
 /// does. It has as many words as the segment. The handle holds the same [same].
 ///
-/// 3 where the handle holds nothing, 5 where it holds no segment; 7 exactly where it holds a segment that has more
-/// words than the array. Else 0, or that of the fault: 302 for a segment of version 1, 13 where memory runs out. On 0
+/// 3 if the handle holds nothing, 5 if it holds no segment; 7 exactly if it holds a segment that has more
+/// words than the array. Else 0, or that of the fault: 302 for a segment of version 1, 13 if memory runs out. On 0
 /// the image is at the front of the array, what comes after it is unchanged, and its number of words is returned. On
 /// any other the array is unchanged, and 0 is returned as that number, but on 7 the number of the segment's words
 /// [answer].

@@ -19,12 +19,12 @@ fn write_counts(counts: &[(i32, u64)], out: &mut [Count])
     }
 }
 
-/// Takes a delta, where there is room for all keys of the histogram, as the library's `delta` does.
+/// Takes a delta, if there is room for all keys of the histogram, as the library's `delta` does.
 ///
 /// 0: all counts are at the front of the array in their order, each key with its units, and what comes after them is
 /// unchanged; how many they are, the sum, and 0 as the redundant count are returned. 7 and the number of keys that
-/// the histogram may have, where the array has less room: nothing is taken. 8 where the recorder knows no histogram
-/// at that place; 3 where the handle holds nothing, 5 where it holds no recorder; then it holds the same. Else the
+/// the histogram may have, if the array has less room: nothing is taken. 8 if the recorder knows no histogram
+/// at that place; 3 if the handle holds nothing, 5 if it holds no recorder; then it holds the same. Else the
 /// number of the refusal. On any status but 0 the array, the sum and the redundant count are unchanged, and the
 /// length is 0, or with 7 what is needed.
 #[unsafe(no_mangle)]
@@ -61,8 +61,8 @@ pub extern "C" fn povundiri_proved_delta(
     }
 }
 
-/// Returns what a histogram has, where there is room for all of its keys, as the library's `snapshot` does: with the
-/// redundant count, and else with the statuses and the array of a delta.
+/// Returns what a histogram has, if there is room for all of its keys, as the library's `snapshot` does: with the
+/// redundant count, and otherwise with the statuses and the array of a delta.
 #[unsafe(no_mangle)]
 pub extern "C" fn povundiri_proved_snapshot(
     recorder: &mut Handle,
@@ -99,8 +99,8 @@ pub extern "C" fn povundiri_proved_snapshot(
 
 /// Returns the references of all records of the list and how many they are, as the library's `records` does.
 ///
-/// 0: they are at the front of the array, and what comes after them is unchanged. 7 where the array has no room for
-/// them: how many they are is returned, and it is unchanged. 3 where the handle holds nothing, 5 where it holds no
+/// 0: they are at the front of the array, and what comes after them is unchanged. 7 if the array has no room for
+/// them: how many they are is returned, and it is unchanged. 3 if the handle holds nothing, 5 if it holds no
 /// recorder; then it holds the same. Else the number of the refusal.
 #[unsafe(no_mangle)]
 pub extern "C" fn povundiri_proved_records(
@@ -127,8 +127,8 @@ pub extern "C" fn povundiri_proved_records(
 }
 
 /// Returns the next record of a cursor that all recorders share, as the library's `next_shared` does: 0 and the
-/// record; 12 where the list ends. 9 where the segment has no such cursor, and the recorder is unchanged; 3 where the
-/// handle holds nothing, 5 where it holds no recorder; then it holds the same.
+/// record; 12 if the list ends. 9 if the segment has no such cursor, and the recorder is unchanged; 3 if the
+/// handle holds nothing, 5 if it holds no recorder; then it holds the same.
 #[unsafe(no_mangle)]
 pub extern "C" fn povundiri_proved_next_shared(
     recorder: &mut Handle,

@@ -58,8 +58,8 @@ fn pairs_of(alloc: Global, items: &[Item]) -> Result<Vec<(i32, u32)>, AllocError
 /// Returns the place of the histogram of a name among those that the recorder knows, as the library's `hist` does
 /// with the spec that C asks for.
 ///
-/// 0 and the place; or the number of the refusal. 3 where the handle holds nothing, 5 where it holds no recorder, 10
-/// where there is no such kind, that of the fault of a scale, or 13 where memory runs out before the library is asked:
+/// 0 and the place; or the number of the refusal. 3 if the handle holds nothing, 5 if it holds no recorder, 10
+/// if there is no such kind, that of the fault of a scale, or 13 if memory runs out before the library is asked:
 /// then all is unchanged.
 #[unsafe(no_mangle)]
 pub extern "C" fn povundiri_proved_hist(
@@ -92,8 +92,8 @@ pub extern "C" fn povundiri_proved_hist(
     }
 }
 
-/// Adds a sample, as the library's `add` does: 0, or the number of the refusal. 8 where the recorder knows no
-/// histogram at that place; 3 where the handle holds nothing, 5 where it holds no recorder; then it holds the same.
+/// Adds a sample, as the library's `add` does: 0, or the number of the refusal. 8 if the recorder knows no
+/// histogram at that place; 3 if the handle holds nothing, 5 if it holds no recorder; then it holds the same.
 #[unsafe(no_mangle)]
 pub extern "C" fn povundiri_proved_add(
     recorder: &mut Handle,
@@ -107,9 +107,9 @@ pub extern "C" fn povundiri_proved_add(
 }
 
 /// Counts a batch, as the library's `batch` does. How many items are counted is returned: with 0 all, with 5 and 8
-/// none, and with the number of a refusal those that are counted all the same. 8 where the recorder knows no
-/// histogram at that place; 5 where the handle holds no recorder; then it holds the same. With 3, where it holds
-/// nothing, and with 13, where memory runs out before the library is asked, all is unchanged.
+/// none, and with the number of a refusal those that are counted all the same. 8 if the recorder knows no
+/// histogram at that place; 5 if the handle holds no recorder; then it holds the same. With 3, if it holds
+/// nothing, and with 13, if memory runs out before the library is asked, all is unchanged.
 #[unsafe(no_mangle)]
 pub extern "C" fn povundiri_proved_batch(
     alloc: Global,
@@ -146,7 +146,7 @@ pub extern "C" fn povundiri_proved_batch(
     }
 }
 
-/// Marks the segment as corrupt: 0. 3 where the handle holds nothing, 5 where it holds no recorder; then it holds the
+/// Marks the segment as corrupt: 0. 3 if the handle holds nothing, 5 if it holds no recorder; then it holds the
 /// same.
 #[unsafe(no_mangle)]
 pub extern "C" fn povundiri_proved_set_corrupt(recorder: &mut Handle) -> u32
@@ -155,8 +155,8 @@ pub extern "C" fn povundiri_proved_set_corrupt(recorder: &mut Handle) -> u32
     recorder.call_recorder(EMPTY, OTHER_KIND, |joinable| joinable.set_corrupt())
 }
 
-/// Sets how many entries each of a recorder's three indexes may have, as the library's `limit_indexes` does: 0. 3 where
-/// the handle holds nothing, 5 where it holds no recorder; then it holds the same.
+/// Sets how many entries each of a recorder's three indexes may have, as the library's `limit_indexes` does: 0. 3 if
+/// the handle holds nothing, 5 if it holds no recorder; then it holds the same.
 #[unsafe(no_mangle)]
 pub extern "C" fn povundiri_proved_limit_indexes(recorder: &mut Handle, entries: usize) -> u32
     ensures { OfRecorder (Limits entries) recorder.old.boxed.held result recorder.new.boxed.held }

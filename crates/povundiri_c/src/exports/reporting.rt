@@ -13,10 +13,10 @@ use image_reader::has_more_keys;
 use reading_texts::is_prefix;
 use std::alloc::Global;
 
-/// Writes the report of an image as CSV, where there is room for it, and how many bytes it has.
+/// Writes the report of an image as CSV, if there is room for it, and how many bytes it has.
 ///
-/// - The status is that of the header's first fault, 500 and the fault's number, where it has one [fault]. Else it is
-///   0, 7, 13 or 513: the last two where memory runs out [valid].
+/// - The status is that of the header's first fault, 500 and the fault's number, if it has one [fault]. Else it is
+///   0, 7, 13 or 513: the last two if memory runs out [valid].
 /// - 0: the report of the words is at the front of the array, its length is returned, and the bytes after it are
 ///   unchanged [done].
 /// - 7: the array has no room for the report, whose length is returned [short].
@@ -39,11 +39,11 @@ pub extern "C" fn povundiri_proved_report(
 }
 
 /// The same, of an image that reads as no more keys than `most_keys`: buckets of its histograms, and values of the
-/// sparse ones. Another is refused before anything is read of its counts.
+/// sparse ones. Another image is refused before any of its counts are read.
 ///
-/// - The status is that of the header's first fault, 500 and the fault's number, where it has one [fault]. Else it is
+/// - The status is that of the header's first fault, 500 and the fault's number, if it has one [fault]. Else it is
 ///   0, 7, 13, 17 or 513 [valid].
-/// - 17: the words read as more keys than the most [many]. 0 and 7: they do not [few].
+/// - 17: the words read as more keys than `most_keys` [many]. 0 and 7: they do not [few].
 /// - 0: the report of the words is at the front of the array, its length is returned, and the bytes after it are
 ///   unchanged [done].
 /// - 7: the array has no room for the report, whose length is returned [short].
@@ -75,13 +75,13 @@ pub extern "C" fn povundiri_proved_report_bounded(
     write_text(alloc, TextAsked::Report, words, text, needed)
 }
 
-/// Writes the metrics of an image in the Prometheus text format, where there is room for them, and how many bytes they
+/// Writes the metrics of an image in the Prometheus text format, if there is room for them, and how many bytes they
 /// have. The names of all metrics begin with the prefix.
 ///
-/// - The status is 18 exactly if no name of a metric may begin with it: it is not a letter of ASCII or `_` and then such
-///   ones and digits [prefix].
-/// - Else it is that of the header's first fault, 500 and the fault's number, where it has one [fault], and 0, 7, 13 or
-///   513 where it has none: the last two where memory runs out [valid].
+/// - The status is 18 exactly if no name of a metric may begin with it: it is not a letter of ASCII or `_` and then
+///   such ones and digits [prefix].
+/// - Else it is that of the header's first fault, 500 and the fault's number, if it has one [fault], and 0, 7, 13 or
+///   513 if it has none: the last two if memory runs out [valid].
 /// - 0: the metrics of the words are at the front of the array, their length is returned, and the bytes after them are
 ///   unchanged [done].
 /// - 7: the array has no room for the metrics, whose length is returned [short].
@@ -108,11 +108,11 @@ pub extern "C" fn povundiri_proved_export(
     write_text(alloc, TextAsked::Export { prefix }, words, text, needed)
 }
 
-/// Writes the text of an image for people, of all its histograms, where there is room for it, and how many bytes it has.
-/// A line has so many cells, and 80 where 0 are asked for.
+/// Writes the text of an image for people, of all its histograms, if there is room for it, and how many bytes it has.
+/// A line has `width` cells, or 80 if that is 0.
 ///
-/// - The status is that of the header's first fault, 500 and the fault's number, where it has one [fault]. Else it is
-///   0, 7, 13 or 513: the last two where memory runs out [valid].
+/// - The status is that of the header's first fault, 500 and the fault's number, if it has one [fault]. Else it is
+///   0, 7, 13 or 513: the last two if memory runs out [valid].
 /// - 0: the text of the words is at the front of the array, its length is returned, and the bytes after it are
 ///   unchanged [done].
 /// - 7: the array has no room for the text, whose length is returned [short].

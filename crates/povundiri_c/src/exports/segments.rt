@@ -76,9 +76,9 @@ fn adopt_in(alloc: Global, memory: Memory, words: &[u64], cursors: usize, out: &
     }
 }
 
-/// Makes a new segment in the heap, into a handle that is empty, as the library's `create` does. 4 where the handle
+/// Makes a new segment in the heap, into a handle that is empty, as the library's `create` does. 4 if the handle
 /// holds something, and it holds the same. 0: it holds the segment and its opener. Else it holds nothing: the status
-/// is that of the shape's first fault, 200 and its number; where it has none, 203 or 13, where memory runs out.
+/// is that of the shape's first fault, 200 and its number; if it has none, 203 or 13, if memory runs out.
 #[unsafe(no_mangle)]
 pub extern "C" fn povundiri_proved_create(
     alloc: Global,
@@ -93,7 +93,7 @@ pub extern "C" fn povundiri_proved_create(
     create_in(alloc, Memory::of_heap(alloc), shape, out)
 }
 
-/// The same in a room, as the library's `create_in`: 13 comes also where memory runs out for what lends the room,
+/// The same in a room, as the library's `create_in`: 13 comes also if memory runs out for what lends the room,
 /// whatever the shape is.
 #[unsafe(no_mangle)]
 pub extern "C" fn povundiri_proved_create_in(
@@ -114,9 +114,9 @@ pub extern "C" fn povundiri_proved_create_in(
 }
 
 /// Makes a segment in the heap that continues from an image, into a handle that is empty, as the library's `adopt`
-/// does. 4 where the handle holds something, and it holds the same. 0: it holds the segment and its opener. Else it
+/// does. 4 if the handle holds something, and it holds the same. 0: it holds the segment and its opener. Else it
 /// holds nothing: the status is that of the fault that is right for the words, 500 and the number of the header's
-/// first fault or 300 and that of another; or 13, where memory runs out, and then the image may be adopted.
+/// first fault or 300 and that of another; or 13, if memory runs out, and then the image may be adopted.
 #[unsafe(no_mangle)]
 pub extern "C" fn povundiri_proved_adopt(
     alloc: Global,
@@ -132,7 +132,7 @@ pub extern "C" fn povundiri_proved_adopt(
     adopt_in(alloc, Memory::of_heap(alloc), words, cursors, out)
 }
 
-/// The same in a room, as the library's `adopt_in`: 13 comes also where memory runs out for what lends the room,
+/// The same in a room, as the library's `adopt_in`: 13 comes also if memory runs out for what lends the room,
 /// whatever the words are.
 #[unsafe(no_mangle)]
 pub extern "C" fn povundiri_proved_adopt_in(
@@ -155,10 +155,10 @@ pub extern "C" fn povundiri_proved_adopt_in(
 
 /// Ends a segment without recorders, and writes its image: its handle is empty then, and `none` is put in its place.
 ///
-/// 4 where `none` holds something, and all is unchanged [full]. Else [answer]:
+/// 4 if `none` holds something, and all is unchanged [full]. Else [answer]:
 ///
-/// - 3 where the handle holds nothing, 5 where it holds no segment; 7 exactly where it holds a segment that has more
-///   words than the array, whose number is returned. Else 0 or 11, where a recorder is left. On any but 0 the array
+/// - 3 if the handle holds nothing, 5 if it holds no segment; 7 exactly if it holds a segment that has more
+///   words than the array, whose number is returned. Else 0 or 11, if a recorder is left. On any but 0 the array
 ///   is unchanged, and the handle holds the same.
 /// - 0: the image is at the front of the array, whole: it has as many words as the segment, which is returned. What
 ///   comes after it is unchanged, and the handle holds nothing. The clauses of the library's `close` hold of the
@@ -192,8 +192,8 @@ pub extern "C" fn povundiri_proved_close(
     }
 }
 
-/// Gives up a segment or a recorder: its handle is empty then, and `none` is put in its place. 4 where `none` holds
-/// something [full], 3 where the handle holds nothing [empty], and all is unchanged; else 0, and it holds nothing
+/// Gives up a segment or a recorder: its handle is empty then, and `none` is put in its place. 4 if `none` holds
+/// something [full], 3 if the handle holds nothing [empty], and all is unchanged; else 0, and it holds nothing
 /// from then on [done].
 #[unsafe(no_mangle)]
 pub extern "C" fn povundiri_proved_drop(handle: &mut Handle, none: Handle) -> u32
@@ -210,13 +210,13 @@ pub extern "C" fn povundiri_proved_drop(handle: &mut Handle, none: Handle) -> u3
     }
 }
 
-/// Makes a recorder of a segment with this many units, into a handle that is empty, as `owned_recorder` does. 4 where
+/// Makes a recorder of a segment with this many units, into a handle that is empty, as `owned_recorder` does. 4 if
 /// `out` holds something, and both handles are unchanged [full].
 ///
-/// Else, of what the segment's handle holds: 3 where it holds nothing, 5 where it holds no segment, and it holds the
-/// same. 0: `out` holds a recorder of this segment with that many units. Else the status is the number of the first
-/// check that fails, or 13, where memory runs out for what it is put into, which is made first; the segment is
-/// unchanged, and `out` is still empty [answer].
+/// Else, by what the segment's handle holds: 3 if that is nothing, 5 if it is no segment, and it holds the same. 0:
+/// `out` holds a recorder of this segment with that many units. Else the status is the number of the first check that
+/// fails, or 13, if memory runs out for what it is put into, which is made first; the segment is unchanged, and `out`
+/// is still empty [answer].
 #[unsafe(no_mangle)]
 pub extern "C" fn povundiri_proved_recorder(
     alloc: Global,
@@ -242,7 +242,8 @@ pub extern "C" fn povundiri_proved_recorder(
     }
 }
 
-// Passes a recorder to a segment. `none` takes its place in its handle; if the recorder comes back, it is put there again.
+// Passes a recorder to a segment. `none` takes its place in its handle; if the recorder comes back, it is put there
+// again.
 fn pass(segment: &mut Handle, recorder: &mut Handle, none: Handle, request: JoinOrLend) -> u32
     ensures full { is_some none.boxed.held ≡ true → (result ≡ 4) × (segment.new ≡ segment.old) × (recorder.new ≡ recorder.old) }
     ensures empty { is_some none.boxed.held ≡ false → recorder.old.boxed.held ≡ None → (result ≡ 3) × (segment.new ≡ segment.old) × (recorder.new ≡ recorder.old) }
@@ -261,11 +262,11 @@ fn pass(segment: &mut Handle, recorder: &mut Handle, none: Handle, request: Join
     }
 }
 
-/// Lends a recorder units of its segment, while it runs. 4 where `none` holds something [full], 3 where the
-/// recorder's handle holds nothing [empty], and all is unchanged. Else [answer], where the segment's handle holds
-/// nothing 3, where it holds no segment or the other no recorder 5, and all is unchanged; and else:
+/// Lends units of its segment to a running recorder. 4 if `none` holds something [full], 3 if the recorder's handle
+/// holds nothing [empty], and all is unchanged. Else [answer]: 3 if the segment's handle holds nothing, 5 if it holds
+/// no segment or the other no recorder, and all is unchanged; otherwise:
 ///
-/// - 104 exactly where the segment has fewer units, whichever segment the recorder is of: all is unchanged, and the
+/// - 104 exactly if the segment has fewer units, whichever segment the recorder is of: all is unchanged, and the
 ///   recorder is in its handle.
 /// - A recorder of this segment: 0, the segment has lent it that many units, as the library's `lend` does, and it is
 ///   in the handle. Or 13 or 15, and all is unchanged.
@@ -285,19 +286,19 @@ pub extern "C" fn povundiri_proved_lend(
     pass(segment, recorder, none, JoinOrLend::Lend(units))
 }
 
-/// Takes a recorder back: its handle is empty then, and `none` is put in its place. 4 where `none` holds something
-/// [full], 3 where the recorder's handle holds nothing [empty], and all is unchanged. Else [answer], where the
-/// segment's handle holds nothing 3, where it holds no segment or the other no recorder 5, and all is unchanged; and
-/// else by the mailbox that a segment shares with the recorders that it has made, and with no others:
+/// Takes a recorder back: its handle is empty then, and `none` is put in its place. 4 if `none` holds something
+/// [full], 3 if the recorder's handle holds nothing [empty], and all is unchanged. Else [answer]: 3 if the
+/// segment's handle holds nothing, 5 if it holds no segment or the other no recorder, and all is unchanged; otherwise
+/// by the mailbox that a segment shares with the recorders that it has made, and with no others:
 ///
 /// - A recorder of this segment: 0, its handle is empty, and the segment has joined it, as the library's `join` does.
 ///   Or 15, and all is unchanged: the recorder is still in its handle. So none is lost, and 6 and 14 are never returned
 ///   for one.
 /// - A recorder of another segment: 6, it is in its handle, the same one, and the segment is unchanged, or has joined
 ///   another of its own that a thread passed to another segment. Or 15, and all is unchanged. Or the recorder's handle
-///   is empty: the recorder was put into its own mailbox, and its own segment took it from there, of which the owned
-///   segment has a proof. With 14 the segment is unchanged otherwise, with 0 it has joined another recorder of its own.
-///   What its own segment did with the recorder is said by the clause of the call that took it.
+///   is empty: the recorder was put into its own mailbox, and its own segment took it from there; the owned segment
+///   has a proof of that. With 14 the segment is otherwise unchanged, with 0 it has joined another recorder of its own.
+///   The clause of the call that took the recorder says what its own segment did with it.
 #[unsafe(no_mangle)]
 pub extern "C" fn povundiri_proved_join(
     segment: &mut Handle,
@@ -311,8 +312,8 @@ pub extern "C" fn povundiri_proved_join(
     pass(segment, recorder, none, JoinOrLend::Join)
 }
 
-/// Returns 0 and the units that no recorder of a segment has, or those that a recorder may still spend; 3 where the
-/// handle holds nothing, 5 where it is of another kind, and what was there is unchanged [answer]. The handle holds
+/// Returns 0 and the units that no recorder of a segment has, or those that a recorder may still spend; 3 if the
+/// handle holds nothing, 5 if it is of another kind, and what was there is unchanged [answer]. The handle holds
 /// the same [same].
 #[unsafe(no_mangle)]
 pub extern "C" fn povundiri_proved_units(handle: &mut Handle, units: &mut u32) -> u32
@@ -328,8 +329,8 @@ pub extern "C" fn povundiri_proved_units(handle: &mut Handle, units: &mut u32) -
     }
 }
 
-/// Returns 0 and how many recorders of a segment were made and are not joined; 3 where the handle holds nothing, 5
-/// where it holds no segment, and what was there is unchanged [answer]. The handle holds the same [same].
+/// Returns 0 and how many recorders of a segment were made and are not joined; 3 if the handle holds nothing, 5
+/// if it holds no segment, and what was there is unchanged [answer]. The handle holds the same [same].
 #[unsafe(no_mangle)]
 pub extern "C" fn povundiri_proved_outstanding(segment: &mut Handle, outstanding: &mut u32) -> u32
     ensures answer { IsWritten (asked_of outstanding_in segment.old.boxed.held) result outstanding.old outstanding.new }

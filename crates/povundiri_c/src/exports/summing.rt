@@ -16,8 +16,8 @@ use reading_sums::Sums;
 use reading_texts::is_prefix;
 use std::alloc::Global;
 
-/// Makes the sum of no images, into a handle that is empty. 4 where the handle holds something, and it holds the same.
-/// Else 0, and it holds that sum; or 13, where memory runs out, and it holds nothing.
+/// Makes the sum of no images, into a handle that is empty. 4 if the handle holds something, and it holds the same.
+/// Else 0, and it holds that sum; or 13, if memory runs out, and it holds nothing.
 #[unsafe(no_mangle)]
 pub extern "C" fn povundiri_proved_sums_new(alloc: Global, out: &mut Handle) -> u32
     ensures { IntoEmpty IsSumMade out.old.boxed.held result out.new.boxed.held }
@@ -30,9 +30,9 @@ pub extern "C" fn povundiri_proved_sums_new(alloc: Global, out: &mut Handle) -> 
 
 /// Reads an image and adds it to a sum, under a number, as the library's `Sums::add` does.
 ///
-/// 3 where the handle holds nothing, 5 where it holds no sum; then it holds the same. Else the status is that of the
-/// header's first fault, 500 and the fault's number, where it has one. Where it has none: 0, and what the words read as is
-/// added; 19, where a total would not fit; or 13 or 513, where memory runs out. On any but 0 the sum is unchanged.
+/// 3 if the handle holds nothing, 5 if it holds no sum; then it holds the same. Else the status is that of the
+/// header's first fault, 500 and the fault's number, if it has one. If it has none: 0, and what the words read as is
+/// added; 19, if a total would not fit; or 13 or 513, if memory runs out. On any but 0 the sum is unchanged.
 #[unsafe(no_mangle)]
 pub extern "C" fn povundiri_proved_sums_add(
     alloc: Global,
@@ -45,10 +45,10 @@ pub extern "C" fn povundiri_proved_sums_add(
     sums.call(EMPTY, |held| held.add_image(alloc, number, words))
 }
 
-/// Adds what a text of totals says to a sum. 3 where the handle holds nothing, 5 where it holds no sum; then it holds the
-/// same. Else 0, and the sum that the text says is added, as the library's `Sums::append` does; 20, where it is the text of
-/// no totals; 19, where a total would not fit; or 13, where memory runs out. On any but 0 the sum is unchanged. The number
-/// of a line of the text is returned with 20, and 0 with any other.
+/// Adds the sum that a text of totals says to a sum. 3 if the handle holds nothing, 5 if it holds no sum; then it holds
+/// the same. Else 0, and the sum that the text says is added, as the library's `Sums::append` does; 20, if it is the
+/// text of no totals; 19, if a total would not fit; or 13, if memory runs out. On any but 0 the sum is unchanged. The
+/// number of a line of the text is returned with 20, and 0 with any other.
 #[unsafe(no_mangle)]
 pub extern "C" fn povundiri_proved_sums_add_totals(
     alloc: Global,
@@ -72,8 +72,8 @@ pub extern "C" fn povundiri_proved_sums_add_totals(
 
 /// Adds another sum to a sum, as the library's `Sums::append` does. The other handle holds the same [same].
 ///
-/// 3 where one of the handles holds nothing, 5 where one holds no sum. Else 0, and it is added; 19, where a total would not
-/// fit; or 13, where memory runs out. On any but 0 the first handle holds the same [answer].
+/// 3 if one of the handles holds nothing, 5 if one holds no sum. Else 0, and it is added; 19, if a total would not
+/// fit; or 13, if memory runs out. On any but 0 the first handle holds the same [answer].
 #[unsafe(no_mangle)]
 pub extern "C" fn povundiri_proved_sums_append(sums: &mut Handle, other: &mut Handle) -> u32
     ensures answer { AnswersAppend other.old.boxed.held sums.old.boxed.held result sums.new.boxed.held }
@@ -82,7 +82,7 @@ pub extern "C" fn povundiri_proved_sums_append(sums: &mut Handle, other: &mut Ha
     sums.add_other(other)
 }
 
-// Writes a text where there is room for it, and how many bytes it has; or the status says why there is none.
+// Writes a text if there is room for it, and how many bytes it has; or the status says why there is none.
 fn put_text(found: Result<Vec<u8>, u32>, text: &mut [u8], needed: &mut usize) -> u32
     ensures { AreListed found result needed.old needed.new text.old text.new }
 {
@@ -98,12 +98,12 @@ fn put_text(found: Result<Vec<u8>, u32>, text: &mut [u8], needed: &mut usize) ->
     DONE
 }
 
-/// Writes the report of a sum as CSV, where there is room for it, and how many bytes it has. The handle holds the same
+/// Writes the report of a sum as CSV, if there is room for it, and how many bytes it has. The handle holds the same
 /// [same].
 ///
-/// 3 where the handle holds nothing, 5 where it holds no sum. Else 0, and the report is at the front of the array, its
-/// length is returned, and the bytes after it are unchanged; 7, where the array has no room for it, and its length is
-/// returned; 13, where memory runs out; or 20, where the sum is not well formed. On any but 0 the array is unchanged, and
+/// 3 if the handle holds nothing, 5 if it holds no sum. Else 0, and the report is at the front of the array, its
+/// length is returned, and the bytes after it are unchanged; 7, if the array has no room for it, and its length is
+/// returned; 13, if memory runs out; or 20, if the sum is not well formed. On any but 0 the array is unchanged, and
 /// on any but 0 and 7 the length too [answer].
 #[unsafe(no_mangle)]
 pub extern "C" fn povundiri_proved_sums_report(
@@ -119,8 +119,8 @@ pub extern "C" fn povundiri_proved_sums_report(
     put_text(found, text, needed)
 }
 
-/// Writes the totals of a sum, from which `povundiri_proved_sums_add_totals` reads the same sum. The statuses are those of
-/// the report but 20 [answer], and the handle holds the same [same].
+/// Writes the totals of a sum, from which `povundiri_proved_sums_add_totals` reads the same sum. The statuses are those
+/// of the report, except 20 [answer], and the handle holds the same [same].
 #[unsafe(no_mangle)]
 pub extern "C" fn povundiri_proved_sums_totals(
     alloc: Global,
@@ -135,11 +135,11 @@ pub extern "C" fn povundiri_proved_sums_totals(
     put_text(found, text, needed)
 }
 
-/// Writes the metrics of a sum in the Prometheus text format, whose names begin with the prefix. The handle holds the same
-/// [same].
+/// Writes the metrics of a sum in the Prometheus text format, whose names begin with the prefix. The handle holds the
+/// same [same].
 ///
-/// The status is 18 exactly if no name of a metric may begin with the prefix [prefix]; then the array and the length are
-/// unchanged [untouched]. Else the statuses are those of the report [answer].
+/// The status is 18 exactly if no name of a metric may begin with the prefix [prefix]; then the array and the length
+/// are unchanged [untouched]. Else the statuses are those of the report [answer].
 #[unsafe(no_mangle)]
 pub extern "C" fn povundiri_proved_sums_export(
     alloc: Global,
@@ -160,7 +160,7 @@ pub extern "C" fn povundiri_proved_sums_export(
     put_text(found, text, needed)
 }
 
-/// Writes the text of a sum for people, of all its histograms. A line has so many cells, and 80 where 0 are asked for. The
+/// Writes the text of a sum for people, of all its histograms. A line has `width` cells, or 80 if that is 0. The
 /// statuses are those of the report [answer], and the handle holds the same [same].
 #[unsafe(no_mangle)]
 pub extern "C" fn povundiri_proved_sums_show(

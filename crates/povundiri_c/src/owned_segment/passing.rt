@@ -1,4 +1,4 @@
-//! How a segment takes a recorder back, or lends it units: what is common is how it finds out that the recorder is its own.
+//! How a segment takes a recorder back, or lends it units. Both find out in the same way that the recorder is its own.
 
 ghost use Rattle.std.specs.Arc.{arc_value};
 ghost use Rattle.std.specs.Prelude.{◌≡◌, ◌≤◌, MatchOption, MatchResult};
@@ -15,7 +15,7 @@ use std::alloc::Global;
 use std::sync::Arc;
 
 impl OwnedSegment {
-    // Takes back a recorder that was found in its mailbox, if one was.
+    // Takes back the recorder that was found in its mailbox, if one was.
     fn join_met(&mut self, met: Option<OwnedRecorder>)
         requires { IsOfOpener (arc_value self.old.mailbox).table.shared.key met }
         ensures gone { self.new.gone ≡ self.old.gone }
@@ -27,8 +27,8 @@ impl OwnedSegment {
         join(&mut self.opener, owned);
     }
 
-    // Passes a recorder from its own mailbox to the segment's: the recorder of the segment that is found there. Or the status, and the
-    // recorder where it comes back.
+    // Passes a recorder from its own mailbox to the segment's: the recorder of the segment that is found there. Or the
+    // status, and the recorder if it comes back.
     fn find(
         &mut self,
         joinable: JoinableRecorder,

@@ -65,7 +65,7 @@ fn delta(rt: &impl Print, recorder: &mut Recorder, name: &str, histogram: Hist) 
     Ok(())
 }
 
-// Takes what is left to be taken, records, takes that, and records again.
+// Takes what deltas have left, records, takes that, and records again.
 fn record_into(
     rt: &impl Print,
     recorder: &mut Recorder,

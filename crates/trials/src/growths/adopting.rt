@@ -9,7 +9,8 @@ use live_segment::{AdoptFault, Opener, Recorder, Segment, Spec};
 use std::alloc::{AllocError, Global};
 use std::io;
 
-// Words that are known when the list was read, and when all else was looked at: the tail, and the first histogram's redundant count.
+// Words that are checked when the list is read, and when all else is: the tail, and the first histogram's redundant
+// count.
 const TAIL: usize = 8;
 
 const REDUNDANT: usize = 29;

@@ -58,8 +58,8 @@ pub(crate) struct Look {
     pub(crate) image: Result<Image, LookFault>,
 }
 
-/// What a thread did: its recorder, its samples and batches, what its deltas and snapshots returned, what it read of the
-/// segment, and its looks.
+/// What a thread did: its recorder, its samples and batches, what its deltas and snapshots returned, what it read of
+/// the segment, and its looks.
 #[derive(Drop)]
 pub(crate) struct Done<'a> {
     pub(crate) recorder: Recorder<'a>,
@@ -105,7 +105,7 @@ pub(crate) fn spec_of(alloc: Global, name: &str) -> Result<Spec, Refusal> {
     })
 }
 
-// Puts an item at the end of a list.
+// Appends an item to a list.
 fn put<T: Drop>(list: &mut Vec<T>, item: T) -> Result<(), Refusal> {
     list.reserve(1)?;
     list.push_reserved(item);

@@ -1,7 +1,8 @@
 //! Measures how long an image takes to be adopted, and the same words to be read.
 //!
-//! It prints how many words the image has, and for each of TURNS turns of all ways the time of each, in microseconds: of the
-//! reading alone, of the reading and its report in memory, and of the adoption. The time of a reading ends when its memory is given back.
+//! It prints how many words the image has, and for each of TURNS turns of all ways the time of each, in microseconds:
+//! of the reading alone, of the reading and its report in memory, and of the adoption. The time of a reading ends when
+//! its memory is given back.
 
 use anyhow::{Result, bail};
 use image_reader::read;

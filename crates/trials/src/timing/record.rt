@@ -1,11 +1,11 @@
 //! Measures how long threads take to record samples into a running segment.
 //!
 //! FORM is `packed` or `mounted`, SHARING is `shared` or `own`. Each of THREADS threads records as many samples of
-//! count 1: into histograms that all of them share, or into its own. It prints what each thread does, and then the least
-//! time of BURSTS bursts, in picoseconds for each sample of a thread.
+//! count 1: into histograms that all of them share, or into its own. It prints what each thread does, and then the
+//! least time of BURSTS bursts, in picoseconds for each sample of a thread.
 //!
-//! `packed`: all samples have one value, and each histogram takes as many as its single word can hold, so every sample is
-//! packed. `mounted`: one histogram with counts, and values that fall into its buckets in no order.
+//! `packed`: all samples have one value, and each histogram takes as many as its single word can hold, so every sample
+//! is packed. `mounted`: one histogram with counts, and values that fall into its buckets in no order.
 
 mod burst;
 mod plan;

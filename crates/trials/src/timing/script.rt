@@ -1,8 +1,8 @@
 //! Measures how long a script takes to be read, and the same bytes as CSV records alone.
 //!
 //! The script has about BYTES bytes, of `add` records over 1,000 names, in which each record names the histogram STEP
-//! places after the one before. It prints what the script has, and for each of TURNS turns of both ways the time of each,
-//! in microseconds.
+//! places after the one before. It prints what the script has, and for each of TURNS turns of both ways the time of
+//! each, in microseconds.
 
 mod reading;
 mod sample;

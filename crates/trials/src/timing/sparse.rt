@@ -1,7 +1,7 @@
 //! Measures how long a thread takes for a sample of a value that a sparse histogram has.
 //!
-//! The histogram has VALUES values. It prints the least time of BURSTS bursts of a million samples of count 1, whose values are of
-//! these in no order, in picoseconds for each sample.
+//! The histogram has VALUES values. It prints the least time of BURSTS bursts of a million samples of count 1, whose
+//! values are of these in no order, in picoseconds for each sample.
 
 ghost use Rattle.std.specs.Prelude.{◌<◌};
 ghost use Rattle.live_segment.specs.RecorderState.{Knows};

@@ -1,8 +1,8 @@
 //! Measures how long a world takes for its steps, if one actor adds sample after sample.
 //!
-//! The actor adds ADDS samples of count 1 to a histogram whose counts are in use, one event a step, and what it began and
-//! ended grows with each. It prints how many events that takes, and then the least times of TURNS turns, in picoseconds an
-//! add: of all adds, of the first tenth of them, and of the last.
+//! The actor adds ADDS samples of count 1 to a histogram whose counts are in use, one event a step, and what it began
+//! and ended grows with each. It prints how many events that takes, and then the least times of TURNS turns, in
+//! picoseconds an add: of all adds, of the first tenth of them, and of the last.
 
 mod adding;
 mod turn;

@@ -22,8 +22,8 @@ struct Job<'a> {
     histograms: Vec<Hist>,
 }
 
-// A recorder that knows the histograms of a thread. If they are to have counts, it has counted a sample that no single word
-// holds.
+// A recorder that knows the histograms of a thread. If they are to have counts, it has counted a sample that no single
+// word holds.
 fn prepare<'a>(
     alloc: Global,
     plan: Plan,

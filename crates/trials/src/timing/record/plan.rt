@@ -44,8 +44,8 @@ impl Plan {
         }
     }
 
-    /// The values of the samples, again and again: one that is in no range of the ends, or values in no order, of one that
-    /// fits each bucket to one beyond the greatest.
+    /// The values of the samples, which are repeated: one value, which is not in the first or last bucket, if every
+    /// sample is packed; else values in no order, for every bucket.
     pub(crate) fn values(&self) -> [i32; VALUES] {
         let mut values = [5000; VALUES];
         let mut state: u32 = 1;

@@ -28,7 +28,7 @@ stops_later : {A : Type 0} (first : Option WorldFault) (a : A) (Fine Stops : Typ
 stops_later None a Fine Stops Bad fine stops = stops
 stops_later (Some fault) a Fine Stops Bad fine stops = absurd (cc fine)
 
--- what is said of a fault is said in other words
+-- the same promise of a fault, in other words
 told_else : {X E : Type 0} (made : Result X E) (Is Told : E → Type 0) → ((fault : E) → Is fault → Told fault) → IfErr made Is → IfErr made Told
 told_else (Ok x) Is Told f is = tt
 told_else (Err fault) Is Told f is = f fault is

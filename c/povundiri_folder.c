@@ -159,7 +159,7 @@ static uint64_t number_of(const char *name, const char *kind) {
     return strcmp(spelled, name) == 0 ? number : 0;
 }
 
-/* ---- What stands in a folder ---- */
+/* ---- What is in a folder ---- */
 
 int povundiri_parts_each(const char *folder, povundiri_each_name *call, void *context) {
     struct povundiri_held held;
@@ -256,7 +256,7 @@ void povundiri_parts_free(struct povundiri_totals_file *totals) {
     free(totals->of);
 }
 
-/* Reads a file whole, and a zero behind it. It is for free(). */
+/* Reads a file whole, with a zero after it. It is for free(). */
 static int read_file(const char *path, char **bytes, size_t *length) {
     struct povundiri_held held;
     struct stat about;
@@ -447,7 +447,7 @@ struct fold {
     struct povundiri_held place, new; /* the folder, and totals.new */
 };
 
-/* Removes a file that the totals name, under its lock. False if it still stands. */
+/* Removes a file that the totals name, under its lock. False if it is still there. */
 static bool is_removed(const char *folder, const struct povundiri_named *named) {
     struct povundiri_held held;
     struct stat about;
@@ -575,7 +575,7 @@ static int check_limit(size_t length) {
     return getrlimit(RLIMIT_FSIZE, &limit) == 0 && limit.rlim_cur != RLIM_INFINITY && (rlim_t)length > limit.rlim_cur ? EFBIG : 0;
 }
 
-/* Writes the new totals, syncs them, and gives them their place. Only whoever has the lock of folds comes here. */
+/* Writes the new totals, syncs them, and gives them their place. Only the process that has the lock of folds comes here. */
 static int put_totals(const struct fold *fold, const char *text, size_t length) {
     char path[POVUNDIRI_PATH_BYTES], place[POVUNDIRI_PATH_BYTES];
     int fault = check_limit(length);
@@ -629,7 +629,7 @@ static uint32_t fold_locked(struct fold *fold, int *fault) {
     return status;
 }
 
-/* One round: `again` if others stand behind those that it added. */
+/* One round: `again` if there are others after those that it added. */
 static uint32_t fold_once(const char *folder, uint64_t *folded, bool *again, int *fault) {
     struct fold fold;
     uint32_t status;

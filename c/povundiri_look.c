@@ -7,7 +7,7 @@
 /* Three copies, one after the other, and the word of a header that is looked at here. */
 enum { COPIES = 3, SIZE_AT = 2 };
 
-/* How many words the segment has, as its header says, if so many may be read; else all that may be. */
+/* How many words the segment has, as its header says, if that many may be read; else all that may be. */
 static size_t words_of(const uint64_t *words, size_t length) {
     const uint64_t size = length <= SIZE_AT ? 0 : __atomic_load_n(words + SIZE_AT, __ATOMIC_RELAXED);
     return size != 0 && size < length ? (size_t)size : length;

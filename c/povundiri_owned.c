@@ -51,7 +51,7 @@ static bool is_spare(const char *name) {
     return errno == 0 && strcmp(spelled, name) == 0;
 }
 
-/* Removes a spare that nobody holds: whoever made it was killed. */
+/* Removes a spare that nobody holds: the process that made it was killed. */
 static int sweep_name(void *context, const char *name) {
     struct povundiri_held held;
     struct stat about;
@@ -135,8 +135,8 @@ static bool may_adopt(const char *folder, uint64_t number, const char *path, str
     return may;
 }
 
-/* Whether the totals have what is in a segment: whoever folded it was killed before it removed it. Its lock is held, so no fold adds it
- * meanwhile. */
+/* Whether the totals have what is in a segment: the process that folded it was killed before it removed it. Its lock is held, so no fold
+ * adds it meanwhile. */
 static bool is_folded(const char *folder, const struct povundiri_owned *owned, uint64_t id) {
     struct povundiri_totals_file totals;
     const bool is = povundiri_parts_totals(folder, &totals) != 0 || povundiri_parts_names(&totals, owned->number, id);
@@ -202,7 +202,7 @@ uint32_t povundiri_folder_spare(const char *folder, struct povundiri_shape shape
     return status;
 }
 
-/* The number that comes behind all that stand, and all that the totals name. */
+/* The number after those of all segments that are there, and of all that the totals name. */
 static int next_number(const char *folder, uint64_t *number) {
     struct povundiri_listing listing;
     struct povundiri_totals_file totals;

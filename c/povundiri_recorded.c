@@ -1,4 +1,4 @@
-/* What a recording's folder has, as texts, with what this process has missed behind them. */
+/* What a recording's folder has, as texts, followed by what this process has missed. */
 
 #include <inttypes.h>
 #include <stdio.h>
@@ -31,7 +31,7 @@ static uint32_t text_call(struct povundiri_handle *sums, const struct asked *ask
     return povundiri_sums_report(sums, text, room, needed);
 }
 
-/* What is written behind the text of the sum, into room for it; the bytes of it. */
+/* What is written after the text of the sum, into room for it; the bytes of it. */
 static size_t write_behind(const struct povundiri_recording *recording, const struct asked *asked, uint64_t left, char *text, size_t room) {
     const char *const prefix = asked->prefix != NULL ? asked->prefix : "povundiri";
     size_t at = 0, i;
@@ -51,7 +51,7 @@ static size_t write_behind(const struct povundiri_recording *recording, const st
     return at;
 }
 
-/* The text, for free(), with a zero behind it. */
+/* The text, for free(), with a zero after it. */
 static uint32_t text_of(const struct povundiri_recording *recording, struct povundiri_handle *sums, const struct asked *asked,
                         uint64_t left, char **text, size_t *length) {
     enum { MOST_BEHIND = 4096 };

@@ -124,7 +124,7 @@ static uint64_t random_of(const struct povundiri_recording *recording) {
     return (now() * 0x9E3779B97F4A7C15U) ^ ((uint64_t)getpid() << 32) ^ __atomic_add_fetch(&last, 1, __ATOMIC_RELAXED);
 }
 
-/* The shape of segments in so many bytes, as povundiri::shape_for has it. */
+/* The shape of segments in `bytes` bytes, as povundiri::shape_for has it. */
 static struct povundiri_shape shape_for(uint64_t bytes) {
     const uint64_t words = bytes / 8, pages = words / 4096 + (words % 4096 != 0), page = pages == 0 ? 0 : words / pages / 16 * 16;
     const struct povundiri_shape shape = {words > 1048576 ? words : pages * page, page, 0, 0, 2};
@@ -264,7 +264,7 @@ static int grow(struct povundiri_recording *recording) {
 
 /* ---- Recorders: the mutex is held ---- */
 
-/* How many units are lent where so many are needed: at least these, if the segment has them. */
+/* How many units are lent if `needed` are needed: at least these, if the segment has them. */
 static uint32_t lease_of(uint32_t left, uint64_t needed) {
     uint64_t lease = left / 2 < LEASE ? left / 2 : LEASE;
     if (lease < needed) lease = needed;
@@ -284,7 +284,7 @@ static uint32_t join_in(struct povundiri_recording *recording, struct local *loc
     return status;
 }
 
-/* What a thread has of a recording, with room for so many metrics: no recorder yet; null if there is no memory. */
+/* What a thread has of a recording, with room for `metrics` metrics: no recorder yet; null if there is no memory. */
 static struct local *new_local(struct povundiri_recording *recording, size_t metrics) {
     const size_t size = (sizeof(struct local) + metrics * sizeof(size_t) + LINES - 1) / LINES * LINES;
     struct local *local;
@@ -627,7 +627,7 @@ static bool is_same_spec(const struct metric *metric, struct povundiri_spec spec
            (metric->spec.minimum == spec.minimum && metric->spec.maximum == spec.maximum && metric->spec.buckets == spec.buckets);
 }
 
-/* Puts a metric behind the others. */
+/* Puts a metric after the others. */
 static uint32_t new_metric(struct povundiri_recording *recording, const char *name, size_t length, struct povundiri_spec spec,
                            const uint32_t *values, size_t count) {
     struct metric **const metrics = (struct metric **)realloc(recording->metrics, (recording->count + 1) * sizeof *metrics);

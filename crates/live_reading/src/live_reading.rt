@@ -43,7 +43,7 @@ pub struct LiveReading {
 /// [same]. It has counted, taken, claimed and published nothing, even if the call was refused: it has only seen more,
 /// come to know histograms, and noted its snapshots [looks].
 ///
-/// The one error is `NoMemory`, possibly after loads [each]. It asks for memory as [`Recorder::records`], `open` and
+/// The only error is `NoMemory`, possibly after loads [each]. It asks for memory as [`Recorder::records`], `open` and
 /// `snapshot` do, and for the name and the spec of each histogram.
 pub fn reading(alloc: Global, recorder: &mut Recorder) -> Result<LiveReading, Refusal>
     ensures kept { recorder.new.segment ≡ recorder.old.segment }

@@ -32,7 +32,7 @@ fn checked(alloc: Global, live: &LiveReading) -> Result<Option<Reading>, AllocEr
 /// If a segment can have each of these histograms, the text is exactly that of the reading that has these names, specs,
 /// counts, sums and redundant counts, and no mark, no flag and no bad record. `None` comes only if there is one that no
 /// segment can have: its spec is not valid, it does not have one count for each bucket, or its units together do not
-/// fit in 64 bits. The one error is that memory runs out.
+/// fit in 64 bits. The only error is that memory runs out.
 pub fn report(alloc: Global, live: &LiveReading) -> Result<Option<Vec<u8>>, AllocError>
     ensures { IfOk result (λ found. MatchOption found (AreReadable live.now → ⊥) (λ text. AreReadable live.now × IsTextOf (reading_of_live live.now) text.items)) }
 {
@@ -47,7 +47,7 @@ pub fn report(alloc: Global, live: &LiveReading) -> Result<Option<Vec<u8>>, Allo
 /// `reading_texts::is_prefix` and `reading_texts::are_line_labels` say.
 ///
 /// The text is exactly that of the reading that [`report`] names, and `None` comes only for the same causes as there.
-/// The one error is that memory runs out.
+/// The only error is that memory runs out.
 pub fn export(
     alloc: Global,
     live: &LiveReading,
@@ -65,7 +65,7 @@ pub fn export(
 /// Returns the text of a live reading for people, as `reading_shows::show_text` does for an image.
 ///
 /// The text is exactly that of the reading that [`report`] names, and `None` comes only for the same causes as there.
-/// The one error is that memory runs out.
+/// The only error is that memory runs out.
 pub fn show(
     alloc: Global,
     live: &LiveReading,
@@ -84,7 +84,7 @@ pub fn show(
 /// images.
 ///
 /// The text is exactly that of the readings that [`report`] names for the two, and `None` comes only for the same
-/// causes as there, in the later one; the earlier one may be any. The one error is that memory runs out.
+/// causes as there, in the later one; the earlier one may be any. The only error is that memory runs out.
 pub fn show_since(
     alloc: Global,
     live: &LiveReading,
@@ -105,7 +105,7 @@ pub fn show_since(
 /// Returns a line for each of the chosen histograms of a live reading, as `reading_shows::list_text` does for an image.
 ///
 /// The text is exactly that of the reading that [`report`] names, and `None` comes only for the same causes as there.
-/// The one error is that memory runs out.
+/// The only error is that memory runs out.
 pub fn list(
     alloc: Global,
     live: &LiveReading,

@@ -1,4 +1,4 @@
--- What a look shows of the records that it follows: which of its words come from which copy.
+-- What a look has of the records that it follows: which of its words come from which copy.
 use Rattle.std.specs.Prelude.{◌≡◌, false, true, ◌≢◌, ◌⊎◌, ◌==◌, if◌then◌else◌, ℕ, suc, ◌+◌, ◌<◌, ◌≤◌, List, drop, length, slice_index, sum_by, None}
 use Rattle.std.specs.Int.{w64, cast_signed}
 use Rattle.std.specs.List.{Contains, flat_map, range_with_len, slice_range}
@@ -23,10 +23,9 @@ use Rattle.segment_promises.specs.Reads.{begun_of}
 use Rattle.look_promises.specs.Runs.{RunsThrough, Moments, AreLoaded}
 use Rattle.look_promises.specs.Looks.{head_loaded, HasWords}
 
--- A block with a next, and with the words of the copies that change: of a histogram its single word and its sum of the second copy, its
--- single mark, its sum mark and its redundant count of the first, and its counts reference, which is that of the second copy, or of the
--- third where the second has a single word that is off and no reference yet; of a sample its count of the second and its mark of the
--- first.
+-- A block with a next, and with the changing words taken from the copies: a histogram's single word and sum from the second copy, its
+-- single mark, sum mark and redundant count from the first, and its counts reference from the second, or from the third if the second has a
+-- single word that is off and no reference yet; a sample's count from the second, and its mark from the first.
 abbrev pub looked_block : List ℕ → List ℕ → List ℕ → ℕ → ℕ → Body → Body
 looked_block one two three at next (histogram r) = histogram (record r {
   next = next;
@@ -41,8 +40,8 @@ looked_block one two three at next (sample s) = sample (record s { next = next; 
 looked_block one two three at next (other size tag n payload) = other size tag next payload
 looked_block one two three at next body = body
 
--- A look has each record that it follows, as it is at the last moment, but for its next, which gives the record behind, and what of it
--- changes.
+-- A look has each record that it follows as it is at the last moment, except for its next, which gives the record after it, and the words
+-- that change.
 abbrev pub LooksShowRecords : Type 0
 LooksShowRecords = (shape : Dimensions) (opened : Anatomy) (at : ℕ → State) (first last : ℕ) (moments : Moments) (one two three image : List ℕ)
     → RunsThrough shape opened at → AreLoaded shape at first last moments one two three
@@ -54,7 +53,7 @@ LooksShowRecords = (shape : Dimensions) (opened : Anatomy) (at : ℕ → State) 
     (looked_block one two three (slice_index (followed_records (head_loaded shape opened at moments.three) two) k)
     (list_start (drop (suc k) (followed_records (head_loaded shape opened at moments.three) two))) body))
 
--- A counts block with the counts of the second copy, or none where the single word of its record was not off there, and the marks of the
+-- A counts block with the counts of the second copy, or zeros if the single word of its record was not off there, and the marks of the
 -- first.
 abbrev pub looked_counts : List ℕ → List ℕ → ℕ → ℕ → ℕ → Counts → Counts
 looked_counts one two at place n c = record c {
@@ -62,7 +61,8 @@ looked_counts one two at place n c = record c {
   marks = slice_range one (place + BLOCK_HEADER + n) (place + BLOCK_HEADER + n + n);
 }
 
--- Where a look takes a counts reference of a record that it follows, it has the counts block so, and as it is at the last moment otherwise.
+-- If a look takes a counts reference from a record that it follows, it has the counts block with these counts and marks, and otherwise as
+-- it is at the last moment.
 abbrev pub LooksShowCounts : Type 0
 LooksShowCounts = (shape : Dimensions) (opened : Anatomy) (at : ℕ → State) (first last : ℕ) (moments : Moments) (one two three image : List ℕ)
     → RunsThrough shape opened at → AreLoaded shape at first last moments one two three
@@ -72,7 +72,7 @@ LooksShowCounts = (shape : Dimensions) (opened : Anatomy) (at : ℕ → State) (
     → HasRecord late.anatomy.pieces reference r → counts_reference two three reference ≢ 0 → HasCounts late.anatomy.pieces r.counts c
     → HasWords image r.counts (counts (looked_counts one two reference r.counts (buckets_of r.spec) c)))
 
--- The sum that a look takes of a record, and its sum mark, are such as a reader takes: near 0 and near each other.
+-- The sum that a look takes from a record, and its sum mark, are ones that a reader accepts: near 0 and near each other.
 abbrev pub LooksHaveSums : Type 0
 LooksHaveSums = (shape : Dimensions) (opened : Anatomy) (at : ℕ → State) (first last : ℕ) (moments : Moments) (one two three : List ℕ)
     → RunsThrough shape opened at → AreLoaded shape at first last moments one two three
@@ -94,8 +94,8 @@ total_looked two at place n i =
     (if place == 0 then 0 else slice_index (counts_looked two at (place + BLOCK_HEADER) n) i)
     + units_packed (single_of VERSION_FROZEN n (field_at two at HISTOGRAM_SINGLE)) i
 
--- The total that a look has of each bucket of a record is no less than that of the first moment, where the record was there, and no more than
--- that of the last.
+-- The total that a look has of each bucket of a record is at least that of the first moment, if the record was there, and at most that of
+-- the last.
 abbrev pub LooksCountTotals : Type 0
 LooksCountTotals = (shape : Dimensions) (opened : Anatomy) (at : ℕ → State) (first last : ℕ) (moments : Moments) (one two three : List ℕ)
     → RunsThrough shape opened at → AreLoaded shape at first last moments one two three
@@ -122,7 +122,7 @@ LooksBoundMarks = (shape : Dimensions) (opened : Anatomy) (at : ℕ → State) (
     × (mark_looked one two reference (counts_reference two three reference) (buckets_of r.spec) i
     ≤ total_looked two reference (counts_reference two three reference) (buckets_of r.spec) i))
 
--- The single word that a look has of a record has a form; and where it is off, the look takes a counts reference.
+-- The single word that a look has of a record has a form; and if it is off, the look takes a counts reference.
 abbrev pub LooksHaveForms : Type 0
 LooksHaveForms = (shape : Dimensions) (opened : Anatomy) (at : ℕ → State) (first last : ℕ) (moments : Moments) (one two three : List ℕ)
     → RunsThrough shape opened at → AreLoaded shape at first last moments one two three
@@ -131,7 +131,7 @@ LooksHaveForms = (shape : Dimensions) (opened : Anatomy) (at : ℕ → State) (f
     → (single_of VERSION_FROZEN (buckets_of r.spec) (field_at two reference HISTOGRAM_SINGLE) ≢ None)
     × (is_frozen two reference ≡ true → counts_reference two three reference ≢ 0))
 
--- Where the single word that a look has of a record packs no bucket, its single mark is 0.
+-- If the single word that a look has of a record packs no bucket, its single mark is 0.
 abbrev pub LooksMarkPacked : Type 0
 LooksMarkPacked = (shape : Dimensions) (opened : Anatomy) (at : ℕ → State) (first last : ℕ) (moments : Moments) (one two three : List ℕ)
     → RunsThrough shape opened at → AreLoaded shape at first last moments one two three
@@ -150,7 +150,7 @@ LooksBoundSamples = (shape : Dimensions) (opened : Anatomy) (at : ℕ → State)
 
 -- ---- calls
 
--- A look has of each bucket of a histogram at least the units of all calls that had ended at the first moment, and at most those of the
+-- For each bucket of a histogram a look has at least the units of all calls that had ended at the first moment, and at most those of the
 -- calls that had begun at the last.
 abbrev pub LooksCountCalls : Type 0
 LooksCountCalls = (shape : Dimensions) (opened : Anatomy) (at : ℕ → State) (first last : ℕ) (moments : Moments) (one two three : List ℕ)
@@ -163,7 +163,7 @@ LooksCountCalls = (shape : Dimensions) (opened : Anatomy) (at : ℕ → State) (
     × (total_looked two reference (counts_reference two three reference) (buckets_of r.spec) i
     ≤ tally_units (flat_map begun_of (at last).actors) r.name (key_of_bucket r.spec i)))
 
--- So it does of each value of a sparse histogram: the count of its first sample.
+-- The same holds for each value of a sparse histogram, with the count of its first sample.
 abbrev pub LooksCountValues : Type 0
 LooksCountValues = (shape : Dimensions) (opened : Anatomy) (at : ℕ → State) (first last : ℕ) (moments : Moments) (one two three : List ℕ)
     → RunsThrough shape opened at → AreLoaded shape at first last moments one two three
@@ -174,15 +174,16 @@ LooksCountValues = (shape : Dimensions) (opened : Anatomy) (at : ℕ → State) 
 
 -- ---- one moment
 
--- all units that a look has of a record with n buckets for which it takes a counts reference, and all that words have
+-- all units that a look has of a record with n buckets for which it takes a counts reference
 abbrev pub units_looked : List ℕ → ℕ → ℕ → ℕ → ℕ
 units_looked two at place n = sum_by (total_looked two at place n) (range_with_len 0 n)
 
+-- all units that words have of a record with n buckets
 abbrev pub units_in_words : List ℕ → ℕ → ℕ → ℕ
 units_in_words words at n = sum_by (total_of VERSION_FROZEN words at) (range_with_len 0 n)
 
--- Where the units that a look has of a record are no more than those that it had at a moment before the second copy, each total of the look
--- is the one of that moment.
+-- If the units that a look has of a record are no more than those that the record had at a moment before the second copy, each total of the
+-- look is the one of that moment.
 abbrev pub LooksAreOfOneMoment : Type 0
 LooksAreOfOneMoment = (shape : Dimensions) (opened : Anatomy) (at : ℕ → State) (first last moment : ℕ) (moments : Moments) (one two three : List ℕ)
     → RunsThrough shape opened at → AreLoaded shape at first last moments one two three
@@ -194,8 +195,8 @@ LooksAreOfOneMoment = (shape : Dimensions) (opened : Anatomy) (at : ℕ → Stat
 
 -- ---- two looks
 
--- A look whose second copy was loaded when another's had been loaded, or later, has no total of a bucket below that look's, and no count of a
--- sample. Their other copies may have been loaded beside one another.
+-- A look whose second copy was loaded after another's has no total of a bucket, and no count of a sample, below that of the other look.
+-- Their other copies may have been loaded at the same time.
 abbrev pub LooksRise : Type 0
 LooksRise = (shape : Dimensions) (opened : Anatomy) (at : ℕ → State) (first other last : ℕ) (moments later : Moments) (one two three four five six : List ℕ)
     → RunsThrough shape opened at → AreLoaded shape at first last moments one two three → AreLoaded shape at other last later four five six
@@ -208,7 +209,8 @@ LooksRise = (shape : Dimensions) (opened : Anatomy) (at : ℕ → State) (first 
 
 -- ---- the rest
 
--- A look has the header of the third copy, but for its tail and the start of its list, which are those of the records that it follows.
+-- A look has the header of the third copy, except for its tail and the start of its list, which are the last and the first of the records
+-- that it follows.
 abbrev pub LooksKeepHeaders : Type 0
 LooksKeepHeaders = (shape : Dimensions) (opened : Anatomy) (at : ℕ → State) (first last : ℕ) (moments : Moments) (one two three image : List ℕ)
     → RunsThrough shape opened at → AreLoaded shape at first last moments one two three

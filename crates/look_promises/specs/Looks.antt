@@ -1,4 +1,4 @@
--- What three copies of a run give when they are put together to a look.
+-- What three copies of a run give when they are put together as a look.
 use Rattle.std.specs.Prelude.{◌≡◌, ◌≢◌, ◌⊎◌, ℕ, ◌+◌, ◌<◌, ◌≤◌, List, [], ◌∷◌, length, slice_index, Ok}
 use Rattle.std.specs.List.{All, Contains}
 use mathlib.Core.Option.{none}
@@ -36,7 +36,7 @@ head_loaded shape opened at moments = record {
   full = (head_at (at (moments FLAGS_WORD))).full;
 }
 
--- three copies have no fault, and that header
+-- three copies have no fault, and this header
 abbrev pub LooksHaveHeaders : Type 0
 LooksHaveHeaders = (shape : Dimensions) (opened : Anatomy) (at : ℕ → State) (first last : ℕ) (moments : Moments) (one two three : List ℕ)
     → RunsThrough shape opened at → AreLoaded shape at first last moments one two three
@@ -44,8 +44,8 @@ LooksHaveHeaders = (shape : Dimensions) (opened : Anatomy) (at : ℕ → State) 
 
 -- ---- the list
 
--- The records that a look follows were on the list: all that were on it at the first moment, and none that was not at the last, in the
--- order of the list.
+-- The records that a look follows are those of the list, in its order: all that were on it at the first moment, and none that was not on it
+-- at the last.
 pub record FollowsList (early late : State) (followed : List ℕ) : Type 0 where
   pub first : List ℕ
   pub begins : IsChain early.words (head_at early) first
@@ -54,7 +54,7 @@ pub record FollowsList (early late : State) (followed : List ℕ) : Type 0 where
   pub all : IsPrefix first followed
   pub none : IsPrefix followed last
 
--- so it is of the records that three copies lead to
+-- the records that three copies lead to follow the list
 abbrev pub LooksFollow : Type 0
 LooksFollow = (shape : Dimensions) (opened : Anatomy) (at : ℕ → State) (first last : ℕ) (moments : Moments) (one two three : List ℕ)
     → RunsThrough shape opened at → AreLoaded shape at first last moments one two three
@@ -62,7 +62,7 @@ LooksFollow = (shape : Dimensions) (opened : Anatomy) (at : ℕ → State) (firs
 
 -- ---- the records
 
--- A block is seen as another: its size, its type and what was given to its maker are the same.
+-- A block is seen as another: the two have the same size, the same type, and what was given to the maker.
 abbrev pub SeenAs : Body → Body → Type 0
 SeenAs (histogram r) body = (q : Record) × (body ≡ histogram q) × (q ≡ record r {
   next = q.next;
@@ -81,7 +81,7 @@ SeenAs _ body = ⊥
 abbrev pub HasWords : List ℕ → ℕ → Body → Type 0
 HasWords words at body = (i : ℕ) → i < length (words_of body) → word_at words (at + i) ≡ slice_index (words_of body) i
 
--- words have a published block, as which it is seen
+-- words have a block at this word, as which a published block is seen
 abbrev pub ShowsBlock : Anatomy → List ℕ → ℕ → Type 0
 ShowsBlock anatomy words at = (body seen : Body) × Stands anatomy.pieces at none body × SeenAs body seen × HasWords words at seen
 
@@ -92,7 +92,7 @@ CopiesShowBlocks = (shape : Dimensions) (opened : Anatomy) (at : ℕ → State) 
     → (late : Invariant shape opened (at last))
     × All (ShowsBlock late.anatomy three) (followed_records (head_loaded shape opened at moments.three) two)
 
--- each copy has a block of the opening in which nobody counts as it was, but for its next: a record that is passed over, or its counts
+-- each copy has unchanged, except for its next, a block of the opening in which nobody counts: a record that is passed over, or its counts
 abbrev pub CopiesKeepOthers : Type 0
 CopiesKeepOthers = (shape : Dimensions) (opened : Anatomy) (at : ℕ → State) (first last : ℕ) (moments : Moments) (one two three : List ℕ)
     → RunsThrough shape opened at → AreLoaded shape at first last moments one two three
@@ -102,13 +102,13 @@ CopiesKeepOthers = (shape : Dimensions) (opened : Anatomy) (at : ℕ → State) 
 
 -- ---- before a record is on the list
 
--- the words of a block that change once it is published, but for its next
+-- the words of a block that change once it is published, except for its next
 abbrev pub IsChanging : Body → ℕ → Type 0
 IsChanging (histogram r) i = (HISTOGRAM_COUNTS ≤ i) × (i ≤ HISTOGRAM_REDUNDANT)
 IsChanging (sample s) i = (i ≡ SAMPLE_COUNT) ⊎ (i ≡ SAMPLE_MARK)
 IsChanging _ i = ⊥
 
--- such a word of a record is 0 at each moment at which the record is not on the list yet
+-- such a word of a record is 0 as long as the record is not on the list
 abbrev pub RecordsStartAtZero : Type 0
 RecordsStartAtZero = (shape : Dimensions) (opened : Anatomy) (at : ℕ → State) (early last : ℕ) (chain : List ℕ) → RunsThrough shape opened at
     → early ≤ last → IsChain (at early).words (head_at (at early)) chain
@@ -118,7 +118,7 @@ RecordsStartAtZero = (shape : Dimensions) (opened : Anatomy) (at : ℕ → State
 
 -- ---- the counts of a record
 
--- The counts reference that a look takes of a record is 0, or that which the record has at the last moment.
+-- The counts reference that a look takes from a record is 0, or the one that the record has at the last moment.
 abbrev pub LooksNameCounts : Type 0
 LooksNameCounts = (shape : Dimensions) (opened : Anatomy) (at : ℕ → State) (first last : ℕ) (moments : Moments) (one two three : List ℕ)
     → RunsThrough shape opened at → AreLoaded shape at first last moments one two three
@@ -129,13 +129,13 @@ LooksNameCounts = (shape : Dimensions) (opened : Anatomy) (at : ℕ → State) (
 
 -- ---- its counters
 
--- a counter of a record is no less than what it was, where the record was there, and no more than what it is
+-- a counter of a block is at least what it was at an earlier moment, if the block was there, and at most what it is at a later one
 abbrev pub IsBetween : List Piece → ℕ → ℕ → Body → ℕ → Type 0
 IsBetween early reference i late word =
     ((before : Body) → Stands early reference none before → IsCounterIn before i → slice_index (words_of before) i ≤ word)
     × (word ≤ slice_index (words_of late) i)
 
--- The counters of each record that a look follows, as the first copy and the second have them, lie between those of the first moment and
+-- The counters of each record that a look follows, as the first copy and the second have them, are between those of the first moment and
 -- those of the last.
 abbrev pub LooksCountBetween : Type 0
 LooksCountBetween = (shape : Dimensions) (opened : Anatomy) (at : ℕ → State) (first last : ℕ) (moments : Moments) (one two three : List ℕ)
@@ -147,14 +147,14 @@ LooksCountBetween = (shape : Dimensions) (opened : Anatomy) (at : ℕ → State)
 
 -- ---- its counts
 
--- Each count and each mark of a counts block is 0 at each moment at which its record does not name it yet.
+-- Each count and each mark of a counts block is 0 as long as its record does not name it.
 abbrev pub CountsStartAtZero : Type 0
 CountsStartAtZero = (shape : Dimensions) (opened : Anatomy) (at : ℕ → State) (early last : ℕ) → RunsThrough shape opened at → early ≤ last
     → (late : Invariant shape opened (at last))
     × ((reference i : ℕ) (r : Record) (c : Counts) → HasRecord late.anatomy.pieces reference r → HasCounts late.anatomy.pieces r.counts c
     → IsCounterIn (counts c) i → field_at (at early).words reference HISTOGRAM_COUNTS ≢ r.counts → field_at (at early).words r.counts i ≡ 0)
 
--- The counts and marks of each counts block that a record names, as the first copy and the second have them, lie between those of the first
+-- The counts and marks of each counts block that a record names, as the first copy and the second have them, are between those of the first
 -- moment and those of the last.
 abbrev pub LooksCountUnits : Type 0
 LooksCountUnits = (shape : Dimensions) (opened : Anatomy) (at : ℕ → State) (first last : ℕ) (moments : Moments) (one two three : List ℕ)

@@ -1,4 +1,4 @@
--- Which looks have the counts of one moment, and how that is told of the look alone.
+-- Which looks have the counts of one moment, and how to tell by the look alone.
 use Rattle.std.specs.Prelude.{◌≡◌, true, ℕ, ◌+◌, ◌<◌, ◌≤◌, ℤ, List, [], ◌∷◌, sum_by}
 use Rattle.std.specs.List.{All, Contains, flat_map}
 use Rattle.segment_image.specs.Blocks.{field_at}
@@ -22,15 +22,15 @@ use Rattle.look_promises.specs.Images.{total_looked, units_looked}
 use Rattle.look_promises.specs.Looks.{head_loaded}
 use Rattle.look_promises.specs.Runs.{RunsThrough, Moments, AreLoaded}
 
--- what is noted of an entry is counted
+-- if an entry is noted, it is counted
 abbrev pub IsCountedFirst : EntryProgress → Type 0
 IsCountedFirst c = c.noted ≡ true → is_counted c ≡ true
 
--- this of each entry of a running call
+-- each entry of a running call is counted if it is noted
 abbrev pub CountsFirst : Actor → Type 0
 CountsFirst a = All IsCountedFirst a.entries.running
 
--- So it is where the opener is alone, as at an opening: it runs nothing.
+-- This holds if the opener is alone, as at an opening: it runs no call.
 abbrev pub LoneOpenersCountFirst : Type 0
 LoneOpenersCountFirst = (shape : Dimensions) (opened : Anatomy) (state : State) (a : Actor) → Invariant shape opened state → state.actors ≡ a ∷ [] → All CountsFirst state.actors
 
@@ -42,8 +42,8 @@ units_at_opening actors name = tally_noted (flat_map (λ a. a.entries.first) act
 abbrev pub all_units_read : Histogram → ℕ
 all_units_read h = sum_by (λ count. count.1) h.counts
 
--- A new segment has noted nothing. One that was adopted has noted no more of a name than it was opened with, if no histogram of the name that is
--- read of the image has a redundant count above its units.
+-- A new segment has noted nothing. One that was adopted has noted no more units of a name than it was opened with, if no histogram of that
+-- name is read from the image with a redundant count above its units.
 abbrev pub OpeningsNoteNoMore : Type 0
 OpeningsNoteNoMore =
     ((version id size : ℕ) (name : List ℕ) → noted_at_opening (blank version id size) name ≡ 0)
@@ -54,9 +54,9 @@ OpeningsNoteNoMore =
 
 -- ---- of a record
 
--- Where the units that a look has of a histogram are no more than the redundant count that it has of it, each total is the one of the moment
--- at which the redundant count was loaded, or 0, if the record was not on the list then. It holds where the redundant count at the opening was
--- at most the units there, and where at the beginning of the run, as at an opening, no call had noted what it had not counted.
+-- If the units that a look has of a histogram are no more than the redundant count that it has of it, each total is the one of the moment
+-- at which the redundant count was loaded, or 0 if the record was not on the list then. This requires that the redundant count at the
+-- opening was at most the units there, and that at the beginning of the run, as at an opening, no call had noted what it had not counted.
 abbrev pub LooksTellTheirMoment : Type 0
 LooksTellTheirMoment = (shape : Dimensions) (opened : Anatomy) (at : ℕ → State) (first last reference i : ℕ) (moments : Moments) (one two three : List ℕ)
     → RunsThrough shape opened at → All CountsFirst (at 0).actors → AreLoaded shape at first last moments one two three
@@ -72,8 +72,8 @@ LooksTellTheirMoment = (shape : Dimensions) (opened : Anatomy) (at : ℕ → Sta
 
 -- ---- of what is read
 
--- No redundant count that is read of a look is above the units that are read, if the opening had none such. So a look may be an opening of which
--- that holds.
+-- No histogram of a look is read with a redundant count above its units, if the opening had none like that. So a look may itself be such an
+-- opening.
 abbrev pub ReadingsNoteNoMore : Type 0
 ReadingsNoteNoMore = (shape : Dimensions) (opened : Anatomy) (at : ℕ → State) (first last : ℕ) (moments : Moments) (one two three image : List ℕ)
     (reading : Reading) (h : Histogram)
@@ -81,7 +81,7 @@ ReadingsNoteNoMore = (shape : Dimensions) (opened : Anatomy) (at : ℕ → State
     → IsLook (head_loaded shape opened at moments.three) one two three image → IsReading image (head_of image) reading → Contains reading.hists h
     → noted_at_opening opened h.name ≤ units_at_opening (at 0).actors h.name → h.redundant ≤ all_units_read h
 
--- Where the units that are read of a histogram are no more than its redundant count, whatever its kind, it has of each key just what had been
+-- If the units that are read of a histogram, of any kind, are no more than its redundant count, it has for each key exactly what had been
 -- counted when the redundant count was loaded.
 abbrev pub ReadingsTellTheirMoment : Type 0
 ReadingsTellTheirMoment = (shape : Dimensions) (opened : Anatomy) (at : ℕ → State) (first last : ℕ) (moments : Moments) (one two three image : List ℕ)

@@ -16,21 +16,21 @@ use Rattle.look_promises.specs.Runs.{RunsThrough, Moments, AreLoaded}
 use Rattle.look_promises.specs.Looks.{head_loaded}
 
 -- The histograms that are read are those of a list that has all records of the first moment, and none that was not there at the last, in
--- their order: of each name on it the first record, with its spec.
+-- their order: for each name on it the first record, with its spec.
 pub record ReadsBetween (early late : List Listed) (reading : Reading) : Type 0 where
   pub records : List Listed
   pub all : (more : List Listed) × (records ≡ early ++ more)
   pub none : (more : List Listed) × (late ≡ records ++ more)
   pub reads : ReadsNames records reading
 
--- Of each key a histogram has no fewer units than those of the calls that had ended, no more than those of the calls that had begun, and
--- a mark that is no more than its units.
+-- For each key a histogram has at least the units of the calls that had ended, at most those of the calls that had begun, and a mark that
+-- is at most its units.
 pub record CountsBetween (early late : State) (h : Histogram) : Type 0 where
   pub ended : (key : ℤ) → tally_units (flat_map log_of early.actors) h.name key ≤ units_read h key
   pub begun : (key : ℤ) → units_read h key ≤ tally_units (flat_map begun_of late.actors) h.name key
   pub marks : (key : ℤ) → mark_read h key ≤ units_read h key
 
--- A look has a lawful header, and reads without a bad record and without a stop: as the histograms that were published at the first moment,
+-- A look has a valid header, and reads without a bad record and without a stop: as the histograms that were published at the first moment,
 -- and maybe some that were published by the last, each with the units of all calls that had ended at the first moment, and of none that had
 -- not begun by the last.
 abbrev pub LooksRead : Type 0
@@ -41,15 +41,15 @@ LooksRead = (shape : Dimensions) (opened : Anatomy) (at : ℕ → State) (first 
     × ((early : Invariant shape opened (at first)) × (late : Invariant shape opened (at last)) × ReadsBetween early.anatomy.records late.anatomy.records reading)
     × ((h : Histogram) → Contains reading.hists h → CountsBetween (at first) (at last) h)
 
--- A look may be adopted, where the corrupt flag was not loaded: it has none of the faults of adoption.
+-- A look may be adopted unless the corrupt flag was loaded: it has none of the faults of adoption.
 abbrev pub LooksAreAdoptable : Type 0
 LooksAreAdoptable = (shape : Dimensions) (opened : Anatomy) (at : ℕ → State) (first last : ℕ) (moments : Moments) (one two three image references : List ℕ)
     → RunsThrough shape opened at → AreLoaded shape at first last moments one two three
     → IsLook (head_loaded shape opened at moments.three) one two three image → (head_loaded shape opened at moments.three).corrupt ≡ false
     → IsListed image (head_of image) references → IsAdoptable image references (reading_along image (head_of image) references)
 
--- Of two looks, of which the second's second copy was loaded after the first's, the second reads as all histograms of the first, and of each key it
--- has no fewer units.
+-- If one look's second copy was loaded after another's, the later look reads as all histograms of the earlier one, and for each key it has
+-- no fewer units.
 abbrev pub ReadingsRise : Type 0
 ReadingsRise = (shape : Dimensions) (opened : Anatomy) (at : ℕ → State) (first other last : ℕ) (moments later : Moments) (one two three four five six image next : List ℕ)
     (reading beyond : Reading) (g : Histogram)

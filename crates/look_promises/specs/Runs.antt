@@ -8,8 +8,8 @@ use Rattle.segment_machine.specs.Reached.{IsReached}
 use Rattle.segment_invariant.specs.Body.{Anatomy}
 use Rattle.segment_invariant.specs.Invariant.{Invariant}
 
--- A run of a segment of version 2 that was opened as `opened`: the states at its moments. The first is kept, and each is reached from
--- the one before, by no step or by many.
+-- A run of a segment of version 2 that was opened as `opened`: the states at its moments. The first is kept, and each is reached from the
+-- one before, by any number of steps.
 pub record RunsThrough (shape : Dimensions) (opened : Anatomy) (at : ℕ → State) : Type 0 where
   pub version : opened.version ≡ VERSION_FROZEN
   pub kept : Invariant shape opened (at 0)
@@ -20,13 +20,13 @@ pub record IsCopy (shape : Dimensions) (at : ℕ → State) (moments : ℕ → �
   pub long : length words ≡ shape.size
   pub each : (i : ℕ) → i < shape.size → word_at words i ≡ word_at (at (moments i)).words i
 
--- the moments of three copies: for each the moment at which a word was loaded
+-- the moments of three copies: for each word of each copy the moment at which it was loaded
 pub record Moments : Type 0 where
   pub one : ℕ → ℕ
   pub two : ℕ → ℕ
   pub three : ℕ → ℕ
 
--- Each copy is behind the one before it: all words of it were loaded at the same moment as all of that, or later. Nothing was loaded
+-- Each copy comes after the one before it: none of its words was loaded at an earlier moment than any word of that one. Nothing was loaded
 -- before a first moment, or after a last one.
 pub record ComeInOrder (size first last : ℕ) (moments : Moments) : Type 0 where
   pub begins : (i : ℕ) → i < size → first ≤ moments.one i

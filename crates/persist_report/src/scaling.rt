@@ -69,7 +69,7 @@ fn put_values(alloc: Global, text: &mut Vec<u8>, values: &[u32]) -> Result<(), A
 }
 
 /// Returns the record of a script that asks for a custom histogram of a name and these values, with its line feed. The
-/// name is in quotes if it has a comma, a quote or an end of a line, and there each quote is doubled. The one error is
+/// name is in quotes if it has a comma, a quote or an end of a line, and there each quote is doubled. The only error is
 /// that memory runs out.
 pub fn custom_record_of(alloc: Global, name: &str, values: &[u32]) -> Result<Vec<u8>, AllocError>
     ensures { IfOk result (λ text. text.items ≡ custom_record name.now values.now) }

@@ -9,7 +9,7 @@ use csv::{ByteRecord, ErrorKind, Reader, ReaderBuilder};
 use std::alloc::{AllocError, Global};
 
 // The fields of the next record, and whether there is one. A read of bytes in memory never fails, though no contract of
-// the kit says so; the one error is that memory runs out.
+// the kit says so; the only error is that memory runs out.
 pub(crate) fn next_fields(
     reader: &mut Reader<&[u8]>,
     fields: &mut ByteRecord,

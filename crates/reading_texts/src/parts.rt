@@ -5,7 +5,7 @@ ghost use Rattle.reading_texts.specs.Exporting.{joined};
 
 use std::alloc::AllocError;
 
-/// Appends parts to a text, one after the other. The one error is that memory runs out.
+/// Appends parts to a text, one after the other. The only error is that memory runs out.
 pub fn put_parts(text: &mut Vec<u8>, parts: &[&[u8]]) -> Result<(), AllocError>
     ensures { OnOk result (text.new.items ≡ text.old.items ++ joined (map (λ part. part.now) parts.now)) }
 {

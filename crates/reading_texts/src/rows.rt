@@ -66,7 +66,7 @@ pub fn units(hist: &HistReading) -> u64
 
 /// Returns all rows of a histogram, ascending, including those without units: for each bucket, or for each value of a
 /// sparse histogram, its least value, the boundary after it, its units, and the units of it and of all rows before it.
-/// The one error is that memory runs out.
+/// The only error is that memory runs out.
 pub fn rows_of(alloc: Global, hist: &HistReading) -> Result<Vec<HistRow>, AllocError>
     requires { IsReadable (histogram_view hist.now) }
     ensures { IfOk result (λ rows. rows.items ≡ rows_of_histogram (histogram_view hist.now)) }

@@ -161,7 +161,7 @@ fn put_stopped(text: &mut Vec<u8>, stopped: Option<ImageFault>) -> Result<(), Al
 }
 
 /// The text of the report of a reading: the histograms by name, then the flags that are set, the redundant counts that
-/// differ, the bad records and why the list stopped. The one error is that memory runs out.
+/// differ, the bad records and why the list stopped. The only error is that memory runs out.
 pub fn report_text(alloc: Global, reading: &Reading) -> Result<Vec<u8>, AllocError>
     requires { All IsReadable (map histogram_view reading.now.hists.items) }
     ensures { IfOk result (λ text. IsTextOf (reading_view reading.now) text.items) }

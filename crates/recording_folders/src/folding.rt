@@ -44,7 +44,7 @@ fn kept(
 /// names. Of the named segments, `standing` could not be removed; `finals` are final and were added to the sum. The
 /// totals name those that are still there, the one with the greatest number, and the added ones [names]; their serial
 /// is one more [serial]. Returns none exactly if the serial would pass 64 bits [some]. Writing them is a fold of the
-/// folder, after which each segment is still counted once [fold]. The one error is that memory runs out.
+/// folder, after which each segment is still counted once [fold]. The only error is that memory runs out.
 pub fn fold_of(
     alloc: Global,
     serial: u64,

@@ -61,7 +61,7 @@ fn kind_without_number(name: &[u8]) -> FileKind
 }
 
 /// Returns the kind of a file by its name. If it is not `Other`, the name is one of that kind [found]. Each name of a
-/// kind has that kind, so the name of a number is recognized as that number [only]. The one error is that memory runs
+/// kind has that kind, so the name of a number is recognized as that number [only]. The only error is that memory runs
 /// out.
 pub fn kind_of(alloc: Global, name: &[u8]) -> Result<FileKind, AllocError>
     ensures found { IfOk result (λ kind. (kind ≡ Other) ⊎ IsNameOf name.now kind) }

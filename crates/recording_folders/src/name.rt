@@ -31,14 +31,14 @@ fn numbered(alloc: Global, number: u64, ending: &[u8]) -> Result<Vec<u8>, AllocE
     Ok(name)
 }
 
-/// Returns the name of the segment of a number. The one error is that memory runs out.
+/// Returns the name of the segment of a number. The only error is that memory runs out.
 pub fn segment_name(alloc: Global, number: u64) -> Result<Vec<u8>, AllocError>
     ensures { IfOk result (λ name. name.items ≡ names.segment_name number) }
 {
     numbered(alloc, number, SEGMENT)
 }
 
-/// Returns the name that the file of a number gets if its header has a fault. The one error is that memory runs out.
+/// Returns the name that the file of a number gets if its header has a fault. The only error is that memory runs out.
 pub fn damaged_name(alloc: Global, number: u64) -> Result<Vec<u8>, AllocError>
     ensures { IfOk result (λ name. name.items ≡ names.damaged_name number) }
 {

@@ -77,7 +77,7 @@ fn program<'a>(alloc: Global) -> Result<Command<'a>, AllocError> {
         .arg(explain_flag(alloc).help(VARIABLE_HELP))
 }
 
-/// The command line of the program. The one error is that memory runs out.
+/// The command line of the program. The only error is that memory runs out.
 pub fn command<'a>(alloc: Global) -> Result<Command<'a>, AllocError> {
     let mut commands = Vec::new(alloc);
     put_commands(alloc, &mut commands)?;

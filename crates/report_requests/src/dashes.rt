@@ -13,7 +13,7 @@ use std::alloc::{AllocError, Global};
 /// The name of standard input and, as OUT, of standard output.
 pub const DASH: &str = "-";
 
-/// Returns what is wrong with a command line that names standard input twice. The one error is that memory runs out.
+/// Returns what is wrong with a command line that names standard input twice. The only error is that memory runs out.
 pub fn two_inputs(alloc: Global) -> Result<Error, AllocError>
     ensures { IfOk result (λ error. kind_of error ≡ ErrorKind.ArgumentConflict) }
 {
@@ -23,7 +23,7 @@ pub fn two_inputs(alloc: Global) -> Result<Error, AllocError>
     )
 }
 
-// What is wrong with a command line by which an image and a report would go to standard output. The one error is that
+// What is wrong with a command line by which an image and a report would go to standard output. The only error is that
 // memory runs out.
 fn two_outputs(alloc: Global) -> Result<Error, AllocError>
     ensures { IfOk result (λ error. kind_of error ≡ ErrorKind.ArgumentConflict) }
@@ -34,7 +34,7 @@ fn two_outputs(alloc: Global) -> Result<Error, AllocError>
     )
 }
 
-/// Returns what is wrong with a command line by which standard input would be read three times. The one error is that
+/// Returns what is wrong with a command line by which standard input would be read three times. The only error is that
 /// memory runs out.
 pub fn no_file(alloc: Global) -> Result<Error, AllocError>
     ensures { IfOk result (λ error. kind_of error ≡ ErrorKind.ArgumentConflict) }

@@ -70,7 +70,7 @@ pub fn export_command<'a>(alloc: Global) -> Result<Command<'a>, AllocError> {
     Ok(command.long_about(DETAILS))
 }
 
-// The labels that were given, each as KEY=VALUE. The one error is that memory runs out.
+// The labels that were given, each as KEY=VALUE. The only error is that memory runs out.
 fn labels_found<'a>(alloc: Global, found: &ArgMatches<'a>) -> Result<Vec<&'a str>, AllocError> {
     match found.get_strs("label") {
         Some(labels) => Vec::from_slice(alloc, labels),
@@ -78,7 +78,7 @@ fn labels_found<'a>(alloc: Global, found: &ArgMatches<'a>) -> Result<Vec<&'a str
     }
 }
 
-/// What `export` is asked for; none if something is missing, which the parser refuses. The one error is that memory
+/// What `export` is asked for; none if something is missing, which the parser refuses. The only error is that memory
 /// runs out.
 pub fn export_task<'a>(
     alloc: Global,

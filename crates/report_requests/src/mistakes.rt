@@ -20,7 +20,7 @@ pub fn not_text(alloc: Global) -> Result<Error, AllocError>
 }
 
 /// Returns what is wrong with a command line that asks for a fault that does not exist: a wrong value. It names the
-/// fault that was meant, if one is like it. The one error is that memory runs out.
+/// fault that was meant, if one is like it. The only error is that memory runs out.
 pub fn no_fault(alloc: Global, nearest: Option<&str>) -> Result<Error, AllocError>
     ensures { IfOk result (λ error. kind_of error ≡ ErrorKind.InvalidValue) }
 {
@@ -33,7 +33,7 @@ pub fn no_fault(alloc: Global, nearest: Option<&str>) -> Result<Error, AllocErro
     command(alloc)?.error(ErrorKind::InvalidValue, message.as_str())
 }
 
-/// Returns what is wrong with a command line whose prefix is invalid: a mistake in a value. The one error is that
+/// Returns what is wrong with a command line whose prefix is invalid: a mistake in a value. The only error is that
 /// memory runs out.
 pub fn no_prefix(alloc: Global) -> Result<Error, AllocError>
     ensures { IfOk result (λ error. kind_of error ≡ ErrorKind.ValueValidation) }
@@ -45,7 +45,7 @@ pub fn no_prefix(alloc: Global) -> Result<Error, AllocError>
 }
 
 /// Returns what is wrong with a command line that asks for the overview of a sum, which has no header: a mistake in
-/// what goes together. The one error is that memory runs out.
+/// what goes together. The only error is that memory runs out.
 pub fn no_overview(alloc: Global) -> Result<Error, AllocError>
     ensures { IfOk result (λ error. kind_of error ≡ ErrorKind.ArgumentConflict) }
 {
@@ -55,7 +55,7 @@ pub fn no_overview(alloc: Global) -> Result<Error, AllocError>
     )
 }
 
-/// Returns what is wrong with a command line whose labels no line may have: a mistake in a value. The one error is that
+/// Returns what is wrong with a command line whose labels no line may have: a mistake in a value. The only error is that
 /// memory runs out.
 pub fn no_labels(alloc: Global) -> Result<Error, AllocError>
     ensures { IfOk result (λ error. kind_of error ≡ ErrorKind.ValueValidation) }

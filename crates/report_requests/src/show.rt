@@ -118,7 +118,7 @@ pub fn show_command<'a>(alloc: Global) -> Result<Command<'a>, AllocError> {
         .args(args)
 }
 
-/// What `show` is asked for, in lines of `columns` columns unless it says how many. The one error is that memory runs
+/// What `show` is asked for, in lines of `columns` columns unless it says how many. The only error is that memory runs
 /// out.
 pub fn show_task<'a>(
     alloc: Global,

@@ -95,7 +95,7 @@ pub fn size_task<'a>(alloc: Global, size: &ArgMatches<'a>) -> Result<SizeTask<'a
     })
 }
 
-/// Returns what is wrong with a command line whose page is invalid: a mistake in a value. The one error is that memory
+/// Returns what is wrong with a command line whose page is invalid: a mistake in a value. The only error is that memory
 /// runs out.
 pub fn no_page(alloc: Global) -> Result<Error, AllocError>
     ensures { IfOk result (λ error. kind_of error ≡ ErrorKind.ValueValidation) }
@@ -106,7 +106,7 @@ pub fn no_page(alloc: Global) -> Result<Error, AllocError>
     )
 }
 
-/// Returns what is wrong with a command line that names no histogram: a mistake in a value. The one error is that
+/// Returns what is wrong with a command line that names no histogram: a mistake in a value. The only error is that
 /// memory runs out.
 pub fn no_hist(alloc: Global) -> Result<Error, AllocError>
     ensures { IfOk result (λ error. kind_of error ≡ ErrorKind.ValueValidation) }

@@ -7,7 +7,7 @@ use Rattle.segment_machine.specs.Examples.{takes_all, taking, run}
 use Rattle.segment_machine.specs.Examples.{known_a}
 use Rattle.segment_machine.proofs.SmallNumbers.{below_three}
 
--- behind its events
+-- after its events
 abbrev pub done : Actor
 done = run takes_all taking
 

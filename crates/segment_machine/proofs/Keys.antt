@@ -11,7 +11,7 @@ use Rattle.segment_machine.specs.Laws.{KeysAreLeast}
 abbrev greatest : ℕ → ℕ → List ℕ → ℕ
 greatest value least list = fold max least (filter (λ n. nat_le n value) list)
 
--- at an element more
+-- with one more element
 module _ (value least x : ℕ) (list : List ℕ) (holds : ℕ → Type 0)
     (here : x ≤ value → holds (greatest value (max least x) list)) (there : value < x → holds (greatest value least list)) where
   by_test : (b : Bool) → nat_le x value ≡ b
@@ -48,7 +48,7 @@ within value least most (x ∷ list) start all = greatest_at value least x list 
     (λ le. let h = all 0 (omega arith) le in within value (max least x) most list (omega (arith, h, start)) (λ i below. all (suc i) (omega (arith, below))))
     (λ _. within value least most list start (λ i below. all (suc i) (omega (arith, below))))
 
--- a boundary that is not above a value is none behind that of its bucket
+-- a boundary that is not above a value is not above the boundary of its bucket
 not_behind : (boundaries : List ℕ) (value bucket i : ℕ) → AreBoundaries boundaries → IsBucketOf boundaries value bucket → i < length boundaries
     → slice_index boundaries i ≤ value → slice_index boundaries i ≤ slice_index boundaries bucket
 not_behind boundaries value bucket i are is below le = elim (cases_order i bucket) [

@@ -1,4 +1,4 @@
--- What an actor has done and seen, read off its record; and the same of all actors together.
+-- What an actor has done and seen, read from its record; and the same for all actors together.
 pub use Rattle.segment_calls.specs.Blocks.{has_buckets}
 use Rattle.std.specs.Prelude.{◌≡◌, ◌≢◌, Bool, true, false, ◌&&◌, ◌==◌, ℕ, ◌+◌, ℤ, pos, ◌+ℤ◌, if◌then◌else◌, List, [], ◌∷◌, ◌++◌, map, fold, sum_by, drop, length, slice_index, Option, Some, None}
 use mathlib.Core.Option.{some}
@@ -44,7 +44,7 @@ abbrev pub outstanding_of : Role → ℕ
 outstanding_of (Opener made outstanding offered) = outstanding
 outstanding_of (Recorder before outstanding) = outstanding
 
--- of an opener's share, the units that it said its next recorder is to have; a recorder offers none
+-- the units of an opener's share that it offers to its next recorder; a recorder offers none
 abbrev pub offered_of : Role → ℕ
 offered_of (Opener made outstanding offered) = offered
 offered_of (Recorder before outstanding) = 0
@@ -55,15 +55,15 @@ offered_of (Recorder before outstanding) = 0
 abbrev pub log_of : Actor → List Entry
 log_of a = a.entries.first ++ map (λ c. c.entry) a.entries.log
 
--- the entries that are counted, by ended calls or by the running one; an adopted image's are
+-- the entries that are counted, by ended calls or by the running one; an adopted image's entries are
 abbrev pub counted_of : Actor → List Entry
 counted_of a = a.entries.first ++ counted_among (a.entries.log ++ a.entries.running)
 
--- those whose amounts are in the sum; an adopted image's are
+-- those whose amounts are in the sum; an adopted image's entries are
 abbrev pub summed_of : Actor → List Entry
 summed_of a = a.entries.first ++ summed_among (a.entries.log ++ a.entries.running)
 
--- those whose units are in the redundant count; an adopted image's are not
+-- those whose units are in the redundant count; an adopted image's entries are not
 abbrev pub noted_of : Actor → List Entry
 noted_of a = noted_among (a.entries.log ++ a.entries.running)
 
@@ -78,8 +78,8 @@ transit_at _ histogram i = 0
 abbrev pub transit_of : List Actor → ℕ → ℕ → ℕ
 transit_of actors histogram i = sum_by (λ a. transit_at a.hand.place histogram i) actors
 
--- whether a call that stands here can only go on with what it has begun: to complete a header, to move the tail on, to purge a
--- lost block, to add moved units; one that was joined does nothing at all
+-- whether a call at this place must first finish what it has begun: to complete a header, to move the tail, to purge a lost block, to add
+-- moved units; an actor that was joined does nothing at all
 abbrev pub is_bound : Place → Bool
 is_bound Spent = true
 is_bound (Raised at size wanted) = true
@@ -113,35 +113,34 @@ portion_of t = record { name = t.name; counts = t.counts; sum = t.sum }
 abbrev pub taken_of : Actor → List Portion
 taken_of a = a.deltas.first_taken ++ map portion_of a.deltas.taken
 
--- A delta or snapshot of a name is a final one, among those of an opener that has made so many recorders and whose log is
--- this: no recorder was outstanding when its recorder was made, none was made after that one, and the log, which is that
--- recorder's from then on, gained no entry of the name behind it.
+-- A delta or snapshot of a name is final, for an opener that has made `made` recorders and has this log: no recorder was outstanding when
+-- its recorder was made, none was made after that one, and the log has no entry of the name after the moment at which it began.
 pub record IsFinal (made : ℕ) (log : List Entry) (name : List ℕ) (moment : Moment) : Type 0 where
   pub alone : moment.outstanding ≡ 0
   pub youngest : moment.before + 1 ≡ made
   pub quiet : All (λ entry. is_of name entry ≡ false) (drop moment.log log)
 
--- ---- what it looks at
+-- ---- what it saw since it last began to look
 
--- from now on it looks at single words and counts anew
+-- an actor that begins to look again at single words and counts
 abbrev pub looking : Actor → Actor
 looking a = record a { since = record { singles = length a.seen.singles; counts = length a.seen.counts } }
 
--- single words, and counts, that it saw since its delta or snapshot began
+-- it has seen a single word since it last began to look again
 abbrev pub SawSingle : Actor → ℕ → ℕ → Type 0
 SawSingle a at word = Contains (drop a.since.singles a.seen.singles) (record { at = at; word = word })
 
--- it has seen a count since it last began to look anew
+-- it has seen a count since it last began to look again
 abbrev pub SawCount : Actor → ℕ → ℕ → Type 0
 SawCount a at word = Contains (drop a.since.counts a.seen.counts) (record { at = at; word = word })
 
 -- ---- costs
 
--- the units that costs name, of one histogram, and all of them
+-- the units of one histogram among costs
 abbrev pub cost_of : List Cost → List ℕ → ℕ
 cost_of costs name = sum_by (λ cost. if bytes_eq cost.name name then cost.units else 0) costs
 
--- what all costs come to
+-- the units of all costs
 abbrev pub cost_total : List Cost → ℕ
 cost_total costs = sum_by (λ cost. cost.units) costs
 
@@ -151,7 +150,7 @@ units_of a = a.units.share + cost_total a.units.costs + cost_total a.units.held
 
 -- ---- what it knows
 
--- the histogram of a reference, among those that a `hist` was answered Ok with
+-- the histogram of a reference, among those that a `hist` returned
 abbrev pub known_at : List Known → ℕ → Option Known
 known_at [] reference = None
 known_at (known ∷ rest) reference = if known.reference == reference then Some known else known_at rest reference
@@ -164,12 +163,12 @@ Buckets a histogram known = Contains a.answers.names known × (known.reference �
 abbrev pub Sparse : Actor → ℕ → Known → Type 0
 Sparse a histogram known = Contains a.answers.names known × (known.reference ≡ histogram) × (known.spec ≡ spec.Sparse)
 
--- the number of its buckets, 0 where it is not known
+-- the number of its buckets, 0 if it is not known
 abbrev pub known_buckets : Option Known → ℕ
 known_buckets (Some known) = buckets_of known.spec
 known_buckets None = 0
 
--- the key of a bucket of a known histogram, 0 where it is not known
+-- the key of a bucket of a histogram, 0 if it is not known
 abbrev pub bucket_key : Option Known → ℕ → ℤ
 bucket_key (Some known) i = pos (slice_index (boundaries_of known.spec) i)
 bucket_key None i = pos 0
@@ -205,7 +204,7 @@ all_taken actors = flat_map taken_of actors
 abbrev pub all_published : List Actor → List Published
 all_published actors = flat_map (λ a. a.done.published) actors
 
--- the histograms that all actors were answered with
+-- the histograms that `hist` returned to all actors
 abbrev pub all_names : List Actor → List Known
 all_names actors = flat_map (λ a. a.answers.names) actors
 
@@ -231,8 +230,8 @@ all_costs actors name = sum_by (λ a. cost_of a.units.costs name + cost_of a.uni
 abbrev pub accepted_by : Actor → List Entry
 accepted_by a = a.entries.inherited ++ log_of a
 
--- what had been accepted since the segment was opened, without the first entries of its opener, which stand in no redundant count
--- that is kept here
+-- what had been accepted since the segment was opened, without the first entries of its opener, which no redundant count that is kept here
+-- has
 abbrev pub accepted_since : Actor → Actor → List Entry
 accepted_since opener a = drop (length opener.entries.first) a.entries.inherited ++ map (λ c. c.entry) a.entries.log
 

@@ -1,5 +1,5 @@
--- Allocating: the flags, the free pointer, and the words of a block of its own.
--- An event is read here in one place: what it acts on, when it is ready, what becomes of its actor, and what this learns.
+-- The events of an allocation, on the flags, the free pointer, and the words of the actor's own block.
+-- All about an event is here in one place: what it acts on, when it is ready, what becomes of its actor, and what this learns.
 use Rattle.std.specs.Prelude.{◌≡◌, ◌⊎◌, Bool, true, false, ℕ, ◌+◌, ◌-◌, ◌<◌, ◌≤◌, List, [], ◌∷◌, ◌++◌, length, None, ◌==◌, if◌then◌else◌, nat_lt, replicate, bit_and, ⊤}
 use Rattle.alloc_core.specs.declared.planned.Planned.TheVariants as plan
 use Rattle.alloc_core.specs.Planned.{planned, is_pointer}
@@ -41,14 +41,14 @@ operation size version (set_full wanted) = single (atomic.set_flag FLAG_FULL)
 
 -- ---- when they are ready
 
--- For a block that wants so many words the free pointer may rise so: it claims the block, or it wastes the rest of a page that is too
--- short for it.
+-- The free pointer may rise from `old` to `new` for a block of `wanted` words: the actor claims the block, or wastes the rest of a page
+-- that is too short for it.
 abbrev pub MayRise : Dimensions → (old new wanted : ℕ) → Type 0
 MayRise shape old new wanted =
     (BLOCK_LEAST ≤ wanted) × (wanted ≤ shape.page)
     × (((size : ℕ) × (planned old wanted shape ≡ plan.Claim size new)) ⊎ ((room : ℕ) × (planned old wanted shape ≡ plan.Waste room) × (new ≡ old + room)))
 
--- the cookie of words that an allocation has taken: where they are fewer than its block wants, they are wasted
+-- the cookie of words that an allocation has taken: if they are fewer than its block needs, they are wasted
 abbrev pub cookie_for : (size wanted : ℕ) → ℕ
 cookie_for size wanted = if nat_lt size wanted then WASTED_COOKIE else CLAIMED_COOKIE
 
@@ -75,7 +75,7 @@ size_at (Sized at size wanted) = size
 size_at (Marked at size) = size
 size_at _ = 0
 
--- how many words its block wants, until they are claimed or wasted
+-- how many words its block needs, until they are claimed or wasted
 abbrev pub wanted_at : Place → ℕ
 wanted_at (Raised at size wanted) = wanted
 wanted_at (Sized at size wanted) = wanted
@@ -90,11 +90,11 @@ free_at _ = 0
 abbrev pub new_own : ℕ → ℕ → ℕ → Own
 new_own at size tag = record { at = at; size = size; tag = tag; next = 0; payload = []; made = None }
 
--- payload words, with another stored behind them at an index
+-- payload words, with another stored after them at an index
 abbrev pub stored : List ℕ → ℕ → ℕ → List ℕ
 stored payload index value = payload ++ replicate (index - length payload) 0 ++ value ∷ []
 
--- after an exchange of the free pointer, which went through or not
+-- after an exchange of the free pointer, which succeeded or failed
 abbrev pub after_free : Bool → Actor → (old new wanted found : ℕ) → Actor
 after_free true a old new wanted found = record a {
   hand = record a.hand { place = Raised old (new - old) wanted };
@@ -131,7 +131,7 @@ next a (set_full wanted) found = record a {
 
 -- ---- what it learns
 
--- the flags have the corrupt one, where it has set it; a free pointer is lawful, and no earlier than the one that it knew
+-- the flags have the corrupt one, if the actor has set it; a free pointer is valid, and not below the one that the actor knew
 abbrev pub Learned : Actor → AllocatingEvent → ℕ → Type 0
 Learned a load_flags found = a.done.spoiled ≡ true → bit_and found FLAG_CORRUPT ≡ FLAG_CORRUPT
 Learned a load_free found = Behind a.seen.free found × (is_pointer a.segment.shape found ≡ true)

@@ -1,4 +1,4 @@
--- What the events of several families share: what an actor has in hand and has seen, what it may turn to, and what it learns.
+-- What the events of several families share: what an actor has in hand and has seen, what it may do next, and what it learns.
 use Rattle.std.specs.Prelude.{◌≡◌, ◌≢◌, Bool, true, false, not, ℕ, ◌+◌, ◌*◌, ◌<◌, ◌≤◌, ℤ, List, [], ◌∷◌, ◌++◌, Some, None, ◌==◌, if◌then◌else◌, Option}
 use Rattle.std.specs.List.{filter, Contains}
 use Rattle.bucket_ranges.specs.Spec.{buckets_of}
@@ -34,8 +34,7 @@ change_last change (x ∷ y ∷ rest) = x ∷ change_last change (y ∷ rest)
 
 -- ---- entries
 
--- the running entry that is next, which is the first that has not ended: its units are counted, its amount is added, its units
--- are noted
+-- running entries, with a change to the one that is next, which is the first that has not ended
 abbrev pub change_next : (EntryProgress → EntryProgress) → List EntryProgress → List EntryProgress
 change_next change list = change_first (λ c. not (has_ended c)) change list
 
@@ -55,11 +54,11 @@ without at list = filter (λ own. not (own.at == at)) list
 
 -- ---- what it has seen
 
--- one word more that was seen
+-- one more word that was seen
 abbrev pub sight : ℕ → ℕ → List Sighting
 sight at word = record { at = at; word = word } ∷ []
 
--- a counts reference that is not 0, which never changes any more
+-- a counts reference that was seen, unless it is 0: it never changes again
 abbrev pub sight_counts : ℕ → ℕ → List Sighting
 sight_counts histogram found = if found == 0 then [] else sight (histogram + HISTOGRAM_COUNTS) found
 
@@ -82,7 +81,7 @@ abbrev pub look_of : Place → ℕ → Look
 look_of (Looking look) histogram = same_look look histogram
 look_of _ histogram = nothing_of histogram
 
--- the place after a lost block was purged, and after units were moved
+-- the place after a lost block was purged, units were moved, or a mark was raised
 abbrev pub back : Place → Place
 back (Losing look at) = Looking look
 back (Moving look bucket units) = Looking look
@@ -106,7 +105,7 @@ MayTurn a = is_bound a.hand.place ≡ false
 abbrev pub IsNext : Actor → EntryProgress → Type 0
 IsNext a c = (rest : List EntryProgress) × (filter (λ c. not (has_ended c)) a.entries.running ≡ c ∷ rest)
 
--- its units are counted next, its amount is added next, its units are noted next
+-- the units of this entry are counted next: it is the running entry that is next, and they are not counted yet
 abbrev pub CountsNext : Actor → EntryProgress → Type 0
 CountsNext a c = IsNext a c × (is_counted c ≡ false)
 
@@ -118,7 +117,7 @@ Fills a own = Contains a.hand.own own × (own.next ≡ 0)
 abbrev pub IsKeyOfBucket : Known → ℕ → ℤ → Type 0
 IsKeyOfBucket known bucket key = (bucket < buckets_of known.spec) × (bucket_key (Some known) bucket ≡ key)
 
--- it looks at a histogram with buckets whose counts are not in use yet, or are
+-- it looks at a histogram with buckets whose single word, as it saw it, is not off: the counts are not in use yet
 abbrev pub LooksOpen : Actor → ℕ → ℕ → Look → Known → Type 0
 LooksOpen a histogram word look known =
     (a.hand.place ≡ Looking look) × (look.histogram ≡ histogram) × (look.single ≡ Some word) × (is_off word ≡ false) × Buckets a histogram known
@@ -139,7 +138,7 @@ IsReference a found = is_reference a.segment.shape.size found ≡ true
 abbrev pub IsUnits : ℕ → Type 0
 IsUnits found = found ≤ 4294967295
 
--- counts of a histogram that it knows lie within the segment
+-- the counts of a histogram that it knows are within the segment
 abbrev pub AreCountsOf : Actor → ℕ → ℕ → Type 0
 AreCountsOf a histogram found = (known : Known) → Buckets a histogram known → found ≢ 0
     → found + (BLOCK_HEADER + 2 * buckets_of known.spec) ≤ a.segment.shape.size

@@ -1,5 +1,6 @@
--- EntryProgress: the counts reference of a histogram, a count that stands at a word, the sum, and the redundant count.
--- An event is read here in one place: what it acts on, when it is ready, what becomes of its actor, and what this learns.
+-- The events by which a call counts, on what an entry's progress depends on: the counts reference of a histogram, a count, the sum, and the
+-- redundant count.
+-- All about an event is here in one place: what it acts on, when it is ready, what becomes of its actor, and what this learns.
 use Rattle.std.specs.Prelude.{◌≡◌, ◌⊎◌, true, false, ℕ, ◌+◌, ℤ, List, ◌++◌, ⊤, ◌==◌}
 use Rattle.std.specs.List.{Contains}
 use Rattle.segment_image.specs.declared.layout.TheConstants.{BLOCK_HEADER, HISTOGRAM_COUNTS, SAMPLE_COUNT, HISTOGRAM_REDUNDANT, HISTOGRAM_SUM}
@@ -39,8 +40,8 @@ SumsNext a c = IsNext a c × (is_counted c ≡ true) × (is_summed c ≡ false)
 abbrev pub NotesNext : Actor → EntryProgress → Type 0
 NotesNext a c = IsNext a c × (is_counted c ≡ true) × (is_summed c ≡ true)
 
--- the units of the entry that is next are added to a count: of its bucket, where the single word is off, or of the first
--- sample of its value
+-- the units of the next entry are added to a count: that of its bucket, if the single word is off, or that of the first sample of its
+-- value
 abbrev pub MayCount : Actor → ℕ → ℕ → Type 0
 MayCount a at units =
     (c : EntryProgress) × (known : Known) × CountsNext a c × (c.entry.name ≡ known.name) × (c.entry.units ≡ units)
@@ -63,7 +64,7 @@ Ready a (add_redundant histogram units) =
 abbrev pub sum_next : List EntryProgress → List EntryProgress
 sum_next list = change_next (λ c. record c { summed = true }) list
 
--- the entry that is next is noted
+-- the entry that is next has its units noted
 abbrev pub note_next : List EntryProgress → List EntryProgress
 note_next list = change_next (λ c. record c { noted = true }) list
 

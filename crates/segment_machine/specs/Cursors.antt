@@ -1,5 +1,5 @@
--- Shared cursors, by their numbers.
--- An event is read here in one place: what it acts on, when it is ready, what becomes of its actor, and what this learns.
+-- The events on the shared cursors, which go by their numbers.
+-- All about an event is here in one place: what it acts on, when it is ready, what becomes of its actor, and what this learns.
 use Rattle.std.specs.Prelude.{◌≡◌, ◌≢◌, Bool, true, false, ℕ, ◌+◌, ◌*◌, ◌<◌, ◌≤◌, [], ◌∷◌, ◌++◌, ◌==◌, slice_index, slice_set}
 use Rattle.segment_image.specs.declared.layout.TheConstants.{BLOCK_LEAST, HEADER_WORDS}
 use Rattle.segment_machine.specs.declared.place.Place.TheVariants.{CursorLoaded, BehindCursor, Idle}
@@ -48,7 +48,7 @@ next a (move_cursor cursor old new) found = after_cursor (found == old) a cursor
 
 -- ---- what it learns
 
--- an exchange that comes too late is one more of few: for each there is a record of five words on the list
+-- the number of exchanges that come too late is bounded: the segment has room for a record of five words for each
 abbrev pub Learned : Actor → CursorEvent → ℕ → Type 0
 Learned a (load_cursor cursor) found = IsReference a found
 Learned a (move_cursor cursor old new) found = IsReference a found × (found ≢ old → BLOCK_LEAST * (slice_index a.done.lost cursor + 1) + HEADER_WORDS ≤ a.segment.shape.size)

@@ -10,15 +10,15 @@ use Rattle.segment_machine.specs.declared.entry.EntryProgress.{EntryProgress}
 
 -- ---- what a call counts
 
--- the key of a value: where there are buckets, the least value of its bucket, which is the greatest boundary that is not
--- above the clamped value; where there are none, the value itself
+-- the key of a value: with buckets, the least value of its bucket, which is the greatest boundary that is not above the clamped value;
+-- without, the value itself
 abbrev pub key_of : List ℕ → ℤ → ℤ
 key_of boundaries value =
     if nat_lt 1 (length boundaries)
     then pos (fold max 0 (filter (λ boundary. nat_le boundary (clamped value)) boundaries))
     else value
 
--- the entry of a sample, which is a value and how many units of it: the amount is the value as often as it has units
+-- the entry of a sample, which is a value and its number of units: the amount is the value, clamped if there are buckets, times the units
 abbrev pub sample_entry : List ℕ → List ℕ → ℤ × ℕ → Entry
 sample_entry name boundaries sample = record {
   name = name;
@@ -35,18 +35,18 @@ item_entry name boundaries item = record { name = name; key = key_of boundaries 
 abbrev pub sum_entry : List ℕ → ℤ → Entry
 sum_entry name sum = record { name = name; key = pos 0; units = 0; amount = sum }
 
--- the entries of a batch: one for each item, then one for the sum, where that is not 0
+-- the entries of a batch: one for each item, then one for the sum, unless that is 0
 abbrev pub batch_entries : List ℕ → List ℕ → List (ℤ × ℕ) → ℤ → List Entry
 batch_entries name boundaries items sum =
     map (item_entry name boundaries) items ++ (if int_eq sum (pos 0) then [] else sum_entry name sum ∷ [])
 
--- the units that a batch costs: those of its items, and no fewer than its sum has times 2^31 in size, rounded up
+-- the units that a batch costs: those of its items, but at least the size of its sum divided by 2^31, rounded up
 abbrev pub batch_cost : List (ℤ × ℕ) → ℤ → ℕ
 batch_cost items sum = max (units_of items) ((unsigned_abs sum + 2147483647) / 2147483648)
 
 -- ---- its three events
 
--- an event of an entry that is left out, since its number is 0, counts as happened
+-- its units are counted, or are 0: an event that is left out because its number is 0 counts as done
 abbrev pub is_counted : EntryProgress → Bool
 is_counted c = c.counted || (c.entry.units == 0)
 
@@ -84,11 +84,11 @@ noted_among list = map (λ c. c.entry) (filter is_noted list)
 abbrev pub is_of : List ℕ → Entry → Bool
 is_of name entry = bytes_eq entry.name name
 
--- the tally of entries for a name: for each key the units that have it, and the sum of all amounts
+-- the tally of entries for a name: the units that have a key
 abbrev pub tally_units : List Entry → List ℕ → ℤ → ℕ
 tally_units entries name key = sum_by (λ entry. if is_of name entry && int_eq entry.key key then entry.units else 0) entries
 
--- what the amounts of a name add up to
+-- the sum of all amounts of a name
 abbrev pub tally_sum : List Entry → List ℕ → ℤ
 tally_sum entries name = fold ◌+ℤ◌ (pos 0) (map (λ entry. if is_of name entry then entry.amount else pos 0) entries)
 
@@ -96,8 +96,8 @@ tally_sum entries name = fold ◌+ℤ◌ (pos 0) (map (λ entry. if is_of name e
 abbrev pub tally_noted : List Entry → List ℕ → ℕ
 tally_noted entries name = sum_by (λ entry. if is_of name entry then entry.units else 0) entries
 
--- entries of a call within its cost: the cost has a unit for each of theirs, one of them at most has an amount, and that is
--- at most 2^31 times the cost in size
+-- entries of a call within its cost: their units are at most the cost, at most one of them has an amount, and the size of that is at most
+-- 2^31 times the cost
 pub record AreWithin (name : List ℕ) (cost : ℕ) (entries : List Entry) : Type 0 where
   pub of_name : All (λ entry. entry.name ≡ name) entries
   pub units : tally_noted entries name ≤ cost

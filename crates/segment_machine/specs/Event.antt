@@ -28,8 +28,8 @@ pub data Event : Type 0 where
   taking_event : TakingEvent → Event
   cursor_event : CursorEvent → Event
 
--- what an event does, in a segment of so many words and of this version. The words are those of the segment, then those of
--- the shared cursors
+-- what an event does, in a segment of `size` words and of this version. The words are those of the segment, then those of the shared
+-- cursors
 abbrev pub operation : ℕ → ℕ → Event → Operation
 operation size version (allocating_event event) = allocating.operation size version event
 operation size version (publishing_event event) = publishing.operation size version event
@@ -39,7 +39,7 @@ operation size version (packing_event event) = packing.operation size version ev
 operation size version (taking_event event) = taking.operation size version event
 operation size version (cursor_event event) = cursors.operation size version event
 
--- the word that an event acts on, and what becomes of it
+-- the word that an event acts on
 abbrev pub spot : ℕ → Event → ℕ
 spot size event = spot_of (operation size 1 event)
 
@@ -51,8 +51,8 @@ change version event found = change_of (operation 0 version event) found
 abbrev pub after : ℕ → ℕ → Event → List ℕ → List ℕ
 after size version event words = slice_set words (spot size event) (change version event (word_at words (spot size event)))
 
--- when an actor may do it. What it loads is bound to no order, but what it stores is bound to what it has loaded and stored before: so
--- the events of each call that change a word come in the order that the format gives them
+-- when an actor may do it. Loads may come in any order, but what it stores depends on what it has loaded and stored before: so the events
+-- of each call that change a word come in the order that the format gives them
 abbrev pub Ready : Actor → Event → Type 0
 Ready a (allocating_event event) = allocating.Ready a event
 Ready a (publishing_event event) = publishing.Ready a event
@@ -72,7 +72,7 @@ next a (packing_event event) found = packing.next a event found
 next a (taking_event event) found = taking.next a event found
 next a (cursor_event event) found = cursors.next a event found
 
--- what the actor learns of that number: what a call needs that goes on with it
+-- what the actor learns of that number: what the rest of its call needs to know
 abbrev pub Learned : Actor → Event → ℕ → Type 0
 Learned a (allocating_event event) found = allocating.Learned a event found
 Learned a (publishing_event event) found = publishing.Learned a event found

@@ -1,4 +1,4 @@
--- Worked examples: the words of small segments, actors who made them, and runs of one actor.
+-- Worked examples: the words of small segments, actors that made them, and runs of one actor.
 use Rattle.std.specs.Ordering.{int_eq}
 use Rattle.std.specs.Prelude.{not, ◌≡◌, true, ℕ, ◌+◌, ◌-◌, ◌*◌, ◌^◌, ℤ, pos, negsuc, List, [], ◌∷◌, ◌++◌, map, length, replicate, slice_set, Some}
 use Rattle.segment_image.specs.Shape.{Dimensions}
@@ -48,7 +48,7 @@ abbrev pub mounted_segment : ℕ → ℕ → ℕ → ℕ → ℕ → List ℕ �
 mounted_segment single mark sum sum_mark redundant numbers =
     head_words 42 16 16 ++ boolean_words 32 single mark sum sum_mark redundant ++ counts_words numbers ++ replicate 86 0
 
--- the same in version 2, where two units of 1 were packed first, and the frozen word keeps them
+-- the same in version 2, in which two units of 1 were packed first, and the frozen word keeps them
 abbrev pub frozen_segment : ℕ → ℕ → ℕ → ℕ → List ℕ → List ℕ
 frozen_segment mark sum sum_mark redundant numbers =
     slice_set (mounted_segment 9223372041149743106 mark sum sum_mark redundant numbers) 1 2
@@ -75,11 +75,11 @@ boolean = 0 ∷ 1 ∷ 2 ∷ 2147483647 ∷ []
 abbrev pub one : ℕ → Entry
 one value = sample_entry letter_a boolean (pos value, 1)
 
--- an entry of which all has happened; an amount of 0 is not added
+-- an entry with all its events done; an amount of 0 is not added
 abbrev pub whole : Entry → EntryProgress
 whole entry = record { entry = entry; counted = true; summed = not (int_eq entry.amount (pos 0)); noted = true }
 
--- an actor with another log, with other deltas, and at another place
+-- an actor with another log
 abbrev pub with_log : Actor → List EntryProgress → Actor
 with_log a log = record a { entries = record a.entries { log = log } }
 
@@ -91,7 +91,7 @@ with_taken a taken = record a { deltas = record a.deltas { taken = taken } }
 abbrev pub at_place : Actor → Place → Actor
 at_place a place = record a { hand = record a.hand { place = place } }
 
--- who made `A` and recorded these, of a unit each
+-- the opener, after it made `A` and recorded these values, each with one unit
 abbrev pub maker : List ℕ → Actor
 maker values = record (opener_of shape 1 0) {
   units = record {
@@ -119,7 +119,7 @@ mounter values = record (maker values) {
   seen = record (maker values).seen { free = 42 };
 }
 
--- a delta of `A` that a recorder took when its log had so many entries, and which was the first that was made
+-- a delta of `A` that the recorder that was made first took when its log had `entries` entries
 abbrev pub taken_at : ℕ → List (ℤ × ℕ) → ℤ → Taken
 taken_at entries counts sum = record {
   name = letter_a;
@@ -131,7 +131,7 @@ taken_at entries counts sum = record {
 
 -- ---- keys
 
--- values below 0 and above all boundaries are clamped; each key is the least value of its bucket, and without buckets the value
+-- values below 0 and above all boundaries are clamped; a key is the least value of its bucket, or without buckets the value itself
 abbrev pub Keys : Type 0
 Keys =
     (map (key_of boolean) (negsuc 2 ∷ pos 0 ∷ pos 1 ∷ pos 5 ∷ pos 2147483647 ∷ []) ≡ pos 0 ∷ pos 0 ∷ pos 1 ∷ pos 2 ∷ pos 2 ∷ [])
@@ -210,12 +210,12 @@ PackedRun =
     × (sampled.entries.log ≡ whole (one 1) ∷ []) × (sampled.entries.running ≡ []) × (sampled.units.share ≡ 4294967294)
     × (units_of sampled ≡ 4294967295) × (units_of sampler ≡ 4294967295)
 
--- events one after the other, each with what it found: each may be done, and what becomes of the actor
+-- events one after the other, each with the number that it found: the actor may do each in its turn
 abbrev pub AreReady : Actor → List (Event × ℕ) → Type 0
 AreReady a [] = Unit {0}
 AreReady a (e ∷ rest) = Ready a e.0 × AreReady (next a e.0 e.1) rest
 
--- an actor behind events, each with the number that it found
+-- an actor after events, each with the number that it found
 abbrev pub run : Actor → List (Event × ℕ) → Actor
 run a [] = a
 run a (e ∷ rest) = run (next a e.0 e.1) rest
@@ -232,7 +232,7 @@ mounting =
 abbrev pub mounts : Actor
 mounts = noted (maker (1 ∷ 1 ∷ [])) (begins letter_a 1 (one 0 ∷ []))
 
--- an `add` that mounts counts may do each event when it comes
+-- an `add` that mounts counts may do each event in its turn
 abbrev pub MountingRun : Type 0
 MountingRun =
     AreReady mounts mounting
@@ -241,8 +241,8 @@ MountingRun =
     × ((run mounts mounting).hand.own ≡ [])
     × ((run mounts mounting).seen.free ≡ 42)
 
--- A taker has loaded the single word (1, 2). Where the mark was 0 it takes two units and the sum 2; where another taker has
--- raised the mark to 3 and swapped the sum 3 in before, it takes nothing.
+-- A taker has loaded the single word (1, 2). If the mark was 0 it takes two units and the sum 2; if another taker has raised the mark to 3
+-- and swapped in the sum 3 before, it takes nothing.
 abbrev pub taker : Actor
 taker = next (noted (maker (1 ∷ 1 ∷ [])) (takes letter_a)) (packing_event (load_single 16)) 4294967298
 
@@ -250,13 +250,13 @@ abbrev pub took : ℕ → ℕ → ℕ → Actor
 took mark sum sum_mark =
     next (next (next taker (taking_event (raise_single_mark 16 2)) mark) (taking_event (load_sum 16)) sum) (taking_event (swap_sum_mark 16 (pos sum))) sum_mark
 
--- what a delta takes of a packed word: all of it, or nothing where another delta was first
+-- what a delta takes of a packed word: all of it, or nothing if another delta came first
 abbrev pub TakerRuns : Type 0
 TakerRuns =
     (map (λ t. t.counts) (took 0 2 0).deltas.taken ≡ ((pos 1, 2) ∷ []) ∷ []) × (map (λ t. t.sum) (took 0 2 0).deltas.taken ≡ pos 2 ∷ [])
     × (map (λ t. t.counts) (took 3 3 3).deltas.taken ≡ [] ∷ []) × (map (λ t. t.sum) (took 3 3 3).deltas.taken ≡ pos 0 ∷ [])
 
--- the events of that delta, each of which may be done; behind them the delta has taken all, and may end
+-- the events of that delta, each of which may be done; after them the delta has taken all, and may end
 abbrev pub taking : List (Event × ℕ)
 taking = (packing_event (load_single 16), 4294967298) ∷ (taking_event (raise_single_mark 16 2), 0) ∷ (taking_event (load_sum 16), 2) ∷ (taking_event (swap_sum_mark 16 (pos 2)), 0) ∷ []
 
@@ -284,7 +284,7 @@ sparse_segment =
 
 -- ---- batches
 
--- items of amount 0, then the sum; a batch of no items and no sum has no entries; a sum costs its size in units of 2^31
+-- items of amount 0, then the sum; an empty batch with sum 0 has no entries; a sum costs one unit for each 2^31 of its size, rounded up
 abbrev pub BatchExamples : Type 0
 BatchExamples =
     (batch_entries letter_a boolean ((pos 0, 2) ∷ (pos 1, 3) ∷ []) (pos 3)

@@ -16,7 +16,7 @@ KeysAreLeast = (boundaries : List ℕ) (value : ℤ) (bucket : ℕ) → AreBound
 
 -- ---- one step
 
--- a step changes one word and one actor at most
+-- a step changes at most one word and one actor
 abbrev pub StepsChangeOne : Type 0
 StepsChangeOne = (version : ℕ) (old new : State) (id : ℕ) (event : Event) → IsStep version old id event new
     → ((at : ℕ) → at ≢ spot (length old.words) event → word_at (memory new) at ≡ word_at (memory old) at)

@@ -10,7 +10,8 @@ use Rattle.segment_machine.specs.State.{State}
 use Rattle.segment_machine.specs.Reached.{new_state, IsState, IsJoined}
 use Rattle.segment_machine.specs.Examples.{shape}
 
--- a new segment with a shared cursor, whose opener offers five units, makes a recorder with them, lends it three more, and gets one back
+-- a new segment with one shared cursor; below, its opener offers five units, makes a recorder with them, lends it three more, and gets one
+-- back
 abbrev pub opened : State
 opened = new_state shape 1 7 1
 
@@ -39,7 +40,7 @@ last_opener = joined (getter (giver split_opener 3) 1) looked
 abbrev pub joined_state : State
 joined_state = with_actors (last_opener ∷ spent ∷ [])
 
--- the state behind its join is one of a new segment, nothing is outstanding, and the opener has all units again and has seen what
+-- the state after its join is reached from a new segment, no recorder is outstanding, and the opener has all units again and has seen what
 -- the recorder saw
 abbrev pub RecorderIsJoined : Type 0
 RecorderIsJoined =

@@ -19,7 +19,7 @@ use Rattle.segment_machine.specs.Races.{finds_packed, disables, counts_zero}
 
 -- ---- a snapshot
 
--- one unit of 0, two of 1 and none of 2, with the sum 2; its recorder was the first, and has accepted two
+-- one unit of 0, two of 1 and none of 2, with the sum 2; its recorder was made first, and has accepted two samples
 abbrev pub snapshot : Answered
 snapshot = record {
   name = letter_a;
@@ -40,7 +40,7 @@ snapping version =
 abbrev pub snapped : ℕ → State
 snapped version = played version (new_state shape version 7 0) (snapping version)
 
--- in version 1 the two units stand in the counts, in version 2 in the frozen word
+-- in version 1 the counts have the two units, in version 2 the frozen word has them
 abbrev pub SnapshotRun : Type 0
 SnapshotRun =
     (IsState shape 1 7 0 (snapped 1) × ((actor_of (snapped 1) 1).deltas.snapshots ≡ snapshot ∷ [])
@@ -53,7 +53,7 @@ SnapshotRun =
 abbrev pub known_b : Known
 known_b = record { name = 66 ∷ []; spec = spec.Boolean; reference = 32 }
 
--- the records `A` and `B` are made; then two recorders ask one cursor in turn, and the first once more
+-- the records `A` and `B` are made; then two recorders ask one cursor in turn, and the first asks once more
 abbrev pub sharing : List RunAction
 sharing =
     two_recorders ++ hist 1 12 known_a ((0, 2) ∷ (1, 1) ∷ (2, 2) ∷ (3, 3) ∷ (10, 1) ∷ (11, 65) ∷ [])

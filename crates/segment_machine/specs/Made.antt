@@ -1,4 +1,4 @@
--- What a record holds that was given to its maker, in the words of a payload and in what an actor has seen of it.
+-- What a record holds of what was given to its maker, in the words of a payload and in what an actor has seen of it.
 pub use Rattle.segment_calls.specs.Asked.{AreNameWords}
 use Rattle.std.specs.Prelude.{◌≡◌, ◌≢◌, ◌⊎◌, true, ℕ, ◌+◌, ◌<◌, ℤ, List, [], ◌∷◌, ◌++◌, length, replicate, slice_index, Some}
 use Rattle.std.specs.Int.{w64, cast_unsigned}
@@ -34,7 +34,7 @@ SawName seen name at =
     × (letters : List ℕ) × AreNameWords name letters
     × ((i : ℕ) → i < length letters → word_seen seen.words (at + HISTOGRAM_NAME + i) ≡ Some (slice_index letters i))
 
--- it saw that a record is none of this name: its type is another, or the length of the name is, or the bytes of a word of it are
+-- it saw that a record is not of this name: its type differs, or the length of its name, or the bytes of a word of its name
 abbrev pub SawOtherName : Seen → List ℕ → ℕ → Type 0
 SawOtherName seen name at =
     ((tag : ℕ) × (word_seen seen.words (at + BLOCK_TYPE) ≡ Some tag) × (tag ≢ TYPE_HISTOGRAM))
@@ -42,14 +42,14 @@ SawOtherName seen name at =
     ⊎ ((letters : List ℕ) × (i word : ℕ) × AreNameWords name letters × (i < length letters)
     × (word_seen seen.words (at + HISTOGRAM_NAME + i) ≡ Some word) × (bytes_of_words (word ∷ []) ≢ bytes_of_words (slice_index letters i ∷ [])))
 
--- it saw the spec of a record whose name has so many words
+-- it saw the spec of a record whose name has `letters` words
 abbrev pub SawSpec : Seen → Spec → ℕ → ℕ → Type 0
 SawSpec seen spec letters at =
     ((i : ℕ) → i < 4 → word_seen seen.words (at + HISTOGRAM_KIND + i) ≡ Some (slice_index (spec_fields spec) i))
     × ((i : ℕ) → i < length (spec_ranges spec)
     → word_seen seen.words (at + HISTOGRAM_NAME + letters + i) ≡ Some (slice_index (spec_ranges spec) i))
 
--- it saw that the spec of a record whose name has so many words is another one: a field differs, or a range does
+-- it saw that a record whose name has `letters` words has another spec: a field differs, or a range does
 abbrev pub SawOtherSpec : Seen → Spec → ℕ → ℕ → Type 0
 SawOtherSpec seen spec letters at =
     ((i word : ℕ) × (i < 4) × (word_seen seen.words (at + HISTOGRAM_KIND + i) ≡ Some word) × (word ≢ slice_index (spec_fields spec) i))
@@ -67,14 +67,14 @@ SawSample seen histogram value at =
     (word_seen seen.words (at + BLOCK_TYPE) ≡ Some TYPE_SAMPLE) × (word_seen seen.words (at + SAMPLE_HISTOGRAM) ≡ Some histogram)
     × (word_seen seen.words (at + SAMPLE_VALUE) ≡ Some (cast_unsigned w64 value)) × (is_i32 value ≡ true)
 
--- it saw that a record is none
+-- it saw that a record is no sample of this value of a histogram
 abbrev pub SawOther : Seen → ℕ → ℤ → ℕ → Type 0
 SawOther seen histogram value at =
     ((tag : ℕ) × (word_seen seen.words (at + BLOCK_TYPE) ≡ Some tag) × (tag ≢ TYPE_SAMPLE))
     ⊎ ((of : ℕ) × (word_seen seen.words (at + SAMPLE_HISTOGRAM) ≡ Some of) × (of ≢ histogram))
     ⊎ ((word : ℕ) × (word_seen seen.words (at + SAMPLE_VALUE) ≡ Some word) × (word ≢ cast_unsigned w64 value))
 
--- the first sample of a value behind the record of its histogram, as far as the actor walked along the chain
+-- the first sample of a value after the record of its histogram, as far as the actor walked along the chain
 abbrev pub IsFirstSample : Seen → ℕ → ℤ → ℕ → Type 0
 IsFirstSample seen histogram value at =
     (front rest : List ℕ) × (seen.chain ≡ front ++ histogram ∷ rest)

@@ -1,5 +1,5 @@
--- What an actor notes in its own record. A note changes no word; it comes at one of its actor's events, before or behind what that
--- event makes of it, or in an announcement. So a step still changes one word and one actor at most.
+-- What an actor notes in its own record. A note changes no word. It is made with one of its actor's events, before or after it, or in an
+-- announcement. So a step still changes at most one word and one actor.
 use Rattle.std.specs.Prelude.{◌≡◌, ◌≢◌, Bool, true, false, not, ◌&&◌, ◌==◌, ℕ, ◌+◌, ◌-◌, ◌*◌, ◌<◌, ◌≤◌, ℤ, pos, unsigned_abs, ◌⊎◌, List, [], ◌∷◌, ◌++◌, map, take, drop, length, Some, None}
 use mathlib.Core.Option.{some}
 use lib.ListN.{get_elem?}
@@ -31,26 +31,26 @@ use Rattle.segment_machine.specs.Calls.{change_last, change_own}
 pub data Note : Type 0 where
   -- a call that counts begins: entries of a histogram, and what it holds for them
   begins : (name : List ℕ) (cost : ℕ) (entries : List Entry) → Note
-  -- a call whose entries have all ended goes on with one more entry, and holds so many units beside: so a batch is told item by item
+  -- a call whose entries have all ended continues with one more entry, and holds `cost` more units: a batch does so, item by item
   goes_on : (entry : Entry) (cost : ℕ) → Note
-  -- the amount of the last entry becomes known, where it was told as 0: that of a sample, or of a batch's sum
+  -- the amount of the last entry, given as 0 at first, becomes known: that of a sample, or of a batch's sum
   amounts : (amount : ℤ) → Note
   -- the block at a word is to hold this
   asks : (at : ℕ) (made : Made) → Note
-  -- a `hist` is answered Ok with this. What the actor saw before may be of this histogram, so it looks anew
+  -- a `hist` returns this histogram. What the actor saw before may be of it, so the actor looks again
   knows : (known : Known) → Note
   -- a `hist` that has linked its record is refused: an earlier record of the name has another spec
   declines : (mine : Known) → Note
   -- a delta of a histogram begins, and ends
   takes : (name : List ℕ) → Note
   has_taken : Note
-  -- a snapshot begins, and is answered
+  -- a snapshot begins, and returns
   looks : Note
   answers : (answered : Answered) → Note
   -- a call that counts ends: it was accepted
   ends : Note
-  -- it ends refused: its first entries have ended, nothing has happened of the others, and no amount was added, since the units that
-  -- stand for an amount would come back with those of the others
+  -- it ends refused: its first `added` entries have ended, nothing of the others was done, and no amount was added, since the units that
+  -- pay for an amount would come back with those of the others
   refused : (added : ℕ) → Note
 
 -- when a delta or a snapshot of this actor begins
@@ -61,7 +61,7 @@ moment_of a = record { log = length (log_of a); before = made_of a.role; outstan
 abbrev pub nothing_taken : Actor → List ℕ → Taken
 nothing_taken a name = record { name = name; counts = []; sum = pos 0; swapped = false; moment = moment_of a }
 
--- of an entry nothing has happened
+-- nothing of an entry was done
 abbrev pub is_untouched : EntryProgress → Bool
 is_untouched c = not c.counted && not c.summed && not c.noted
 
@@ -73,7 +73,7 @@ units_running list name = tally_noted (map (λ c. c.entry) list) name
 abbrev pub spent_by : ℕ → Actor → List Cost
 spent_by added a = map (λ (cost : Cost). record cost { units = units_running (take added a.entries.running) cost.name }) a.units.held
 
--- what becomes of its record
+-- an actor after it made a note
 abbrev pub noted : Actor → Note → Actor
 noted a (begins name cost entries) = record a {
   units = record a.units { share = a.units.share - cost; held = record { name = name; units = cost } ∷ [] };
@@ -113,8 +113,8 @@ noted a (refused added) = record (looking a) {
   entries = record a.entries { log = a.entries.log ++ take added a.entries.running; running = [] };
 }
 
--- what it saw of a bucket: packed units; or, where the word is off, the count that stands behind the counts reference, in
--- version 2 with the units that the word keeps
+-- what it saw of a bucket: packed units; or, if the word is off, the count in the block of the counts reference, in version 2 with the
+-- units that the word keeps
 abbrev pub SawBucket : Actor → Known → ℕ → ℕ → Type 0
 SawBucket a known bucket total =
     (word : ℕ) × SawSingle a (known.reference + HISTOGRAM_SINGLE) word
@@ -123,7 +123,7 @@ SawBucket a known bucket total =
     ⊎ ((is_off word ≡ true) × ((counts count : ℕ) × (word_seen a.seen.words (known.reference + HISTOGRAM_COUNTS) ≡ Some counts)
     × SawCount a (counts + BLOCK_HEADER + bucket) count × (total ≡ count + units_packed form bucket))))
 
--- where the mark of a bucket stands: the single mark of the packed bucket, or behind the counts
+-- where the mark of a bucket is: the single mark for the packed bucket, or in the counts block, after the counts
 abbrev pub IsMarkOf : Actor → Known → ℕ → ℕ → Type 0
 IsMarkOf a known bucket at =
     ((word : ℕ) × SawSingle a (known.reference + HISTOGRAM_SINGLE) word
@@ -141,16 +141,16 @@ abbrev pub TookSample : Actor → ℕ → Type 0
 TookSample a sample =
     (count : ℕ) × SawCount a (sample + SAMPLE_COUNT) count × ((count ≡ 0) ⊎ ((mark : ℕ) × SawCount a (sample + SAMPLE_MARK) mark × (count ≤ mark)))
 
--- A delta has taken all that it saw: of each bucket, or of each sample of its histogram that it met; and the sum was swapped.
+-- A delta has taken all that it saw: of each bucket, or of each sample of its histogram that it visited; and the sum was swapped.
 pub record TookAll (a : Actor) (known : Known) : Type 0 where
   pub buckets : has_buckets known.spec ≡ true → (bucket : ℕ) → bucket < buckets_of known.spec → TookBucket a known bucket
   pub samples : known.spec ≡ spec.Sparse → (value : ℤ) (sample : ℕ) → Contains a.seen.chain sample
       → SawSample a.seen known.reference value sample → TookSample a sample
   pub summed : (before : List Taken) × (last : Taken) × (a.deltas.taken ≡ before ++ last ∷ []) × (last.name ≡ known.name) × (last.swapped ≡ true)
 
--- A snapshot is what it saw since it began: each bucket once, in order, with its total; or samples, each value once with the
--- count of its first sample, and of all samples of its histogram that it met each that has a count; the sum that it loaded; and
--- the redundant count, which it loaded last.
+-- A snapshot returns what it saw since it began: each bucket once, in order, with its total; or values, each once, with the count of their
+-- first sample, and among them every value for which it visited a sample with a count; the sum that it loaded; and the redundant count,
+-- which it loaded last.
 pub record SawAll (a : Actor) (known : Known) (answered : Answered) : Type 0 where
   pub buckets : has_buckets known.spec ≡ true
       → (map (λ count. count.0) answered.counts ≡ map (bucket_key (Some known)) (range_with_len 0 (buckets_of known.spec)))

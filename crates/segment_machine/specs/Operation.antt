@@ -2,8 +2,8 @@
 use Rattle.std.specs.Prelude.{ℕ, ◌+◌, ◌%◌, ◌^◌, max}
 use Rattle.alloc_core.specs.Event as atomic
 
--- What can happen to a word: what an allocation or a publish does, or a sum modulo 2^64, the greater of it and another number,
--- or another number in its place.
+-- What can happen to a word: an access of an allocation or a publish; an addition modulo 2^64; a raise to at least another number; or a
+-- swap for another number.
 pub data Operation : Type 0 where
   single : atomic.Access → Operation
   add : (at amount : ℕ) → Operation

@@ -1,5 +1,6 @@
--- Packing: the single word, the counts reference, the type of a lost block, and the units on their way.
--- An event is read here in one place: what it acts on, when it is ready, what becomes of its actor, and what this learns.
+-- The events of packing and mounting, on the single word, the counts reference, the type of a lost block, and the count to which units
+-- move.
+-- All about an event is here in one place: what it acts on, when it is ready, what becomes of its actor, and what this learns.
 use Rattle.std.specs.Prelude.{◌≡◌, ◌≢◌, Bool, true, false, ℕ, ◌+◌, ◌*◌, ◌≤◌, [], ◌++◌, Some, None, ◌&&◌, ◌==◌, nat_lt, if◌then◌else◌, Option, unwrap_or, ⊤}
 use Rattle.std.specs.List.{Contains}
 use Rattle.bucket_ranges.specs.Spec.{buckets_of}
@@ -45,8 +46,8 @@ operation size version (add_moved counts bucket units) = add (counts + BLOCK_HEA
 abbrev pub IsBlankCounts : Own → ℕ → Type 0
 IsBlankCounts own n = (own.tag ≡ TYPE_COUNTS) × (own.next ≡ 0) × (own.payload ≡ []) × (BLOCK_HEADER + 2 * n ≤ own.size)
 
--- a call that counts in a histogram may make room there: no delta is going on, and where an entry is next, it is of this histogram and
--- not counted yet
+-- a call that counts in a histogram may make room there: no delta is running, and an entry that is next is of this histogram and not
+-- counted yet
 abbrev pub CountsIn : Actor → Known → Type 0
 CountsIn a known = (a.deltas.taking ≡ false) × ((c : EntryProgress) → IsNext a c → (is_counted c ≡ false) × (c.entry.name ≡ known.name))
 
@@ -65,7 +66,7 @@ Ready a (add_moved counts bucket units) = (look : Look) × (a.hand.place ≡ Mov
 
 -- ---- what becomes of the actor
 
--- the place after an exchange that disabled a word: in version 1 its units, where it had some, are in transit
+-- the place after an exchange that disabled a word: in version 1 its units, if it had any, are in transit
 abbrev pub after_disabling : ℕ → Look → ℕ → Option SingleWord → Place
 after_disabling version look old form =
     if (version == 1) && nat_lt 0 old

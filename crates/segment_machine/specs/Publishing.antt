@@ -1,5 +1,5 @@
--- Publishing: the next of a record of its own, the tail, and the next behind which it links.
--- An event is read here in one place: what it acts on, when it is ready, what becomes of its actor, and what this learns.
+-- The events of a publish, on the next of the actor's own record, the tail, and the next of the record after which it links.
+-- All about an event is here in one place: what it acts on, when it is ready, what becomes of its actor, and what this learns.
 use Rattle.std.specs.Prelude.{◌≡◌, ◌≢◌, ◌⊎◌, Bool, true, false, ℕ, ◌+◌, ◌*◌, ◌≤◌, List, [], ◌∷◌, ◌++◌, Some, None, ◌==◌, if◌then◌else◌, Option, ⊤}
 use Rattle.std.specs.List.{Contains}
 use Rattle.bucket_ranges.specs.Spec.{buckets_of, spec_fault}
@@ -39,7 +39,7 @@ operation size version (move_tail old new) = single (publish.move_tail old new)
 abbrev pub Waits : Actor → Own → Type 0
 Waits a own = Contains a.hand.own own × (own.next ≡ QUEUE)
 
--- A block of its own may be published as what it is to hold. A histogram has a lawful name and a lawful spec, whose counts fit in a
+-- A block of its own may be published as what it is to hold. A histogram has a valid name and a valid spec, whose counts fit in a
 -- page. A sample has a value of an `i32`, and names a known sparse histogram.
 abbrev pub MayPublish : Actor → Own → Made → Type 0
 MayPublish a own (Histogram name spec) =
@@ -62,7 +62,7 @@ abbrev pub own_at : List Own → ℕ → Option Own
 own_at [] at = None
 own_at (own ∷ rest) at = if own.at == at then Some own else own_at rest at
 
--- what a block of its own is published as
+-- the record as which a block of its own is published
 abbrev pub published_as : Option Own → ℕ → List Published
 published_as None at = []
 published_as (Some own) at = published_made own.made at
@@ -71,7 +71,7 @@ published_as (Some own) at = published_made own.made at
     published_made None at = []
     published_made (Some made) at = record { reference = at; made = made } ∷ []
 
--- what a `hist` owes once it has linked its record: an answer
+-- the answer that a `hist` owes once it has linked its record
 abbrev pub owed_for : Option Own → ℕ → List Known
 owed_for None at = []
 owed_for (Some own) at = owed_made own.made at
@@ -81,7 +81,7 @@ owed_for (Some own) at = owed_made own.made at
     owed_made (Some (Sample histogram value)) at = []
     owed_made None at = []
 
--- after a link, which went through or not
+-- after a link, which succeeded or failed
 abbrev pub after_link : Bool → Actor → ℕ → ℕ → ℕ → Actor
 after_link true a tail at found = record a {
   hand = record { place = Linked at tail; own = without at a.hand.own };
@@ -100,7 +100,7 @@ next a (move_tail old new) found =
 
 -- ---- what it learns
 
--- a link that comes too late is one more of few: for each there is a record of five words on the list
+-- the number of links that come too late is bounded: the segment has room for a record of five words for each
 abbrev pub Learned : Actor → PublishingEvent → ℕ → Type 0
 Learned a load_tail found = IsReference a found
 Learned a (link tail at) found = IsReference a found × (found ≢ QUEUE → BLOCK_LEAST * (a.done.beaten + 1) + HEADER_WORDS ≤ a.segment.shape.size)

@@ -1,5 +1,5 @@
 -- Worked runs in which two recorders meet: one stops in transit, one stalls while another takes, both mount counts, and both make a
--- sample of one value. In both versions, but for the lost block.
+-- sample of one value. In both versions, except for the lost block.
 use Rattle.std.specs.Prelude.{◌≡◌, ℕ, pos, negsuc, List, [], ◌∷◌, ◌++◌, map, replicate, slice_set}
 use Rattle.bucket_ranges.specs.declared.spec.Spec.TheVariants as spec
 use Rattle.segment_machine.specs.declared.actor.Known.{Known}
@@ -19,7 +19,7 @@ use Rattle.segment_machine.specs.Reached.{new_state, IsState}
 use Rattle.segment_machine.specs.Examples.{shape, letter_a, letter_s, one, known_a, head_words, boolean_words, counts_words, in_transit, stopped_frozen, taken_once, taken_once_frozen}
 use Rattle.segment_machine.specs.Worked.{RunAction, acts, played, actor_of, by, claims, fills, meets, moves, hist, hist_found, two_recorders, two_packed, delta}
 
--- the state after deeds, from a new segment
+-- the state after actions, from a new segment
 abbrev pub after : ℕ → List RunAction → State
 after version deeds = played version (new_state shape version 7 0) deeds
 
@@ -41,7 +41,7 @@ counts_zero id = by id (counting_event (add_count 36 1) ∷ []) ++ acts id [] (c
 abbrev pub stopping : List RunAction
 stopping = two_packed ++ hist_found 2 12 known_a ++ finds_packed 2 0 ++ by 2 (claims 32 10 2 ++ disables)
 
--- it stops with these words, and so many units of each bucket in transit
+-- it stops with these words, and with these units of each bucket in transit
 abbrev pub StopsInTransit : ℕ → List ℕ → List ℕ → Type 0
 StopsInTransit version words transit =
     IsState shape version 7 0 (after version stopping) × ((after version stopping).words ≡ words)
@@ -53,7 +53,8 @@ StoppedRun = StopsInTransit 1 in_transit (0 ∷ 2 ∷ 0 ∷ []) × StopsInTransi
 
 -- ---- two takers of a packed word
 
--- The second recorder begins a delta and stalls. The first counts 0, which mounts the counts, then 1, and takes all; then the other goes on.
+-- The second recorder begins a delta and stalls. The first counts 0, which mounts the counts, then 1, and takes all; then the second
+-- continues.
 abbrev pub stalling : ℕ → List RunAction
 stalling version =
     two_packed ++ hist_found 2 12 known_a ++ acts 2 (takes letter_a ∷ []) (packing_event (load_single 16)) []
@@ -73,14 +74,14 @@ IsStalled version words =
     × (map (λ t. t.counts) (actor_of state 1).deltas.taken ≡ ((pos 0, 1) ∷ (pos 1, 3) ∷ []) ∷ []) × (map (λ t. t.sum) (actor_of state 1).deltas.taken ≡ pos 3 ∷ [])
     × (map (λ t. t.counts) (actor_of state 2).deltas.taken ≡ [] ∷ []) × (map (λ t. t.sum) (actor_of state 2).deltas.taken ≡ pos 0 ∷ [])
 
--- two takers of one count, one of which stalls, in both versions
+-- two takers of the same packed units, one of which stalls, in both versions
 abbrev pub StalledRun : Type 0
 StalledRun = IsStalled 1 taken_once × IsStalled 2 taken_once_frozen
 
 -- ---- a lost counts block
 
--- Both recorders count a 0, find no counts, and claim a block. The first mounts its own; the second purges its own, and counts in those of the
--- first.
+-- Both recorders count a 0, find no counts, and claim a block. The first mounts its own; the second purges its own, and counts in that of
+-- the first.
 abbrev pub losing : List RunAction
 losing =
     two_packed ++ hist_found 2 12 known_a ++ finds_packed 1 0 ++ finds_packed 2 0
@@ -119,7 +120,7 @@ counts_first id units =
     by id (walking_event (load_next 16) ∷ meets 40 (2 ∷ 4 ∷ 5 ∷ []) ++ counting_event (add_count 46 units) ∷ counting_event (add_sum 16 entry.amount) ∷ [])
     ++ acts id [] (counting_event (add_redundant 16 units)) (ends ∷ []) ∷ []
 
--- Both make a sample of -5. The second links its own first, and the first finds it behind the tail, moves the tail on and tries again.
+-- Both make a sample of -5. The second links its own first; the first finds it after the tail, moves the tail, and tries again.
 abbrev pub racing : List RunAction
 racing =
     two_recorders ++ hist 1 12 known_s ((0, 4) ∷ (10, 1) ∷ (11, 83) ∷ []) ++ hist_found 2 12 known_s

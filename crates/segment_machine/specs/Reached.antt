@@ -1,5 +1,5 @@
 -- The states that are reached: a new segment, and from there steps, announcements, recorders that are made and joined, and units that
--- are lent, at once or in a purse, and given back, in whatever order.
+-- are lent, at once or in a purse, and given back, in any order.
 use Rattle.std.specs.Prelude.{◌≡◌, ◌≢◌, ◌⊎◌, ℕ, ◌≤◌, List, [], ◌∷◌, ◌++◌, slice_set, replicate, false}
 use mathlib.Core.Option.{some}
 use lib.ListN.{get_elem?}
@@ -15,7 +15,7 @@ use Rattle.segment_machine.specs.Actor.{is_opener, offered_of, outstanding_of}
 
 -- ---- the states that are reached
 
--- a new segment with so many shared cursors, and its opener
+-- a new segment with `cursors` shared cursors, and its opener
 abbrev pub new_state : Dimensions → ℕ → ℕ → ℕ → State
 new_state shape version id cursors = record {
   words = render shape (fresh shape version id);
@@ -23,20 +23,19 @@ new_state shape version id cursors = record {
   actors = opener_of shape version cursors ∷ [];
 }
 
--- Announcements, which change no word and are steps of their own: a recorder tells notes, and an opener how many units it is to hand
--- out next.
+-- An announcement, which is a step of its own and changes no word: a recorder makes notes.
 abbrev pub IsAnnounced : State → ℕ → State → Type 0
 IsAnnounced old id new =
     (a b : Actor) × (notes : List Note) × (get_elem? old.actors id ≡ some a) × (is_opener a.role ≡ false) × Notes a notes b
     × (new ≡ record old { actors = slice_set old.actors id b })
 
--- an opener says how many units it is to hand out next
+-- an opener says how many units it hands out next, which changes no word either
 abbrev pub IsOffered : State → ℕ → ℕ → State → Type 0
 IsOffered old id units new =
     (a : Actor) × (get_elem? old.actors id ≡ some a) × MayOffer a units
     × (new ≡ record old { actors = slice_set old.actors id (offering a units) })
 
--- an opener makes a recorder, and joins one
+-- an opener makes a recorder
 abbrev pub IsSplit : State → ℕ → State → Type 0
 IsSplit old id new =
     (a : Actor) × (get_elem? old.actors id ≡ some a) × MaySplit a
@@ -48,7 +47,7 @@ IsJoin old id other new =
     (a b : Actor) × (id ≢ other) × (get_elem? old.actors id ≡ some a) × (get_elem? old.actors other ≡ some b) × MayJoin a b
     × (new ≡ record old { actors = slice_set (slice_set old.actors id (joined a b)) other spent })
 
--- an opener lends units to a recorder, and gets units back
+-- an opener lends units to a recorder
 abbrev pub IsLent : State → ℕ → ℕ → ℕ → State → Type 0
 IsLent old id other units new =
     (a b : Actor) × (id ≢ other) × (get_elem? old.actors id ≡ some a) × (get_elem? old.actors other ≡ some b) × MayLend a b units
@@ -60,7 +59,7 @@ IsReturned old id other units new =
     (a b : Actor) × (id ≢ other) × (get_elem? old.actors id ≡ some a) × (get_elem? old.actors other ≡ some b) × MayReturn a b units
     × (new ≡ record old { actors = slice_set (slice_set old.actors id (getter a units)) other (giver b units) })
 
--- an opener fills a purse, which comes behind all actors
+-- an opener fills a purse, which is added after all actors
 abbrev pub IsFilled : State → ℕ → State → Type 0
 IsFilled old id new =
     (a : Actor) × (get_elem? old.actors id ≡ some a) × MayFill a
@@ -72,8 +71,8 @@ IsPoured old id other new =
     (b c : Actor) × (id ≢ other) × (get_elem? old.actors id ≡ some b) × (get_elem? old.actors other ≡ some c) × MayPour b c
     × (new ≡ record old { actors = slice_set (slice_set old.actors id (getter b c.units.share)) other spent })
 
--- from one state steps, announcements, recorders that are made and joined, and units that are lent and given back lead to another, in
--- whatever order
+-- one state leads to another by steps, announcements, offers, recorders that are made and joined, and units that are lent and given back,
+-- in any order
 pub data IsReached (version : ℕ) (start : State) : State → Type 0 where
   started : IsReached version start start
   stepped : (old new : State) (id : ℕ) (event : Event) → IsReached version start old → IsStep version old id event new → IsReached version start new

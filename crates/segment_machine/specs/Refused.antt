@@ -1,4 +1,4 @@
--- Runs that would break what holds, each refused: what an actor may not do.
+-- Runs that would break what holds, each of them refused: what an actor may not do.
 use Rattle.std.specs.Prelude.{◌≡◌, ◌≢◌, true, false, ℕ, ◌+◌, ℤ, pos, negsuc, List, [], ◌∷◌, map, Some}
 use Rattle.bucket_ranges.specs.declared.spec.Spec.TheVariants as spec
 use Rattle.segment_machine.specs.declared.actor.Actor.{Actor}
@@ -22,9 +22,9 @@ use Rattle.segment_machine.specs.Actor.{accepted_by, accepted_since}
 use Rattle.segment_machine.specs.Examples.{at_place, shape, letter_a, one, whole, maker, AreReady, run, sampler, takes_all, letter_s, known_a}
 use Rattle.segment_machine.specs.declared.actor.Role.TheVariants.{Opener, Recorder}
 
--- ---- who does it
+-- ---- actors
 
--- a recorder that knows `A` at 16 and the sparse `S` at 40, and met the sample of -5 at 56; there is one shared cursor
+-- a recorder that knows `A` at 16 and the sparse `S` at 40, and visited the sample of -5 at 56; there is one shared cursor
 abbrev pub recorder : Actor
 recorder = record (opener_of shape 1 1) {
   role = Recorder 0 0;
@@ -54,8 +54,8 @@ ValuesApart = Ready (counting (negsuc 4)) (counting_event (add_count 62 1)) × (
 abbrev pub MovesFirst : Type 0
 MovesFirst = ¬ (Ready (at_place (counting (negsuc 4)) (Moving (look 9223372036854775809 32) 1 2)) (counting_event (add_count 62 1)))
 
--- For a block of 16 words the free pointer rises from 16 to 32, and not over the rest of that page, which has room for it. A rest of six
--- words is wasted for it, and its cookie is not that of a claimed block.
+-- For a block of 16 words the free pointer rises from 16 to 32, and does not skip the rest of that page, which has room for the block. A
+-- rest of six words is wasted for such a block, and its cookie is not that of a claimed block.
 abbrev pub RoomStays : Type 0
 RoomStays =
     Ready (at_place recorder (FreeLoaded 16)) (allocating_event (exchange_free 16 32 16))
@@ -63,11 +63,11 @@ RoomStays =
     × Ready (at_place recorder (FreeLoaded 58)) (allocating_event (exchange_free 58 64 16))
     × (¬ (Ready (at_place recorder (Sized 58 6 16)) (allocating_event (store_cookie 58 0xC8799269))))
 
--- a cursor that is not there is not loaded
+-- a cursor that does not exist is not loaded
 abbrev pub CursorsThere : Type 0
 CursorsThere = Ready recorder (cursor_event (load_cursor 0)) × (¬ (Ready recorder (cursor_event (load_cursor 1))))
 
--- no count is loaded where no sample was met
+-- no count is loaded where the actor visited no sample
 abbrev pub SamplesMet : Type 0
 SamplesMet = Ready recorder (taking_event (load_count 62)) × (¬ (Ready recorder (taking_event (load_count 63))))
 
@@ -96,7 +96,7 @@ RecordsAlone =
     ¬ (IsPayload (made.Histogram letter_a spec.Boolean)
     (2 ∷ 1 ∷ 2 ∷ 3 ∷ 32 ∷ 9223372036854841343 ∷ 0 ∷ 0 ∷ 0 ∷ 0 ∷ 1 ∷ 65 ∷ []))
 
--- a call goes on with one more entry where all of its entries have ended, and not where none runs
+-- a call continues with one more entry only once all of its entries have ended, and only if it has begun
 abbrev pub EntriesEndFirst : Type 0
 EntriesEndFirst = (¬ (MayNote (counting (negsuc 4)) (goes_on (one 1) 1))) × (¬ (MayNote recorder (goes_on (one 1) 1)))
 
@@ -107,7 +107,7 @@ OffersStay =
     MayLend opener recorder 2 × (¬ (MayLend opener recorder 3)) × (¬ (MayReturn opener (record recorder { units = record recorder.units { share = 1 } }) 2))
 
 -- An opener of 256 recorders that offers three of its five units fills a purse with them, and they are poured out to a recorder, but
--- neither to an opener nor to one that was joined. No purse gets more than the opener has, and a recorder is none.
+-- neither to an opener nor to one that was joined. No purse gets more than the opener has, and a recorder is no purse.
 abbrev pub PursesCarry : Type 0
 PursesCarry =
     let before = record (opener_of shape 1 1) { units = record { share = 5; costs = []; held = [] }; role = Opener 256 256 0 } in
@@ -117,7 +117,7 @@ PursesCarry =
     × (¬ (MayFill (record before { role = Opener 256 256 6 }))) × (¬ (MayPour opener (purse 3))) × (¬ (MayPour spent (purse 3)))
     × (¬ (MayPour recorder recorder))
 
--- who owes an answer is not joined
+-- a recorder that owes an answer is not joined
 abbrev pub DebtsStay : Type 0
 DebtsStay = ¬ (MayJoin (record (opener_of shape 1 1) { role = Opener 0 1 0 }) (record recorder { answers = record recorder.answers { owed = known_a ∷ [] } }))
 
@@ -129,7 +129,8 @@ TailsStay =
     ((joined (opener_of shape 1 1) (record recorder { seen = record recorder.seen { tails = 40 ∷ [] } })).seen.tails ≡ 40 ∷ [])
     × ((newcomer (maker [])).seen.tails ≡ 16 ∷ [])
 
--- flags with the corrupt one are seen, whatever else they have; a join keeps that the recorder saw it, and a newcomer has it of its opener
+-- flags with the corrupt one are seen, whatever else they have; a join keeps that the recorder saw it, and a newcomer takes it from its
+-- opener
 abbrev pub CorruptStays : Type 0
 CorruptStays =
     let saw = next recorder (allocating_event load_flags) 3 in
@@ -137,7 +138,7 @@ CorruptStays =
     × ((next saw (allocating_event load_flags) 0).seen.corrupt ≡ true)
     × ((joined (opener_of shape 1 1) saw).seen.corrupt ≡ true) × ((newcomer saw).seen.corrupt ≡ true)
 
--- the first entries of an opener were accepted, and stand in no redundant count that is kept
+-- the first entries of an opener were accepted, and no redundant count that is kept has them
 abbrev pub FirstEntriesApart : Type 0
 FirstEntriesApart =
     let opener = record (opener_of shape 1 1) { entries = record { first = one 1 ∷ one 0 ∷ []; first_noted = []; inherited = []; log = whole (one 1) ∷ []; running = [] } } in
@@ -149,12 +150,12 @@ FirstEntriesApart =
 abbrev pub WordsOffFirst : Type 0
 WordsOffFirst = ¬ (Ready (record recorder { hand = record recorder.hand { place = Looking (look 4294967298 32) } }) (packing_event (add_moved 32 1 2)))
 
--- Who disabled a word in version 1 has its two units and moves these, of their bucket. Before that it neither counts nor looks
--- elsewhere, its call does not end, accepted or refused, and it is not joined.
+-- a recorder that disabled a word in version 1 and has its two units
 abbrev pub mover : Actor
 mover = next (at_place (counting (negsuc 4)) (Looking (look 4294967298 32))) (packing_event (disable 16 4294967298)) 4294967298
 
--- who disabled a word adds just its units to their count, before all else
+-- A recorder that disabled a word adds just its units to the count of their bucket. Before that it neither counts nor looks elsewhere, its
+-- call does not end, accepted or refused, and it is not joined.
 abbrev pub UnitsRemembered : Type 0
 UnitsRemembered =
     Ready mover (packing_event (add_moved 32 1 2)) × (¬ (Ready mover (packing_event (add_moved 32 1 1))))
@@ -162,17 +163,17 @@ UnitsRemembered =
     × (¬ (Ready mover (packing_event (load_single 16)))) × (¬ (MayNote mover ends)) × (¬ (MayNote mover (refused 0)))
     × (¬ (MayJoin (record (opener_of shape 1 1) { role = Opener 0 1 0 }) mover))
 
--- a packed sample is not noted, and its call does not end, before its amount is in the sum
+-- a recorder that packed a sample, whose amount is not in the sum yet
 abbrev pub packed_sample : Actor
 packed_sample = next sampler (packing_event (pack 16 0 4294967297)) 0
 
--- a packed sample adds its amount before it is noted, and does not end before
+-- after a sample is packed, its amount is added before its units are noted and before its call ends
 abbrev pub SumsStay : Type 0
 SumsStay =
     Ready packed_sample (counting_event (add_sum 16 (pos 1))) × (¬ (Ready packed_sample (counting_event (add_redundant 16 1))))
     × (¬ (MayNote packed_sample ends))
 
--- a unit of a value counts in its first sample, and in no later one
+-- a call that counts a unit of -5 in `S`, for which it visited two samples
 abbrev pub met_twice : Actor
 met_twice = record (counting (negsuc 4)) {
   seen = record nothing_seen {
@@ -183,7 +184,7 @@ met_twice = record (counting (negsuc 4)) {
   };
 }
 
--- of a value that was met twice, the first sample counts
+-- if a value has two samples, a unit of it counts in the first and not in the later one
 abbrev pub FirstSamplesCount : Type 0
 FirstSamplesCount = Ready met_twice (counting_event (add_count 62 1)) × (¬ (Ready met_twice (counting_event (add_count 70 1))))
 
@@ -202,17 +203,17 @@ abbrev pub SingleMarksApart : Type 0
 SingleMarksApart =
     Ready (loaded 1 2) (taking_event (raise_single_mark 16 2)) × (¬ (Ready (loaded 1 2) (taking_event (raise_mark 40 2))))
 
--- a mark is not loaded, as if it were a count, and who takes stores nothing and exchanges nothing where a number is expected
+-- a mark is not loaded as if it were a count, and no event of a taker stores a word or exchanges one
 abbrev pub MarksRise : Type 0
 MarksRise =
     (¬ (Ready (loaded 0 3) (taking_event (load_count 39))))
     × ((size version at value : ℕ) (event : TakingEvent) → operation size version event ≢ does.single (atomic.store at value))
     × ((size version at old new : ℕ) (event : TakingEvent) → operation size version event ≢ does.single (atomic.exchange at old new))
 
--- ---- what is answered
+-- ---- what is returned
 
--- a snapshot of `S` loads the count of its sample, the sum and the redundant count. It may answer that -5 has one unit, but not
--- that 2^64 - 5, which is the same word, has one too.
+-- a snapshot of `S` loads the count of its sample, the sum and the redundant count. It may return one unit of -5, but not also one of
+-- 2^64 - 5, which is the same word.
 abbrev pub snapping : List (Event × ℕ)
 snapping = (taking_event (load_count 62), 1) ∷ (taking_event (load_sum 40), 18446744073709551611) ∷ (taking_event (load_redundant 40), 1) ∷ []
 
@@ -228,7 +229,7 @@ answering counts = record {
   moment = record { log = 0; before = 0; outstanding = 0 };
 }
 
--- a snapshot answers what was seen, and nothing beside
+-- a snapshot returns what was seen, and nothing else
 abbrev pub HonestAnswers : Type 0
 HonestAnswers =
     AreReady snaps snapping × MayNote (run snaps snapping) (answers (answering ((negsuc 4, 1) ∷ [])))

@@ -1,5 +1,5 @@
--- How recorders are made and joined, and how units are offered, lent and given back. These change no word of a segment, and the
--- records of two actors at most. In the running segment they load a word beside it that never changes.
+-- How recorders are made and joined, and how units are offered, lent and given back. This changes no word of a segment, and at most two
+-- actors' records. In the running segment it loads a word outside the segment that never changes.
 use Rattle.std.specs.Prelude.{◌≡◌, ◌≢◌, ℕ, ◌+◌, ◌-◌, ◌<◌, ◌≤◌, max, false, ◌||◌, nat_lt, if◌then◌else◌, List, [], ◌++◌, map, length, replicate, true}
 use Rattle.segment_image.specs.declared.layout.TheConstants.{HEADER_WORDS}
 use Rattle.segment_image.specs.Shape.{Dimensions}
@@ -41,13 +41,13 @@ idle shape version cursors free share = record {
   role = Recorder 0 0;
 }
 
--- the opener of a new segment with so many shared cursors, with all its units
+-- the opener of a new segment with `cursors` shared cursors, which has all units
 abbrev pub opener_of : Dimensions → ℕ → ℕ → Actor
 opener_of shape version cursors = record (idle shape version cursors HEADER_WORDS 4294967295) { role = Opener 0 0 0 }
 
 -- ---- units are offered
 
--- an opener says how many of its units it is to hand out next: to a recorder that it makes, or in a purse
+-- an opener may say how many of its units it hands out next: to a recorder that it makes, or in a purse
 abbrev pub MayOffer : Actor → ℕ → Type 0
 MayOffer a units = (a.hand.place ≡ Idle) × (is_opener a.role ≡ true) × (units ≤ a.units.share)
 
@@ -61,11 +61,11 @@ offering a units = record a { role = Opener (made_of a.role) (outstanding_of a.r
 abbrev pub MaySplit : Actor → Type 0
 MaySplit a = (a.hand.place ≡ Idle) × (is_opener a.role ≡ true) × (offered_of a.role ≤ a.units.share) × (outstanding_of a.role < 256)
 
--- what the opener is then: it has handed out the units
+-- the opener after it made a recorder: it has handed out the units
 abbrev pub parent : Actor → Actor
 parent a = record a { units = record a.units { share = a.units.share - offered_of a.role }; role = Opener (made_of a.role + 1) (outstanding_of a.role + 1) 0 }
 
--- and the recorder: it has seen what its opener has, done nothing, and knows no histogram
+-- the recorder that was made: it has seen what its opener has seen, has done nothing, and knows no histogram
 abbrev pub newcomer : Actor → Actor
 newcomer a = looking (record (idle a.segment.shape a.segment.version a.segment.cursors a.seen.free (offered_of a.role)) {
   entries = record { first = []; first_noted = []; inherited = log_of a; log = []; running = [] };
@@ -75,12 +75,12 @@ newcomer a = looking (record (idle a.segment.shape a.segment.version a.segment.c
 
 -- ---- units are lent and given back
 
--- An opener may hand more of its units to a recorder, but for those that it offers: in the stepped world, where all actors draw on
--- one pool, those that a call costs, when it begins.
+-- An opener may lend a recorder more of its units, but none that it offers. In the stepped world, in which all actors draw on one pool, it
+-- lends what a call costs, when the call begins.
 abbrev pub MayLend : Actor → Actor → ℕ → Type 0
 MayLend a b units = (is_opener a.role ≡ true) × (is_opener b.role ≡ false) × (b.hand.place ≢ Spent) × (units + offered_of a.role ≤ a.units.share)
 
--- And it may take units of a recorder back: those that a call did not spend.
+-- An opener may take back units that a recorder still has, such as those that a call did not spend.
 abbrev pub MayReturn : Actor → Actor → ℕ → Type 0
 MayReturn a b units = (is_opener a.role ≡ true) × (is_opener b.role ≡ false) × (b.hand.place ≢ Spent) × (units ≤ b.units.share)
 
@@ -94,8 +94,8 @@ getter a units = record a { units = record a.units { share = a.units.share + uni
 
 -- ---- units go from an opener to a recorder in a purse
 
--- A purse is no recorder: it has units, and nothing else. The running segment, where no step has both an opener and a recorder in
--- its hands, lends units in two steps: the opener fills a purse, and this is poured out to the recorder.
+-- A purse is no recorder: it has units and nothing else. In the running segment no step acts for both an opener and a recorder, so units
+-- are lent in two steps: the opener fills a purse, and the purse is poured out to the recorder.
 abbrev pub purse : ℕ → Actor
 purse units = record (idle (record { size = 0; page = 0 }) 0 0 0 units) { hand = record { place = Spent; own = [] } }
 
@@ -103,12 +103,11 @@ purse units = record (idle (record { size = 0; page = 0 }) 0 0 0 units) { hand =
 abbrev pub MayFill : Actor → Type 0
 MayFill a = (a.hand.place ≡ Idle) × (is_opener a.role ≡ true) × (offered_of a.role ≤ a.units.share)
 
--- what the opener is then: it has the units no longer, and offers none
+-- the opener after it filled a purse: it no longer has the units, and offers none
 abbrev pub lender : Actor → Actor
 lender a = record a { units = record a.units { share = a.units.share - offered_of a.role }; role = Opener (made_of a.role) (outstanding_of a.role) 0 }
 
--- A purse may be poured out to a recorder that was not joined, which gets its units, at any place of a call. What was a purse is then
--- spent.
+-- A purse may be poured out to a recorder that was not joined, wherever its call is. The recorder gets the units, and the purse is spent.
 abbrev pub MayPour : Actor → Actor → Type 0
 MayPour b c = (is_opener b.role ≡ false) × (b.hand.place ≢ Spent) × (c ≡ purse c.units.share)
 
@@ -119,7 +118,7 @@ abbrev pub MayJoin : Actor → Actor → Type 0
 MayJoin a b = (a.hand.place ≡ Idle) × (is_opener a.role ≡ true) × (1 ≤ outstanding_of a.role) × (is_bound b.hand.place ≡ false)
     × (is_opener b.role ≡ false) × (b.units.held ≡ []) × (b.entries.running ≡ []) × (b.deltas.taking ≡ false) × (b.answers.owed ≡ [])
 
--- a moment of a recorder whose log comes behind another
+-- a moment of a recorder whose log is appended to one of `entries` entries
 abbrev pub shifted : ℕ → Moment → Moment
 shifted entries moment = record moment { log = entries + moment.log }
 
@@ -150,8 +149,8 @@ both_seen a b = record {
   cursors = a.cursors ++ b.cursors;
 }
 
--- What the opener is then: it has what both had, the recorder's log, deltas, snapshots and answers behind its own, and the
--- rest of the recorder's share.
+-- The opener after a join: it has what both had, with the recorder's log, deltas, snapshots and answers after its own, and the rest of the
+-- recorder's share.
 abbrev pub joined : Actor → Actor → Actor
 joined a b = record a {
   units = record a.units { share = a.units.share + b.units.share; costs = a.units.costs ++ b.units.costs };
@@ -175,6 +174,6 @@ joined a b = record a {
   role = Opener (made_of a.role) (outstanding_of a.role - 1) (offered_of a.role);
 }
 
--- what the recorder is then: it has no units either
+-- a recorder that was joined, or a purse that was poured out: it has no units either
 abbrev pub spent : Actor
 spent = purse 0

@@ -1,5 +1,5 @@
--- An allocation, a publish and a walk are stepped by themselves, an event at a time. Here an actor goes along with each: while the
--- two agree, the event that is next is one that the actor may do, and behind it they agree again.
+-- An allocation, a publish and a walk are stepped by themselves, one event at a time. Here an actor follows each: while the two agree, the
+-- next event is one that the actor may do, and after it they agree again.
 use Rattle.std.specs.Prelude.{◌≡◌, true, false, ℕ, ◌+◌, ◌≤◌, List, Option, Some, None}
 use Rattle.std.specs.List.{Contains}
 use Rattle.segment_image.specs.declared.layout.TheConstants.{BLOCK_NEXT, QUEUE, TYPE_HISTOGRAM, TYPE_SAMPLE}
@@ -43,8 +43,8 @@ allocates allocation (Claimed at size) = None
 allocates allocation Full = None
 allocates allocation Corrupt = None
 
--- where the actor stands at a stage: it has loaded and stored what the allocation has; in the end it has a block of its own, or it
--- has set the full flag, or has seen the corrupt one
+-- where the actor is at a stage: it has loaded and stored what the allocation has; in the end it has a block of its own, or has set the
+-- full flag, or has seen the corrupt one
 abbrev pub StandsAtAllocStage : Actor → Allocation → AllocStage → Type 0
 StandsAtAllocStage a allocation LoadFlags = MayTurn a
 StandsAtAllocStage a allocation LoadFree = a.hand.place ≡ FlagsLoaded
@@ -59,7 +59,7 @@ StandsAtAllocStage a allocation (Claimed at size) = (a.hand.place ≡ Idle) × C
 StandsAtAllocStage a allocation Full = (a.hand.place ≡ Idle) × (a.done.filled ≡ true)
 StandsAtAllocStage a allocation Corrupt = (a.hand.place ≡ Idle) × (a.seen.corrupt ≡ true)
 
--- an actor goes along with an allocation of a block that it may have
+-- an actor follows an allocation of a block of a type that it may claim
 pub record FollowsAllocation (a : Actor) (allocation : Allocation) : Type 0 where
   pub lawful : IsLawful allocation
   pub shape : allocation.shape ≡ a.segment.shape
@@ -86,14 +86,14 @@ publishes reference (MoveTail old new linked) = Some (move_tail old new)
 publishes reference Published = None
 publishes reference Strayed = None
 
--- the actor's own block at a reference holds this, and may be published so; its next is this
+-- the actor's own block at a reference is to hold this, and may be published as this; its next is this
 abbrev pub OffersBlock : Actor → ℕ → Made → ℕ → Type 0
 OffersBlock a reference made next =
     (own : Own) × (own_at a.hand.own reference ≡ Some own) × (own.next ≡ next) × (own.made ≡ Some made) × IsPayload made own.payload
     × MayPublish a own made
 
--- Where the actor stands at a stage: its block waits until it is linked, and the tail that it loaded, or the record that beat it, is
--- that of the publish; in the end it has published. It never strays.
+-- Where the actor is at a stage: its block waits until it is linked, and the tail that it loaded, or the record that beat it, is that of
+-- the publish; in the end it has published. It never strays.
 abbrev pub PublishesAt : Actor → ℕ → Made → PubStage → Type 0
 PublishesAt a reference made StoreOwnNext = MayTurn a × OffersBlock a reference made 0
 PublishesAt a reference made LoadTail = MayTurn a × OffersBlock a reference made QUEUE

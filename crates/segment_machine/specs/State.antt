@@ -18,9 +18,8 @@ pub record State : Type 0 where
 abbrev pub memory : State → List ℕ
 memory state = state.words ++ state.cursors
 
--- One step: a recorder does an event that it may do, with notes before and behind it. The event changes one word at most, by
--- what it finds there, and the recorder's record alone. An opener does nothing but to make recorders, to lend them units and to
--- get units back, and to join them.
+-- One step: a recorder does an event that it may do, with notes before and after it. The event changes one word at most, by what it finds
+-- there, and only this recorder's record. An opener does no events: it makes recorders, lends them units, gets units back, and joins them.
 pub record IsStep (version : ℕ) (old : State) (id : ℕ) (event : Event) (new : State) : Type 0 where
   pub actor : Actor
   pub there : get_elem? old.actors id ≡ some actor

@@ -1,5 +1,5 @@
--- Deltas and snapshots: a count and a mark that stand at a word, the single mark, the sum, its mark, and the redundant count.
--- An event is read here in one place: what it acts on, when it is ready, what becomes of its actor, and what this learns.
+-- The events of deltas and snapshots, on a count, a mark, the single mark, the sum, its mark, and the redundant count.
+-- All about an event is here in one place: what it acts on, when it is ready, what becomes of its actor, and what this learns.
 use Rattle.std.specs.Prelude.{◌≡◌, ◌≢◌, ◌⊎◌, Bool, true, false, ℕ, ◌+◌, ◌-◌, ◌*◌, ◌<◌, ◌≤◌, ℤ, List, [], ◌∷◌, ◌++◌, Some, nat_lt, max, pos, ◌+ℤ◌, ◌-ℤ◌, if◌then◌else◌, unwrap_or, unsigned_abs}
 use Rattle.std.specs.List.{Contains}
 use Rattle.bucket_ranges.specs.Spec.{buckets_of}
@@ -46,7 +46,7 @@ is_looking (Looking look) = true
 is_looking (CountLoaded look bucket count) = true
 is_looking _ = false
 
--- a count is loaded: of a bucket, where the single word is off, or of a sample that was met on the list
+-- a count is loaded: that of a bucket, if the single word is off, or that of a sample that was visited on the list
 abbrev pub MayLoadCount : Actor → ℕ → Type 0
 MayLoadCount a at =
     ((look : Look) × (known : Known) × (bucket : ℕ)
@@ -56,7 +56,7 @@ MayLoadCount a at =
     × Contains a.seen.chain sample × SawSample a.seen known.reference value sample × (at ≡ sample + SAMPLE_COUNT)
     × MayTurn a × (is_looking a.hand.place ≡ false))
 
--- the delta that is going on is of this histogram
+-- the running delta is of this histogram
 abbrev pub Takes : Actor → ℕ → Known → Type 0
 Takes a histogram known =
     (a.deltas.taking ≡ true) × Contains a.answers.names known × (known.reference ≡ histogram)
@@ -73,8 +73,8 @@ MayRaise a at least =
     ⊎ ((sample histogram : ℕ) × (known : Known) × (a.hand.place ≡ SampleLoaded sample least)
     × (word_seen a.seen.words (sample + SAMPLE_HISTOGRAM) ≡ Some histogram) × Takes a histogram known × (at ≡ sample + SAMPLE_MARK)))
 
--- the single mark is raised: to the packed units that were seen since the delta began; or, where the word is off, to the count that was loaded of the packed
--- bucket, in version 2 with the units that the word keeps
+-- the single mark is raised: to the packed units that were seen since the delta began; or, if the word is off, to the count that was loaded
+-- of the packed bucket, in version 2 with the units that the word keeps
 abbrev pub MayRaiseSingle : Actor → ℕ → ℕ → Type 0
 MayRaiseSingle a histogram least =
     (1 ≤ least) × ((known : Known) × Takes a histogram known)
@@ -117,12 +117,12 @@ single_key a (Looking look) = packed_key a look
 single_key a (CountLoaded look bucket count) = packed_key a look
 single_key a _ = pos 0
 
--- a mark that was m and is t at least now: the units numbered m + 1 to t are taken
+-- a mark that was m and is at least t now: the units numbered m + 1 to t are taken
 abbrev pub take_units : ℤ → ℕ → ℕ → Taken → Taken
 take_units key least found taken =
     record taken { counts = taken.counts ++ (if nat_lt found least then (key, least - found) ∷ [] else []) }
 
--- a sum mark that was m and is the sum now: the difference is taken, beside what was taken of the sum before
+-- a sum mark that was m and is the sum now: the difference is taken, in addition to what was taken of the sum before
 abbrev pub swap_sum : ℤ → ℤ → Taken → Taken
 swap_sum sum mark taken = record taken { sum = taken.sum +ℤ (sum -ℤ mark); swapped = true }
 
@@ -151,7 +151,7 @@ next a (load_redundant histogram) found = record a { seen = record a.seen { coun
 abbrev pub IsSumWithin : ℕ → Type 0
 IsSumWithin found = unsigned_abs (cast_signed w64 found) ≤ 2147483648 * 4294967295
 
--- a later sample of a value that it met; it counts nothing
+-- a later sample of a value, which the actor visited and which counts nothing
 abbrev pub IsLaterSample : Actor → ℕ → Type 0
 IsLaterSample a sample =
     (known : Known) × (value : ℤ) × (first : ℕ) × Sparse a known.reference known × Contains a.seen.chain sample

@@ -1,5 +1,5 @@
--- Walking: a next, and a word of a published record that never changes.
--- An event is read here in one place: what it acts on, when it is ready, what becomes of its actor, and what this learns.
+-- The events of a walk, on a next, and on a word of a published record that never changes.
+-- All about an event is here in one place: what it acts on, when it is ready, what becomes of its actor, and what this learns.
 use Rattle.std.specs.Prelude.{◌≡◌, ◌⊎◌, not, ℕ, ◌+◌, ◌-◌, ◌*◌, ◌<◌, ◌≤◌, List, [], ◌∷◌, ◌++◌, map, length, Some, ◌&&◌, ◌==◌, if◌then◌else◌, slice_index}
 use Rattle.std.specs.List.{filter, All, Contains}
 use Rattle.bucket_ranges.specs.Reading.{name_words}
@@ -28,7 +28,7 @@ operation size version (load_published at index) = single (atomic.load (at + ind
 -- ---- when they are ready
 
 -- the words of a histogram's record that never change, as far as the actor knows it: its spec, the length of its name, and, once
--- it knows that, its name; of a custom one also the ranges behind it
+-- it knows that, its name; of a custom one also the ranges after it
 abbrev pub IsFixedBehind : Actor → ℕ → ℕ → Type 0
 IsFixedBehind a at index =
     ((HISTOGRAM_KIND ≤ index) × (index < HISTOGRAM_COUNTS)) ⊎ (index ≡ HISTOGRAM_NAME_LENGTH)
@@ -43,7 +43,7 @@ IsFixed a at index =
     (index ≡ BLOCK_TYPE) ⊎ ((word_seen a.seen.words (at + BLOCK_TYPE) ≡ Some TYPE_HISTOGRAM) × IsFixedBehind a at index)
     ⊎ ((word_seen a.seen.words (at + BLOCK_TYPE) ≡ Some TYPE_SAMPLE) × (SAMPLE_HISTOGRAM ≤ index) × (index < SAMPLE_COUNT))
 
--- it has met a record, or the queue block; or a shared cursor that it loaded stands there
+-- the block at a word is the queue block, a record that the actor visited, or the record of a shared cursor that it loaded
 abbrev pub MayFollow : Actor → ℕ → Type 0
 MayFollow a at = (at ≡ QUEUE) ⊎ Contains a.seen.chain at ⊎ ((cursor : ℕ) × (a.hand.place ≡ CursorLoaded cursor at))
 
@@ -53,7 +53,7 @@ Ready a (load_published at index) = MayTurn a × Contains a.seen.chain at × IsF
 
 -- ---- what becomes of the actor
 
--- the chain so far as it was seen, after the next of the block at a word was loaded
+-- the chain as far as it was seen, after the next of the block at a word was loaded
 abbrev pub extended : List ℕ → ℕ → ℕ → List ℕ
 extended chain at found =
     if (slice_index (stops chain) (length chain) == at) && not (found == QUEUE) then chain ++ found ∷ [] else chain
@@ -75,7 +75,7 @@ next a (load_published at index) found = record a { seen = record a.seen { words
 -- ---- what it learns
 
 -- what a word of a published record says of where its words end: a histogram's has 15 words at least, its name and its ranges
--- lie behind them, a sample's has 8 words
+-- come after these, a sample's has 8 words
 abbrev pub EndsWithin : Actor → ℕ → ℕ → ℕ → Type 0
 EndsWithin a at index found =
     (index ≡ BLOCK_TYPE → found ≡ TYPE_HISTOGRAM → at + HISTOGRAM_NAME ≤ a.segment.shape.size)
@@ -90,8 +90,9 @@ records_met a =
     map (λ p. p.reference) a.done.published ++ map (λ g. g.reference) a.done.given
     ++ filter (λ at. not (at == QUEUE)) (a.seen.tails ++ map (λ s. s.word) a.seen.cursors)
 
--- A next: what was found there before; on a list that fits in the segment. At the end of the chain that it saw, all records that it met
--- are in that chain; at the end behind a shared cursor, they are in a chain that ends where the cursor stands, and so is all that it saw.
+-- A next is what was found there before, and on a list that fits in the segment. At the end of the chain that the actor saw, that chain has
+-- all records that the actor made, was given or saw; at the end after a shared cursor, a chain that ends at the cursor has them, and all
+-- that it saw.
 pub record IsNextOf (a : Actor) (at found : ℕ) : Type 0 where
   pub reference : IsReference a found
   pub again : (i : ℕ) → i < length a.seen.chain → slice_index (stops a.seen.chain) i ≡ at → found ≡ slice_index a.seen.chain i

@@ -27,8 +27,8 @@ use Rattle.segment_machine.specs.Examples.{shape, letter_a, letter_s, boolean, o
 
 -- ---- runs
 
--- What is done: a recorder does an event, with notes before and behind it; the opener offers units to its next recorder, makes that one,
--- or joins one.
+-- An action of a run: a recorder does an event, with notes before and after it; the opener offers units to its next recorder, makes that
+-- one, or joins one.
 pub data RunAction : Type 0 where
   acts : (id : ℕ) (before : List Note) (event : Event) (behind : List Note) → RunAction
   offers : (units : ℕ) → RunAction
@@ -44,7 +44,7 @@ noted_by a (note ∷ rest) = noted_by (noted a note) rest
 abbrev pub actor_of : State → ℕ → Actor
 actor_of state id = elim (get_elem? state.actors id) [ some a ↦ a | none ↦ spent ]
 
--- the state after a deed
+-- the state after an action
 abbrev pub done : ℕ → State → RunAction → State
 done version state (acts id before event behind) =
     let size = length state.words in
@@ -56,18 +56,18 @@ done version state makes = record state { actors = slice_set state.actors 0 (par
 done version state (joins id) =
     record state { actors = slice_set (slice_set state.actors 0 (joined (actor_of state 0) (actor_of state id))) id spent }
 
--- and after deeds, one after the other
+-- the state after actions, one after the other
 abbrev pub played : ℕ → State → List RunAction → State
 played version state [] = state
 played version state (deed ∷ rest) = played version (done version state deed) rest
 
 -- ---- parts of calls
 
--- events of one actor, one behind the other
+-- events of one actor, one after the other
 abbrev pub by : ℕ → List Event → List RunAction
 by id events = map (λ event. acts id [] event []) events
 
--- a block of so many words is claimed at the free pointer
+-- a block of `size` words is claimed at the free pointer
 abbrev pub claims : ℕ → ℕ → ℕ → List Event
 claims at size tag = map allocating_event
     (load_flags ∷ load_free ∷ exchange_free at (at + size) size ∷ store_size at size ∷ store_cookie at 0xC8799269 ∷ store_type at tag ∷ [])
@@ -76,7 +76,7 @@ claims at size tag = map allocating_event
 abbrev pub fills : ℕ → List (ℕ × ℕ) → List Event
 fills at words = map (λ word. allocating_event (store_payload at word.0 word.1)) words
 
--- a block is published behind the tail
+-- a block is published after the tail
 abbrev pub publishes : ℕ → ℕ → List Event
 publishes tail at = map publishing_event (load_tail ∷ link tail at ∷ move_tail tail at ∷ [])
 
@@ -89,7 +89,7 @@ meets at words = map (λ i. walking_event (load_published at i)) words
 abbrev pub known_s : Known
 known_s = record { name = letter_s; spec = spec.Sparse; reference = 42 }
 
--- a `hist` makes a record of 16 words behind a block, finds it, and is answered
+-- a `hist` makes a record of 16 words after the tail, finds it, and returns it
 abbrev pub hist : ℕ → ℕ → Known → List (ℕ × ℕ) → List RunAction
 hist id tail known words =
     let at = known.reference in
@@ -98,7 +98,7 @@ hist id tail known words =
     ∷ by id (publishes tail at ++ walking_event (load_next tail) ∷ meets at (2 ∷ 14 ∷ 15 ∷ 4 ∷ 5 ∷ 6 ∷ []))
     ++ acts id [] (walking_event (load_published at 7)) (knows known ∷ []) ∷ []
 
--- a `hist` finds the record behind a block
+-- a `hist` finds the record after a block
 abbrev pub hist_found : ℕ → ℕ → Known → List RunAction
 hist_found id behind known =
     by id (walking_event (load_next behind) ∷ meets known.reference (2 ∷ 14 ∷ 15 ∷ 4 ∷ 5 ∷ 6 ∷ []))
@@ -133,7 +133,7 @@ packing =
 abbrev pub moves : ℕ → List Event
 moves version = if version == 1 then packing_event (add_moved 32 1 2) ∷ [] else []
 
--- a delta where counts are mounted: of all three buckets, then of the sum
+-- a delta with mounted counts: of all three buckets, then of the sum
 abbrev pub delta : ℕ → ℕ → ℕ → ℤ → List RunAction
 delta id least ones sum =
     acts id (takes letter_a ∷ []) (packing_event (load_single 16)) []
@@ -152,10 +152,11 @@ mounting version =
     ++ acts 2 [] (counting_event (add_redundant 16 1)) (ends ∷ [])
     ∷ delta 2 1 2 (pos 2)
 
--- the sample of two units of -5 finds no room in its page, wastes the rest, and is published in the next
+-- the entry of a sample of two units of -5
 abbrev pub minus_five : Entry
 minus_five = sample_entry letter_s [] (negsuc 4, 2)
 
+-- `S` is made; a sample of two units of -5 finds no room in its page, wastes the rest, and is published in the next page
 abbrev pub sampling : List RunAction
 sampling =
     hist 1 16 known_s ((0, 4) ∷ (10, 1) ∷ (11, 83) ∷ [])
@@ -168,10 +169,11 @@ sampling =
     ++ counting_event (add_count 70 2) ∷ counting_event (add_sum 42 (negsuc 9)) ∷ [])
     ++ acts 1 [] (counting_event (add_redundant 42 2)) (ends ∷ []) ∷ []
 
--- a batch of two units of 0 and three of 1, with a sum of 3, is told item by item, and the sum
+-- the entry of an item of a batch of `A`
 abbrev pub item : ℕ → ℕ → Entry
 item value units = item_entry letter_a boolean (pos value, units)
 
+-- a batch of two units of 0 and three of 1, with a sum of 3, goes item by item, then the sum; then both recorders are joined
 abbrev pub batching : List RunAction
 batching =
     acts 2 (begins letter_a 2 (item 0 2 ∷ []) ∷ []) (packing_event (load_single 16)) []
@@ -180,7 +182,7 @@ batching =
     ∷ by 2 (map counting_event (load_counts 16 ∷ add_count 37 3 ∷ add_redundant 16 3 ∷ []))
     ++ acts 2 (goes_on (sum_entry letter_a (pos 3)) 0 ∷ []) (counting_event (add_sum 16 (pos 3))) (ends ∷ []) ∷ joins 1 ∷ joins 2 ∷ []
 
--- a delta of `S`, whose sample stands at 64
+-- a delta of `S`, whose sample is at 64
 abbrev pub sparse_delta : ℕ → List RunAction
 sparse_delta id =
     acts id (takes letter_s ∷ []) (taking_event (load_count 70)) []
@@ -208,8 +210,8 @@ worked_words version single ones =
     ∷ 6 ∷ 0xFFFFFFFFFFFFFFFF ∷ 0 ∷ 0 ∷ 0 ∷ 0
     ∷ 8 ∷ 0xC8799269 ∷ 3 ∷ 12 ∷ 42 ∷ 18446744073709551611 ∷ 2 ∷ 2 ∷ replicate 56 0
 
--- The opener has joined all. Its log has three units of 0, five of 1, and two of -5; its deltas took all, the last one two of 0 and three of
--- 1, a final one; and no unit is lost.
+-- The opener has joined all. Its log has three units of 0, five of 1, and two of -5; its deltas took all, the last one, which is final, two
+-- of 0 and three of 1; and no unit is lost.
 pub record IsWorked (version : ℕ) (a : Actor) : Type 0 where
   pub reached : IsState shape version 7 0 (worked version)
   pub joined : IsJoined (worked version) a
@@ -223,7 +225,7 @@ pub record IsWorked (version : ℕ) (a : Actor) : Type 0 where
       × IsFinal (made_of a.role) (log_of a) letter_a delta.moment
   pub units : (units_of a ≡ 4294967295) × (a.units.share ≡ 4294967285)
 
--- in version 1 the units of the disabled word stand in the counts
+-- in version 1 the counts have the units of the disabled word
 abbrev pub WorkedRun : Type 0
 WorkedRun = IsWorked 1 (actor_of (worked 1) 0) × ((worked 1).words ≡ worked_words 1 9223372036854775809 5)
 

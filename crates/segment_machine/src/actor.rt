@@ -13,7 +13,7 @@ pub struct Claim {
     pub size: u64,
 }
 
-/// A rise of the free pointer: from where to where, and how many words the block wanted that it was for.
+/// A rise of the free pointer: from where, to where, and how many words were asked for.
 pub struct Rise {
     pub from: u64,
     pub to: u64,
@@ -30,9 +30,9 @@ pub struct Own {
     pub tag: u64,
     /// Its next: 0 until it is stored, then 12.
     pub next: u64,
-    /// The front of its payload, up to the last word that was stored. Behind that are zeros.
+    /// The front of its payload, up to the last word that was stored. The rest is zeros.
     pub payload: LinkedList<u64>,
-    /// What it is to hold, where it is to be a record.
+    /// What it is to hold, if it is to be a record.
     pub made: Option<Made>,
 }
 
@@ -50,7 +50,7 @@ pub struct Published {
     pub made: Made,
 }
 
-/// A histogram that a `hist` was answered Ok with.
+/// A histogram that a `hist` returned.
 pub struct Known {
     pub name: LinkedList<u8>,
     pub spec: Spec,
@@ -76,27 +76,27 @@ pub struct Moment {
 /// What was taken of a histogram.
 pub struct Portion {
     pub name: LinkedList<u8>,
-    /// Keys, each with the units that were taken of it. A key may stand more than once.
+    /// Keys, each with the units that were taken of it. A key may be listed more than once.
     pub counts: LinkedList<(i32, u64)>,
     /// What was taken of the sum.
     pub sum: i64,
 }
 
-/// What a delta took, so far as it went.
+/// What a delta has taken so far.
 pub struct Taken {
     pub name: LinkedList<u8>,
-    /// Keys, each with the units that were taken of it. A key may stand more than once.
+    /// Keys, each with the units that were taken of it. A key may be listed more than once.
     pub counts: LinkedList<(i32, u64)>,
-    /// What was taken of the sum, and whether it was.
+    /// What was taken of the sum, and whether the sum was taken at all.
     pub sum: i64,
     pub swapped: bool,
     pub moment: Moment,
 }
 
-/// What a snapshot answered.
+/// What a snapshot returned.
 pub struct Answered {
     pub name: LinkedList<u8>,
-    /// All keys that were looked at, each with its total.
+    /// All keys that it looked at, each with its total.
     pub counts: LinkedList<(i32, u64)>,
     pub sum: i64,
     pub redundant: u64,
@@ -115,7 +115,7 @@ pub struct Segment {
     pub shape: Shape,
     /// The version of its format, 1 or 2.
     pub version: u64,
-    /// How many shared cursors stand beside it.
+    /// How many shared cursors it has.
     pub cursors: u64,
 }
 
@@ -133,8 +133,8 @@ pub struct Units {
 pub struct Entries {
     /// The entries that an adopted image stands for, which are counted and summed. An opener's alone.
     pub first: LinkedList<Entry>,
-    /// The units that the redundant counts of an adopted image had, by histogram: its entries stand in no redundant count that
-    /// is kept here. An opener's alone.
+    /// The units that the redundant counts of an adopted image had, by histogram: no redundant count that is kept here
+    /// has the image's entries. An opener's alone.
     pub first_noted: LinkedList<Cost>,
     /// The entries that its opener's log had when it was made: what had been accepted before it. A recorder's alone.
     pub inherited: LinkedList<Entry>,
@@ -144,11 +144,11 @@ pub struct Entries {
     pub running: LinkedList<EntryProgress>,
 }
 
-/// What an actor has in hand: where its running call stands, and its own blocks.
+/// What an actor has in hand: where its running call is, and its own blocks.
 pub struct Hand {
-    /// Where it stands, with what it has loaded and stored.
+    /// Where the call is, with what it has loaded and stored.
     pub place: Place,
-    /// Blocks that it has claimed and that are neither published nor mounted. A call that is refused leaves them here.
+    /// Blocks that the actor has claimed and that are neither published nor mounted. A refused call leaves them here.
     pub own: LinkedList<Own>,
 }
 
@@ -156,27 +156,28 @@ pub struct Hand {
 pub struct Done {
     /// All blocks that it has claimed.
     pub claimed: LinkedList<Claim>,
-    /// All rises of the free pointer that it has made, for a block each: the block is claimed there, or the rest of a page that is
-    /// too short for it is wasted.
+    /// All rises of the free pointer that it has made, each for a block: the block is claimed there, or the rest of a
+    /// page is wasted that is too short for it.
     pub raised: LinkedList<Rise>,
-    /// The records whose link it has done, in this order.
+    /// The records that it has linked, in this order.
     pub published: LinkedList<Published>,
     /// Whether it has set the corrupt flag.
     pub spoiled: bool,
-    /// Whether an allocation of it has set the full flag.
+    /// Whether one of its allocations has set the full flag.
     pub filled: bool,
-    /// The free pointers that it had loaded, each time that it set the full flag: too many words were wanted from there.
+    /// The free pointer that it had loaded each time that it set the full flag: the words asked for did not fit from
+    /// there on.
     pub lacked: LinkedList<u64>,
     /// The records that shared cursors gave it, in order.
     pub given: LinkedList<Given>,
-    /// How often its link found another record behind the tail.
+    /// How often its link found another record after the tail.
     pub beaten: u64,
-    /// Of each shared cursor, how often its exchange found that another had moved it on.
+    /// For each shared cursor, how often its exchange found that another actor had moved the cursor.
     pub lost: LinkedList<u64>,
 }
 
-/// How much an actor had seen when its last delta or snapshot began, its last call that counts ended, or its last `hist` was
-/// answered Ok, whichever came last.
+/// How much an actor had seen when its last delta or snapshot began, its last call that counts ended, or its last
+/// `hist` returned a histogram, whichever came last.
 pub struct Since {
     /// How many single words it had seen.
     pub singles: u64,
@@ -184,21 +185,21 @@ pub struct Since {
     pub counts: u64,
 }
 
-/// The histograms of an actor: those that it was answered with, and those whose answer is owed.
+/// The histograms of an actor: those that its `hist` returned, and those whose answer is still owed.
 pub struct Answers {
-    /// The histograms that its `hist` was answered Ok with.
+    /// The histograms that its `hist` returned.
     pub names: LinkedList<Known>,
-    /// The histograms whose records it linked and whose `hist` is not answered yet.
+    /// The histograms whose records it linked and whose `hist` has not returned yet.
     pub owed: LinkedList<Known>,
 }
 
-/// What the deltas and snapshots of an actor took and answered.
+/// What the deltas of an actor took, and what its snapshots returned.
 pub struct Deltas {
     /// What deltas had taken of an adopted image. An opener's alone.
     pub first_taken: LinkedList<Portion>,
     /// What its deltas took, in order.
     pub taken: LinkedList<Taken>,
-    /// Whether the last of these is still going on.
+    /// Whether the last of these is still running.
     pub taking: bool,
     /// Its snapshots.
     pub snapshots: LinkedList<Answered>,
@@ -206,22 +207,22 @@ pub struct Deltas {
 
 /// What an actor is.
 pub enum Role {
-    /// An opener: how many recorders it has made, how many of these are not joined, and how many units of its share it said its
-    /// next one is to have.
+    /// An opener: how many recorders it has made, how many of these are not joined, and how many units of its share it
+    /// offers to the next one.
     Opener {
         made: u64,
         outstanding: u64,
         offered: u64,
     },
-    /// A recorder: how many were made before it, and how many of these were not joined when it was made.
+    /// A recorder: how many recorders were made before it, and how many of these were not joined when it was made.
     Recorder {
         before: u64,
         outstanding: u64,
     },
 }
 
-/// What an actor has done and seen: a recorder, or an opener, whose record gathers those of the recorders that it joined.
-/// It is a view alone, and no value of it is made: its numbers have no bound.
+/// What an actor has done and seen: a recorder, or an opener, whose record gathers those of the recorders that it
+/// joined. It is only a view, and no value of it is ever made: its numbers have no bound.
 pub struct Actor {
     /// What it knows of the segment.
     pub segment: Segment,
@@ -235,11 +236,11 @@ pub struct Actor {
     pub done: Done,
     /// What it has seen.
     pub seen: Seen,
-    /// How much of that it had seen before it began to look anew.
+    /// How much of that it had seen before it last began to look again.
     pub since: Since,
-    /// What its `hist` answered.
+    /// What its `hist` returned.
     pub answers: Answers,
-    /// What its deltas took and its snapshots answered.
+    /// What its deltas took and its snapshots returned.
     pub deltas: Deltas,
     /// Whether it is an opener or a recorder.
     pub role: Role,

@@ -2,8 +2,9 @@
 
 use std::collections::LinkedList;
 
-/// Units of one key of a histogram, and an amount of its sum. An accepted `add` counts one entry, an accepted `batch` one
-/// for each item and one for its sum. The key of a bucket is its least value; that of a sparse sample is its value.
+/// Units of one key of a histogram, and an amount of its sum. An accepted `add` counts one entry, an accepted `batch`
+/// one for each item, and one for its sum unless that is 0. The key of a bucket is its least value; that of a sparse
+/// sample is its value.
 pub struct Entry {
     /// The name of the histogram.
     pub name: LinkedList<u8>,

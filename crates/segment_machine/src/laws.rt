@@ -11,7 +11,7 @@ ghost use Rattle.segment_machine.specs.Looks.{SnapshotRun, CursorRun};
 ghost use Rattle.segment_machine.specs.Races.{StoppedRun, StalledRun, LostRun, RaceRun};
 ghost use Rattle.segment_machine.specs.Refused.{ValuesApart, MovesFirst, RoomStays, CursorsThere, SamplesMet, WordsSince, SwapsAdd, RecordsAlone, EntriesEndFirst, OffersStay, PursesCarry, DebtsStay, TailsStay, CorruptStays, FirstEntriesApart, WordsOffFirst, UnitsRemembered, SumsStay, FirstSamplesCount, CountsBound, SingleMarksApart, MarksRise, HonestAnswers};
 
-/// A step changes one word and one actor at most.
+/// A step changes at most one word and one actor.
 pub fn steps_change_one()
     ensures { StepsChangeOne }
 {}
@@ -21,19 +21,19 @@ pub fn keys_are_least()
     ensures { KeysAreLeast }
 {}
 
-/// An actor runs along with an allocation that is stepped by itself: while the two agree, the actor may do the
-/// allocation's next event, and after it they agree again.
+/// An actor follows an allocation that is stepped by itself: while the two agree, the actor may do the allocation's
+/// next event, and afterwards they agree again.
 pub fn allocations_agree()
     ensures { AllocationsAgree }
 {}
 
-/// An actor runs along with a publish in the same way. Such a publish never strays.
+/// An actor follows a publish in the same way. Such a publish never strays.
 pub fn publishes_agree()
     ensures { PublishesAgree }
 {}
 
-/// An actor runs along with a walk from the start in the same way: what the walk has given is the front of the chain
-/// that the actor has seen.
+/// An actor follows a walk from the start in the same way: what the walk has given is the front of the chain that the
+/// actor has seen.
 pub fn walks_agree()
     ensures { WalksAgree }
 {}
@@ -48,13 +48,13 @@ pub fn packed_run()
     ensures { PackedRun }
 {}
 
-/// A sample of another bucket claims and mounts a counts block, disables the single word, moves its units and counts its own,
-/// in this order; each event may be done when it is.
+/// A sample of another bucket claims and mounts a counts block, disables the single word, moves its units and counts
+/// its own, in this order; each event may be done when its turn comes.
 pub fn mounting_run()
     ensures { MountingRun }
 {}
 
-/// A taker takes what is above the mark that it finds, and nothing where another taker was before it.
+/// A taker takes what is above the mark that it finds, and nothing if another taker came first.
 pub fn taker_runs()
     ensures { TakerRuns }
 {}
@@ -69,12 +69,13 @@ pub fn batches()
     ensures { BatchExamples }
 {}
 
-/// A recorder that is made with the units that were offered, lent more, gives one back and is joined: the opener has all units again, and has seen what the recorder saw.
+/// A recorder is made with the units that were offered, is lent more, gives one back, and is joined: then the opener
+/// has all units again, and has seen what the recorder saw.
 pub fn recorder_is_joined()
     ensures { RecorderIsJoined }
 {}
 
-/// Two numbers that are one word do not count in one sample.
+/// Two numbers with the same word do not count in the same sample.
 pub fn values_apart()
     ensures { ValuesApart }
 {}
@@ -89,12 +90,12 @@ pub fn room_stays()
     ensures { RoomStays }
 {}
 
-/// A cursor that is not there is not loaded.
+/// A cursor that does not exist is not loaded.
 pub fn cursors_there()
     ensures { CursorsThere }
 {}
 
-/// A count is loaded of a sample that was met.
+/// The count of a sample is loaded only once the sample was visited.
 pub fn samples_met()
     ensures { SamplesMet }
 {}
@@ -114,17 +115,18 @@ pub fn records_alone()
     ensures { RecordsAlone }
 {}
 
-/// A call goes on with one more entry where all of its entries have ended.
+/// A call continues with one more entry only once all of its entries have ended.
 pub fn entries_end_first()
     ensures { EntriesEndFirst }
 {}
 
-/// Units that are offered to the next recorder are not lent, and a recorder gives none back that it does not have.
+/// Units that are offered to the next recorder are not lent, and a recorder gives back none that it does not have.
 pub fn offers_stay()
     ensures { OffersStay }
 {}
 
-/// A purse carries the units that were offered from an opener to a recorder, also beside 256 recorders, and to nobody else.
+/// A purse carries offered units from an opener to a recorder, also when 256 recorders are outstanding, and to nobody
+/// else.
 pub fn purses_carry()
     ensures { PursesCarry }
 {}
@@ -145,7 +147,7 @@ pub fn corrupt_stays()
     ensures { CorruptStays }
 {}
 
-/// First entries were accepted, and stand in no redundant count that is kept.
+/// First entries were accepted, and no redundant count that is kept has them.
 pub fn first_entries_apart()
     ensures { FirstEntriesApart }
 {}
@@ -155,7 +157,7 @@ pub fn words_off_first()
     ensures { WordsOffFirst }
 {}
 
-/// An actor that disabled a word with units moves these, and does nothing else before.
+/// An actor that disabled a word with units moves these before it does anything else.
 pub fn units_remembered()
     ensures { UnitsRemembered }
 {}
@@ -190,7 +192,8 @@ pub fn honest_answers()
     ensures { HonestAnswers }
 {}
 
-/// Two recorders pack, mount, move, sample and count a batch, with deltas and their joins; a third takes the rest. In version 1.
+/// Two recorders pack, mount, move, sample and count a batch, with deltas and their joins; a third takes the rest. In
+/// version 1.
 pub fn worked_run()
     ensures { WorkedRun }
 {}
@@ -200,8 +203,8 @@ pub fn frozen_run()
     ensures { FrozenRun }
 {}
 
-/// Where all stop between a disabling exchange and the addition, in version 1 two units are in transit, and the words have none
-/// of them; in version 2 the frozen word has them.
+/// If all stop between a disabling exchange and the addition, two units are in transit in version 1, and the words have
+/// none of them; in version 2 the frozen word has them.
 pub fn stopped_run()
     ensures { StoppedRun }
 {}
@@ -211,17 +214,17 @@ pub fn stalled_run()
     ensures { StalledRun }
 {}
 
-/// Of two counts blocks that are mounted at once one is lost, and its type becomes 0.
+/// If two counts blocks are mounted at once, one is lost, and its type becomes 0.
 pub fn lost_run()
     ensures { LostRun }
 {}
 
-/// Of two samples of one value that are made at once the first on the list has all units. In both versions.
+/// If two samples of one value are made at once, the first on the list has all units. In both versions.
 pub fn race_run()
     ensures { RaceRun }
 {}
 
-/// A snapshot of packed units that were moved answers what was counted.
+/// A snapshot of packed units that were moved returns what was counted.
 pub fn snapshot_run()
     ensures { SnapshotRun }
 {}

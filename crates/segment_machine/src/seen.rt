@@ -2,7 +2,7 @@
 
 use std::collections::LinkedList;
 
-/// A word that was seen: where it stands, and what it was.
+/// A word that was seen: where it is, and what it was.
 pub struct Sighting {
     pub at: u64,
     pub word: u64,
@@ -16,14 +16,14 @@ pub struct Seen {
     pub corrupt: bool,
     /// How often it loaded flags with the corrupt one.
     pub warned: u64,
-    /// The chain, so far as it has walked along it.
+    /// The chain, as far as it has walked along it.
     pub chain: LinkedList<u64>,
-    /// The words that led to no block when it loaded them, in the order of the loads: the next of a block, or of the queue block,
-    /// that was the end of the list; a counts reference that was 0. Each was so then; others may have stored there since.
+    /// The words that led to no block when it loaded them, in the order of the loads: the next of a block, or of the
+    /// queue block, that was the end of the list; a counts reference that was 0. Others may have stored there since.
     pub ends: LinkedList<u64>,
     /// The tails that it saw.
     pub tails: LinkedList<u64>,
-    /// The single words that it saw, by where they stand.
+    /// The single words that it saw, by where they are.
     pub singles: LinkedList<Sighting>,
     /// The counts, marks and redundant counts that it saw.
     pub counts: LinkedList<Sighting>,

@@ -1,4 +1,4 @@
--- The chain of a state that is reached: what it was, and then the records whose link was done, in the order of these links.
+-- The chain of a state that is reached: the earlier chain, and then the records that were linked, in the order of their links.
 use Rattle.segment_invariant.proofs.Prelude.Std.{◌≡◌, ℕ, Bool, List, [], ◌∷◌, ◌++◌, inl, inr, sym, ap, ◌∙◌, subst, append_assoc, eq-eqb, if◌then◌else◌, append-nil}
 use Rattle.segment_invariant.proofs.Prelude.Machine.{head_of, IsChain, Event, State}
 use Rattle.segment_invariant.proofs.Prelude.Invariant.{found_at}
@@ -18,7 +18,7 @@ behind_front event found front back = elim (links_or_not event found) [
   | inr not ↦ not (front ++ back) ∙ ap (λ (list : List ℕ). front ++ list) (sym (not back))
 ]
 
--- so the chain of a state that is reached is what it was and the records that were linked
+-- so the chain of a state that is reached is the earlier chain and the records that were linked
 pub chains_are_links : ChainsAreLinks
 chains_are_links shape opened start state chain kept reached is = go state reached
   where

@@ -165,7 +165,7 @@ module _ (boundaries : List ℕ) (are : AreBoundaries boundaries) (some : 1 < le
 
 -- ---- without
 
--- two numbers that differ are told apart
+-- a test finds that two numbers differ
 differ : (x y : ℤ) → x ≢ y → (b : Bool) → int_eq x y ≡ b → int_eq x y ≡ false
 differ x y ne true e = absurd (ne ((Decides-int_eq x y).0 e))
 differ x y ne false e = e

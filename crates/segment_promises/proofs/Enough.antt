@@ -1,5 +1,5 @@
--- Units of each key are enough for a recorder where they are at least what it has seen of each bucket, or of the first sample of each
--- value that it met.
+-- Units of each key are enough for a recorder if they are at least what it has seen of each bucket, or of the first sample of each value
+-- that it visited.
 use Rattle.segment_invariant.proofs.Prelude.Std.{◌≡◌, ◌≢◌, ℕ, ◌+◌, ◌<◌, ◌≤◌, ℤ, true, List, ◌++◌, Some, inl, ⊎_elim, sym, ap, subst, refl, arith, false, some, dite, get_elem?, slice_index, filter, Contains, and_parts, All-contains, Contains-append_left, Contains-append_right, Contains-append_cases, none_in, contains_filter, contains_mapped, contains_map}
 use Rattle.segment_invariant.proofs.Prelude.Machine.{Dimensions, Spec, buckets_of, SameSpec, Entry, EntryProgress, Spent, Actor, Known, Sighting, is_counted, has_ended, tally_units, accepted_by, counted_of, bucket_key, SawCount, is_opener, SawSample, SawBucket, purse, State}
 use Rattle.segment_invariant.proofs.Prelude.Invariant.{Anatomy, IsFirst, IsFirstOf, IsRightlyKnown, WasMet, Invariant, Fits, LooksBack, StandsRight}
@@ -21,7 +21,7 @@ sparse_alone spec.Sparse same = refl
 
 module _ (shape : Dimensions) (opened : Anatomy) (state : State) (kept : Invariant shape opened state) (id : ℕ) (a : Actor)
     (mine : get_elem? state.actors id ≡ some a) (known : Known) (has : Contains a.answers.names known) where
-  -- who knows a histogram is not spent
+  -- an actor that knows a histogram is not spent
   pub knower_lives : a.hand.place ≢ Spent
   knower_lives is =
       let nobody : a ≡ purse a.units.share = subst (StandsRight shape kept.anatomy id a) is (kept.standing id a mine) in
@@ -74,7 +74,7 @@ module _ (shape : Dimensions) (opened : Anatomy) (state : State) (kept : Invaria
           omega (arith, le, least);
     }
 
-    -- where it met the first sample of a value, they are at least what each count is that it has seen of that sample
+    -- if it visited the first sample of a value, they are at least each count that it has seen of that sample
     abbrev pub CoversValue : ℤ → Type 0
     CoversValue value = (at least : ℕ) → IsFirstOf kept.anatomy.records known.reference value at
         → Contains a.seen.chain at × SawSample a.seen known.reference value at → ((count : ℕ) → SawCount a (at + 6) count → least ≤ count)

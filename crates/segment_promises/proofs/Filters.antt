@@ -9,7 +9,7 @@ filtered p l x there = (
   All-contains (λ x. p x ≡ true) (filter p l) x (filter_passes p l) there,
 )
 
--- where all pass it, all are kept
+-- if all pass it, all are kept
 pub all_kept : {X : Type 0} (p : X → Bool) (l : List X) → All (λ x. p x ≡ true) l → filter p l ≡ l
 all_kept p [] all = refl
 all_kept p (x ∷ xs) all =

@@ -1,5 +1,5 @@
--- The samples of a sparse histogram along the list: where a recorder saw of each record which value it is a sample of, or that it is none,
--- a sample behind another of its value is a later one.
+-- The samples of a sparse histogram along the list: if a recorder saw for each record which value it is a sample of, or that it is no
+-- sample, then a sample after another of its value is a later one.
 use Rattle.segment_invariant.proofs.Prelude.Std.{◌≡◌, ◌≢◌, ◌⊎◌, ℕ, zero, suc, ℤ, Bool, true, false, true≢false, List, [], ◌∷◌, ◌++◌, Some, inl, inr, refl, sym, ap, subst, ◌∙◌, arith, cast_signed, cast_unsigned, w64, All, AllByRecursion, Contains, int_eq, Decides-int_eq, append_assoc, Contains-append_right}
 use Rattle.segment_invariant.proofs.Prelude.Machine.{Actor, Known, Seen, SawOther, SawSample}
 use Rattle.bucket_ranges.specs.Reading.{is_i32}
@@ -9,11 +9,11 @@ use Rattle.segment_machine.specs.Taking.{IsLaterSample}
 use Rattle.segment_machine.proofs.Values.{value_word}
 
 module _ (seen : Seen) (reference : ℕ) where
-  -- which value a record is a sample of, or that it is none
+  -- which value a record is a sample of, or that it is no sample
   abbrev pub Shows : ℕ → Type 0
   Shows at = ((value : ℤ) × SawSample seen reference value at) ⊎ ((value : ℤ) → is_i32 value ≡ true → SawOther seen reference value at)
 
-  -- a sample of one value is none of another
+  -- a sample of one value is no sample of another
   pub other_value : (value beside : ℤ) (at : ℕ) → SawSample seen reference value at → is_i32 beside ≡ true → value ≢ beside → SawOther seen reference beside at
   other_value value beside at (tag, of, word, fits) fit apart =
       inr (inr (
@@ -29,7 +29,7 @@ module _ (seen : Seen) (reference : ℕ) where
   not_both value at (tag, of, word, fits) (inr (inr (w, is, apart))) =
       let same : Some w ≡ Some (cast_unsigned w64 value) = sym is ∙ word in let one : w ≡ cast_unsigned w64 value = cc in apart one
 
-  -- where a sample of a value stands among records, one of these is the first of it
+  -- if a sample of a value is among records, one of these is the first of the value
   first_among : (value : ℤ) → is_i32 value ≡ true → (walked : List ℕ) → AllByRecursion Shows walked → (at : ℕ) → Contains walked at
       → SawSample seen reference value at → (first : ℕ) × ComesFirst (SawOther seen reference value) (SawSample seen reference value) walked first
   first_among value fits [] shown at (k, low, is) saw = absurd (omega (arith, low))
@@ -63,7 +63,7 @@ module _ (seen : Seen) (reference : ℕ) where
       by_case again (inl (v, here)) = by_value again v here (int_eq v value) refl
       by_case again (inr none) = later again (none value fits) has
 
--- a sample behind another of its value
+-- a sample after another of its value
 pub later_sample : (a : Actor) (known : Known) (value : ℤ) (front walked more : List ℕ) (at other : ℕ) → Sparse a known.reference known
     → a.seen.chain ≡ front ++ known.reference ∷ (walked ++ at ∷ more) → AllByRecursion (Shows a.seen known.reference) walked
     → ((r : ℕ) → Contains walked r → r ≢ at) → SawSample a.seen known.reference value at → Contains walked other

@@ -1,11 +1,11 @@
--- How far along a chain a block stands for the last time.
+-- How far along a chain a block occurs for the last time.
 use Rattle.segment_invariant.proofs.Prelude.Std.{◌≡◌, ◌⊎◌, ⊎_elim, ℕ, zero, suc, ◌+◌, ◌-◌, ◌<◌, ◌≤◌, ◌==◌, Bool, true, false, List, [], ◌∷◌, ◌++◌, length, slice_index, inl, inr, refl, sym, ap, subst, ◌∙◌, arith, length-append, eq-eqb, eqb-true, if◌then◌else◌, nat_lt, lt-ltb, ltb-true, ltb-false, dite, ℕ_discrete}
 use Rattle.segment_invariant.proofs.Prelude.Machine.{stops}
 use Rattle.list_core.specs.Walk.{stands_behind}
 use Rattle.list_core.proofs.Walks.{place_of}
 use Rattle.segment_promises.specs.Values.{NoRepeats}
 
--- how many elements stand before the last one that is this, and with it; 0 where none is
+-- the number of elements up to the last one that is this, and with it; 0 if none is
 abbrev pub last_of : List ℕ → ℕ → ℕ
 last_of [] at = 0
 last_of (x ∷ rest) at = if nat_lt 0 (last_of rest at) then suc (last_of rest at) else (if x == at then 1 else 0)
@@ -19,7 +19,7 @@ last_most (x ∷ rest) at = by (nat_lt 0 (last_of rest at)) (x == at) (last_most
     by false true most = omega arith
     by false false most = omega arith
 
--- one that stands at a place is there at least
+-- the last one is no earlier than a place where there is one
 pub last_least : (chain : List ℕ) (k at : ℕ) → k < length chain → slice_index chain k ≡ at → k < last_of chain at
 last_least [] k at inside is = absurd (omega (arith, inside))
 last_least (x ∷ rest) zero at inside is = by (nat_lt 0 (last_of rest at)) (x == at) (eq-eqb x at is)
@@ -33,7 +33,7 @@ last_least (x ∷ rest) (suc k) at inside is =
     subst (λ (b : Bool). suc k < (if b then suc (last_of rest at) else (if x == at then 1 else 0))) (sym (lt-ltb 0 (last_of rest at) (omega (arith, least))))
     (omega (arith, least))
 
--- what stands there last does stand there
+-- what is there last is there
 pub last_there : (chain : List ℕ) (at n : ℕ) → last_of chain at ≡ suc n → (n < length chain) × (slice_index chain n ≡ at)
 last_there [] at n is = absurd (omega (arith, is))
 last_there (x ∷ rest) at n is = by (nat_lt 0 (last_of rest at)) (x == at) refl refl (last_there rest at (n - 1)) is
@@ -58,7 +58,7 @@ below_or m n = by (nat_lt m n) refl
     by true e = inl (ltb-true m n e)
     by false e = inr (ltb-false m n e)
 
--- where no block stands twice, a walk has come as far as the block where it stands
+-- if no block occurs twice, a walk has come as far as the block where it is
 pub last_stands : (given rest chain : List ℕ) → chain ≡ given ++ rest → NoRepeats chain → last_of chain (stands_behind given) ≤ length given
 last_stands given rest chain is once = by (last_of chain (stands_behind given)) refl
   where

@@ -29,7 +29,7 @@ all_push P (y ∷ xs) x (first, rest) last = (first, all_push P xs x rest last)
 
 -- ---- references
 
--- a reference lies within a segment of a lawful shape
+-- a reference is within a segment of a valid shape
 pub reference_within : (shape : Dimensions) (at : ℕ) → IsShape shape → is_reference shape.size at ≡ true → at + 5 ≤ shape.size
 reference_within shape at shaped is =
     let from = shaped.wide in
@@ -37,7 +37,7 @@ reference_within shape at shaped is =
     ⊎_elim (λ queue. let e = eqb-true at 12 queue in omega (arith, e, from, to))
     (λ record_is. leb-true (at + 5) shape.size (and_parts _ _ record_is).1) (or_cases _ _ is)
 
--- one that is no queue block is behind the header
+-- one that is not the queue block is after the header
 pub reference_behind : (size at : ℕ) → is_reference size at ≡ true → at ≢ 12 → (16 ≤ at) × (at + 5 ≤ size)
 reference_behind size at is miss =
     ⊎_elim (λ queue. absurd (miss (eqb-true at 12 queue)))

@@ -1,4 +1,4 @@
--- Where all recorders are joined, the opener alone has done what was done.
+-- Once all recorders are joined, the opener alone has done what was done.
 use Rattle.segment_invariant.proofs.Prelude.Std.{◌≡◌, ◌≢◌, ℕ, suc, Bool, true, false, ℤ, ◌⊎◌, ◌≤◌, ◌+◌, ◌+ℤ◌, ◌-◌, List, [], ◌∷◌, ◌++◌, map, take, drop, length, refl, sym, ap, subst, ◌∙◌, append-nil, ⊎_elim, arith, if◌then◌else◌, filter, flat_map, All, Contains, some, some-injective, some-ne-none, get_elem?, and_parts, All-contains, All-nil, all_of, sum_at_least}
 use Rattle.segment_invariant.proofs.Prelude.Machine.{Dimensions, Entry, EntryProgress, Actor, Portion, Taken, is_counted, is_summed, is_noted, has_ended, is_of, tally_units, tally_sum, tally_noted, log_of, counted_of, summed_of, noted_of, all_counted, all_summed, all_noted, all_taken, portion_of, taken_of, taken_units, taken_sum, made_of, outstanding_of, is_untouched, purse, State}
 use Rattle.segment_invariant.proofs.Prelude.Invariant.{Anatomy, IsWithinCounts, Invariant, is_living, Fits, StandsRight, IsQuiet}
@@ -101,7 +101,7 @@ module _ (shape : Dimensions) (opened : Anatomy) (state : State) (a : Actor) (ke
   pub all_is_taken : all_taken state.actors ≡ taken_of a
   all_is_taken = gathered taken_of (λ units. refl)
 
-  -- where nothing of a name was counted behind a moment, nothing is
+  -- if no entry of a name is in the log after a moment, nothing of it was counted after that
   quiet : (name : List ℕ) (n : ℕ) → All (λ entry. is_of name entry ≡ false) (drop n (log_of a)) → IsQuiet a name n
   quiet name n behind = (
     behind,
@@ -124,7 +124,7 @@ final_deltas_take_all shape opened state a t kept joins among final =
       ap (λ list. taken_sum list t.name) (sym taken) ∙ (did.1 ∙ ap (λ list. tally_sum list t.name) log.1),
     )
 
--- where a list goes on
+-- the element after the front of a list
 at_front : {X : Type 0} (front behind : List X) (x : X) → get_elem? (front ++ x ∷ behind) (length front) ≡ some x
 at_front [] behind x = refl
 at_front (y ∷ ys) behind x = at_front ys behind x

@@ -30,7 +30,7 @@ use Rattle.segment_promises.proofs.Walkers.{opener, walker, beside, lives, stand
 
 -- ---- what an event publishes
 
--- what is longer by an event that found a number: a link's record, where it went through
+-- what an event that found a number adds to the chain: a link's record, if the link succeeded
 abbrev gain : Event → ℕ → List ℕ
 gain event found = chain_behind event found []
 
@@ -112,7 +112,7 @@ module _ (a : Actor) where
   publishes (cursor_event (load_cursor cursor)) found = same
   publishes (cursor_event (move_cursor cursor old new)) found = gave (found == old) cursor new found
 
--- an event is a link that goes through, or leaves the chain
+-- an event is a link that succeeds, or leaves the chain unchanged
 pub links_or_not : (event : Event) (found : ℕ) → ((tail at : ℕ) × (event ≡ publishing_event (link tail at)) × (found ≡ 12))
     ⊎ ((chain : List ℕ) → chain_behind event found chain ≡ chain)
 links_or_not (publishing_event (link tail at)) found = by_test (found == 12) refl
@@ -133,7 +133,7 @@ links_or_not (cursor_event event) found = inr (λ chain. refl)
 
 -- ---- the chain after an event
 
--- what stands behind a list stands where that ends
+-- what follows a list is where the list ends
 first_behind : (front rest : List ℕ) → slice_index (front ++ rest) (length front) ≡ slice_index rest 0
 first_behind [] rest = refl
 first_behind (x ∷ front) rest = first_behind front rest
@@ -150,7 +150,7 @@ many_records shape opened state kept =
     let placed = length-map kept.anatomy.records (λ (l : Listed). l.reference) in
     omega (arith, all, parts, moved, mapped, placed)
 
--- where one actor becomes another, as many records more are published as it has more
+-- if one actor becomes another, as many more records are published as it has more
 more_published : (actors : List Actor) (id : ℕ) (a b : Actor) → get_elem? actors id ≡ some a
     → length (all_published (set actors id b)) + length a.done.published ≡ length (all_published actors) + length b.done.published
 more_published actors id a b mine =
@@ -168,7 +168,7 @@ module _ (shape : Dimensions) (opened : Anatomy) (state : State) (kept : Invaria
   abbrev acted : Actor
   acted = next a event found
 
-  -- the same event beside the opener that has walked along the list
+  -- the same event in a state whose opener has walked along the list
   abbrev old : State
   old = record state { actors = beside shape opened state kept }
 
@@ -190,14 +190,14 @@ module _ (shape : Dimensions) (opened : Anatomy) (state : State) (kept : Invaria
   abbrev behind : List ℕ
   behind = order_of new_kept.anatomy
 
-  -- the chain is what it was, and more
+  -- the chain is the earlier one, and more
   longer : IsPrefix before behind
   longer =
       let stands : get_elem? new.actors 0 ≡ some (walker shape opened state kept) =
       set_else old.actors id 0 acted (λ first. away (sym first)) ∙ stands_first shape opened state kept in
       (new_kept.each 0 (walker shape opened state kept) stands (lives shape opened state kept)).sees.walked
 
-  -- that is one record at most, and none but for a link
+  -- that is at most one record, and none unless the event is a link
   few : length behind ≤ length before + length (gain event found)
   few =
       let now = many_records shape opened new new_kept in
@@ -219,7 +219,7 @@ module _ (shape : Dimensions) (opened : Anatomy) (state : State) (kept : Invaria
       empty [] is = refl
       empty (x ∷ rest) is = absurd (omega (arith, is))
 
-  -- a link that goes through puts its record there
+  -- a link that succeeds puts its record there
   module _ (tail at : ℕ) (is : event ≡ publishing_event (link tail at)) (ends : found ≡ 12) where
     may : Ready a (publishing_event (link tail at))
     may = subst (Ready a) is ready
@@ -264,7 +264,7 @@ module _ (shape : Dimensions) (opened : Anatomy) (state : State) (kept : Invaria
         alone (x ∷ []) one first = ap (λ (n : ℕ). n ∷ []) first
         alone (x ∷ y ∷ rest) one first = absurd (omega (arith, one))
 
-  -- so the chain behind the event is that of the definition
+  -- so the chain after the event is that of the definition
   behind_is : behind ≡ chain_behind event found before
   behind_is = elim (links_or_not event found) [
     | inl links ↦

@@ -10,7 +10,7 @@ use Rattle.segment_promises.proofs.FirstValues.{other_value}
 
 -- ---- lists
 
--- what comes first still does where more stand behind
+-- what comes first still does if one more follows
 first_behind : {X : Type 0} (other is : X → Type 0) (list : List X) (x y : X) → ComesFirst other is list x → ComesFirst other is (list ++ y ∷ []) x
 first_behind other is list x y (front, behind, split, others, it) = (
   front,
@@ -58,7 +58,7 @@ module _ (a b : Seen) (grows : Grows a.words b.words) (histogram : ℕ) where
 
 -- ---- one key more
 
--- each key is listed once, where the new one is not listed yet
+-- each key is listed once, if the new one is not listed yet
 module _ (listed : List (ℤ × ℕ)) (value : ℤ) (units : ℕ) (never : (k : ℕ) (d : ℤ × ℕ) → k < length listed → (get_or listed k d).0 ≢ value) where
   abbrev test : ℤ → ℤ × ℕ → ℕ
   test key count = if int_eq count.0 key then 1 else 0

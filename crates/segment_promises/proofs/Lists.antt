@@ -24,7 +24,7 @@ module _ (shape : Dimensions) (opened : Anatomy) (state : State) (kept : Invaria
     walked : IsPrefix a.seen.chain order
     walked = (kept.each id a mine lives).sees.walked
 
-    -- what an actor met is on the list
+    -- what an actor has seen, made or been given is on the list
     met_on_list : (reference : ℕ) → HasMet a reference → Contains order reference
     met_on_list reference met = ⊎_elim
         (λ seen. subst (λ (list : List ℕ). Contains list reference) (sym walked.1) (Contains-append_left a.seen.chain walked.0 reference seen))
@@ -33,7 +33,7 @@ module _ (shape : Dimensions) (opened : Anatomy) (state : State) (kept : Invaria
 
     -- ---- walks
 
-    -- where a walk ends whose next is the end, it went along the whole list
+    -- a walk whose next is the end has gone along the whole list
     ended : word_at state.words (slice_index (stops a.seen.chain) (length a.seen.chain) + 3) ≡ 12 → order ≡ a.seen.chain
     ended last =
         let front : List ℕ = a.seen.chain in
@@ -78,7 +78,7 @@ cursors_give_fronts shape opened state chain cursor kept is below =
 
 -- ---- in order
 
--- what passes a test stands where it stood, in the same order
+-- what passes a test stays in the same order
 module _ {X : Type 0} (test : X → Bool) where
   from_filter : (list : List X) (i : ℕ) (x : X) → get_elem? (filter test list) i ≡ some x → (k : ℕ) × (get_elem? list k ≡ some x) × (test x ≡ true)
   from_filter [] i x there = absurd (some-ne-none x (sym there))

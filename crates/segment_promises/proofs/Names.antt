@@ -1,4 +1,4 @@
--- What `hist` answers, of any kept state: the first record of a name, with the same spec; it refuses only where that has another one.
+-- What `hist` returns, in any kept state: the first record of a name, with the same spec; it refuses only if that record has another one.
 use Rattle.segment_invariant.proofs.Prelude.Std.{ℕ, List, sym, subst, ◌∙◌, All-contains}
 use Rattle.segment_invariant.proofs.Prelude.Machine.{Spec, spec_of, SameSpec}
 use Rattle.segment_invariant.proofs.Prelude.Invariant.{IsHistogram, IsRightlyKnown}

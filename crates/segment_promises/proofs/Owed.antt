@@ -12,7 +12,7 @@ use Rattle.segment_promises.specs.Deltas.{HadCount, HadPacked, IsWhole}
 
 -- ---- forms
 
--- units of a packed bucket, where it is this one
+-- units of a packed bucket, if it is this one
 abbrev of_bucket : Option ℕ → ℕ → ℕ → ℕ
 of_bucket None n i = 0
 of_bucket (Some bucket) n i = if bucket == i then n else 0
@@ -45,7 +45,7 @@ none_of : (packed : Option ℕ) (n i : ℕ) → packed ≢ Some i → of_bucket 
 none_of None n i ne = refl
 none_of (Some bucket) n i ne = λ k. if ne_eqb bucket i (λ e. ne (ap (λ (b : ℕ). Some b) e)) k then n else 0
 
--- a word that leads to another has no more units of a bucket, but in version 1 of the packed one, where the other is off
+-- a word that leads to another has no more units of a bucket, except in version 1 of the packed one, if the other is off
 leads_more : (version n old new i : ℕ) → Leads version n old new
     → (version ≡ 1 → is_off new ≡ true → packed_bucket (single_of version n new) ≢ Some i)
     → units_packed (single_of version n old) i ≤ units_packed (single_of version n new) i
@@ -101,7 +101,7 @@ module _ (shape : Dimensions) (opened : Anatomy) (state : State) (kept : Invaria
     abbrev form : Option SingleWord
     form = single_of a.segment.version (buckets_of known.spec) word
 
-    -- where nothing can be in transit, the word is not off with this bucket packed in version 1
+    -- if nothing can be in transit, the word is not off with this bucket packed in version 1
     apart : IsWhole a known i → a.segment.version ≡ 1 → is_off word ≡ true → packed_bucket form ≢ Some i
     apart (inl two) one off e = omega (arith, one, two)
     apart (inr (inl on)) one off e = true≢false (sym off ∙ on word saw)
@@ -130,7 +130,7 @@ module _ (shape : Dimensions) (opened : Anatomy) (state : State) (kept : Invaria
           let same = ap (λ (v : ℕ). units_packed (single_of v (buckets_of known.spec) word) i) fits.versioned in
           omega (arith, least, same)
 
-    -- one that is off, and a count behind it
+    -- one that is off, and a count that was seen with it
     module _ (off : is_off word ≡ true) (counts count : ℕ) (names : word_seen a.seen.words (known.reference + 8) ≡ Some counts)
         (counted : SawCount a (counts + 4 + i) count) where
       named : (r : Record) → HasRecord kept.anatomy.pieces known.reference r → r.counts ≡ counts

@@ -1,4 +1,4 @@
--- How far a single word has come: how many units it packs, and behind that whether it is off. It rises along whatever leads on.
+-- How far a single word has come: the units that it packs, and above these that it is off. It never falls from one word to a later one.
 use Rattle.segment_invariant.proofs.Prelude.Std.{◌≡◌, ◌≢◌, ◌⊎◌, ℕ, suc, ◌-◌, ◌%◌, ◌/◌, ◌^◌, ◌<◌, ◌≤◌, Bool, true, false, ◌==◌, ◌&&◌, nat_lt, nat_le, if◌then◌else◌, List, [], ◌∷◌, ◌++◌, Some, None, inl, inr, refl, sym, ap, ◌∙◌, arith, leb-true, and_parts, eq-eqb, eqb-true, Contains}
 use Rattle.segment_invariant.proofs.Prelude.Machine.{Empty, Packed, Disabled, FrozenEmpty, Frozen, single_of, is_packed_word, packed_bucket, Sighting, is_off, units_in, Leads}
 use Rattle.bucket_ranges.specs.Single.{packed_of, disabled_of, frozen_of}
@@ -6,7 +6,7 @@ use Rattle.segment_invariant.proofs.Packing.OffForms.{on_form}
 
 -- ---- words
 
--- the rank of a word in a version, of a histogram with so many buckets
+-- the rank of a word in a version, of a histogram with `n` buckets
 abbrev pub rank : ℕ → ℕ → ℕ → ℕ
 rank version n word = if is_off word then 65536 else units_in (single_of version n word)
 
@@ -74,7 +74,7 @@ leads_rank version n old new (inr (inr (on, packs, inl least))) =
 leads_rank version n old new (inr (inr (on, packs, inr (one, off)))) =
     let e = rank_off version n new off in let h = rank_most version n old in omega (arith, e, h)
 
--- a word that is on and has a form has at least one unit, where it is not the empty one
+-- a word that is on and has a form has at least one unit, if it is not the empty one
 pub on_units : (version n word : ℕ) → single_of version n word ≢ None → is_off word ≡ false
     → (word ≡ 0) ⊎ ((1 ≤ word % 2 ^ 32) × (single_of version n word ≡ Some (Packed (word / 2 ^ 32) (word % 2 ^ 32))))
 on_units version n word formed on = by (on_form version n word formed on)
@@ -132,7 +132,7 @@ leads_higher version n old new formed forms on leads apart = by_test (is_off new
 
 -- ---- the word that was seen last
 
--- the rank of the word that was seen last, where that is the single word at a place
+-- the rank of the word that was seen last, if that is the single word at a place
 abbrev pub last_rank : ℕ → ℕ → ℕ → List Sighting → ℕ
 last_rank version n at [] = 0
 last_rank version n at (s ∷ []) = if s.at == at then rank version n s.word else 0
@@ -147,7 +147,7 @@ last_most version n at (s ∷ []) = by_test (s.at == at)
     by_test false = omega arith
 last_most version n at (s ∷ t ∷ rest) = last_most version n at (t ∷ rest)
 
--- it is that of a word that is seen behind
+-- it is that of a word that is seen last
 pub last_is : (version n at word : ℕ) (list : List Sighting) → last_rank version n at (list ++ record { at = at; word = word } ∷ []) ≡ rank version n word
 last_is version n at word [] = ap (λ (b : Bool). if b then rank version n word else 0) (eq-eqb at at refl)
 last_is version n at word (s ∷ []) = last_is version n at word []

@@ -1,4 +1,5 @@
--- Every state that is reached from a kept one is kept, and what is published goes on; one that is reached from a new segment is consistent.
+-- Every state that is reached from a kept one is kept, and what is published continues; one that is reached from a new segment is
+-- consistent.
 use Rattle.std.proofs.Common.{subst}
 use Rattle.segment_machine.specs.State.{State}
 use Rattle.segment_machine.specs.Reached.{new_state, IsReached, started, stepped, announced, offered, split, lent, returned, purse_filled, purse_poured, joined_in}
@@ -19,7 +20,7 @@ use Rattle.segment_promises.proofs.Steps.{steps_rise}
 pub states_rise : StatesRise
 states_rise shape opened start state kept reached = go state reached
   where
-    -- a state that is kept behind one that is reached is so from the start on
+    -- a state that is kept after one that is reached is kept from the start on
     on : {old new : State} (before : KeptOn shape opened kept old) → KeptOn shape opened before.0 new → KeptOn shape opened kept new
     on before next = kept_again shape opened start kept before next
 

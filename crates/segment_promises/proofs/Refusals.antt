@@ -7,7 +7,7 @@ use Rattle.segment_invariant.proofs.Lists.Countings.{or_false, beside_same, noth
 use Rattle.segment_promises.specs.Refusals.{RefusedAddsFew}
 use Rattle.segment_promises.proofs.Joined.{all_pass}
 
--- who is free to turn elsewhere has nothing in transit
+-- an actor that may turn elsewhere has nothing in transit
 nothing_moves : (place : Place) → is_bound place ≡ false → (histogram bucket : ℕ) → transit_at place histogram bucket ≡ 0
 nothing_moves (Moving look bucket units) free histogram i = cc free
 nothing_moves place free histogram i = refl

@@ -1,4 +1,4 @@
--- What a snapshot answers is at least what its recorder had accepted and seen.
+-- What a snapshot returns is at least what its recorder had accepted and seen.
 use Rattle.segment_invariant.proofs.Prelude.Std.{◌≡◌, ◌≢◌, ℕ, zero, suc, ◌+◌, ◌<◌, ◌≤◌, ℤ, true, List, length, ⊎_elim, refl, sym, ap, subst, ◌∙◌, arith, false, some, some-injective, get_elem?, if◌then◌else◌, Some, range_with_len, Contains, int_eq, Decides-int_eq, All-contains, Contains-append_right, length-map, at_map, at_from, sum_at_least, contains_mapped}
 use Rattle.segment_invariant.proofs.Prelude.Machine.{Dimensions, buckets_of, Spent, Actor, Answered, Known, Sighting, tally_noted, has_buckets, bucket_key, units_listed, SawCount, is_opener, IsFirstSample, State}
 use Rattle.segment_invariant.proofs.Prelude.Invariant.{Anatomy, IsFirstOf, Invariant}
@@ -32,7 +32,7 @@ module _ (shape : Dimensions) (opened : Anatomy) (state : State) (kept : Invaria
   lives : a.hand.place ≢ Spent
   lives = knower_lives shape opened state kept id a mine known has
 
-  -- a value whose first sample was met has there what was seen of that sample
+  -- a value whose first sample was visited is listed with what was seen of that sample
   value_listed : known.spec ≡ spec.Sparse → (value : ℤ) → CoversValue shape opened state kept id a mine known has records (units_listed answered.counts) value
   value_listed sparse value at least first (met, sampled) owes =
       let (count, counted, either) = saw.values sparse value at met sampled in

@@ -1,4 +1,4 @@
--- Who has set the corrupt flag claims no block any more: an allocation begins with a load of the flags, which has that flag then.
+-- A recorder that has set the corrupt flag claims no more blocks: an allocation begins with a load of the flags, and finds that flag set.
 use Rattle.segment_invariant.proofs.Prelude.Std.{◌≡◌, ◌≢◌, ◌⊎◌, ℕ, ◌==◌, ◌&&◌, Bool, true, false, true≢false, List, [], ◌∷◌, set, inl, inr, ⊎_elim, refl, sym, ap, subst, ◌∙◌, if◌then◌else◌, bit_and, nat_lt, dite, some, some-injective, ℕ_discrete, get_elem?, at_longer, set_else, set_here, all_at, below_length, All-cons, All-nil, All-push, All}
 use Rattle.segment_invariant.proofs.Prelude.Machine.{Actor, Claim, Place, Spent, Idle, is_bound, is_opener, back, Event, Ready, Learned, next, allocating_event, publishing_event, walking_event, counting_event, taking_event, packing_event, load_flags, load_free, exchange_free, store_size, store_cookie, store_type, store_payload, set_corrupt, set_full, store_own_next, load_tail, link, move_tail, after_link, load_next, load_published, load_counts, add_count, add_sum, load_count, raise_mark, load_sum, swap_sum_mark, load_redundant, raise_single_mark, load_single, pack, mount_counts, purge_block, disable, add_moved, after_pack, after_mount, after_disable, Note, Notes, noted, begins, purse, State, Dimensions}
 use Rattle.segment_invariant.proofs.Prelude.Invariant.{Anatomy, Invariant, found_at}
@@ -21,7 +21,7 @@ use Rattle.segment_promises.proofs.Steps.{steps_follow}
 
 -- ---- places
 
--- whether an allocation is going on
+-- whether an allocation is running
 abbrev allocates : Place → Bool
 allocates place.FlagsLoaded = true
 allocates (place.FreeLoaded free) = true
@@ -55,27 +55,27 @@ either : (p q : Place) → allocates p ≡ false → allocates q ≡ false → (
 either p q one other true = one
 either p q one other false = other
 
--- ---- an event of who stands at no allocation once it has set the corrupt flag
+-- ---- an event of an actor that is at no allocation once it has set the corrupt flag
 
--- it stands at none then
+-- it is at none if it has set the flag
 abbrev Rests : Actor → Type 0
 Rests x = x.done.spoiled ≡ true → allocates x.hand.place ≡ false
 
 module _ (a : Actor) (rests : Rests a) where
-  -- so it does behind an event, which claims nothing
+  -- it is at none after an event either, and the event claims nothing
   abbrev Steady : Actor → Type 0
   Steady b = Rests b × (a.done.spoiled ≡ true → (b.done.spoiled ≡ true) × (b.done.claimed ≡ a.done.claimed))
 
-  -- it stands at no place of an allocation
+  -- it is at no place of an allocation
   never : {X : Type 0} (p : Place) → allocates p ≡ true → a.hand.place ≡ p → a.done.spoiled ≡ true → X
   never p is at spoiled = absurd (true≢false (sym is ∙ (sym (ap allocates at) ∙ rests spoiled)))
 
-  -- it has done the same, and stands at none
+  -- it has done the same, and is at none
   at_rest : (b : Actor) → b.done ≡ a.done → (a.done.spoiled ≡ true → allocates b.hand.place ≡ false) → Steady b
   at_rest b same stands =
       (λ spoiled. stands (ap (λ (d : Done). d.spoiled) (sym same) ∙ spoiled), λ spoiled. (ap (λ (d : Done). d.spoiled) same ∙ spoiled, ap (λ (d : Done). d.claimed) same))
 
-  -- an event of an allocation, at none of which it stands then
+  -- an event of an allocation, which it cannot do then
   out_of : (b : Actor) (p : Place) → allocates p ≡ true → a.hand.place ≡ p → b.done.spoiled ≡ a.done.spoiled → Steady b
   out_of b p is at same = (λ spoiled. never p is at (sym same ∙ spoiled), λ spoiled. never p is at spoiled)
 
@@ -149,7 +149,7 @@ module _ (a : Actor) (rests : Rests a) where
   steady_on (cursor_event (load_cursor cursor)) found ready learned = (λ spoiled. refl, λ spoiled. (spoiled, refl))
   steady_on (cursor_event (move_cursor cursor old new)) found ready learned = gave (found == old) cursor new found
 
--- ---- an event of who was joined
+-- ---- an event of an actor that was joined
 
 -- it does none that leads elsewhere
 module _ (a : Actor) (gone : a.hand.place ≡ Spent) where
@@ -157,7 +157,7 @@ module _ (a : Actor) (gone : a.hand.place ≡ Spent) where
   turned : {X : Type 0} → is_bound a.hand.place ≡ false → X
   turned free = absurd (true≢false (sym (ap is_bound gone) ∙ free))
 
-  -- it stands nowhere else
+  -- it is nowhere else
   stands : {X : Type 0} (p : Place) → p ≢ Spent → a.hand.place ≡ p → X
   stands p ne at = absurd (ne (sym at ∙ gone))
 
@@ -220,7 +220,7 @@ module _ (a : Actor) (gone : a.hand.place ≡ Spent) where
 
 -- ---- notes
 
--- a note leaves where its actor stands, and what it has done to the segment
+-- a note leaves its actor's place, and what the actor has done to the segment
 note_leaves : (a : Actor) (note : Note) → ((noted a note).hand.place ≡ a.hand.place) × ((noted a note).done ≡ a.done)
 note_leaves a (begins name cost entries) = (refl, refl)
 note_leaves a (goes_on entry cost) = (refl, refl)
@@ -244,7 +244,7 @@ notes_leave (note ∷ rest) a b (may, more) =
 
 -- ---- whatever happens
 
--- it stands at no allocation, and has claimed these
+-- it is at no allocation, and has claimed these
 abbrev Quiet : List Claim → Place → Done → Type 0
 Quiet claimed p d = (allocates p ≡ false) × (d.spoiled ≡ true) × (d.claimed ≡ claimed)
 
@@ -264,11 +264,11 @@ still_on claimed a event found ready learned (inr (rests, spoiled, is)) =
     let (sets, same) = steady.1 spoiled in
     inr (steady.0 sets, sets, same ∙ is)
 
--- one stands in a list of actors that is still
+-- the actor of this number is still
 abbrev IsStill : List Claim → List Actor → ℕ → Type 0
 IsStill claimed actors who = (c : Actor) × (get_elem? actors who ≡ some c) × Still claimed c.hand.place c.done
 
--- another record of an actor, which is still where it is the one
+-- another record of an actor, which is still if the actor is the one
 another : (claimed : List Claim) (actors : List Actor) (id who : ℕ) (a x : Actor) → get_elem? actors id ≡ some a
     → (Still claimed a.hand.place a.done → Still claimed x.hand.place x.done) → IsStill claimed actors who → IsStill claimed (set actors id x) who
 another claimed actors id who a x there on (c, stands_there, still) = dite (ℕ_discrete who id)
@@ -291,7 +291,7 @@ spoilers_claim_nothing shape opened start state who a b kept there records spoil
     claimed : List Claim
     claimed = a.done.claimed
 
-    -- it is no opener, which stands first
+    -- it is not the opener, which comes first
     not_first : who ≢ 0
     not_first first =
         let one : a ≡ kept.roles.opener = some-injective _ _ (sym there ∙ (ap (get_elem? start.actors) first ∙ kept.roles.stands)) in
@@ -347,9 +347,9 @@ spoilers_claim_nothing shape opened start state who a b kept there records spoil
         (another claimed _ other who y _ (set_else old.actors id other _ (λ e. apart (sym e)) ∙ beside) (λ still. inl refl)
         (c, set_else old.actors id who _ other_one ∙ here, still))
 
--- ---- in the states that are reached from a kept one in which an opener stands alone
+-- ---- in the states that are reached from a kept one in which an opener is alone
 
--- a recorder stands at no allocation once it has set the corrupt flag
+-- a recorder is at no allocation once it has set the corrupt flag
 abbrev RecorderRests : Actor → Type 0
 RecorderRests x = is_opener x.role ≡ false → Rests x
 
@@ -374,7 +374,7 @@ module _ (shape : Dimensions) (opened : Anatomy) (start : State) (kept : Invaria
   opens : (x : Actor) → is_opener x.role ≡ true → RecorderRests x
   opens x is records = absurd (true≢false (sym is ∙ records))
 
-  -- so it is of all of them
+  -- this holds for all of them
   all_rest : (state : State) → IsReached opened.version start state → All RecorderRests state.actors
   all_rest state started =
       subst (All RecorderRests) (sym alone) (All-cons RecorderRests opener [] (opens opener first_opens) (All-nil RecorderRests))
@@ -412,7 +412,7 @@ module _ (shape : Dimensions) (opened : Anatomy) (start : State) (kept : Invaria
       subst (All RecorderRests) (sym (ap (λ (s : State). s.actors) is)) (All-set RecorderRests _ other spent (λ records spoiled. refl)
       (All-set RecorderRests old.actors who _ (opens (joined x y) refl) (all_rest old before)))
 
-  -- a recorder that has set the corrupt flag has still set it behind a step, which claims nothing
+  -- a recorder that has set the corrupt flag has still set it after a step, which claims nothing
   pub spoilers_step_on : (old new : State) (who : ℕ) (event : Event) → IsReached opened.version start old → (step : IsStep opened.version old who event new)
       → step.actor.done.spoiled ≡ true → (step.then_is.done.spoiled ≡ true) × (step.then_is.done.claimed ≡ step.actor.done.claimed)
   spoilers_step_on old new who event reached step =

@@ -1,4 +1,4 @@
--- What follows at once for those who step a segment.
+-- What follows at once for code that steps a segment.
 use Rattle.segment_invariant.proofs.Prelude.Std.{◌≡◌, ℕ, Bool, true, false, List, take, drop, length, set, refl, sym, ap, subst, ◌∙◌, set-set, take-append_seam, some, get_elem?}
 use Rattle.segment_invariant.proofs.Prelude.Machine.{Dimensions, Actor, Event, Ready, Learned, allocating_event, publishing_event, walking_event, counting_event, taking_event, packing_event, next, load_flags, load_free, exchange_free, store_size, store_cookie, store_type, store_payload, set_corrupt, set_full, store_own_next, load_tail, link, move_tail, after_link, load_next, load_published, load_counts, add_count, add_sum, load_count, raise_mark, load_sum, swap_sum_mark, load_redundant, raise_single_mark, load_single, pack, mount_counts, purge_block, disable, add_moved, after_pack, after_mount, after_disable, Note, Notes, State, is_opener}
 use Rattle.segment_invariant.proofs.Prelude.Invariant.{Anatomy, Invariant, KeptOn, found_at}
@@ -17,7 +17,7 @@ use Rattle.segment_promises.specs.Follows.{StepsFollow}
 
 -- ---- steps
 
--- nor does what becomes of an actor whose exchange went through or not
+-- nor does what becomes of an actor whose exchange succeeded or failed
 module _ (a : Actor) where
   freed : (b : Bool) (old new wanted found : ℕ) → is_opener (after_free b a old new wanted found).role ≡ is_opener a.role
   freed true old new wanted found = refl
@@ -86,20 +86,20 @@ words_of_memory s n m size is = sym (ap (λ (p : ℕ). take p m) size) ∙ (ap (
 cursors_of_memory : (s : State) (n : ℕ) (m : List ℕ) → length s.words ≡ n → memory s ≡ m → drop n m ≡ s.cursors
 cursors_of_memory s n m size is = sym (ap (λ (p : ℕ). drop p m) size) ∙ (ap (drop (length s.words)) (sym is) ∙ drop-append_seam s.words s.cursors)
 
--- An event keeps what holds with notes before and behind it, and its actor learns of the number that was found.
+-- An event keeps what holds, with notes before and after it, and its actor learns of the number that was found.
 module _ (shape : Dimensions) (opened : Anatomy) (old : State) (id : ℕ) (a at : Actor) (before : List Note) (event : Event) where
-  -- the number that the event finds, the words behind it, and its actor
+  -- the number that the event finds
   abbrev found : ℕ
   found = found_at old event
 
   abbrev all : List ℕ
   all = after (length old.words) opened.version event (memory old)
 
-  -- the state behind the event and the notes behind that
+  -- the state after the event and the notes after that
   abbrev then_with : Actor → State
   then_with b = record { words = take (length old.words) all; cursors = drop (length old.words) all; actors = set old.actors id b }
 
-  -- and what is published goes on
+  -- and what is published continues
   pub happens_on : (kept : Invariant shape opened old) → get_elem? old.actors id ≡ some a → is_opener a.role ≡ false → Notes a before at
       → Ready at event → (behind : List Note) (then_is : Actor)
       → (Learned at event found → Notes (next at event found) behind then_is)
@@ -125,7 +125,7 @@ module _ (shape : Dimensions) (opened : Anatomy) (old : State) (id : ℕ) (a at 
       let did = happens_on kept there records notes_before ready behind then_is goes in
       (did.0.0, did.1)
 
--- so does a step, and what is published goes on
+-- so does a step, and what is published continues
 pub steps_rise : (shape : Dimensions) (opened : Anatomy) (old new : State) (id : ℕ) (event : Event) (step : IsStep opened.version old id event new)
     (kept : Invariant shape opened old) → KeptOn shape opened kept new × Learned step.at event (found_at old event)
 steps_rise shape opened old new id event step kept =

@@ -54,7 +54,7 @@ tables_follow S shape opened before event behind slots id me word word_is record
       subst (λ (x : ℕ). GhostNoted before event behind me x (last, me.1)) (sym found) (refl, refl, did.1),
     )
 
--- A step on the word that never changes changes the view of its seat alone, where what holds is kept.
+-- A step on the word that never changes changes the view of its seat alone, if what holds is kept.
 module _ (S : Type 0) (shape : Dimensions) (opened : Anatomy) (slots id : ℕ) (me : table.Me S Actor) (becomes : ℕ → ℕ) (same : (n : ℕ) → becomes n ≡ n)
     (last : Actor) where
   announced : ((state : State) → Invariant shape opened state → get_elem? state.actors id ≡ some me.0 → Invariant shape opened (with_actor state id last))

@@ -1,4 +1,4 @@
--- A walk behind the record of a sparse histogram: what a recorder knows once it has loaded the next of the record where it stands.
+-- A walk after the record of a sparse histogram: what a recorder knows once it has loaded the next of the record where it is.
 use Rattle.segment_invariant.proofs.Prelude.Std.{length-append, ◌≡◌, ◌≢◌, ℕ, suc, ◌+◌, ◌-◌, ◌*◌, ◌<◌, ◌≤◌, ◌==◌, ◌&&◌, not, Bool, true, false, true≢false, List, [], ◌∷◌, ◌++◌, length, slice_index, refl, sym, ap, subst, ◌∙◌, arith, eq-eqb, ne_eqb, eqb-true, ◌||◌, if◌then◌else◌, Contains, append_assoc, length_push, Contains-append_right}
 use Rattle.segment_invariant.proofs.Prelude.Machine.{Dimensions, stops, Actor}
 use Rattle.std.specs.List.{list_any}
@@ -14,7 +14,7 @@ use Rattle.segment_promises.proofs.Growing.{extended_end, extended_grows, refere
 behind_last : (before : List ℕ) (at : ℕ) → stands_behind (before ++ at ∷ []) ≡ at
 behind_last before at = let long = length_push before at in get_or_push (stops before) at 0 (length (before ++ at ∷ [])) (omega (arith, long))
 
--- a record that is met stands somewhere on the list
+-- a record that was visited is somewhere on the list
 pub stands_there : (chain : List ℕ) (at : ℕ) → list_any (λ r. r == at) chain ≡ true → (front behind : List ℕ) × (chain ≡ front ++ at ∷ behind)
 stands_there [] at met = absurd (cc met)
 stands_there (r ∷ rest) at met = by (λ there. stands_there rest at there) (r == at) refl met
@@ -23,7 +23,7 @@ stands_there (r ∷ rest) at met = by (λ there. stands_there rest at there) (r 
     by again true same e = ([], rest, ap (λ (x : ℕ). x ∷ rest) (eqb-true r at same))
     by again false apart e = let (front, behind, is) = again e in (r ∷ front, behind, ap (λ (l : List ℕ). r ∷ l) is)
 
--- what stands behind a record once its next was loaded
+-- what comes after a record once its next was loaded
 next_one : (a : Actor) (before after : List ℕ) (at found : ℕ) → a.seen.chain ≡ before ++ at ∷ after → IsNextOf a at found
     → (rest : List ℕ) × (extended a.seen.chain at found ≡ before ++ at ∷ rest) × (found ≡ first_of rest)
 next_one a before (r ∷ rs) at found is next =
@@ -51,18 +51,18 @@ next_one a before [] at found is next = by (found == 12) refl
       refl,
     )
 
--- a record that was found stands first of what is behind
+-- a record that was found is the first of what follows
 pub one_there : (behind : List ℕ) {found : ℕ} → found ≡ first_of behind → (found == 12) ≡ false → (rest : List ℕ) × (behind ≡ found ∷ rest)
 one_there [] stands miss = absurd (true≢false (sym (eq-eqb _ 12 stands) ∙ miss))
 one_there (r ∷ rest) stands miss = (rest, ap (λ (x : ℕ). x ∷ rest) (sym stands))
 
 -- ---- how much of it is left
 
--- what is left of a walk that stands at a record; nothing at the end
+-- what is left of a walk that is at a record; nothing at the end
 abbrev pub left_of : ℕ → List ℕ → ℕ → ℕ
 left_of size chain at = if at == 12 then 0 else size + 1 - last_of chain at
 
--- ---- where a walk stands
+-- ---- where a walk is
 
 module _ (a : Actor) (histogram : ℕ) (passed : List ℕ) (at : ℕ) (comes : ComesTo histogram passed at a) (miss : at ≢ 12) where
   pub behind_it : (rest : List ℕ) × (comes.behind ≡ at ∷ rest)
@@ -80,7 +80,7 @@ module _ (a : Actor) (histogram : ℕ) (passed : List ℕ) (at : ℕ) (comes : C
       let more : length (passed ++ at ∷ behind_it.0) ≡ length passed + suc (length behind_it.0) = length-append passed (at ∷ behind_it.0) in
       omega (arith, few, all, more)
 
--- ---- the walk goes on
+-- ---- the walk continues
 
 module _ (a b : Actor) (histogram found : ℕ) (shape : b.segment.shape ≡ a.segment.shape) where
   module _ (at : ℕ) (next : IsNextOf a at found) (chain : b.seen.chain ≡ extended a.seen.chain at found) where
@@ -105,7 +105,7 @@ module _ (a b : Actor) (histogram found : ℕ) (shape : b.segment.shape ≡ a.se
         few = few_then histogram next chain;
       }
 
-  -- from one that it came to, of which it may have seen more since
+  -- from an actor that came to it, and that may have seen more since
   module _ (front passed : List ℕ) (at : ℕ) (rest : List ℕ) (split : a.seen.chain ≡ front ++ histogram ∷ (passed ++ at ∷ rest)) where
     abbrev before : List ℕ
     before = front ++ histogram ∷ passed

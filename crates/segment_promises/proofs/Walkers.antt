@@ -54,7 +54,7 @@ module _ (shape : Dimensions) (opened : Anatomy) (state : State) (kept : Invaria
     noticed = ap (fold ◌||◌ false) (column (λ (a : Actor). a.seen.corrupt) state.actors 0 opener walker kept.roles.stands refl);
   }
 
-  -- it stands first, and the others stand where they stood
+  -- it comes first, and the others stay where they were
   pub stands_first : get_elem? beside 0 ≡ some walker
   stands_first = set_here state.actors 0 walker (below_length state.actors 0 opener kept.roles.stands)
 

@@ -1,4 +1,4 @@
--- Adoption: the words of an image of version 2 are opened as a segment that goes on. The opener stands for all that they count.
+-- Adoption: the words of an image of version 2 are opened as a segment in which recording continues. The opener has all that they count.
 pub use Rattle.image_rules.specs.Adoption.{units_for, used_by, used_of, named_counts, blocks_of, run_at, AreApart, AreZerosFrom, AreLaterEmpty, HasPaddedName, HasUnusedCounts, HasPackedMark, IsUndamaged, IsAdoptable}
 use Rattle.std.specs.Prelude.{◌≡◌, false, not, ◌==◌, ℕ, ◌+◌, ◌^◌, ◌<◌, pos, List, [], ◌∷◌, ◌++◌, map, replicate, if◌then◌else◌, ◌-◌}
 use Rattle.std.specs.Ordering.{int_eq}
@@ -39,12 +39,12 @@ abbrev pub seen_sample : List ℕ → ℕ → List Sighting
 seen_sample words at =
     map (λ i. record { at = at + i; word = field_at words at i }) (BLOCK_TYPE ∷ SAMPLE_HISTOGRAM ∷ SAMPLE_VALUE ∷ [])
 
--- one that has done nothing yet: it has the units that the image has not used, and has seen its free pointer
+-- an actor that has done nothing yet: it has the units that the image has not used, and has seen its free pointer
 abbrev pub beginner : List ℕ → Reading → ℕ → Actor
 beginner words reading cursors = idle (head_of words).shape VERSION_FROZEN cursors (head_of words).free (4294967295 - used_of reading)
 
--- The opener of an adopted image has accepted its entries and spent the units that it used, knows its histograms, their redundant counts
--- and what deltas had taken of them, and has seen its free pointer, its list and its samples.
+-- The opener of an adopted image has accepted the image's entries and spent the units that it used, knows its histograms, their redundant
+-- counts and what deltas had taken of them, and has seen its free pointer, its list and its samples.
 abbrev pub adopter : List ℕ → List ℕ → Reading → ℕ → Actor
 adopter words references reading cursors = record (beginner words reading cursors) {
   role = Opener 0 0 0;
@@ -64,7 +64,7 @@ adopter words references reading cursors = record (beginner words reading cursor
   };
 }
 
--- the image as a segment that goes on, with so many shared cursors
+-- the image as a segment in which recording continues, with `cursors` shared cursors
 abbrev pub adopted : List ℕ → List ℕ → Reading → ℕ → State
 adopted words references reading cursors =
     record { words = words; cursors = replicate cursors QUEUE; actors = adopter words references reading cursors ∷ [] }
@@ -72,7 +72,7 @@ adopted words references reading cursors =
 -- ---- both ways
 
 -- An image that may be adopted opens a kept segment, with any number of shared cursors; its blocks are the image's, and its records those
--- on its list. So each state of the segment is consistent, beside the words of the image.
+-- on the image's list. So each state of the segment is consistent, with the image's words as its opening.
 abbrev pub AdoptionOpens : Type 0
 AdoptionOpens = (words references : List ℕ) (reading : Reading) (cursors : ℕ) → All (λ word. word < 2 ^ 64) words
     → IsListed words (head_of words) references → reading ≡ reading_along words (head_of words) references

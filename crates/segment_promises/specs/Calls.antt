@@ -1,4 +1,4 @@
--- What every crate that runs calls says of the actor of a call, and of what a delta lists.
+-- What every crate that runs calls says about the actor of a call, and about what a delta lists.
 use Rattle.std.specs.Prelude.{◌≡◌, ℕ, ◌<◌, ◌≤◌, ℤ, List, ◌∷◌, ◌++◌, length, map, Some}
 use Rattle.std.specs.List.{All, AllByRecursion, Contains}
 use Rattle.std.specs.List.Sorted.{IsStrictlySortedBy}
@@ -11,17 +11,17 @@ use Rattle.segment_promises.specs.Onward.{Grows}
 
 -- ---- what an actor has seen
 
--- each sample that it met stands behind the record of its histogram
+-- each sample that the actor visited comes after the record of its histogram
 abbrev pub SamplesStandBehind : Actor → Type 0
 SamplesStandBehind a = (histogram sample : ℕ) (value : ℤ) (front behind : List ℕ) → Contains a.seen.chain sample → SawSample a.seen histogram value sample
     → a.seen.chain ≡ front ++ histogram ∷ behind → Contains behind sample
 
--- it began to look no later than now
+-- the actor last began to look no later than now
 pub record BeganBefore (a : Actor) : Type 0 where
   pub singles : a.since.singles ≤ length a.seen.singles
   pub counts : a.since.counts ≤ length a.seen.counts
 
--- It has seen no less, and began to look when it did before.
+-- The actor has seen no less, and has not begun to look again.
 pub record SeesMore (a b : Actor) : Type 0 where
   pub segment : b.segment ≡ a.segment
   pub since : b.since ≡ a.since

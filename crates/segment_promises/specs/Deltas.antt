@@ -1,4 +1,4 @@
--- What deltas take and snapshots answer: at least what their recorder had accepted or seen, and, where they are final ones, all of it.
+-- What deltas take and snapshots return: at least what their recorder had accepted or seen, and, if they are final, all that was counted.
 use Rattle.std.specs.Prelude.{◌≡◌, ◌≢◌, ◌⊎◌, true, false, ℕ, ◌+◌, ◌<◌, ◌≤◌, ℤ, ◌+ℤ◌, List, ◌∷◌, ◌++◌, map, take, Some}
 use Rattle.std.specs.List.{Contains, All}
 use mathlib.Core.Option.{some}
@@ -27,7 +27,7 @@ use Rattle.segment_promises.specs.Reads.{noted_at_opening}
 
 -- ---- what had been seen before a delta or a snapshot began
 
--- a count of a bucket, which stands behind the counts reference
+-- a count of a bucket, in the block of the counts reference
 abbrev pub HadCount : List ℕ → Actor → Known → ℕ → ℕ → Type 0
 HadCount words a known bucket count =
     let counts = field_at words known.reference HISTOGRAM_COUNTS in
@@ -52,7 +52,7 @@ abbrev pub SawOpen : Actor → Known → Type 0
 SawOpen a known = (word : ℕ) → SawSingle a (known.reference + HISTOGRAM_SINGLE) word → is_off word ≡ false
 
 -- a bucket of which nothing can be in transit for an actor that looks at it: in version 2 any, in version 1 any but the packed one
--- where the actor saw the word off
+-- once the actor saw the word off
 abbrev pub IsWhole : Actor → Known → ℕ → Type 0
 IsWhole a known bucket =
     (a.segment.version ≡ 2) ⊎ SawOpen a known
@@ -60,16 +60,16 @@ IsWhole a known bucket =
 
 -- ---- what is owed
 
--- Units of each key are enough for a recorder that looked at a histogram. Of a bucket of which nothing can be in transit they are at
--- least what it had accepted, or what was accepted before it was made, and what a single word had that it had seen. Of any bucket they
--- are at least each count that it had seen; in version 2 with the units of any single word that it had seen.
+-- Units of each bucket are enough for a recorder that looked at a histogram. For a bucket of which nothing can be in transit they are at
+-- least what was accepted, by the recorder or before it was made, and at least what each single word had that it had seen. For any bucket
+-- they are at least each count that it had seen; in version 2 with the units of each single word that it had seen.
 pub record HasBuckets (words : List ℕ) (a : Actor) (known : Known) (units : ℕ → ℕ) : Type 0 where
   pub accepted : (i : ℕ) → i < buckets_of known.spec → IsWhole a known i → tally_units (accepted_by a) known.name (bucket_key (Some known) i) ≤ units i
   pub packed : (i n : ℕ) → i < buckets_of known.spec → IsWhole a known i → HadPacked a known i n → n ≤ units i
   pub counted : (i n : ℕ) → i < buckets_of known.spec → HadCount words a known i n → n ≤ units i
   pub both : a.segment.version ≡ 2 → (i m n : ℕ) → i < buckets_of known.spec → HadCount words a known i m → HadPacked a known i n → m + n ≤ units i
 
--- Of each value of a sparse histogram they are at least what was accepted, and each count of it that the recorder had seen.
+-- For each value of a sparse histogram the units are at least what was accepted, and at least each count of it that the recorder had seen.
 pub record HasValues (records : List Listed) (a : Actor) (known : Known) (units : ℤ → ℕ) : Type 0 where
   pub accepted : (value : ℤ) → tally_units (accepted_by a) known.name value ≤ units value
   pub counted : (value : ℤ) (n : ℕ) → HadSample records a known value n → n ≤ units value
@@ -86,8 +86,8 @@ DeltasTakeAccepted = (shape : Dimensions) (opened : Anatomy) (state : State) (wh
     → (kept : Invariant shape opened state) → get_elem? state.actors who ≡ some a → is_opener a.role ≡ false → Contains a.answers.names known → TookAll a known
     → IsEnough state.words kept.anatomy.records a known (units_taken state.actors known.name)
 
--- so has a snapshot when it is answered; and its redundant count is at least that of the opening and the units that were accepted since,
--- and at least each that its recorder had seen
+-- a snapshot has enough for its recorder when it returns; and its redundant count is at least that of the opening plus the units that were
+-- accepted since, and at least each redundant count that its recorder had seen
 abbrev pub SnapshotsSeeAccepted : Type 0
 SnapshotsSeeAccepted = (shape : Dimensions) (opened : Anatomy) (state : State) (who : ℕ) (opener a : Actor) (known : Known) (answered : Answered)
     → (kept : Invariant shape opened state) → get_elem? state.actors 0 ≡ some opener → get_elem? state.actors who ≡ some a → is_opener a.role ≡ false
@@ -98,22 +98,22 @@ SnapshotsSeeAccepted = (shape : Dimensions) (opened : Anatomy) (state : State) (
 
 -- ---- after the joins
 
--- where a final delta of a name was taken, all deltas together took its totals and its sum
+-- if a final delta of a name was taken, all deltas together took its totals and its sum
 abbrev pub FinalDeltasTakeAll : Type 0
 FinalDeltasTakeAll = (shape : Dimensions) (opened : Anatomy) (state : State) (a : Actor) (t : Taken)
     → Invariant shape opened state → IsJoined state a → Contains a.deltas.taken t → IsFinal (made_of a.role) (log_of a) t.name t.moment
     → ((key : ℤ) → taken_units (taken_of a) t.name key ≡ tally_units (log_of a) t.name key)
     × (taken_sum (taken_of a) t.name ≡ tally_sum (log_of a) t.name)
 
--- all deltas took of a delta's name what the entries of the log in front of its moment come to, and what these later deltas took
+-- all deltas took of a delta's name what the entries of the log before its moment add up to, and what these later deltas took
 abbrev pub TookUpTo : Actor → Taken → List Taken → Type 0
 TookUpTo a t later =
     ((key : ℤ) → taken_units (taken_of a) t.name key
     ≡ tally_units (take t.moment.log (log_of a)) t.name key + taken_units (map portion_of later) t.name key)
     × (taken_sum (taken_of a) t.name ≡ tally_sum (take t.moment.log (log_of a)) t.name +ℤ taken_sum (map portion_of later) t.name)
 
--- where no recorder was outstanding when the recorder of a delta was made, and none was made since, the deltas up to it took exactly the
--- entries in front of it
+-- if no recorder was outstanding when the recorder of a delta was made, and none was made since, the deltas up to that one took exactly the
+-- entries before it
 abbrev pub LoneDeltasTakeAll : Type 0
 LoneDeltasTakeAll = (shape : Dimensions) (opened : Anatomy) (state : State) (a : Actor) (front behind : List Taken) (t : Taken)
     → Invariant shape opened state → IsJoined state a → a.deltas.taken ≡ front ++ t ∷ behind → t.moment.outstanding ≡ 0 → t.moment.before + 1 ≡ made_of a.role
@@ -127,7 +127,7 @@ FinalSnapshotsAreExact = (shape : Dimensions) (opened : Anatomy) (state : State)
     × (s.sum ≡ tally_sum (log_of a) s.name)
     × (s.redundant ≡ noted_at_opening opened s.name + tally_noted (map (λ c. c.entry) a.entries.log) s.name)
 
--- and no bucket and no value of any snapshot is above the final total
+-- no bucket and no value of any snapshot is above the final total
 abbrev pub SnapshotsStayBelow : Type 0
 SnapshotsStayBelow = (shape : Dimensions) (opened : Anatomy) (state : State) (a : Actor) (s : Answered)
     → Invariant shape opened state → IsJoined state a → Contains a.deltas.snapshots s

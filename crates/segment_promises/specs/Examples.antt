@@ -17,7 +17,7 @@ use Rattle.segment_machine.specs.declared.actor.Role.TheVariants.{Recorder}
 
 -- ---- what a link makes of the chain
 
--- a link that finds the end makes the chain longer, one that does not leaves it
+-- a link that finds the end of the list adds its record to the chain, any other event leaves the chain unchanged
 abbrev pub LinksLengthen : Type 0
 LinksLengthen = (chain_behind (publishing_event (link 12 16)) 12 [] ≡ 16 ∷ []) × (chain_behind (publishing_event (link 12 32)) 16 (16 ∷ []) ≡ 16 ∷ []) × (chain_behind (allocating_event load_flags) 12 [] ≡ [])
 
@@ -30,7 +30,7 @@ DeltaOwes =
     × (tally_units (accepted_by (run takes_all taking)) letter_a (pos 1) ≡ 2)
     × (taken_units (taken_of (run takes_all taking)) letter_a (pos 1) ≡ 2)
 
--- a snapshot of the same word: it loads the single word, the sum and the redundant count, and may answer what it saw
+-- a snapshot of the same word: it loads the single word, the sum and the redundant count, and may return what it saw
 abbrev pub snapping : List (Event × ℕ)
 snapping = (packing_event (load_single 16), 4294967298) ∷ (taking_event (load_sum 16), 2) ∷ (taking_event (load_redundant 16), 2) ∷ []
 

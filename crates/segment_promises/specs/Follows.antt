@@ -1,4 +1,4 @@
--- What follows at once for those who step a segment: for one event a call over plain words, and for threads over a table of shared words.
+-- What follows at once for code that steps a segment: with one event a call over plain words, or by threads over a table of shared words.
 use Rattle.std.specs.Prelude.{◌≡◌, ℕ, ◌+◌, List, [], ◌∷◌, false}
 use mathlib.Core.Option.{some}
 use lib.ListN.{get_elem?}
@@ -33,13 +33,13 @@ pub record Running (S : Type 0) (shape : Dimensions) (opened : Anatomy) (s : tab
   pub views : s.views ≡ segment.actors
   pub kept : Invariant shape opened segment
 
--- it is opened with the words of a kept segment, behind a word of its own, and the view of the one actor that this has: a new segment's
+-- a table is opened with a word of its own, then the words of a kept segment, and with the view of the segment's one actor: a new segment's
 -- opener, or that of an adopted image
 abbrev pub TablesOpen : Type 0 → Type 0
 TablesOpen S = (shape : Dimensions) (opened : Anatomy) (state : State) (opener : Actor) (anchor : ℕ) (xs : List S) → Invariant shape opened state
     → state.actors ≡ opener ∷ [] → Running S shape opened (table.opening (anchor ∷ memory state) xs opener)
 
--- when it is closed, its words are those of a kept segment, whose opener has the view of the first seat
+-- when a table is closed, its words are those of a kept segment, whose opener has the view of the first seat
 abbrev pub TablesClose : Type 0 → Type 0
 TablesClose S = (shape : Dimensions) (opened : Anatomy) (words : List ℕ) (xs : List S) (opener : Actor)
     → table.Final (table.Seen (Running S shape opened) 0 opener) words xs
@@ -52,8 +52,8 @@ abbrev pub noted_by : Actor → List Note → Actor
 noted_by a [] = a
 noted_by a (note ∷ rest) = noted_by (noted a note) rest
 
--- What a step tells its seat: notes, then the event at a word that was `found`, then notes that may depend on that number; and what
--- its actor learns. The slots that the seat has taken stay with it.
+-- What a step makes of its seat: the actor makes notes, does the event, which finds `found`, and makes notes that may depend on that
+-- number; and what the actor learns. The slots that the seat has taken stay with it.
 abbrev pub GhostNoted : {S : Type 0} → List Note → Event → (ℕ → List Note) → table.Me S Actor → ℕ → table.Me S Actor → Type 0
 GhostNoted before event behind me found me' =
     (me'.0 ≡ noted_by (next (noted_by me.0 before) event found) (behind found)) × (me'.1 ≡ me.1)
@@ -63,9 +63,9 @@ GhostNoted before event behind me found me' =
 abbrev pub MayNoteAll : Actor → List Note → Type 0
 MayNoteAll a notes = Notes a notes (noted_by a notes)
 
--- A table whose slots have values of a type may do a step on a segment that is an event of a recorder, with notes before and behind it: the
--- step's word is the event's, behind the one that never changes, and what becomes of it is what the event makes of it. What was learned of
--- the number that was found may be used to make the notes behind it.
+-- A table whose slots have values of a type may do a step on a segment that is an event of a recorder, with notes before and after it: the
+-- step's word is the event's, counted after the one that never changes, and what becomes of it is what the event makes of it. What was
+-- learned of the number that was found may be used to make the notes after it.
 abbrev pub TablesFollow : Type 0 → Type 0
 TablesFollow S = (shape : Dimensions) (opened : Anatomy) (before : List Note) (event : Event) (behind : ℕ → List Note) (slots id : ℕ)
     (me : table.Me S Actor) (word : ℕ)
@@ -79,7 +79,7 @@ TablesAnnounce S = (shape : Dimensions) (opened : Anatomy) (notes : List Note) (
     → ((n : ℕ) → becomes n ≡ n) → is_opener me.0.role ≡ false → MayNoteAll me.0 notes
     → table.Allows (Running S shape opened) slots id me 0 becomes (λ found me'. (me'.0 ≡ noted_by me.0 notes) × (me'.1 ≡ me.1))
 
--- an opener says so how many units it is to hand out next
+-- an offer: by a step on the word that never changes an opener says how many units it hands out next
 abbrev pub TablesOffer : Type 0 → Type 0
 TablesOffer S = (shape : Dimensions) (opened : Anatomy) (units slots id : ℕ) (me : table.Me S Actor) (becomes : ℕ → ℕ)
     → ((n : ℕ) → becomes n ≡ n) → MayOffer me.0 units
@@ -87,22 +87,22 @@ TablesOffer S = (shape : Dimensions) (opened : Anatomy) (units slots id : ℕ) (
 
 -- ---- a table's seats
 
--- an opener's seat may be cut in two where it may make a recorder
+-- an opener's seat may be split in two if the opener may make a recorder
 abbrev pub TablesSplit : Type 0 → Type 0
 TablesSplit S = (shape : Dimensions) (opened : Anatomy) (id : ℕ) (a : Actor) → MaySplit a
     → table.Splits (Running S shape opened) id a (parent a) (newcomer a)
 
--- and it may take in a recorder's where it may join that
+-- an opener's seat may take in a recorder's if the opener may join that recorder
 abbrev pub TablesJoin : Type 0 → Type 0
 TablesJoin S = (shape : Dimensions) (opened : Anatomy) (id other : ℕ) (a b : Actor) → MayJoin a b
     → table.Joins (Running S shape opened) id a other b (joined a b) spent
 
--- an opener's seat may be cut in two where it may fill a purse
+-- an opener's seat may be split in two if the opener may fill a purse
 abbrev pub TablesFill : Type 0 → Type 0
 TablesFill S = (shape : Dimensions) (opened : Anatomy) (id : ℕ) (a : Actor) → MayFill a
     → table.Splits (Running S shape opened) id a (lender a) (purse (offered_of a.role))
 
--- and a recorder's may take in the purse's
+-- a recorder's seat may take in that of a purse that may be poured out to it
 abbrev pub TablesPour : Type 0 → Type 0
 TablesPour S = (shape : Dimensions) (opened : Anatomy) (id other : ℕ) (b c : Actor) → MayPour b c
     → table.Joins (Running S shape opened) id b other c (getter b c.units.share) spent

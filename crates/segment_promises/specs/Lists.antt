@@ -1,4 +1,4 @@
--- The list: how it grows, what `hist` answers, and what walks and shared cursors give.
+-- The list: how it grows, what `hist` returns, and what walks and shared cursors give.
 use Rattle.std.specs.Prelude.{◌≡◌, ℕ, ◌+◌, ◌<◌, ◌≤◌, List, [], ◌∷◌, ◌++◌, take, length, slice_index, ◌==◌, if◌then◌else◌, IsPermutation, false}
 use Rattle.std.specs.List.{Contains}
 use mathlib.Core.Option.{some}
@@ -30,7 +30,7 @@ use Rattle.segment_invariant.specs.Keeps.{found_at}
 
 -- ---- one step
 
--- the chain after an event that found a number: longer by a record at its end, where a link succeeds
+-- the chain after an event that found a number: with one more record at its end if a link succeeds
 abbrev pub chain_behind : Event → ℕ → List ℕ → List ℕ
 chain_behind (publishing_event (link tail at)) found chain = if found == QUEUE then chain ++ at ∷ [] else chain
 chain_behind _ found chain = chain
@@ -43,7 +43,7 @@ LinksAppend = (shape : Dimensions) (opened : Anatomy) (old new : State) (id : �
 
 -- ---- any steps
 
--- the records whose link was done on the way from one state to another, in the order of these links
+-- the records that were linked on the way from one state to another, in the order of their links
 abbrev pub links_of : (version : ℕ) (start state : State) → IsReached version start state → List ℕ
 links_of version start state started = []
 links_of version start state (stepped old new id event before step) = chain_behind event (found_at old event) (links_of version start old before)
@@ -56,8 +56,8 @@ links_of version start state (purse_filled old new id before made) = links_of ve
 links_of version start state (purse_poured old new id other before made) = links_of version start old before
 links_of version start state (joined_in old new id other before made) = links_of version start old before
 
--- so the chain of a state that is reached is that of the state from which it is reached, and behind it the records whose link was done
--- since, in the order of these links
+-- the chain of a state that is reached is that of the state from which it is reached, followed by the records that were linked since, in
+-- the order of their links
 abbrev pub ChainsAreLinks : Type 0
 ChainsAreLinks = (shape : Dimensions) (opened : Anatomy) (start state : State) (chain : List ℕ) → Invariant shape opened start
     → (reached : IsReached opened.version start state) → IsChain start.words (head_of start.words) chain
@@ -65,35 +65,36 @@ ChainsAreLinks = (shape : Dimensions) (opened : Anatomy) (start state : State) (
 
 -- ---- names
 
--- a histogram that a `hist` was answered Ok with is the first of its name on the chain, and has the same spec
+-- a histogram that a `hist` returned is the first of its name on the chain, and has the same spec
 abbrev pub NamesAreFirst : Type 0
 NamesAreFirst = (shape : Dimensions) (opened : Anatomy) (state : State) (chain : List ℕ) → Invariant shape opened state
     → IsChain state.words (head_of state.words) chain
     → Each state.actors (λ a. (known : Known) → Contains a.answers.names known
     → IsHistogram state.words chain known.name known.reference × SameSpec (spec_of state.words known.reference) known.spec)
 
--- a `hist` is refused OtherSpec only where the first record of its name has another spec: what its caller saw of that record says so
+-- a `hist` that sees another spec in the first record of its name, and so refuses with OtherSpec, is right: that record has another spec
 abbrev pub OthersDiffer : Type 0
 OthersDiffer = (shape : Dimensions) (opened : Anatomy) (state : State) → (kept : Invariant shape opened state)
     → Each state.actors (λ a. (name letters : List ℕ) (spec : Spec) (at : ℕ) → AreNameWords name letters
     → IsFirstNamed a.seen name at → SawOtherSpec a.seen spec (length letters) at
     → (kind : Spec) × IsFirst kept.anatomy.records name kind at × (¬ (SameSpec kind spec)))
 
--- ---- what is met and given
+-- ---- what is visited and given
 
--- a record that an actor has seen on the list, has made, was given, or saw as the tail or where a shared cursor stands
+-- a record that an actor has seen on the list, has made, was given, or saw as the tail or at a shared cursor
 abbrev pub HasMet : Actor → ℕ → Type 0
 HasMet a reference = Contains (a.seen.chain ++ records_met a) reference
 
--- A walk along the list gives the records of the chain in their order; where it ends, it gave all that its caller had met. So does
--- `records`, which gives them all, and so do the answers of `fresh_records`, one after the other, each from where the last one ended.
+-- A walk along the list gives the records of the chain in their order; at its end it has given all that its caller had made,
+-- been given or seen. So does `records`, which gives them all, and so do the answers of `fresh_records` together, each from where the one
+-- before it ended.
 abbrev pub WalksGiveAll : Type 0
 WalksGiveAll = (shape : Dimensions) (opened : Anatomy) (state : State) (chain : List ℕ) → Invariant shape opened state
     → IsChain state.words (head_of state.words) chain
     → Each state.actors (λ a. IsPrefix a.seen.chain chain × (word_at state.words (stands_behind a.seen.chain + BLOCK_NEXT) ≡ QUEUE
     → (reference : ℕ) → HasMet a reference → Contains a.seen.chain reference))
 
--- what a shared cursor gave one recorder stands in the order of the chain
+-- what a shared cursor gave one recorder is in the order of the chain
 abbrev pub CursorsKeepOrder : Type 0
 CursorsKeepOrder = (shape : Dimensions) (opened : Anatomy) (state : State) (chain : List ℕ) → Invariant shape opened state
     → IsChain state.words (head_of state.words) chain
@@ -101,14 +102,15 @@ CursorsKeepOrder = (shape : Dimensions) (opened : Anatomy) (state : State) (chai
     → get_elem? (given_by cursor a.done.given) i ≡ some x → get_elem? (given_by cursor a.done.given) j ≡ some y
     → get_elem? chain k ≡ some x → get_elem? chain l ≡ some y → k < l)
 
--- what it gave all is the front of the chain, each record once
+-- what a shared cursor gave all actors is the front of the chain, each record once
 abbrev pub CursorsGiveFronts : Type 0
 CursorsGiveFronts = (shape : Dimensions) (opened : Anatomy) (state : State) (chain : List ℕ) (cursor : ℕ) → Invariant shape opened state
     → IsChain state.words (head_of state.words) chain → cursor < length state.cursors
     → (place : ℕ) × (place ≤ length chain) × (slice_index (stops chain) place ≡ slice_index state.cursors cursor)
     × IsPermutation (all_given state.actors cursor) (take place chain)
 
--- it answers None only where it found the end of the list behind the place that it loaded; then all that its caller had met was given
+-- a shared cursor returns None only if it found the end of the list after the record that it loaded; then all that its caller had made,
+-- been given or seen was given
 abbrev pub CursorsGiveAll : Type 0
 CursorsGiveAll = (shape : Dimensions) (opened : Anatomy) (state : State) → Invariant shape opened state
     → Each state.actors (λ a. (cursor at : ℕ) → a.hand.place ≡ CursorLoaded cursor at → word_at state.words (at + BLOCK_NEXT) ≡ QUEUE

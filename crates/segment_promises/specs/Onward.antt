@@ -1,4 +1,4 @@
--- What a call of a recorder leaves as it was, and what only grows.
+-- What a call of a recorder leaves unchanged, and what only grows.
 use Rattle.std.specs.Prelude.{◌≡◌, ◌≤◌, Bool, true, false, List, ◌++◌}
 use Rattle.segment_machine.specs.declared.actor.Actor.{Actor}
 use Rattle.segment_machine.specs.declared.actor.Done.{Done}
@@ -11,16 +11,16 @@ use Rattle.segment_machine.specs.Taking.{is_looking}
 abbrev pub Grows : {X : Type 0} → List X → List X → Type 0
 Grows {X} old new = (more : List X) × (new ≡ old ++ more)
 
--- whether a call that stands here goes on with what it has loaded: a free pointer, or the single word or the counts of a histogram
+-- whether a call at this place holds what it has loaded: a free pointer, or the single word or the counts of a histogram
 abbrev pub is_holding : Place → Bool
 is_holding (FreeLoaded free) = true
 is_holding place = is_looking place
 
--- a recorder that held none of these holds none still
+-- a recorder that held none of these still holds none
 abbrev pub StaysApart : Actor → Actor → Type 0
 StaysApart old new = is_holding old.hand.place ≡ false → is_holding new.hand.place ≡ false
 
--- what an actor had seen it has still seen, and it may have seen more
+-- what an actor had seen stays seen, and it may have seen more
 pub record SeesOn (old new : Seen) : Type 0 where
   pub free : old.free ≤ new.free
   pub corrupt : old.corrupt ≡ true → new.corrupt ≡ true
@@ -43,8 +43,8 @@ pub record DoesOn (old new : Done) : Type 0 where
   pub lacked : Grows old.lacked new.lacked
   pub spoiled : old.spoiled ≡ true → new.claimed ≡ old.claimed
 
--- A recorder goes on with a call that counts: what it is, what its calls were answered, took and were given, and the entries before its
--- log are as they were. It has seen and done no less.
+-- A recorder continues with a call that counts: its segment, its role, what its calls returned, took and were given, and the entries before
+-- its log are unchanged. It has seen and done no less.
 pub record GoesOn (old new : Actor) : Type 0 where
   pub same : new ≡ record old {
     units = new.units;

@@ -1,5 +1,5 @@
--- What the words of a segment read as, by the definition of a reading: whoever wrote them, whenever everything stops, and after the joins.
--- For both versions, all four kinds of histograms, and every opening.
+-- What the words of a segment read as, by the definition of a reading: no matter who wrote them, whenever everything stops, and after the
+-- joins. For both versions, all four kinds of histograms, and every opening.
 pub use Rattle.image_rules.specs.Adoption.{HasNoFault}
 use Rattle.std.specs.Prelude.{◌≡◌, ◌↔◌, ℕ, ◌+◌, ◌<◌, ◌≤◌, ◌||◌, ℤ, List, ◌++◌, map, Some}
 use Rattle.std.specs.List.{zip, flat_map, Contains}
@@ -27,7 +27,7 @@ use Rattle.segment_invariant.specs.Words.{WordsAreKept}
 
 -- ---- what is read of a histogram
 
--- the units of a key, and its mark
+-- the units that a reading has of a key
 abbrev pub units_read : Histogram → ℤ → ℕ
 units_read h key = units_listed h.counts key
 
@@ -43,16 +43,16 @@ noted_at_opening opened name = all_held (noted_held name) opened.pieces
 abbrev pub begun_of : Actor → List Entry
 begun_of a = log_of a ++ map (λ c. c.entry) a.entries.running
 
--- ---- words, whoever wrote them
+-- ---- words, no matter who wrote them
 
--- of each name that is on the list exactly one histogram is read: the first record of the name, with the spec that its maker was given
+-- for each name on the list exactly one histogram is read: the first record of the name, with the spec that its maker was given
 pub record ReadsNames (records : List Listed) (reading : Reading) : Type 0 where
   pub given : (h : Histogram) → Contains reading.hists h → (kind : Spec) × IsFirst records h.name kind h.reference × SameSpec h.spec kind
   pub read : (name : List ℕ) (kind : Spec) (at : ℕ) → IsFirst records name kind at
       → (h : Histogram) × Contains reading.hists h × (h.name ≡ name)
   pub once : (i j : ℕ) (g h : Histogram) → get_elem? reading.hists i ≡ some g → get_elem? reading.hists j ≡ some h → g.name ≡ h.name → i ≡ j
 
--- What is read of a histogram is what the blocks hold of its name: of each key the units and the mark, the sum, the redundant count and
+-- What is read of a histogram is what the blocks hold of its name: for each key the units and the mark; the sum, the redundant count and
 -- the sum mark.
 pub record ReadsBlocks (anatomy : Anatomy) (h : Histogram) : Type 0 where
   pub units : (key : ℤ) → units_read h key ≡ all_held (units_held anatomy.version h.name key) anatomy.pieces
@@ -61,8 +61,8 @@ pub record ReadsBlocks (anatomy : Anatomy) (h : Histogram) : Type 0 where
   pub redundant : h.redundant ≡ all_held (noted_held h.name) anatomy.pieces
   pub sum_mark : h.sum_mark ≡ all_amounts (sum_mark_held h.name) anatomy.pieces
 
--- Words of which all holds that the invariant says of the words alone read as exactly the histograms on their list, each once, with what
--- their blocks hold, and without a bad record. No state need have these words.
+-- Words that satisfy all that the invariant says of words alone read as exactly the histograms on their list, each once, with what their
+-- blocks hold, and without a bad record. No state needs to have these words.
 abbrev pub WordsRead : Type 0
 WordsRead = (shape : Dimensions) (opened : Anatomy) (words : List ℕ) (reading : Reading) → (kept : WordsAreKept shape opened words)
     → IsReading words (head_of words) reading
@@ -71,8 +71,8 @@ WordsRead = (shape : Dimensions) (opened : Anatomy) (words : List ℕ) (reading 
 
 -- ---- whenever everything stops
 
--- Of each key the units are those that were counted, less those in transit. So every unit of an ended call is there but these, and
--- none is there whose call had not begun. Only the packed bucket, and only in version 1, has units in transit.
+-- For each key the units are those that were counted, less those in transit. So every unit of an ended call is there except these, and no
+-- unit of a call that had not begun. Only the packed bucket, and only in version 1, has units in transit.
 pub record ReadsUnits (version : ℕ) (state : State) (h : Histogram) : Type 0 where
   pub counted : (key : ℤ) → units_read h key + all_moving h.name key state.actors ≡ tally_units (all_counted state.actors) h.name key
   pub ended : (key : ℤ) → tally_units (flat_map log_of state.actors) h.name key ≤ units_read h key + all_moving h.name key state.actors
@@ -80,15 +80,15 @@ pub record ReadsUnits (version : ℕ) (state : State) (h : Histogram) : Type 0 w
   pub local : (key : ℤ) → 0 < all_moving h.name key state.actors → (version ≡ 1)
       × ((bucket : ℕ) × (packed_bucket (record_single 1 state.words h.reference) ≡ Some bucket) × (key_of_bucket h.spec bucket ≡ key))
 
--- The sum is the sum of the amounts that were added, the redundant count that of the opening and the units that were noted; marks and
--- sum mark are what deltas took.
+-- The sum is the sum of the amounts that were added, the redundant count that of the opening plus the units that were noted; marks and sum
+-- mark are what deltas took.
 pub record ReadsAmounts (opened : Anatomy) (state : State) (h : Histogram) : Type 0 where
   pub sum : h.sum ≡ tally_sum (all_summed state.actors) h.name
   pub redundant : h.redundant ≡ noted_at_opening opened h.name + tally_noted (all_noted state.actors) h.name
   pub marks : (key : ℤ) → mark_read h key ≡ taken_units (all_taken state.actors) h.name key
   pub sum_mark : h.sum_mark ≡ taken_sum (all_taken state.actors) h.name
 
--- the id is the opening's, and each flag is read where it was set at the opening or an actor has set it; so the corrupt one is where an
+-- the id is the opening's, and each flag is read if it was set at the opening or an actor has set it; so the corrupt one is read if an
 -- actor has seen it
 pub record ReadsHead (opened : Anatomy) (state : State) (reading : Reading) : Type 0 where
   pub id : reading.id ≡ opened.id
@@ -96,8 +96,8 @@ pub record ReadsHead (opened : Anatomy) (state : State) (reading : Reading) : Ty
   pub full : IsSetBy reading.full opened.full (map (λ a. a.done.filled) state.actors)
   pub noticed : IsSetWhereSeen reading.corrupt (map (λ a. a.seen.corrupt) state.actors)
 
--- Stopped after any step, the words read back as exactly the histograms that were published, each once, every bucket holding no unit
--- that was not begun and all ended ones but those in transit.
+-- Stopped after any step, the words read as exactly the histograms that were published, each once. Every bucket has all units of ended
+-- calls except those in transit, and no unit of a call that had not begun.
 abbrev pub StoppedReads : Type 0
 StoppedReads = (shape : Dimensions) (opened : Anatomy) (state : State) (reading : Reading) → (kept : Invariant shape opened state)
     → IsReading state.words (head_of state.words) reading
@@ -106,14 +106,15 @@ StoppedReads = (shape : Dimensions) (opened : Anatomy) (state : State) (reading 
 
 -- ---- after the joins
 
--- the names that are read are exactly those that a `hist` was answered Ok with, each once, with the spec and the record of each answer
+-- the names that are read are exactly those of the histograms that `hist` returned, each once, with the spec and the record of that answer
 pub record ReadsAnswers (answers : List Known) (reading : Reading) : Type 0 where
   pub names : (name : List ℕ) → ((h : Histogram) × Contains reading.hists h × (h.name ≡ name)) ↔ ((known : Known) × Contains answers known × (known.name ≡ name))
   pub same : (h : Histogram) (known : Known) → Contains reading.hists h → Contains answers known → known.name ≡ h.name
       → (known.reference ≡ h.reference) × SameSpec h.spec known.spec
   pub once : (i j : ℕ) (g h : Histogram) → get_elem? reading.hists i ≡ some g → get_elem? reading.hists j ≡ some h → g.name ≡ h.name → i ≡ j
 
--- units and sum are the tally of a log, the redundant count that of the opening and the units noted since, marks and sum mark what was taken
+-- units and sum are the tally of a log, the redundant count that of the opening plus the units noted since, marks and sum mark what was
+-- taken
 pub record ReadsLog (opened : Anatomy) (a : Actor) (h : Histogram) : Type 0 where
   pub units : (key : ℤ) → units_read h key ≡ tally_units (log_of a) h.name key
   pub sum : h.sum ≡ tally_sum (log_of a) h.name
@@ -121,8 +122,8 @@ pub record ReadsLog (opened : Anatomy) (a : Actor) (h : Histogram) : Type 0 wher
   pub marks : (key : ℤ) → mark_read h key ≡ taken_units (taken_of a) h.name key
   pub sum_mark : h.sum_mark ≡ taken_sum (taken_of a) h.name
 
--- Once all recorders are joined, the words read as exactly the histograms that were answered, with the counts and the sum that one
--- thread records of the accepted samples; and each flag is read where it was set at the opening or a call set it.
+-- Once all recorders are joined, the words read as exactly the histograms that `hist` returned, with the counts and the sum that one thread
+-- records of the accepted samples; and each flag is read if it was set at the opening or a call set it.
 abbrev pub JoinedReads : Type 0
 JoinedReads = (shape : Dimensions) (opened : Anatomy) (state : State) (a : Actor) (reading : Reading) → Invariant shape opened state
     → IsJoined state a → IsReading state.words (head_of state.words) reading

@@ -12,8 +12,8 @@ use Rattle.segment_machine.specs.State.{State}
 use Rattle.segment_invariant.specs.Body.{Anatomy}
 use Rattle.segment_invariant.specs.Invariant.{Invariant}
 
--- An actor has counted and noted its log and these entries behind it, and nothing else; it added no amount but those of its log;
--- nothing of it is in transit, and it takes nothing.
+-- An actor has counted and noted its log and then these entries, and nothing else; it added no amounts except those of its log; it has no
+-- units in transit, and no delta of it is running.
 pub record HasDone (a : Actor) (entries : List Entry) : Type 0 where
   pub counted : (name : List ℕ) (key : ℤ) → tally_units (counted_of a) name key ≡ tally_units (log_of a ++ entries) name key
   pub noted : (name : List ℕ) → tally_noted (noted_of a) name ≡ tally_noted (map (λ c. c.entry) a.entries.log ++ entries) name
@@ -21,8 +21,8 @@ pub record HasDone (a : Actor) (entries : List Entry) : Type 0 where
   pub moved : (histogram bucket : ℕ) → transit_at a.hand.place histogram bucket ≡ 0
   pub took : a.deltas.taking ≡ false
 
--- A batch that is refused has done its first `added` items, an `add` that is refused, of whose entry nothing is added, nothing. While
--- such a call runs, its log does not change: so this is what the call has done in all.
+-- A refused batch has done its first `added` items; a refused `add`, of whose entry nothing is added, has done nothing. The log does not
+-- change while such a call runs, so this is all that the call has done.
 abbrev pub RefusedAddsFew : Type 0
 RefusedAddsFew = (shape : Dimensions) (opened : Anatomy) (state : State) (who : ℕ) (a : Actor) (added : ℕ) → Invariant shape opened state
     → get_elem? state.actors who ≡ some a → a.entries.running ≢ [] → MayNote a (refused added)

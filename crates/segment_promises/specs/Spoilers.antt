@@ -1,4 +1,4 @@
--- Who has set the corrupt flag claims no block any more.
+-- A recorder that has set the corrupt flag claims no more blocks.
 use Rattle.std.specs.Prelude.{◌≡◌, ◌≢◌, ℕ, true, false}
 use mathlib.Core.Option.{some}
 use lib.ListN.{get_elem?}
@@ -11,8 +11,8 @@ use Rattle.segment_machine.specs.State.{State}
 use Rattle.segment_invariant.specs.Body.{Anatomy}
 use Rattle.segment_invariant.specs.Invariant.{Invariant}
 
--- A recorder has set the corrupt flag, and stands where that leaves it. In whatever order actors step from then on, its calls claim no
--- block, until it is joined.
+-- Once a recorder has set the corrupt flag, and is at the place where that leaves it, its calls claim no block until it is joined, in
+-- whatever order actors step.
 abbrev pub SpoilersClaimNothing : Type 0
 SpoilersClaimNothing = (shape : Dimensions) (opened : Anatomy) (start state : State) (who : ℕ) (a b : Actor) → Invariant shape opened start
     → get_elem? start.actors who ≡ some a → is_opener a.role ≡ false → a.done.spoiled ≡ true → a.hand.place ≡ Idle

@@ -1,4 +1,4 @@
--- What tallies of entries are: those of the parts of a list add up to that of the whole, and those of samples are their counts.
+-- Tallies of entries: those of the parts of a list add up to that of the list, and those of samples are their counts.
 use Rattle.std.specs.Prelude.{◌≡◌, ◌==◌, ℕ, ◌%◌, ◌<◌, ℤ, pos, ◌+ℤ◌, List, map, fold, sum_by}
 use Rattle.std.specs.List.{range_with_len, enumerate_from, filter}
 use Rattle.bucket_ranges.specs.Ranges.{AreBoundaries}

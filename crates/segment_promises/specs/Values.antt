@@ -14,16 +14,17 @@ use Rattle.segment_machine.specs.Taking.{IsLaterSample}
 
 -- ---- along the list
 
--- along these nexts no block stands twice, and none is the queue block
+-- these nexts visit no block twice, and the queue block not at all
 abbrev pub NoRepeats : List ℕ → Type 0
 NoRepeats chain = (i j : ℕ) → i < j → j ≤ length chain → slice_index (stops chain) i ≢ slice_index (stops chain) j
 
--- the first of these records, or the queue block where there is none
+-- the first of these records, or the queue block if there is none
 abbrev pub first_of : List ℕ → ℕ
 first_of [] = QUEUE
 first_of (at ∷ rest) = at
 
--- Behind the record of a histogram it has passed these records, and comes to the next one that it saw there, or to the end of the list.
+-- After the record of a histogram the actor has passed these records, and comes to the next one that it saw there, or to the end of the
+-- list.
 pub record ComesTo (histogram : ℕ) (passed : List ℕ) (at : ℕ) (a : Actor) : Type 0 where
   pub front : List ℕ
   pub behind : List ℕ
@@ -34,20 +35,20 @@ pub record ComesTo (histogram : ℕ) (passed : List ℕ) (at : ℕ) (a : Actor) 
 
 -- ---- what is listed
 
--- it saw of a record that it is a sample of a value, and did this with it; or that it is a sample of none
+-- the actor saw that a record is a sample of a value, and did this with it; or that it is a sample of no value
 abbrev pub PassesRecord : (ℤ → ℕ → Type 0) → Seen → ℕ → ℕ → Type 0
 PassesRecord Does seen histogram at =
     ((value : ℤ) × SawSample seen histogram value at × Does value at) ⊎ ((value : ℤ) → is_i32 value ≡ true → SawOther seen histogram value at)
 
--- Of each record that it passed it saw which sample it is, and did something with each sample. What it listed are values, each once, with units
--- that the first sample of the value has.
+-- For each record that it passed, the actor saw which sample it is, if any, and did something with each sample. It listed values, each
+-- once, with units that the first sample of the value has.
 pub record ListsValues (Does : ℤ → ℕ → Type 0) (Has : ℕ → ℕ → Type 0) (histogram : ℕ) (passed : List ℕ) (listed : List (ℤ × ℕ)) (seen : Seen) : Type 0 where
   pub passes : AllByRecursion (PassesRecord Does seen histogram) passed
   pub firsts : All (λ count. (sample : ℕ) × ComesFirst (SawOther seen histogram count.0) (SawSample seen histogram count.0) passed sample × Has sample count.1) listed
   pub once : NoKeyRepeats listed
   pub few : length listed ≤ length passed
 
--- What it listed of a record that is a sample, which is not a later one of its value; or it listed nothing of it.
+-- The actor listed a record as a sample of a value, and not a later one of that value; or it listed nothing for the record.
 abbrev pub ListsOf : (ℤ → ℕ → Type 0) → (ℕ → ℕ → Type 0) → ℕ → ℕ → Option (ℤ × ℕ) → Actor → Type 0
 ListsOf Does Has histogram at (Some count) a = SawSample a.seen histogram count.0 at × Does count.0 at × Has at count.1 × ¬ (IsLaterSample a at)
 ListsOf Does Has histogram at None a = PassesRecord Does a.seen histogram at

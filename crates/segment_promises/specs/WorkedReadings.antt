@@ -1,6 +1,6 @@
 -- Worked readings: what the words of small segments read as, by the one definition of a reading. They are segments of 128 words with the id
--- 7, in which no flag is set and no record is bad. Units that were packed stand in the counts in version 1, and in the frozen word in
--- version 2.
+-- 7, in which no flag is set and no record is bad. Units that were packed are in the counts in version 1, and in the frozen word in version
+-- 2.
 use Rattle.std.specs.Prelude.{◌≡◌, false, ℕ, ℤ, pos, negsuc, List, [], ◌∷◌, ◌++◌, map, slice_set, None, Ok}
 use Rattle.segment_image.specs.Head.{header_of, head_of}
 use Rattle.bucket_ranges.specs.declared.spec.Spec.TheVariants as spec
@@ -20,11 +20,11 @@ use Rattle.segment_promises.specs.Adoption.{used_of, adopted}
 
 -- ---- what is read
 
--- words with a lawful header read as this
+-- words with a valid header read as this
 abbrev pub ReadsAs : List ℕ → Reading → Type 0
 ReadsAs words reading = (header_of words ≡ Ok (head_of words)) × IsReading words (head_of words) reading
 
--- these histograms are read, and no fault
+-- a reading of these histograms, without a fault
 abbrev pub reading_of : List Histogram → Reading
 reading_of hists = record { id = 7; full = false; corrupt = false; hists = hists; bad = []; stopped = None }
 
@@ -60,13 +60,13 @@ read_s reference counts marks sum sum_mark redundant = record {
 abbrev pub mounted_reading : Reading
 mounted_reading = reading_of (read_a ((pos 0, 1) ∷ (pos 1, 2) ∷ (pos 2, 0) ∷ []) (0 ∷ 0 ∷ 0 ∷ []) (pos 2) (pos 0) 3 ∷ [])
 
--- the mounted segment reads so, in both versions
+-- the mounted segment reads as these samples, in both versions
 abbrev pub MountedReads : Type 0
 MountedReads = ReadsAs mounted mounted_reading × ReadsAs frozen mounted_reading
 
 -- ---- stopped in transit
 
--- two units of 1 are in transit, and the call that counts a 0 goes on: in version 1 the counts have neither
+-- two units of 1 are in transit, and the call that counts a 0 has not ended: in version 1 the counts have neither
 abbrev pub transit_reading : Reading
 transit_reading = reading_of (read_a ((pos 0, 0) ∷ (pos 1, 0) ∷ (pos 2, 0) ∷ []) (0 ∷ 0 ∷ 0 ∷ []) (pos 2) (pos 0) 2 ∷ [])
 
@@ -84,7 +84,7 @@ StoppedInTransitReads = ReadsAs in_transit transit_reading × ReadsAs stopped_fr
 abbrev pub marked_reading : Reading
 marked_reading = reading_of (read_a ((pos 0, 1) ∷ (pos 1, 2) ∷ (pos 2, 0) ∷ []) (1 ∷ 2 ∷ 0 ∷ []) (pos 2) (pos 2) 3 ∷ [])
 
--- with the marks of deltas
+-- the words with the marks of deltas, in both versions
 abbrev pub DeltasAndMarksRead : Type 0
 DeltasAndMarksRead = ReadsAs marked marked_reading × ReadsAs marked_frozen marked_reading
 
@@ -94,7 +94,7 @@ DeltasAndMarksRead = ReadsAs marked marked_reading × ReadsAs marked_frozen mark
 abbrev pub taken_reading : Reading
 taken_reading = reading_of (read_a ((pos 0, 1) ∷ (pos 1, 3) ∷ (pos 2, 0) ∷ []) (1 ∷ 3 ∷ 0 ∷ []) (pos 3) (pos 3) 4 ∷ [])
 
--- behind two takers of a packed word
+-- the words after two takers of a packed word, in both versions
 abbrev pub TwoTakersRead : Type 0
 TwoTakersRead = ReadsAs taken_once taken_reading × ReadsAs taken_once_frozen taken_reading
 
@@ -110,11 +110,12 @@ SparseSamplesRead = ReadsAs sparse_segment sparse_reading × ReadsAs (slice_set 
 
 -- ---- a race for a value
 
--- two recorders made a sample of -5, and counted two units and one: the first on the list has all three, and the other is no value of its own
+-- two recorders made a sample of -5, and counted two units and one: the first on the list has all three, and the other is not read as a
+-- value
 abbrev pub race_reading : Reading
 race_reading = reading_of (read_s 16 ((negsuc 4, 3) ∷ []) (0 ∷ []) (negsuc 14) (pos 0) 3 ∷ [])
 
--- behind a race for a value, in both versions
+-- the words after a race for a value, in both versions
 abbrev pub RaceReads : Type 0
 RaceReads = ReadsAs (race_words 1) race_reading × ReadsAs (race_words 2) race_reading
 
@@ -133,7 +134,7 @@ JoinedRunReads = ReadsAs (worked 1).words joined_reading × ReadsAs (worked 2).w
 
 -- ---- units of sums
 
--- a batch of no items adds a sum, which costs its size in units of 2^31; it counts and notes nothing
+-- a batch without items adds a sum, which costs one unit for each 2^31 of its size; it counts and notes nothing
 abbrev pub adds_sum : ℕ → ℤ → List RunAction
 adds_sum cost sum = acts 1 (begins letter_a cost (sum_entry letter_a sum ∷ []) ∷ []) (counting_event (add_sum 16 sum)) (ends ∷ []) ∷ []
 
@@ -159,7 +160,7 @@ SummedRunReads version =
     IsState shape version 7 0 (after version summing) × ((after version summing).words ≡ summed_words version)
     × ((actor_of (after version summing) 1).units.share ≡ 0) × ReadsAs (summed_words version) summed_reading
 
--- in version 2 the image may be adopted: it has used what the sum mark stands for, and has the rest
+-- in version 2 the image may be adopted: it has used the units that its sum mark stands for, and has the rest
 abbrev pub UnitsOfSumsRead : Type 0
 UnitsOfSumsRead =
     SummedRunReads 1 × SummedRunReads 2 × (used_of summed_reading ≡ 2147483648)
@@ -193,7 +194,7 @@ records_zero = offers 1 ∷ makes ∷ hist_found 1 12 known_a ++ finds_packed 1 
 abbrev pub recorded_zero : State
 recorded_zero = played 2 adopted_stopped records_zero
 
--- an adopted image goes on: units, deltas and the reading
+-- recording continues in an adopted image: units, deltas and the reading
 abbrev pub AdoptedRunReads : Type 0
 AdoptedRunReads =
     ((actor_of adopted_mounted 0).units.share ≡ 4294967292) × IsReached 2 adopted_mounted recorded_one × IsJoined recorded_one (actor_of recorded_one 0)

@@ -1,4 +1,4 @@
-//! What follows for whoever steps a segment, and what a delta and a snapshot owe in worked examples.
+//! What follows for code that steps a segment, and what a delta and a snapshot owe in worked examples.
 //!
 //! The functions do nothing. What each promises is a law of the definitions in `specs/`.
 
@@ -19,17 +19,18 @@ pub fn reached_states_follow()
     ensures { ReachedStatesFollow }
 {}
 
-/// From a kept state to every state that is reached from it, what is published goes on.
+/// What is published in a kept state continues in every state that is reached from it.
 ///
-/// - Each published block stands where it stood. What was given to its maker stays, and so does a record's counts reference
+/// - Each published block stays where it is. What was given to its maker stays, and so does a record's counts reference
 ///   once it has one.
 /// - Counts, redundant counts and marks rise.
-/// - What was spent on a name does not come back, and the sum of a record changes by at most 2^31 times what was spent on its
-///   name since. Nothing is said here of how a sum mark changes.
-/// - A single word leads on. One that names a bucket leads to words that name the same, with no fewer units or, in version 1,
-///   disabled; one that is off stays as it is.
-/// - A block that is published beside them lies where none was.
-/// - The list has the same records in the same order, and maybe more at its end. What was no later than the tail still is.
+/// - What was spent on a name does not come back, and the sum of a record changes by at most 2^31 times what was spent
+///   on its name since. How a sum mark changes is not said here.
+/// - A single word that names a bucket leads to words that name the same bucket, with no fewer units or, in version 1,
+///   disabled; one that is off never changes.
+/// - A block that is published later is where no published block was.
+/// - The list has the same records in the same order, and maybe more at its end. What came no later than the tail still
+///   does.
 /// - The free pointer is no lower, and a flag that is set stays set.
 pub fn states_rise()
     ensures { StatesRise }
@@ -71,56 +72,57 @@ pub fn tables_announce<S>()
     ensures { TablesAnnounce S }
 {}
 
-/// By a step on that word an opener may also say how many units it hands out next.
+/// By a step on the word that never changes an opener may also say how many units it hands out next.
 pub fn tables_offer<S>()
     ensures { TablesOffer S }
 {}
 
-/// An opener's seat may be cut in two where it may make a recorder.
+/// An opener's seat may be split in two if the opener may make a recorder.
 pub fn tables_split<S>()
     ensures { TablesSplit S }
 {}
 
-/// An opener's seat may take in the seat of a recorder that it may join.
+/// An opener's seat may take in the seat of a recorder that the opener may join.
 pub fn tables_join<S>()
     ensures { TablesJoin S }
 {}
 
-/// An opener's seat may be cut in two where it may fill a purse with the units that it offered, also beside 256
-/// recorders.
+/// An opener's seat may be split in two if the opener may fill a purse with the units that it offered, also when 256
+/// recorders are outstanding.
 pub fn tables_fill<S>()
     ensures { TablesFill S }
 {}
 
-/// A recorder's seat may take in that of a purse: then it has these units more, and nothing else changes.
+/// A recorder's seat may take in that of a purse: then the recorder has the purse's units too, and nothing else
+/// changes.
 pub fn tables_pour<S>()
     ensures { TablesPour S }
 {}
 
-/// The tallies of the parts of a list by number modulo n add up to that of the list.
+/// If a list is split into n parts by number modulo n, the tallies of the parts add up to that of the list.
 pub fn parts_add_up()
     ensures { PartsAddUp }
 {}
 
-/// Words of which all holds that the invariant says of the words alone read without a fault, even if no state has them.
+/// Words that satisfy all that the invariant says of words alone read without a fault, even if no state has them.
 ///
 /// - No record is bad, and the list does not stop.
-/// - Of each name that is on the list exactly one histogram is read: the first record of the name, with the spec that its
+/// - For each name on the list exactly one histogram is read: the first record of the name, with the spec that its
 ///   maker was given.
-/// - Of each key the units and the mark that are read are those that the blocks hold of it, and so are the sum, the
-///   redundant count and the sum mark.
+/// - For each key the units and the mark that are read are what the blocks hold of it; so are the sum, the redundant
+///   count and the sum mark.
 pub fn words_read()
     ensures { WordsRead }
 {}
 
-/// Of any kept state: whenever everything stops, the words read as exactly the published histograms, with all units
-/// but those in transit.
+/// For any kept state: whenever everything stops, the words read as exactly the published histograms, with all units
+/// except those in transit.
 ///
 /// - No record is bad, and the list does not stop. The id is the opening's. A flag is read if the opening had it or
 ///   an actor has set it; so the corrupt one is read if an actor has seen it.
-/// - Of each name on the list exactly one histogram is read: the first record, with the spec that its maker was
+/// - For each name on the list exactly one histogram is read: the first record, with the spec that its maker was
 ///   given.
-/// - Of each key the units are those that were counted, less those in transit. So a bucket holds every unit of ended
+/// - For each key the units are those that were counted, less those in transit. So a bucket holds every unit of ended
 ///   calls except those in transit, and no unit of a call that had not begun. Only the packed bucket, in version 1,
 ///   has units in transit: they are just being moved out of the single word.
 /// - Sum, redundant count, marks and sum mark are what was added, noted and taken.
@@ -128,23 +130,23 @@ pub fn stopped_reads()
     ensures { StoppedReads }
 {}
 
-/// Of any kept state: once all recorders are joined, the words read as the histograms that `hist` returned, each
+/// For any kept state: once all recorders are joined, the words read as the histograms that `hist` returned, each
 /// once, with its spec.
 ///
 /// Units and sum are the tally of the opener's log: what one thread records of the accepted samples. The redundant
-/// count is that of the opening and the units noted since. Marks and sum mark are what was taken. A flag is read if
+/// count is that of the opening plus the units noted since. Marks and sum mark are what was taken. A flag is read if
 /// the opening had it or an actor has set it.
 pub fn joined_reads()
     ensures { JoinedReads }
 {}
 
-/// After the joins, all deltas of a histogram that had a final one took its totals and its sum.
+/// After the joins, if a histogram had a final delta, all its deltas together took its totals and its sum.
 pub fn final_deltas_take_all()
     ensures { FinalDeltasTakeAll }
 {}
 
-/// After the joins, where no recorder was outstanding when the recorder of a delta was made, and none was made since,
-/// the deltas up to it took exactly what the entries before it in the log come to.
+/// After the joins: if no recorder was outstanding when the recorder of a delta was made, and none was made since, the
+/// deltas up to that one took exactly what the entries before it in the log add up to.
 pub fn lone_deltas_take_all()
     ensures { LoneDeltasTakeAll }
 {}
@@ -159,8 +161,8 @@ pub fn snapshots_stay_below()
     ensures { SnapshotsStayBelow }
 {}
 
-/// A refused call that counts has counted and noted its first entries, and added no amount. Nothing of it is in
-/// transit, and it took nothing. Of a refused `add` no entry is counted.
+/// A refused call that counts has counted and noted its first entries, and added no amount. None of its units
+/// are in transit, and it took nothing. A refused `add` has counted no entry.
 pub fn refused_adds_few()
     ensures { RefusedAddsFew }
 {}
@@ -176,8 +178,8 @@ pub fn links_append()
     ensures { LinksAppend }
 {}
 
-/// The chain of a state that is reached is what it was, and after it the records that were linked since, in the order
-/// of their links.
+/// The chain of a state that is reached is the earlier chain, followed by the records that were linked since, in the
+/// order of their links.
 pub fn chains_are_links()
     ensures { ChainsAreLinks }
 {}
@@ -212,8 +214,8 @@ pub fn names_are_first()
     ensures { NamesAreFirst }
 {}
 
-/// A caller that saw another spec of the first record of a name, and so refuses `OtherSpec`, is right: that record
-/// has another spec.
+/// A call that refuses with `OtherSpec`, because it saw another spec in the first record of the name, is right: that
+/// record has another spec.
 pub fn others_differ()
     ensures { OthersDiffer }
 {}
@@ -222,14 +224,14 @@ pub fn others_differ()
 /// recorder had accepted and seen.
 ///
 /// One exception: in version 1, once the packed bucket's units were moved out of the single word, the deltas took of
-/// that bucket at least each count that the recorder had seen, and no more is said.
+/// that bucket at least each count that the recorder had seen, and no more is promised.
 pub fn deltas_take_accepted()
     ensures { DeltasTakeAccepted }
 {}
 
 /// A snapshot that is returned has of each bucket and value at least what its recorder had accepted and seen, with
-/// the exception of `deltas_take_accepted`. Its redundant count is at least that of the opening and the units that
-/// were accepted since, and at least each that its recorder had seen.
+/// the same exception as `deltas_take_accepted`. Its redundant count is at least that of the opening plus the units
+/// that were accepted since, and at least each redundant count that its recorder had seen.
 pub fn snapshots_see_accepted()
     ensures { SnapshotsSeeAccepted }
 {}
@@ -243,14 +245,14 @@ pub fn kept_are_adoptable()
 /// An image that has none of the faults of adoption opens a kept segment, with any number of shared cursors.
 ///
 /// Its records are those on the image's list. Its opener has one first entry for each key that has units, and one for
-/// each sum. The marks and sum marks count as taken at first, and its pool is all units but those that the image has
-/// used. So all that holds of a kept state holds of what is reached from there. It is consistent beside the image's
-/// words.
+/// each sum. The marks and sum marks count as taken before the opening, and its pool has all units except those that
+/// the image has used. So all that holds of a kept state holds of each state that is reached from there. Such a state
+/// is consistent, with the image's words as its opening.
 pub fn adoption_opens()
     ensures { AdoptionOpens }
 {}
 
-/// A link that finds the end of the list makes the chain longer by its record.
+/// A link that finds the end of the list adds its record to the chain.
 pub fn links_lengthen()
     ensures { LinksLengthen }
 {}

@@ -2,12 +2,14 @@
 
 ghost use Rattle.segment_promises.specs.WorkedReadings.{MountedReads, StoppedInTransitReads, DeltasAndMarksRead, TwoTakersRead, SparseSamplesRead, RaceReads, JoinedRunReads, UnitsOfSumsRead, AdoptedRunReads};
 
-/// Three samples of `A`: two that were packed and then moved to the counts, or kept by the frozen word, and one that was counted.
+/// Three samples of `A`: two that were packed and then moved to the counts, or kept by the frozen word, and one that
+/// was counted.
 pub fn mounted_reads()
     ensures { MountedReads }
 {}
 
-/// Where all stop between a disabling exchange and the addition, version 1 reads without the units in transit, version 2 with all.
+/// If all stop between a disabling exchange and the addition, version 1 reads without the units in transit, version 2
+/// with all.
 pub fn stopped_in_transit_reads()
     ensures { StoppedInTransitReads }
 {}
@@ -17,7 +19,7 @@ pub fn deltas_and_marks_read()
     ensures { DeltasAndMarksRead }
 {}
 
-/// Where two deltas saw the same packed units, the marks have them once.
+/// If two deltas saw the same packed units, the marks have them once.
 pub fn two_takers_read()
     ensures { TwoTakersRead }
 {}
@@ -27,7 +29,7 @@ pub fn sparse_samples_read()
     ensures { SparseSamplesRead }
 {}
 
-/// Of two samples of one value the first on the list is read.
+/// If there are two samples of one value, the first on the list is read.
 pub fn race_reads()
     ensures { RaceReads }
 {}
@@ -37,7 +39,7 @@ pub fn joined_run_reads()
     ensures { JoinedRunReads }
 {}
 
-/// Sums that cost all units, and the units that are left where the image is adopted.
+/// Sums that cost all units, and the units that are left when the image is adopted.
 pub fn units_of_sums_read()
     ensures { UnitsOfSumsRead }
 {}

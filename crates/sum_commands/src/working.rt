@@ -146,7 +146,7 @@ fn add_all<S: Source, P: Progress>(
 /// `how` is strict, the sum ends at the first input that is left out [sum]. With one worker the caller's thread adds
 /// them up one by one.
 ///
-/// The one error is that memory runs out.
+/// The only error is that memory runs out.
 pub fn sum_of_inputs<R: Threads + Wait, S: Source, P: Progress>(
     rt: &R,
     alloc: Global,

@@ -203,7 +203,7 @@ fn put_fold(text: &mut Vec<u8>, fold: Option<u64>) -> Result<(), AllocError>
     }
 }
 
-/// Returns the text of a totals. The one error is that memory runs out.
+/// Returns the text of a totals. The only error is that memory runs out.
 pub fn totals_text(alloc: Global, totals: &Totals) -> Result<Vec<u8>, AllocError>
     ensures { IfOk result (λ text. text.items ≡ lines.totals_text (whole_of totals.now)) }
 {

@@ -144,7 +144,7 @@ pub fn run_beside<R: Threads + Wait, J: Job<Output = X> + Send + Drop, X: Send +
 /// order of the jobs: as many as these [len], each of them one that its job may return [each]. All threads have ended
 /// then.
 ///
-/// The one error is that memory runs out for the results.
+/// The only error is that memory runs out for the results.
 pub fn run_within<R: Threads + Wait, J: Job<Output = X> + Send + Drop, X: Send + Drop>(
     rt: &R,
     alloc: Global,

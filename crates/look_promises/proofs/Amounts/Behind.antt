@@ -1,4 +1,4 @@
--- A moment behind the second copy of a look: what the look takes of a record is as if its third copy were the state then, and nothing where the
+-- A moment after the second copy of a look: what the look takes of a record is as if its third copy were the state then, and nothing if the
 -- record was not on the list.
 use Rattle.segment_invariant.proofs.Prelude.Std.{◌≡◌, ◌≢◌, ◌⊎◌, ℕ, ◌+◌, ◌^◌, ◌<◌, ◌≤◌, ◌==◌, ◌&&◌, nat_le, Bool, true, false, if◌then◌else◌, List, length, inl, inr, refl, sym, ap, subst, ◌∙◌, arith, slice_index, and_parts}
 use Rattle.segment_invariant.proofs.Prelude.Machine.{word_at, single_of, units_packed}
@@ -34,7 +34,7 @@ nothing_looked two three x n i no_counts empty =
     none_named : counts_reference two three x ≡ 0
     none_named = by_test (word_at two (x + 8) == 0) (is_frozen two x) unfrozen ∙ no_counts
 
--- ---- a moment behind a second copy
+-- ---- a moment after a second copy
 
 module _ (copies : ThreeCopies) (m : ℕ) (down : m ≤ copies.last) (behind : (i : ℕ) → i < copies.shape.size → copies.moments.two i ≤ m) where
   open copies use {run, shape, at, first, last, moments, one, two, three, loaded}
@@ -59,7 +59,7 @@ module _ (copies : ThreeCopies) (m : ℕ) (down : m ≤ copies.last) (behind : (
     spot : (j : ℕ) → j < 15 → x + j < shape.size
     spot j lt = let ends = ends_at run last x (histogram r) has in omega (arith, ends, lt)
 
-    -- a test of the second copy decides, and where it does not, both copies have the record's own
+    -- a test of the second copy decides, and if it does not, both copies have the record's own
     pub reference_was : k < length (chain_at run m) → counts_reference two three x ≡ counts_reference two (at m).words x
     reference_was there =
         let was = record_was run m last k down r has there in

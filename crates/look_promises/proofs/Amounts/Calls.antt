@@ -79,7 +79,7 @@ module _ (copies : ThreeCopies) where
     pub begun : total ≤ tally_units (flat_map begun_of (at last).actors) r.name key
     begun = let counted = counted_most in let most = all_begun shape opened (at last) late r.name key in omega (arith, counted, most)
 
-    -- where something was counted at the first moment, the record was the first of its name then
+    -- if something was counted at the first moment, the record was the first of its name then
     pub some_counted : 0 < tally_units (all_counted (at first).actors) r.name key → tally_units (all_counted (at first).actors) r.name key ≤ total
     some_counted more =
         let (entry, among, named, keyed, some_units) = tally_at (all_counted (at first).actors) r.name key more in

@@ -1,4 +1,4 @@
--- The single word that a look has of a record has a form, and where it is off, there is a counts reference: it was there before.
+-- The single word that a look has of a record has a form, and if it is off, there is a counts reference: it was there before.
 use Rattle.segment_invariant.proofs.Prelude.Std.{◌≡◌, ◌≢◌, ℕ, ◌+◌, ◌^◌, ◌<◌, ◌≤◌, ◌==◌, ◌&&◌, Bool, true, false, length, refl, sym, ap, subst, ◌∙◌, arith, slice_index, if◌then◌else◌, None, dite, ℕ_discrete, eq-eqb, leb-true}
 use Rattle.segment_invariant.proofs.Prelude.Machine.{word_at, buckets_of, single_of, is_off}
 use Rattle.segment_invariant.proofs.Prelude.Invariant.{Record, histogram, form_at, HasRecord}

@@ -119,7 +119,7 @@ module _ (shape : Dimensions) (opened : Anatomy) (state : State) (kept : Invaria
   single_none none_packed =
       (kept.records.lawful x r has).unpacked (subst (λ (v : ℕ). packed_bucket (form_at v r) ≡ None) (sym two) none_packed)
 
-  -- so is a mark behind the counts
+  -- so is a mark after the counts
   pub behind_most : (i : ℕ) → i < buckets → r.counts ≢ 0 → field_at state.words r.counts (4 + buckets + i) ≤ total_of 2 state.words x i
   behind_most i below ne = by_test (is_packed_bucket (form_at 2 r) i) refl
     where
@@ -200,7 +200,7 @@ module _ (copies : ThreeCopies) where
       leads : Leads 2 n q.single (word_at two (x + 9))
       leads = leads_on (from_moment m before) k i below r has bucket q was
 
-      -- the single mark, where the second copy has the bucket packed
+      -- the single mark, if the second copy has the bucket packed
       single_then : is_packed_bucket (single_of 2 n (word_at two (x + 9))) i ≡ true → q.mark ≤ total
       single_then is = by_form (packed_bucket (form_at 2 q)) refl
         where
@@ -221,7 +221,7 @@ module _ (copies : ThreeCopies) where
                 omega (arith, most, up)
           ]
 
-      -- a mark behind the counts, where the record names them
+      -- a mark after the counts, if the record names them
       behind_then : word_at (at m).words (x + 8) ≡ r.counts → r.counts ≢ 0 → word_at (at m).words (r.counts + (4 + n + i)) ≤ total
       behind_then names ne =
           let named : q.counts ≡ r.counts = sym (word_was run m last k down r has there 8 (omega arith)) ∙ names in

@@ -1,5 +1,5 @@
--- The totals of a look are no less than those of a look whose second copy was loaded before its own: between the two lies a state, which has as
--- much. So it is of the counts of samples.
+-- The totals of a look are no less than those of a look whose second copy was loaded before its own: between the two is a state, which has
+-- as much. The same holds for the counts of samples.
 use Rattle.segment_invariant.proofs.Prelude.Std.{◌≡◌, ℕ, zero, suc, ◌+◌, ◌-◌, ◌<◌, ◌≤◌, List, length, inl, refl, sym, ap, subst, ◌∙◌, arith, slice_index, dite, ℕ_discrete}
 use Rattle.segment_invariant.proofs.Prelude.Machine.{word_at, buckets_of}
 use Rattle.segment_invariant.proofs.Prelude.Invariant.{Record, Sample, sample, HasRecord, HasSample}
@@ -88,7 +88,7 @@ module _ (copies : ThreeCopies) (other : ℕ) (later : Moments) (four five six :
       abbrev x : ℕ
       x = slice_index list k
 
-      -- where the record is on the list then
+      -- if the record is on the list then
       on_list : k < length (chain_at run m)
           → total_looked two x (counts_reference two three x) (buckets_of r.spec) i ≤ total_looked five x (counts_reference five six x) (buckets_of r.spec) i
       on_list there =

@@ -24,7 +24,7 @@ use Rattle.segment_invariant.proofs.Prelude.Invariant.{Record, Counts, histogram
 
 -- ---- packed units
 
--- a number for a bucket, where it is the packed one
+-- a number for a bucket, if it is the packed one
 abbrev pub for_bucket : Option ℕ → ℕ → ℕ → ℕ
 for_bucket None i n = 0
 for_bucket (Some bucket) i n = if bucket == i then n else 0
@@ -84,7 +84,7 @@ module _ (run : Run) where
   version_at : (m : ℕ) → (kept_at run m).anatomy.version ≡ 2
   version_at m = (kept_at run m).same.0 ∙ run.version
 
-  -- a record goes on
+  -- a record continues
   pub goes_to : (a b x : ℕ) (r : Record) → a ≤ b → HasRecord (kept_at run a).anatomy.pieces x r
       → (q : Record) × HasRecord (kept_at run b).anatomy.pieces x q × RecordGoes 2 r q
   goes_to a b x r le has =
@@ -258,7 +258,7 @@ module _ (copies : ThreeCopies) where
       many_units : length c.units ≡ n
       many_units = its_counts.units ∙ sym (kinds q was)
 
-      -- not in use where the single word is not off later
+      -- not in use if the single word is not off later
       unused : is_frozen two x ≡ false → slice_index c.units i ≡ 0
       unused off = (its_counts.unused (by_off (is_off q.single) refl)).0 i 0 (let many = many_units in let low = bucket in omega (arith, many, low))
         where

@@ -62,7 +62,7 @@ module _ (copies : ThreeCopies) where
     abbrev Later : (more : List Listed) → Type 0
     Later more = late.anatomy.records ≡ early.anatomy.records ++ more
 
-    -- where something was counted of a key at the first moment, this was the first sample of the value then
+    -- if something was counted of a key at the first moment, this was the first sample of the value then
     pub some_counted : 0 < tally_units (all_counted (at first).actors) s.name s.value → tally_units (all_counted (at first).actors) s.name s.value ≤ word_at two (x + 6)
     some_counted more =
         let (entry, among, named, keyed, some_units) = tally_at (all_counted (at first).actors) s.name s.value more in

@@ -1,4 +1,4 @@
--- The records that a look follows: each next that is loaded gives the record behind, or ends the list.
+-- The records that a look follows: each next that is loaded gives the record after it, or ends the list.
 use Rattle.segment_invariant.proofs.Prelude.Std.{◌≡◌, ◌⊎◌, ℕ, zero, suc, ◌+◌, ◌-◌, ◌/◌, ◌<◌, ◌≤◌, Bool, true, false, true≢false, List, ◌++◌, take, length, inl, inr, refl, sym, ap, subst, ◌∙◌, arith, slice_index, and_from, le-leb, length-append, get_or_append_left, dite, ℕ_discrete, Contains, at_from, index_at, below_length}
 use Rattle.segment_invariant.proofs.Prelude.Machine.{word_at, head_of, IsLinked, IsPrefix, stops}
 use Rattle.segment_invariant.proofs.Prelude.Invariant.{Invariant, layout_of}
@@ -22,7 +22,7 @@ use Rattle.look_promises.proofs.Making.Carried.{OfHand}
 use Rattle.look_promises.proofs.Making.Unlinked.{IsEnd, Lacks, lacking_unlinked, ends_unclaimed, ends_in_hand}
 use Rattle.look_promises.proofs.Copies.Walks.{next_at, Gives, Ends, front, fronts, front_of}
 
--- no block can stand where a list ends
+-- no block can be where a list ends
 end_not_placed : (head : SegmentHead) (next : ℕ) → IsEnd next → is_placed head next ≡ false
 end_not_placed head next (inl none) = ap (is_placed head) none
 end_not_placed head next (inr end) = ap (is_placed head) end
@@ -51,7 +51,7 @@ module _ (run : Run) where
         | no far ↦ absurd (ended is (ends_unclaimed shape opened (at m) kept x (omega (arith, far))))
       ]
 
-  -- a record of a chain lies behind the header and below the free pointer
+  -- a record of a chain is after the header and below the free pointer
   pub lies : (n k : ℕ) → k < length (chain_at run n)
       → (16 ≤ slice_index (chain_at run n) k) × (slice_index (chain_at run n) k + 5 ≤ word_at (at n).words 7)
   lies n k below =
@@ -128,7 +128,7 @@ module _ (copies : ThreeCopies) where
       ap (λ (list : List ℕ). slice_index (stops list) k) (whole_is k le)
       ∙ get_or_append_left (stops (chain (moment k))) (since k le) 0 k (omega (arith, inside))
 
-  -- before its end the next gives the record behind
+  -- before its end the next gives the record after it
   gives : (k : ℕ) → k ≤ length list → k < length (chain (moment k)) → Gives hd two list k
   gives k le lt =
       let t : ℕ = moment k in
@@ -195,7 +195,7 @@ module _ (copies : ThreeCopies) where
   first_is : list ≡ chain first ++ later_ones
   first_is = chain_on run first last first_last
 
-  -- the nexts of its records give the records behind
+  -- the nexts of its records give the records after them
   gives_first : (k : ℕ) → k < length (chain first) → Gives hd two list k
   gives_first k lt =
       let all = ap length first_is in
@@ -213,7 +213,7 @@ module _ (copies : ThreeCopies) where
       let long = loaded.copy_two.long in
       omega (arith, room, long)
 
-  -- the look follows so many records of the list, each of which a next gave
+  -- the look follows `n` records of the list, each of which a next gave
   pub followed : (n : ℕ) × (n ≤ length list) × (length (chain first) ≤ n) × (followed_records hd two ≡ take n list)
       × ((j : ℕ) → j < n → Gives hd two list j)
   followed =

@@ -1,4 +1,4 @@
--- The header of the third copy: each of its words is lawful, whenever it was loaded.
+-- The header of the third copy: each of its words is valid, whenever it was loaded.
 use Rattle.segment_invariant.proofs.Prelude.Std.{◌≡◌, false, ℕ, [], ◌∷◌, ◌+◌, ◌<◌, ◌≤◌, List, length, sym, ap, ◌∙◌, arith, eq-eqb, not, ◌&&◌, ◌||◌, ◌==◌, nat_lt, Ok, slice_index, and_from, le-ltb, bit_and}
 use Rattle.segment_invariant.proofs.Prelude.Machine.{word_at, head_of, IsShape}
 use Rattle.segment_invariant.proofs.Prelude.Invariant.{layout_of, Invariant}

@@ -1,4 +1,4 @@
--- The blocks of the opening in which nobody counts stay as they were, but for their nexts.
+-- The blocks of the opening in which nobody counts are unchanged, except for their nexts.
 use Rattle.segment_invariant.proofs.Prelude.Std.{◌≡◌, ◌≢◌, ℕ, ◌+◌, ◌<◌, List, [], ◌∷◌, length, All-cons, All-nil, inl, inr, sym, ◌∙◌, arith, slice_index, none}
 use Rattle.segment_invariant.proofs.Prelude.Machine.{field_at, word_at}
 use Rattle.segment_invariant.proofs.Prelude.Invariant.{other, words_of}

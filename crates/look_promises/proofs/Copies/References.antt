@@ -26,7 +26,7 @@ module _ (run : Run) (m last k : ℕ) (le : m ≤ last) (below : k < length (cha
   abbrev word : ℕ
   word = word_at (at m).words (x + 8)
 
-  -- where the record is on the list
+  -- if the record is on the list
   on_list : k < length (chain_at run m) → IsNoneOr r.counts word
   on_list there =
       let was = record_was run m last k le r has there in

@@ -1,4 +1,4 @@
--- Three copies of a run, as one value, and what is said of them again and again.
+-- Three copies of a run, as one value, and what is often needed of them.
 use Rattle.segment_invariant.proofs.Prelude.Std.{ℕ, ◌+◌, List, slice_index}
 use Rattle.segment_invariant.proofs.Prelude.Machine.{Dimensions, State, word_at}
 use Rattle.segment_invariant.proofs.Prelude.Invariant.{Anatomy, Invariant}
@@ -20,7 +20,7 @@ pub record ThreeCopies : Type 0 where
   pub three : List ℕ
   pub loaded : AreLoaded run.shape run.at first last moments one two three
 
--- those that a law is given
+-- the copies that a law is given
 abbrev pub three_copies : (shape : Dimensions) (opened : Anatomy) (at : ℕ → State) (first last : ℕ) (moments : Moments) (one two three : List ℕ)
     → RunsThrough shape opened at → AreLoaded shape at first last moments one two three → ThreeCopies
 three_copies shape opened at first last moments one two three runs loaded = record {

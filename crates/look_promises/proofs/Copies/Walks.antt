@@ -1,4 +1,4 @@
--- The records that the nexts of a copy give: where each next gives the record behind, or ends the list, they are the front of a chain.
+-- The records that the nexts of a copy give: if each next gives the record after it, or ends the list, they are the front of a chain.
 use Rattle.segment_invariant.proofs.Prelude.Std.{◌≡◌, ◌⊎◌, ℕ, zero, suc, ◌+◌, ◌-◌, ◌<◌, ◌≤◌, Bool, true, false, List, [], ◌∷◌, ◌++◌, take, drop, length, refl, sym, ap, ◌∙◌, arith, slice_index, if◌then◌else◌, ⊎_elim, dite, ℕ_discrete, subst}
 use Rattle.segment_invariant.proofs.Prelude.Machine.{stops, IsPrefix}
 use Rattle.std.proofs.Math.Decide.{dec_lt}
@@ -14,7 +14,7 @@ module _ (head : SegmentHead) (two chain : List ℕ) where
   abbrev pub next_at : ℕ → ℕ
   next_at k = next_of two (slice_index (stops chain) k)
 
-  -- it gives the record behind
+  -- it gives the record after it
   pub record Gives (k : ℕ) : Type 0 where
     pub within : k < length chain
     pub is : next_at k ≡ slice_index chain k
@@ -25,7 +25,7 @@ module _ (head : SegmentHead) (two chain : List ℕ) where
   Ends k = is_placed head (next_at k) ≡ false
 
   module _ (least : ℕ) (gives : (k : ℕ) → k < least → Gives k) (leads : (k : ℕ) → k ≤ length chain → Gives k ⊎ Ends k) where
-    -- a front of the chain behind a place, which reaches as far as all nexts give records
+    -- a front of the chain after a place, which reaches as far as all nexts give records
     abbrev Front : ℕ → ℕ → Type 0
     Front most k = (n : ℕ) × (k + n ≤ length chain) × (least ≤ k + n) × (records_from head two most (next_at k) ≡ take n (drop k chain))
         × ((j : ℕ) → k ≤ j → j < k + n → Gives j)

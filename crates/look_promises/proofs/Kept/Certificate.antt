@@ -1,4 +1,4 @@
--- Where the units of a look are no more than the redundant count that it has, its totals are those of the moment at which that was loaded.
+-- If the units of a look are no more than the redundant count that it has, its totals are those of the moment at which that was loaded.
 use Rattle.segment_invariant.proofs.Prelude.Std.{◌≡◌, ◌≢◌, ℕ, suc, ◌+◌, ◌<◌, ◌≤◌, true≢false, List, [], ◌∷◌, flat_map, length, refl, sym, ap, subst, ◌∙◌, arith, slice_index, dite, ℕ_discrete, All, All-cons, All-nil, Contains, all_at, all_of, at_from, below_length, index_at, some, some-injective, get_elem?}
 use Rattle.segment_invariant.proofs.Prelude.Machine.{Actor, Entry, word_at, buckets_of, total_of, tally_noted}
 use Rattle.segment_invariant.proofs.Prelude.Invariant.{Record, histogram, HasRecord, IsFirst}
@@ -21,7 +21,7 @@ use Rattle.look_promises.proofs.Amounts.OneMoment.{of_then}
 use Rattle.look_promises.proofs.Kept.Notes.{Holds, all_hold}
 use Rattle.look_promises.proofs.Kept.Noted.{at_least, noted_most}
 
--- all that a segment was opened with its opener began with
+-- actors without first entries have no units of the opening
 none_of_others : (name : List ℕ) (actors : List Actor) → ((i : ℕ) (a : Actor) → get_elem? actors i ≡ some a → a.entries.first ≡ [])
     → units_at_opening actors name ≡ 0
 none_of_others name [] each = refl

@@ -1,4 +1,4 @@
--- The counts and marks that a look takes of a counts block, where its record's single word is not off, and of the packed bucket.
+-- The counts and marks that a look takes of a counts block, if its record's single word is not off, and of the packed bucket.
 use Rattle.segment_invariant.proofs.Prelude.Std.{◌≡◌, ◌≢◌, ℕ, zero, suc, ◌+◌, ◌-◌, ◌<◌, ◌≤◌, Bool, true, false, true≢false, List, [], ◌∷◌, length, inl, inr, refl, sym, ap, subst, ◌∙◌, arith, slice_index, Some, replicate, All, All-contains, All-cons, All-nil, dite, ℕ_discrete}
 use Rattle.segment_invariant.proofs.Prelude.Machine.{word_at, buckets_of, single_of, packed_bucket, is_off}
 use Rattle.segment_invariant.proofs.Prelude.Invariant.{Record, Counts, histogram, counts, form_at, HasRecord, HasCounts}
@@ -68,7 +68,7 @@ module _ (copies : ThreeCopies) where
           let marks = of_it.marks in
           (omega arith, omega (arith, units, marks, below))
 
-      -- the mark of the packed bucket stands in the record
+      -- the mark of the packed bucket is in the record
       pub packed_mark : (i : ℕ) → packed_bucket (single_of 2 n (word_at two (x + 9))) ≡ Some i → word_at one (r.counts + (4 + n + i)) ≡ 0
       packed_mark i packed =
           let below = packed_within 2 n (word_at two (x + 9)) i packed in

@@ -1,4 +1,4 @@
--- Lists of numbers with keys: where one has no more of each key than another, it has no more in all; and where it has no less in all either, both
+-- Lists of numbers with keys: if one has no more of each key than another, it has no more in all; and if it has no less in all either, both
 -- have the same of each.
 use Rattle.segment_invariant.proofs.Prelude.Std.{◌≡◌, ℕ, zero, suc, ◌+◌, ◌≤◌, Bool, true, false, not, cond, ℤ, List, [], ◌∷◌, length, refl, sym, ap, ◌∙◌, arith, if◌then◌else◌, sum_by, sum_by-cons, filter, int_eq, Decides-int_eq}
 
@@ -96,7 +96,7 @@ module _ {X : Type 0} (key : X → ℤ) (weight : X → ℕ) where
       ap (λ (b : Bool). length (cond (not b) (x ∷ without (key x) rest) (without (key x) rest))) same in
       omega (arith, less, is)
 
-  -- where there is nothing of each key there is nothing
+  -- if there is nothing of each key there is nothing
   pub nothing_held : (xs : List X) → ((k : ℤ) → held xs k ≤ 0) → all xs ≡ 0
   nothing_held [] none_there = refl
   nothing_held (x ∷ rest) none_there =

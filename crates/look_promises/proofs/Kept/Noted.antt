@@ -1,4 +1,4 @@
--- In each state a redundant count is no more than the units of its record: what is noted is counted, where the opening's is so too.
+-- In each state a redundant count is no more than the units of its record: what is noted is counted, if the opening's is so too.
 use Rattle.segment_invariant.proofs.Prelude.Std.{◌≡◌, ◌≢◌, inl, inr, ℕ, zero, suc, ◌+◌, ◌<◌, ◌≤◌, Bool, true, false, cond, ◌&&◌, ◌||◌, ◌==◌, ℤ, List, [], ◌∷◌, ◌++◌, map, filter, flat_map, refl, sym, ap, subst, ◌∙◌, ⊎_elim, arith, if◌then◌else◌, sum_by, sum_by-cons, range_with_len, int_eq, Decides-int_eq, bytes_eq-Decides, All-contains, Contains, Contains-append_left, Contains-append_right, Contains-append_cases, and_parts, some, some-injective, get_elem?, All, All-nil, all_at}
 use Rattle.segment_invariant.proofs.Prelude.Machine.{Dimensions, State, Entry, EntryProgress, Spec, buckets_of, is_counted, is_noted, has_ended, is_of, Actor, all_counted, all_noted, counted_among, tally_units, tally_noted, total_of}
 use Rattle.segment_invariant.proofs.Prelude.Invariant.{Anatomy, Record, key_of_bucket, HasRecord, IsFirst, StandsRight, Invariant}
@@ -125,7 +125,7 @@ module _ (name : List ℕ) where
       let more = noted_total name (counted_of a) (flat_map counted_of rest) in
       omega (arith, same, head, others, less, more)
 
--- what is noted is counted, where it is so of its flag
+-- what is noted is counted, if it is so of its flag
 noted_counted : (c : EntryProgress) → IsCountedFirst c → is_noted c ≡ true → is_counted c ≡ true
 noted_counted c so noted = by_flag c.noted refl
   where
@@ -191,7 +191,7 @@ module _ (shape : Dimensions) (opened : Anatomy) (state : State) (kept : Invaria
       (λ i from below. let is = counted_is shape opened state kept two x r has first i (omega (arith, below)) in omega (arith, is)) in
       omega (arith, keyed, totals)
 
-  -- the redundant count is no more than the units, where the opening's was no more than what it began with
+  -- the redundant count is no more than the units, if the opening's was no more than what it began with
   pub noted_most : noted_at_opening opened r.name ≤ tally_noted kept.roles.opener.entries.first r.name → r.noted ≤ units_in_words state.words x n
   noted_most at_most =
       let is = whole_noted shape opened state kept r.name r.spec x r first has refl in

@@ -1,4 +1,4 @@
--- What is noted of a running call is counted: where it is so at one state, it is so at each that is reached from there. And the opener keeps
+-- What is noted of a running call is counted: if it is so at one state, it is so at each that is reached from there. And the opener keeps
 -- the entries that it began with.
 use Rattle.segment_invariant.proofs.Prelude.Std.{◌≡◌, ℕ, ◌==◌, Bool, true, false, List, [], ◌∷◌, refl, sym, ap, subst, ◌∙◌, All, All-nil, All-cons, All-tail, All-push, all_at, map}
 use Rattle.segment_invariant.proofs.Prelude.Machine.{Entry, EntryProgress, Actor, offered_of, is_opener, Event, Ready, next, allocating_event, publishing_event, walking_event, counting_event, taking_event, packing_event, load_flags, load_free, exchange_free, store_size, store_cookie, store_type, store_payload, set_corrupt, set_full, store_own_next, load_tail, link, move_tail, after_link, load_next, load_published, load_counts, add_count, add_sum, load_count, raise_mark, load_sum, swap_sum_mark, load_redundant, raise_single_mark, load_single, pack, mount_counts, purge_block, disable, add_moved, after_pack, after_mount, after_disable, Note, Notes, noted, begins, purse, State}
@@ -17,7 +17,7 @@ use Rattle.look_promises.specs.OneMoment.{CountsFirst, IsCountedFirst}
 
 -- ---- running entries
 
--- the entry that is next becomes another, of which it is so too
+-- the entry that is next becomes another, for which this holds too
 next_changed : (a : Actor) (c : EntryProgress) (f : EntryProgress → EntryProgress) → IsNext a c → IsCountedFirst (f c) → CountsFirst a
     → All IsCountedFirst (change_next f a.entries.running)
 next_changed a c f (rest, is) mine all =
@@ -38,7 +38,7 @@ all_fresh : (entries : List Entry) → All IsCountedFirst (map fresh entries)
 all_fresh [] = All-nil IsCountedFirst
 all_fresh (e ∷ rest) = All-cons IsCountedFirst (fresh e) (map fresh rest) (λ is. absurd (cc is)) (all_fresh rest)
 
--- ---- an actor goes on
+-- ---- an actor continues
 
 -- it has the role that it had, and began with the same, and what it notes is counted
 record Goes (a b : Actor) : Type 0 where
@@ -165,7 +165,7 @@ module _ (F : List Entry) where
   notes_on [] a b same has = subst Holds same has
   notes_on (note ∷ rest) a b (may, more) has = notes_on rest (noted a note) b more (goes_on_so a (noted a note) (note_goes a note) has)
 
-  -- who has begun nothing, and is no opener
+  -- an actor that has begun nothing, and is no opener
   of_nobody : (a : Actor) → a.entries.running ≡ [] → is_opener a.role ≡ false → Holds a
   of_nobody a runs role = (subst (All IsCountedFirst) (sym runs) (All-nil IsCountedFirst), λ opens. absurd (cc (role, opens)))
 

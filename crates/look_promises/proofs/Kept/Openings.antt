@@ -1,4 +1,5 @@
--- What a segment had noted when it was opened is no more than what it was opened with: it was nothing, or that of an image of which it is so.
+-- What a segment had noted when it was opened is no more than what it was opened with: it was nothing, or that of an image for which this
+-- holds.
 use Rattle.segment_invariant.proofs.Prelude.Std.{◌≡◌, ◌≢◌, ℕ, zero, suc, ◌≤◌, Bool, true, false, List, [], ◌∷◌, map, refl, sym, ap, arith, if◌then◌else◌, sum_by-cons, bytes_eq, bytes_eq-Decides, Contains, Contains-append_left, Contains-append_right, some, some-injective, some-ne-none, get_elem?}
 use Rattle.segment_invariant.proofs.Prelude.Machine.{Actor, Histogram, Cost, Reading, cost_of, head_of}
 use Rattle.segment_invariant.proofs.Prelude.Invariant.{Anatomy, Invariant}
@@ -8,7 +9,7 @@ use Rattle.segment_promises.proofs.Adopting.FirstEntries.{of_name, first_noted}
 use Rattle.look_promises.specs.OneMoment.{all_units_read, units_at_opening, OpeningsNoteNoMore}
 use Rattle.look_promises.proofs.Kept.Certificate.{of_opener}
 
--- what the histograms of a name have noted is no more than their units, where it is so of each
+-- what the histograms of a name have noted is no more than their units, if it is so of each
 noted_below : (name : List ℕ) (hists : List Histogram) → ((h : Histogram) → Contains hists h → h.name ≡ name → h.redundant ≤ all_units_read h)
     → cost_of (map (λ (h : Histogram). record { name = h.name; units = h.redundant }) hists) name ≤ of_name all_units_read hists name
 noted_below name [] each = omega arith

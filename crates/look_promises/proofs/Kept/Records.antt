@@ -1,4 +1,4 @@
--- The records of a look are kept: lawful, each with its own counts block, and in one that is not the first of its name nothing is counted.
+-- The records of a look are kept: valid, each with its own counts block, and in one that is not the first of its name nothing is counted.
 use Rattle.segment_invariant.proofs.Prelude.Std.{◌≡◌, ◌≢◌, ℕ, ◌+◌, ◌^◌, ◌<◌, ◌≤◌, ◌==◌, ◌&&◌, Bool, true, false, if◌then◌else◌, ℤ, List, ◌∷◌, ◌++◌, length, length-append, drop, take-append-drop, append_assoc, inl, inr, refl, sym, ap, subst, ◌∙◌, arith, slice_index, Option, Some, None, none, All, eq-eqb, replicate}
 use Rattle.segment_invariant.proofs.Prelude.Machine.{Spec, word_at, buckets_of, single_of, packed_bucket, units_packed, units_in}
 use Rattle.segment_invariant.proofs.Prelude.Invariant.{Anatomy, Record, Counts, Sample, Listed, histogram, counts, sample, words_of, form_at, HasRecord, HasCounts, HasSample, IsFirst, IsFirstOf, CountsNothing, IsLawfulRecord, IsCountsOf}
@@ -46,7 +46,7 @@ module _ (copies : ThreeCopies) (image : List ℕ) where
     abbrev place : ℕ
     place = counts_reference two three x
 
-    -- no counts reference is taken where none was loaded
+    -- no counts reference is taken if none was loaded
     either : (b : Bool) (second third : ℕ) → second ≡ 0 → third ≡ 0 → (if b then third else second) ≡ 0
     either true second third early late_one = late_one
     either false second third early late_one = early
@@ -54,7 +54,7 @@ module _ (copies : ThreeCopies) (image : List ℕ) where
     pub no_reference : word_at two (x + 8) ≡ 0 → word_at three (x + 8) ≡ 0 → place ≡ 0
     no_reference second third = either ((word_at two (x + 8) == 0) && is_frozen two x) (word_at two (x + 8)) (word_at three (x + 8)) second third
 
-    -- what holds of each word that changes, at whatever moment, if it holds of 0 and of the record then
+    -- what holds of each word that changes, at any moment, if it holds of 0 and of the record then
     abbrev Each : (ℕ → Type 0) → ℕ → Type 0
     Each P j = (m : ℕ) (q : Record) → HasRecord (kept_at run m).anatomy.pieces x q → q.spec ≡ r.spec → P (slice_index (words_of (histogram q)) j)
 

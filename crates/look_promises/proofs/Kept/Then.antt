@@ -1,5 +1,5 @@
--- What a look reads as has at least what had been counted at each moment before the second copy; and just that, where its units are no more than
--- its redundant count.
+-- What a look reads as has at least what had been counted at each moment before the second copy; and just that, if its units are no more
+-- than its redundant count.
 use Rattle.segment_invariant.proofs.Prelude.Std.{◌≡◌, ℕ, ◌+◌, ◌<◌, ◌≤◌, Bool, true, false, ◌&&◌, if◌then◌else◌, ℤ, List, ◌++◌, length, length-map, inl, inr, refl, sym, ap, subst, ◌∙◌, arith, sum_by, int_eq, All, Contains}
 use Rattle.segment_invariant.proofs.Prelude.Machine.{Spec, Entry, head_of, word_at, buckets_of, is_of, tally_units, tally_noted, all_counted, Histogram, Reading}
 use Rattle.segment_invariant.proofs.Prelude.Invariant.{Record, Listed, histogram, key_of_bucket, HasKey, HasSample, IsFirst, IsFirstOf, Invariant}
@@ -113,7 +113,7 @@ module _ (copies : ThreeCopies) (image : List ℕ) (look : IsLook (hd_of copies)
       | no nothing ↦ omega (arith, nothing)
     ]
 
-  -- ---- where the redundant count is as much
+  -- ---- if the redundant count is as much
 
   module _ (counts : All CountsFirst (at 0).actors) (reading : Reading) (is : IsReading image (head_of image) reading) (h : Histogram) (there : Contains reading.hists h)
       (opening : noted_at_opening opened h.name ≤ units_at_opening (at 0).actors h.name) where
@@ -202,7 +202,7 @@ module _ (copies : ThreeCopies) (image : List ℕ) (look : IsLook (hd_of copies)
         let most = in_all (λ (e : Entry). e.key) weight (λ (count : ℤ × ℕ). count.0) (λ (count : ℤ × ℕ). count.1) (length h.counts) entries h.counts (omega arith) below in
         omega (arith, noted, most)
 
-    -- and just what there was, where its units are no more than that
+    -- and just what there was, if its units are no more than that
     pub of_then : all_units_read h ≤ h.redundant → (key : ℤ) → units_read h key ≡ tally_units entries h.name key
     of_then few key =
         let noted = noted_counted.1 in

@@ -1,4 +1,4 @@
--- A look may be adopted, where the corrupt flag was not loaded.
+-- A look may be adopted unless the corrupt flag was loaded.
 use Rattle.segment_invariant.proofs.Prelude.Std.{◌≡◌, ℕ, List, refl, ap, ◌∙◌, arith, not, bit_and, ◌==◌}
 use Rattle.segment_invariant.proofs.Prelude.Machine.{head_of}
 use Rattle.segment_looks.specs.Looks.{IsLook}

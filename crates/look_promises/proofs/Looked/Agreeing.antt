@@ -33,7 +33,7 @@ pub agree_unless : (b : Bool) (ps : List Patch) (n v : ℕ) → Agree ps n v →
 agree_unless true ps n v agree = λ w is. is
 agree_unless false ps n v agree = agree
 
--- so do those of all records, where those of each do
+-- so do those of all records, if those of each do
 pub agree_all : (head : SegmentHead) (one two three : List ℕ) (n v : ℕ) (records : List ℕ)
     → ((j next : ℕ) → j < length records → Agree (link (slice_index records j) next ∷ record_patches head one two three (slice_index records j)) n v)
     → Agree (records_patches head one two three records) n v

@@ -55,7 +55,7 @@ module _ (copies : ThreeCopies) (image : List ℕ) (look : IsLook (hd_of copies)
   least : 16 ≤ hd.free
   least = free_least copies image look
 
-  -- its blocks behind the queue block, and all else word by word
+  -- its blocks after the queue block, and all else word by word
   pub pieces : List Piece
   pieces = (cut image shape.page hd.free starts body (are_blocks copies image look) 16 least (λ b there. inr (from b there))).0
 
@@ -140,7 +140,7 @@ module _ (copies : ThreeCopies) (image : List ℕ) (look : IsLook (hd_of copies)
       ∙ (λ i. cookie_word i ∷ version_word i ∷ size_word i ∷ page_word i ∷ id_word i ∷ state_word i ∷ flags_word i ∷ (free_is ∙ sym are_cut.ends) i ∷ word_at image 8
       ∷ word_at image 9 ∷ word_at image 10 ∷ word_at image 11 ∷ [])
 
-  -- behind the free pointer all is 0
+  -- from the free pointer on all is 0
   zeros_behind : drop hd.free image ≡ replicate (length image - hd.free) 0
   zeros_behind =
       ext_get_or 0 (drop hd.free image) (replicate (length image - hd.free) 0) (length-drop hd.free image ∙ sym (length-replicate (length image - hd.free) 0))
@@ -289,7 +289,7 @@ module _ (copies : ThreeCopies) (image : List ℕ) (look : IsLook (hd_of copies)
   counts_of x d none (plain words) stands passes is = absurd (cc is)
   counts_of x d none (held own) stands passes is = absurd (cc is)
 
-  -- the records that it follows are so many of the list
+  -- the records that it follows are a front of the list
   pub records_are : records ≡ take (length records) list
   records_are =
       let (n, short, enough, is, each) = followed copies in

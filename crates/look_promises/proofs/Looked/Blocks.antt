@@ -1,4 +1,4 @@
--- The blocks of a look: those of the last moment that it takes, where they stood; and that its words have them.
+-- The blocks of a look: those that it takes of the last moment, at their places; and that its words have them.
 use Rattle.segment_invariant.proofs.Prelude.Std.{◌≡◌, ◌≢◌, ℕ, suc, ◌+◌, ◌<◌, ◌≤◌, ◌==◌, ◌&&◌, ◌||◌, not, Bool, true, false, true≢false, List, ◌++◌, length, length-append, take, drop, inl, inr, refl, sym, ap, subst, ◌∙◌, arith, slice_index, none, some, get_elem?, some-injective, get_or-drop, Contains, at_from, at_map, below_length, contains_at, index_at, cases_order, and_from, and_parts, eq-eqb, eqb-true, eqb-false, dite, ℕ_discrete}
 use Rattle.segment_invariant.proofs.Prelude.Machine.{word_at, buckets_of}
 use Rattle.segment_invariant.proofs.Prelude.Invariant.{Body, Record, Counts, queue, plain, held, histogram, counts, sample, other, words_of, is_claimed, Piece, Stands, HasRecord, HasCounts}
@@ -57,7 +57,7 @@ module _ (copies : ThreeCopies) (image : List ℕ) where
   abbrev pub is_followed : ℕ → Bool
   is_followed x = list_any (λ other. other == x) records
 
-  -- whether a block stood there at the first moment of which nothing changes but its next
+  -- whether there was a block at the first moment of which nothing changes except its next
   abbrev pub was_still : ℕ → Bool
   was_still x = list_any (λ (p : Piece). (p.at == x) && (is_nobodys p.owner && is_still p.body)) early.anatomy.pieces
 
@@ -113,7 +113,7 @@ module _ (copies : ThreeCopies) (image : List ℕ) where
   unfollowed : (x : ℕ) → is_followed x ≡ false → ¬ (Contains records x)
   unfollowed x fails there = true≢false (sym (test_there records x there) ∙ fails)
 
-  -- a block that stood still
+  -- a block that was still
   pub record WasStill (x : ℕ) : Type 0 where
     pub size : ℕ
     pub tag : ℕ
@@ -146,7 +146,7 @@ module _ (copies : ThreeCopies) (image : List ℕ) where
       list_any-from_Any (λ (p : Piece). (p.at == x) && (is_nobodys p.owner && is_still p.body)) early.anatomy.pieces
       (j, p, below, is, and_from (x == x) true (eq-eqb x x refl) refl)
 
-  -- the record of a counts block, where a look takes a reference of it
+  -- the record of a counts block, if a look takes a reference of it
   pub record HasOwner (x : ℕ) (c : Counts) : Type 0 where
     pub r : Record
     pub has : HasRecord late.anatomy.pieces c.of r
@@ -170,7 +170,7 @@ module _ (copies : ThreeCopies) (image : List ℕ) where
   -- ---- and the words have them
 
   module _ (look : IsLook hd one two three image) where
-    -- a block that is taken stands below the free pointer, and the look has its words
+    -- a block that is taken is below the free pointer, and the look has its words
     pub record IsPlaced (x : ℕ) (body : Body) : Type 0 where
       pub from : 16 ≤ x
       pub claimed : is_claimed body ≡ true
@@ -244,7 +244,7 @@ module _ (copies : ThreeCopies) (image : List ℕ) where
               (subst (λ (many : ℕ). HasWords image r.counts (counts (looked_counts one two c.of r.counts many c))) kinds shown_here);
         }
 
-    -- ---- what stays but for its next
+    -- ---- what stays except for its next
 
     still_placed : (x size tag next : ℕ) (payload : List ℕ) → Stands late.anatomy.pieces x none (other size tag next payload) → ¬ (Contains records x) → WasStill x
         → IsPlaced x (other size tag next payload)

@@ -1,4 +1,4 @@
--- The numbers of a look are such as a segment can reach, where its records are kept.
+-- The numbers of a look are ones that a segment can reach, if its records are kept.
 use Rattle.segment_invariant.proofs.Prelude.Std.{◌≡◌, ◌≢◌, ℕ, ◌+◌, ◌<◌, ◌==◌, Bool, true, false, List, length, inl, inr, refl, sym, ap, subst, ◌∙◌, arith, if◌then◌else◌, none, Contains, eqb-false, w64, cast_signed}
 use Rattle.segment_invariant.proofs.Prelude.Machine.{word_at, field_at, buckets_of, mark_of}
 use Rattle.segment_invariant.proofs.Prelude.Invariant.{Record, Counts, Sample, form_at, HasRecord, HasCounts}

@@ -39,7 +39,7 @@ module _ (chosen : Piece → Bool) where
           let rest_has = later is in
           record { k = suc rest_has.k; there = rest_has.there; place = rest_has.place; passes = rest_has.passes }
 
-  -- one that is chosen is found, where no other begins there
+  -- one that is chosen is found, if no other begins there
   pub chosen_there : (pieces : List Piece) (k : ℕ) (p : Piece) → get_elem? pieces k ≡ some p → chosen p ≡ true
       → ((j : ℕ) (q : Piece) → get_elem? pieces j ≡ some q → q.at ≡ p.at → q ≡ p) → chosen_at pieces p.at ≡ some p
   chosen_there [] k p there passes alone = absurd (some-ne-none p (sym there))

@@ -65,7 +65,7 @@ module _ (copies : ThreeCopies) (image : List ℕ) (look : IsLook (hd_of copies)
   key_here name key (kind, x, its, inl bucketed) = (kind, x, first_here name kind x its, inl bucketed)
   key_here name key (kind, x, its, inr (sparse, place, valued)) = (kind, x, first_here name kind x its, inr (sparse, place, value_here x key place valued))
 
-  -- ---- where its records are kept
+  -- ---- if its records are kept
 
   module _ (kept : RecordsAreKept shape.page of_look) where
     abbrev pub laid : AreLaid shape opened image

@@ -1,5 +1,5 @@
--- The list of a look: its nexts lead along the records that it follows. These begin with those of the opening, and each stands as what was
--- given to its maker.
+-- The list of a look: its nexts lead along the records that it follows. These begin with those of the opening, and each is there as what
+-- was given to its maker.
 use Rattle.segment_invariant.proofs.Prelude.Std.{◌≡◌, ◌≢◌, ℕ, zero, suc, ◌+◌, ◌-◌, ◌<◌, ◌≤◌, ◌&&◌, ◌||◌, Bool, true, true≢false, List, [], ◌∷◌, ◌++◌, take, drop, take-append-drop, length, length-append, length-map, refl, sym, ap, subst, ◌∙◌, arith, slice_index, Some, None, none, some, get_elem?, Contains, Contains-append_left, All, all_at, at_from, at_map, below_length, index_at, contains_at}
 use Rattle.segment_invariant.proofs.Prelude.Machine.{word_at, IsLinked, stops, IsStop}
 use Rattle.segment_invariant.proofs.Prelude.Invariant.{order_of, Body, Record, Sample, queue, plain, held, histogram, counts, sample, other, Listed, Stands, StandsAs}
@@ -27,7 +27,7 @@ use Rattle.look_promises.proofs.Looked.Taken.{record_looked, sample_looked}
 use Rattle.look_promises.proofs.Looked.Blocks.{is_nobodys, was_still, takes, taken, test_followed}
 use Rattle.look_promises.proofs.Looked.Anatomy.{seen_of, is_of, there_as}
 
--- what comes behind so many records, or the queue block
+-- the record after `n` records, or the queue block
 start_behind : (l : List ℕ) (n : ℕ) → n ≤ length l → list_start (drop n l) ≡ slice_index (l ++ 12 ∷ []) n
 start_behind [] zero le = refl
 start_behind [] (suc n) le = absurd (omega (arith, le))

@@ -20,7 +20,7 @@ use Rattle.look_promises.proofs.Looked.Still.{still_stands}
 use Rattle.look_promises.proofs.Looked.Blocks.{is_followed, was_still, test_still}
 use Rattle.look_promises.proofs.Looked.Anatomy.{seen_of, there_as}
 
--- a word that never changes of a histogram's record is the same whatever has changed of it, where its counts reference is
+-- a fixed word of a histogram's record is the same whatever else has changed, and so is its counts reference if that has not changed
 fixed_record : (r q : Record) (i : ℕ) → (i < 3) ⊎ ((4 ≤ i) × (i < 8)) ⊎ (14 ≤ i) ⊎ ((i ≡ 8) × (q.counts ≡ r.counts))
     → slice_index (words_of (histogram (record r { next = q.next; counts = q.counts; single = q.single; mark = q.mark; sum = q.sum; sum_mark = q.sum_mark; noted = q.noted }))) i
     ≡ slice_index (words_of (histogram r)) i

@@ -1,4 +1,4 @@
--- What a look reads as, where its records are kept and its numbers are in bounds.
+-- What a look reads as, if its records are kept and its numbers are in bounds.
 use Rattle.segment_invariant.proofs.Prelude.Std.{◌≡◌, ◌≢◌, ℕ, ◌<◌, ◌≤◌, ℤ, List, inl, inr, refl, sym, ap, subst, arith, Ok, Contains}
 use Rattle.segment_invariant.proofs.Prelude.Machine.{Dimensions, head_of, Spec, buckets_of, total_of, mark_of, Histogram, Reading}
 use Rattle.segment_invariant.proofs.Prelude.Invariant.{Anatomy, layout_of, key_of_bucket, HasKey, IsFirst, IsFirstOf, Invariant}

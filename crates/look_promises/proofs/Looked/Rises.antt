@@ -1,4 +1,4 @@
--- What a look reads as has no more than what had been counted at a moment behind its second copy; so a later look has no fewer units.
+-- What a look reads as has no more than what had been counted at a moment after its second copy; so a later look has no fewer units.
 use Rattle.segment_invariant.proofs.Prelude.Std.{◌≡◌, ℕ, ◌+◌, ◌<◌, ◌≤◌, ℤ, List, length, inl, inr, refl, sym, ap, subst, ◌∙◌, arith, slice_index, at_from, below_length, index_at}
 use Rattle.segment_invariant.proofs.Prelude.Machine.{word_at, Spec, buckets_of, all_counted, tally_units}
 use Rattle.segment_invariant.proofs.Prelude.Invariant.{Record, Sample, sample, key_of_bucket, HasKey, HasRecord, HasSample, IsFirst, IsFirstOf, Invariant}
@@ -28,7 +28,7 @@ use Rattle.look_promises.proofs.Looked.Counting.{first_late, of_bucket, of_sampl
 use Rattle.look_promises.proofs.Looked.Adopted.{its_records, words_kept}
 use Rattle.look_promises.proofs.Kept.Then.{first_here, counted_least}
 
--- ---- a look, and a moment behind its second copy
+-- ---- a look, and a moment after its second copy
 
 module _ (copies : ThreeCopies) (image : List ℕ) (look : IsLook (hd_of copies) copies.one copies.two copies.three image)
     (m : ℕ) (le : m ≤ copies.last) (behind : (i : ℕ) → i < copies.shape.size → copies.moments.two i ≤ m) where

@@ -1,5 +1,5 @@
--- The blocks of the first moment of which nothing changes but their nexts, and which are not on the list: a look has them as they were.
--- Where one is the counts block of a record that is passed over, the patches of that record have the same words.
+-- The blocks of the first moment of which nothing changes but their nexts, and which are not on the list: a look has them unchanged.
+-- If one is the counts block of a record that is passed over, the patches of that record have the same words.
 use Rattle.segment_invariant.proofs.Prelude.Std.{◌≡◌, ◌≢◌, ◌⊎◌, ℕ, ◌+◌, ◌-◌, ◌<◌, ◌≤◌, ◌==◌, ◌&&◌, Bool, true, false, List, [], ◌∷◌, ◌++◌, length, length-append, replicate, inl, inr, refl, sym, ap, subst, ◌∙◌, arith, slice_index, if◌then◌else◌, nat_le, eq-eqb, eqb-true, None, none, dite, ℕ_discrete, Contains, All, at_from, below_length, index_at}
 use Rattle.segment_invariant.proofs.Prelude.Machine.{word_at, is_off, buckets_of}
 use Rattle.segment_invariant.proofs.Prelude.Invariant.{Body, Record, Counts, histogram, counts, other, words_of, record_words, Listed, Stands}
@@ -40,14 +40,14 @@ not_next i ne = elim (dec_lt i 3) [ yes low ↦ inl low | no high ↦ inr (omega
 module _ (run : Run) where
   open run use {shape, at}
 
-  -- such a block stands at each later moment
+  -- such a block is there at each later moment
   pub still_stands : (m n x size tag next : ℕ) (payload : List ℕ) → m ≤ n → Stands (kept_at run m).anatomy.pieces x none (other size tag next payload)
       → (later : ℕ) × Stands (kept_at run n).anatomy.pieces x none (other size tag later payload)
   still_stands m n x size tag next payload le stands =
       let (body, now, (later, is)) = (rises_at run m n le).goes x (other size tag next payload) refl stands in
       (later, subst (Stands (kept_at run n).anatomy.pieces x none) is now)
 
-  -- with the same words, but for its next
+  -- with the same words, except for its next
   pub still_at : (m n x i size tag next : ℕ) (payload : List ℕ) → m ≤ n → Stands (kept_at run m).anatomy.pieces x none (other size tag next payload)
       → i ≢ 3 → i < length (words_of (other size tag next payload))
       → (x + i < shape.size) × (word_at (at n).words (x + i) ≡ slice_index (words_of (other size tag next payload)) i)
@@ -117,7 +117,7 @@ module _ (copies : ThreeCopies) (image : List ℕ) where
           loaded.copy_three.each (x + i) spot
           ∙ (still_at run first (moments.three (x + i)) x i size tag next payload (omega (arith, from, on, over)) stood ne inside).1
 
-      -- ---- beside a record that is followed
+      -- ---- apart from a record that is followed
 
       module _ (j : ℕ) (g : Gives hd two list j) where
         abbrev y : ℕ
@@ -142,7 +142,7 @@ module _ (copies : ThreeCopies) (image : List ℕ) where
             let place = (one_block copies y x m i its.0 (other size tag later payload) its.1 stands within (omega (arith, inside)) same).0 in
             beside (subst (Contains list) place (Contains-get_or list j 0 g.within))
 
-        -- where it takes no counts there, none of its patches has the word
+        -- if it takes no counts there, none of its patches has the word
         all_apart : (word_at three (y + 2) ≡ 1 → named ≢ x) → IsApart hd one two three (x + i) y
         all_apart differs = (
           _,

@@ -1,5 +1,5 @@
--- What the anatomy of a look has: the records that it follows, and the counts that it takes of them, each as it is at the last moment but for what
--- of it changes, which comes from the copies.
+-- What the anatomy of a look has: the records that it follows, and the counts that it takes of them, each as it is at the last moment
+-- except for what of it changes, which comes from the copies.
 use Rattle.segment_invariant.proofs.Prelude.Std.{◌≡◌, ◌≢◌, ℕ, ◌+◌, List, take, length, Contains}
 use Rattle.segment_invariant.proofs.Prelude.Machine.{word_at, buckets_of}
 use Rattle.segment_invariant.proofs.Prelude.Invariant.{Anatomy, order_of, Record, Counts, Sample, HasRecord, HasCounts, HasSample}

@@ -47,14 +47,14 @@ module _ (run : Run) (last k : ℕ) (below : k < length (chain_at run last))
   abbrev h : ℕ
   h = slice_index (chain_at run last) k
 
-  -- what its name has cost at a moment, in what sums have grown by
+  -- what the sums of its name have cost at a moment
   abbrev pub costs : ℕ → ℕ
   costs t = summed_costs r.name (at t).actors
 
   pub costs_rise : (s t : ℕ) → s ≤ t → costs s ≤ costs t
   costs_rise s t le = (states_rise shape opened (at s) (at t) (kept_at run s) (reached run s t le)).2.costs r.name
 
-  -- a sum, or its mark, is no more than that; i is its word
+  -- a sum, or its mark, is at most 2^31 times that in size; i is its word
   abbrev IsNear : ℕ → ℕ → Type 0
   IsNear t i = unsigned_abs (cast_signed w64 (word_at (at t).words (h + i))) ≤ 2147483648 * costs t
 
@@ -122,7 +122,8 @@ module _ (copies : ThreeCopies) (image : List ℕ) (look : IsLook (hd_of copies)
   costs_most : (name : List ℕ) → summed_costs name (at last).actors ≤ spent_on name
   costs_most name = sum_by-le-sum_by (summed_cost name) (λ a. cost_of a.units.costs name + cost_of a.units.held name) (at last).actors (summed_most name)
 
-  -- of a record on the list, what a look takes of its sums stands for no more than what was spent on its name, and so does its redundant count
+  -- the sums that a look takes of a record on the list cost no more than was spent on its name, and its redundant count is no more than
+  -- that
   module _ (k : ℕ) (below : k < length list) (r : Record) (has : HasRecord late.anatomy.pieces (slice_index list k) r) where
     abbrev x : ℕ
     x = slice_index list k

@@ -110,7 +110,7 @@ module _ (shape : Dimensions) (opened : Anatomy) (start state : State) (kept : I
       ∙ (get_or-set_other (memory links.old) (links.tail + 3) (x + i) _ 0 (not_tail i lt)
       ∙ get_or_append_left links.old.words links.old.cursors 0 (x + i) below))
 
-  -- ---- the state behind it, and later
+  -- ---- the state after it, and later
 
   on_list : Contains (order_of kept_new.anatomy) x
   unfolding reached_new
@@ -246,7 +246,7 @@ module _ (shape : Dimensions) (opened : Anatomy) (start : State) (kept : Invaria
       (all_from (OfHand (Stores x p v some_word)) start.actors stores) state links in
       All-contains (HasStored x p v some_word) links.step.at.hand.own links.step.ready.0 hand.1 links.step.ready.3.0 links.step.ready.4
 
-  -- and who does a step later has it so in hand at its event
+  -- and an actor that does a step later has it so in hand at its event
   pub hand_at : (old new : State) (id : ℕ) (event : Event) → IsReached opened.version start old → (step : IsStep opened.version old id event new)
       → OfHand (Stores x p v some_word) step.at
   hand_at old new id event before step =

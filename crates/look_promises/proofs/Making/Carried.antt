@@ -1,4 +1,5 @@
--- What holds of each actor's hand while the words at one place are not taken anew: an event keeps it, notes keep it, and who joins has it.
+-- What holds of each actor's hand while the words at one place are not taken again: an event keeps it, notes keep it, and an opener that
+-- joins a recorder has it.
 use Rattle.segment_invariant.proofs.Prelude.Std.{◌≡◌, ℕ, ◌<◌, List, [], ◌∷◌, ◌++◌, length, sym, ap, subst, ◌∙◌, arith, get_or_append_left, All, All-push, all_at}
 use Rattle.segment_invariant.proofs.Prelude.Machine.{Actor, Own, Place, offered_of, Event, Ready, next, publishing_event, link, Note, Notes, noted, purse, State, Dimensions, word_at}
 use Rattle.segment_invariant.proofs.Prelude.Invariant.{Anatomy, layout_of, Invariant, found_at}
@@ -13,7 +14,7 @@ use Rattle.look_promises.proofs.Moments.Runs.{free_rises}
 use Rattle.look_promises.proofs.Making.Hands.{Takes}
 use Rattle.look_promises.proofs.Making.Linking.{LinksAt}
 
--- what is said of a place and of blocks, of an actor's
+-- what holds of a place and of blocks, for those of an actor
 abbrev pub OfHand : (Place → List Own → Type 0) → Actor → Type 0
 OfHand P a = P a.hand.place a.hand.own
 
@@ -47,7 +48,7 @@ module _ (x : ℕ) (P : Place → List Own → Type 0) (carried : IsCarried x P)
         ∙ get_or_append_left old.words old.cursors 0 7 (omega (arith, long, wide, one)) in
         omega (arith, below, higher, found, is)
 
-    -- who does a step has such a hand at its event, and behind it
+    -- an actor that does a step has such a hand at its event, and after it
     pub at_event : (old new : State) (id : ℕ) (event : Event) (step : IsStep opened.version old id event new) → OfHand P step.actor → OfHand P step.at
     at_event old new id event step has = notes_on step.before step.actor step.at step.notes_before has
 
@@ -104,7 +105,7 @@ module _ (x : ℕ) (P : Place → List Own → Type 0) (carried : IsCarried x P)
         (carried.both a.hand.place b.hand.place a.hand.own b.hand.own (all_at (OfHand P) old.actors id a all there) (all_at (OfHand P) old.actors other b all beside))
         all))
 
-    -- and of who links a record
+    -- and of an actor that links a record
     pub linker_has : (state : State) (links : LinksAt opened.version start x state) → OfHand P links.step.at
     linker_has state links = at_event links.old links.new links.id (publishing_event (link links.tail x)) links.step
         (all_at (OfHand P) links.old.actors links.id links.step.actor (all_carried links.old links.before) links.step.there)

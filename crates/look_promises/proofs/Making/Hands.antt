@@ -1,5 +1,5 @@
--- Blocks in the making: who links a record has had it in hand since its words were claimed. So what nobody has in hand, and what was
--- claimed before, is linked by nobody.
+-- Blocks in the making: an actor that links a record has had it in hand since its words were claimed. So what nobody has in hand, and what
+-- was claimed before, is linked by nobody.
 use Rattle.segment_invariant.proofs.Prelude.Std.{◌≡◌, ◌⊎◌, ℕ, ◌==◌, ◌&&◌, not, Bool, true, false, cond, List, [], ◌∷◌, map, filter, inl, inr, ⊎_elim, refl, sym, ap, subst, ◌∙◌, if◌then◌else◌, bit_and, nat_lt, eqb-true, one_in, map-append, Contains, Contains-append_cases, Contains-append_left, Contains-append_right}
 use Rattle.segment_invariant.proofs.Prelude.Machine.{Actor, Own, Place, back, Event, Ready, next, spot, allocating_event, publishing_event, walking_event, counting_event, taking_event, packing_event, load_flags, load_free, exchange_free, store_size, store_cookie, store_type, store_payload, set_corrupt, set_full, store_own_next, load_tail, link, move_tail, after_link, load_next, load_published, load_counts, add_count, add_sum, load_count, raise_mark, load_sum, swap_sum_mark, load_redundant, raise_single_mark, load_single, pack, mount_counts, purge_block, disable, add_moved, after_pack, after_mount, after_disable, Note, noted, begins}
 use Rattle.segment_machine.specs.declared.place.Place.TheVariants as place
@@ -88,18 +88,18 @@ abbrev pub Takes : Event → ℕ → ℕ → Type 0
 Takes event found x = (found ≡ x) × ((size : ℕ) → spot size event ≡ 7)
 
 module _ (a : Actor) (x : ℕ) where
-  -- Behind an event it stands at a block of which it stores the header, or has one in hand, where it did so before. Or it has just taken the
-  -- words; or just completed the header.
+  -- If the actor stores the header of this block after an event, or has it in hand, it did so before. Or it has just taken the words, or
+  -- just completed the header.
   abbrev pub Had : Event → ℕ → Actor → Type 0
   Had event found b =
       (handled b.hand.place x → handled a.hand.place x ⊎ Takes event found x)
       × (Contains (places b.hand.own) x → Contains (places a.hand.own) x ⊎ handled a.hand.place x)
 
-  -- where its place takes up no block, and its blocks are where they were
+  -- if its place takes up no block, and its blocks are where they were
   rests : (event : Event) (found : ℕ) (b : Actor) → (handled b.hand.place x → handled a.hand.place x) → places b.hand.own ≡ places a.hand.own → Had event found b
   rests event found b place own = (λ here. inl (place here), λ has. inl (subst (λ (list : List ℕ). Contains list x) own has))
 
-  -- where it stood at a block of which it stores the header
+  -- if it was at a block of which it stores the header
   stood : (p : Place) → a.hand.place ≡ p → handled p x → handled a.hand.place x
   stood p is = subst (λ (q : Place). handled q x) (sym is)
 
@@ -205,7 +205,7 @@ module _ (a : Actor) (x : ℕ) where
   had_parts (cursor_event (move_cursor cursor old new)) found ready = gave (found == old) (cursor_event (move_cursor cursor old new)) cursor new found
 
 module _ (a : Actor) (x : ℕ) (event : Event) (found : ℕ) (ready : Ready a event) where
-  -- so what it has in hand behind an event it had before
+  -- so what it has in hand after an event it had before
   pub had : Handles (next a event found) x → Handles a x ⊎ Takes event found x
   had (inl here) = ⊎_elim (λ before. inl (inl before)) (λ takes. inr takes) ((had_parts a x event found ready).0 here)
   had (inr has) = ⊎_elim (λ before. inl (inr before)) (λ stands. inl (inl stands)) ((had_parts a x event found ready).1 has)
@@ -227,7 +227,7 @@ note_leaves a (answers answered) = (refl, refl)
 note_leaves a ends = (refl, refl)
 note_leaves a (refused added) = (refl, refl)
 
--- so who has it in hand behind a note had it before
+-- so an actor that has it in hand after a note had it before
 pub noted_had : (a : Actor) (note : Note) (x : ℕ) → Handles (noted a note) x → Handles a x
 noted_had a note x =
     let same = note_leaves a note in

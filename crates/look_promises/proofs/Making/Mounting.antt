@@ -75,7 +75,7 @@ module _ (shape : Dimensions) (opened : Anatomy) (state : State) (kept : Invaria
         (one_record shape opened state kept other.reference q p (subst (λ (n : ℕ). HasRecord kept.anatomy.pieces n q) same there) stands) in
         omega (arith, many, count, is)
 
-  -- who stands at a place that is not that of a purse
+  -- the actor is at a place that is right for it
   stands_at : (p : Place) → a.hand.place ≡ p → StandsRight shape kept.anatomy id a p
   stands_at p is = subst (StandsRight shape kept.anatomy id a) is (kept.standing id a mine)
 
@@ -90,7 +90,7 @@ module _ (shape : Dimensions) (opened : Anatomy) (state : State) (kept : Invaria
       let all = length-append own.payload (replicate {A = ℕ} (own.size - 4 - length own.payload) 0) in
       not_owned own.at id i (held own) holds.stands (omega (arith, below, room, zeros, all))
 
-  -- who has a block of its own is no purse
+  -- an actor that has a block of its own is no purse
   fills_lives : (own : Own) → Contains a.hand.own own → a.hand.place ≢ Spent
   fills_lives own among spent =
       let is : a ≡ purse a.units.share = stands_at Spent spent in

@@ -15,7 +15,7 @@ use Rattle.segment_machine.specs.Note.{goes_on, amounts, asks, knows, takes, has
 use Rattle.look_promises.proofs.Making.Hands.{handled, Takes, back_free, counted_free, behind_free, either_free, had_parts}
 use Rattle.look_promises.proofs.Making.Carried.{OfHand, IsCarried}
 
--- what holds of blocks of its own holds of them where one is changed that keeps it
+-- what holds of blocks of its own still holds if one is changed and keeps it
 change_keeps : (P : Own → Type 0) (at : ℕ) (change : Own → Own) → ((own : Own) → P own → P (change own)) → (own : List Own) → All P own → All P (change_own at change own)
 change_keeps P at change stays [] all = all
 change_keeps P at change stays (y ∷ rest) all = by (y.at == at) (change_keeps P at change stays rest (All-tail P y rest all))
@@ -103,15 +103,15 @@ module _ (a : Actor) (x : ℕ) where
 
 -- A word of a block at a place, which is not 0.
 module _ (x p v : ℕ) (some_word : v ≢ 0) where
-  -- if a block is there, its payload has this word, or it has no room for so many words
+  -- if a block is there, its payload has this word, or the block is too short for it
   abbrev pub HasStored : Own → Type 0
   HasStored own = own.at ≡ x → (own.size ≤ 4 + p) ⊎ (slice_index own.payload p ≡ v)
 
-  -- so it is of each block there; and one whose header is being stored has no room either
+  -- this holds of each block there; and a block whose header is being stored has no room either
   abbrev pub Stores : Place → List Own → Type 0
   Stores here own = (handled here x → size_at here ≤ 4 + p) × All HasStored own
 
-  -- more words behind it leave it
+  -- more words after it leave it unchanged
   stored_stays : (index value : ℕ) (own : Own) → HasStored own → HasStored (record own { payload = stored own.payload index value })
   stored_stays index value own has here = ⊎_elim (λ short. inl short) stays (has here)
     where

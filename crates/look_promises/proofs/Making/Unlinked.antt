@@ -18,7 +18,7 @@ use Rattle.look_promises.proofs.Making.Linking.{linking}
 abbrev pub Lacks : ℕ → Place → List Own → Type 0
 Lacks x p own = InHand x p (places own) → ⊥
 
--- who has none in hand gets none, unless the words are taken
+-- an actor that has none in hand gets none, unless the words are taken
 lacks_carried : (x : ℕ) → IsCarried x (Lacks x)
 lacks_carried x = record {
   event_on = λ a event found ready free lacks has. ⊎_elim lacks free (had a x event found ready has);
@@ -34,7 +34,7 @@ lacks_carried x = record {
       has;
 }
 
--- who links a block has it in hand
+-- an actor that links a block has it in hand
 linker : (x : ℕ) (a : Actor) (tail : ℕ) → Ready a (publishing_event (link tail x)) → Handles a x
 linker x a tail ready = inr (subst (Contains (places a.hand.own)) ready.4 (contains_map (λ (own : Own). own.at) a.hand.own ready.0 ready.3.0))
 

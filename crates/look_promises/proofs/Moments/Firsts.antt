@@ -1,4 +1,4 @@
--- What is the first record of its name, or sample of its value, at the last moment, and stood on the list earlier, was the first then.
+-- The first record of a name, or sample of a value, at the last moment was the first at an earlier one too, if it was on the list then.
 use Rattle.segment_invariant.proofs.Prelude.Std.{◌≡◌, ℕ, ◌+◌, ◌-◌, ◌≤◌, ℤ, List, ◌++◌, take, length, refl, sym, ap, subst, ◌∙◌, arith, none, first_longer}
 use Rattle.segment_invariant.proofs.Prelude.Machine.{Spec}
 use Rattle.segment_invariant.proofs.Prelude.Invariant.{Record, Sample, Listed, histogram, sample, HasRecord, HasSample, IsFirst, IsFirstOf}
@@ -11,7 +11,7 @@ use Rattle.segment_invariant.proofs.Counting.AddSample.{one_sample}
 use Rattle.segment_invariant.proofs.Frames.LaidOut.{laid_out}
 use Rattle.look_promises.proofs.Moments.Runs.{Run, kept_at, rises_at}
 
--- what is the first of its name on a list is so on each that goes on from it
+-- the first of a name on a list is the first on each longer one
 pub first_on : (front all more : List Listed) → all ≡ front ++ more → (name : List ℕ) (kind : Spec) (x : ℕ) → IsFirst front name kind x → IsFirst all name kind x
 first_on front all more longer name kind x its =
     subst (λ (records : List Listed). IsFirst records name kind x) (sym longer) (first_longer (IsRecordNamed name) front more _ its)

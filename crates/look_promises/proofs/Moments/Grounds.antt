@@ -118,13 +118,13 @@ module _ (run : Run) (last : ℕ) where
 
   -- ---- the histogram that a record of that type has
 
-  -- whose block of counts stands at a place
+  -- whose block of counts is at a place
   abbrev pub IsOwned : ℕ → ℕ → Body → Type 0
   IsOwned x place (counts c) = c.of ≡ x
   IsOwned x place (other size tag next payload) = (r : Record) × HasPassedOver opened x r × (r.counts ≡ place)
   IsOwned x place _ = ⊥
 
-  -- a block with so many counts and marks, which a record names
+  -- a block with `n` counts and `n` marks, which a record names
   abbrev pub HasCountsBlock : ℕ → ℕ → ℕ → Type 0
   HasCountsBlock x place n =
       (block : Body) × Stands late.anatomy.pieces place none block × (4 + (n + n) ≤ length (words_of block)) × IsOwned x place block

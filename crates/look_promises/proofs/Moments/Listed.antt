@@ -1,4 +1,4 @@
--- The records on the list at a moment: where each stands, and what it was at an earlier one.
+-- The records on the list at a moment: where each is, and what it was at an earlier one.
 use Rattle.segment_invariant.proofs.Prelude.Std.{◌≡◌, ℕ, ◌+◌, ◌<◌, ◌≤◌, List, length, sym, ap, ◌∙◌, subst, arith, slice_index, length-append, length-map, get_or_append_left, Some, None, none, Contains, at_map, at_from, below_length, contains_map, index_at, all_at}
 use Rattle.segment_invariant.proofs.Prelude.Machine.{Dimensions, State, word_at, Made}
 use Rattle.segment_invariant.proofs.Prelude.Invariant.{Body, Record, Sample, words_of, Listed, Anatomy, order_of, Piece, Stands, StandsAs, HasRecord, HasSample, Invariant, histogram, sample, other}
@@ -11,7 +11,7 @@ use Rattle.segment_promises.specs.Lists.{links_of}
 use Rattle.look_promises.proofs.Moments.Runs.{Run, kept_at, rises_at, chain_at, chain_on, reached}
 use Rattle.look_promises.proofs.Moments.Unchanged.{IsOfList, IsUnchanging, list_claimed, list_long, goes_unchanged, unchanging_from}
 
--- a listed record stands as a block of the list
+-- a listed record is a block of the list
 list_stands : (pieces : List Piece) (l : Listed) (given : std.Option Made) → StandsAs pieces l given
     → (body : Body) × Stands pieces l.reference none body × IsOfList body
 list_stands pieces l (Some (made.Histogram name spec)) s = (histogram s.0, s.1, tt)
@@ -55,7 +55,7 @@ module _ (run : Run) where
       let free = free_within shape (at n).words kept.anatomy kept.shown in
       omega (arith, ends, free)
 
-  -- a word of a block that stands at a moment
+  -- a word of a block that is there at a moment
   pub block_word : (n r i : ℕ) (body : Body) → Stands (kept_at run n).anatomy.pieces r none body → i < length (words_of body)
       → word_at (at n).words (r + i) ≡ slice_index (words_of body) i
   block_word n r i body (k, there) below =
@@ -76,7 +76,7 @@ module _ (run : Run) where
       → (k : ℕ) × (k < length (chain_at run n)) × (slice_index (chain_at run n) k ≡ reference)
   sample_place n reference s has = place_among n _ ((kept_at run n).list.alone reference (sample s) has)
 
-  -- what a block of the list was at an earlier moment, where it was on the list
+  -- what a block of the list was at an earlier moment, if it was on the list
   pub record BlockWas (m n k : ℕ) (body : Body) : Type 0 where
     pub of : Body
     pub stands : Stands (kept_at run m).anatomy.pieces (slice_index (chain_at run n) k) none of

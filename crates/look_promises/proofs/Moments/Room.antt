@@ -10,7 +10,7 @@ use Rattle.look_promises.proofs.Moments.Unchanged.{IsOfList}
 use Rattle.look_promises.proofs.Moments.Listed.{block_was, block_word}
 use Rattle.look_promises.proofs.Moments.Grounds.{counts_long}
 
--- what goes on as a record is one
+-- what continues as a record is one
 pub goes_record : (version : ℕ) (before : Body) (r : Record) → IsOfList before → GoesAs version before (histogram r)
     → (q : Record) × (before ≡ histogram q) × RecordGoes version q r
 goes_record version (histogram q) r list (s, is, goes) = let same : s ≡ r = cc is in (q, refl, subst (RecordGoes version q) same goes)
@@ -21,7 +21,7 @@ goes_record version (plain words) r list goes = absurd list
 goes_record version (held block) r list goes = absurd list
 goes_record version (counts c) r list goes = absurd list
 
--- and what goes on as a sample
+-- and what continues as a sample
 pub goes_sample : (version : ℕ) (before : Body) (s : Sample) → IsOfList before → GoesAs version before (sample s)
     → (t : Sample) × (before ≡ sample t) × SampleGoes t s
 goes_sample version (sample t) s list (u, is, goes) = let same : u ≡ s = sym (cc is) in (t, refl, subst (SampleGoes t) same goes)
@@ -45,7 +45,7 @@ module _ (run : Run) where
       let more = free_on run t m le in
       omega (arith, ends, free, more)
 
-  -- a claimed block lies behind the header
+  -- a claimed block is after the header
   pub claimed_from : (t place : ℕ) (body : Body) → is_claimed body ≡ true → Stands (kept_at run t).anatomy.pieces place none body → 16 ≤ place
   claimed_from t place body claimed (k, there) =
       let kept = kept_at run t in
@@ -60,7 +60,7 @@ module _ (run : Run) where
             absurd (omega (arith, five, four, same))
       ]
 
-  -- a record at an earlier moment, where it is on the list
+  -- a record at an earlier moment, if it is on the list
   module _ (t last k : ℕ) (le : t ≤ last) (r : Record)
       (has : HasRecord (kept_at run last).anatomy.pieces (slice_index (chain_at run last) k) r)
       (there : k < length (chain_at run t)) where
@@ -95,7 +95,7 @@ module _ (run : Run) where
         let long = counts_long run t kept.anatomy.version x q c it in
         (record_was.goes.counts ne, claimed_from t q.counts (counts c) refl stands, omega (arith, below, kinds, long))
 
-  -- so it is of a sample
+  -- the same of a sample
   module _ (t last k : ℕ) (le : t ≤ last) (s : Sample)
       (has : HasSample (kept_at run last).anatomy.pieces (slice_index (chain_at run last) k) s)
       (there : k < length (chain_at run t)) where

@@ -51,7 +51,7 @@ pub record Run : Type 0 where
   pub runs : RunsThrough shape opened at
   pub open runs use *
 
--- that which a law is given
+-- the run that a law is given
 abbrev pub run_of : (shape : Dimensions) (opened : Anatomy) (at : ℕ → State) → RunsThrough shape opened at → Run
 run_of shape opened at runs = record { shape = shape; opened = opened; at = at; runs = runs }
 
@@ -75,7 +75,7 @@ module _ (run : Run) where
   kept_at zero = run.kept
   kept_at (suc n) = (states_rise shape opened (at n) (at (suc n)) (kept_at n) (step n)).0
 
-  -- and what is published in one goes on in the next
+  -- and what is published in one continues in the next
   next_rises : (n : ℕ) → Rises (kept_at n).anatomy (kept_at (suc n)).anatomy
   unfolding kept_at
   next_rises n = (states_rise shape opened (at n) (at (suc n)) (kept_at n) (step n)).1

@@ -49,7 +49,7 @@ record_but r q (suc (suc (suc (suc (suc (suc (suc (suc (suc (suc (suc (suc zero)
 record_but r q (suc (suc (suc (suc (suc (suc (suc (suc (suc (suc (suc (suc (suc zero))))))))))))) is = absurd (omega (arith, is))
 record_but r q (suc (suc (suc (suc (suc (suc (suc (suc (suc (suc (suc (suc (suc (suc i)))))))))))))) is = refl
 
--- so it is of a sample
+-- the same of a sample
 pub sample_but : (s t : Sample) (i : ℕ) → IsUnchanging (sample s) i
     → slice_index (sample_words (record s { next = t.next; units = t.units; mark = t.mark })) i ≡ slice_index (sample_words s) i
 sample_but s t zero is = refl
@@ -70,7 +70,7 @@ other_but size tag next n payload (suc (suc zero)) is = refl
 other_but size tag next n payload (suc (suc (suc zero))) is = absurd (omega (arith, is))
 other_but size tag next n payload (suc (suc (suc (suc i)))) is = refl
 
--- a block that goes on has the same words, but for those that change, and is of its kind
+-- a block that continues has the same words, except for those that change, and is of the same kind
 pub goes_unchanged : (version : ℕ) (x y : Body) (i : ℕ) → GoesAs version x y → IsUnchanging x i → slice_index (words_of y) i ≡ slice_index (words_of x) i
 goes_unchanged version (histogram r) y i (s, is, goes) stays =
     ap (λ (b : Body). slice_index (words_of b) i) is ∙ (ap (λ (z : Record). slice_index (record_words z) i) goes.is ∙ record_but r s i stays)
@@ -115,7 +115,7 @@ list_from version (counts c) y list goes = absurd list
 
 -- ---- words that have a block
 
--- The record whose words that change are found there.
+-- The record with the changing words that are found there.
 module _ (words : List ℕ) (at : ℕ) where
   record_there : Record → Record
   record_there r = record r {
@@ -175,7 +175,7 @@ module _ (words : List ℕ) (at : ℕ) where
   other_seen size tag next payload same (suc (suc (suc zero))) lt = refl
   other_seen size tag next payload same (suc (suc (suc (suc i)))) lt = same (suc (suc (suc (suc i)))) (inr (omega arith)) lt
 
-  -- words that are those of a block, but for those that change, are those of one as which it is seen
+  -- words that are those of a block, except for those that change, are those of a block as which it is seen
   pub seen_as : (body : Body) → IsOfList body
       → ((i : ℕ) → IsUnchanging body i → i < length (words_of body) → word_at words (at + i) ≡ slice_index (words_of body) i)
       → (seen : Body) × SeenAs body seen × HasWords words at seen

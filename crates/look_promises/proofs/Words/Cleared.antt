@@ -1,4 +1,4 @@
--- A look is 0 behind its free pointer: no patch of a record reaches there, and the last patch is of zeros.
+-- A look is 0 from its free pointer on: no patch of a record reaches there, and the last patch is of zeros.
 use Rattle.segment_invariant.proofs.Prelude.Std.{◌≡◌, ℕ, suc, ◌+◌, ◌-◌, ◌*◌, ◌<◌, ◌≤◌, ◌==◌, ◌&&◌, ◌||◌, Bool, true, false, List, [], ◌∷◌, ◌++◌, length, inr, refl, sym, ap, ◌∙◌, arith, slice_index, if◌then◌else◌, nat_le, leb-true, and_parts, length-replicate}
 use Rattle.segment_invariant.proofs.Prelude.Machine.{word_at}
 use Rattle.std.specs.List.{slice_range}

@@ -26,7 +26,7 @@ use Rattle.look_promises.proofs.Words.Images.{followed_is, one_word}
 
 -- ---- the words of a counts block
 
--- with other counts and marks, as many as before, it has the same other words
+-- with other counts and marks, and the same number of each, its other words are the same
 counts_but : (c : Counts) (us ms : List ℕ) (m : ℕ) → length us ≡ length c.units → length ms ≡ length c.marks
     → (m < 4) ⊎ (4 + (length c.units + length c.marks) ≤ m)
     → slice_index (counts_words (record c { units = us; marks = ms })) m ≡ slice_index (counts_words c) m
@@ -134,7 +134,7 @@ module _ (copies : ThreeCopies) (image : List ℕ) where
 
     -- ---- the third copy
 
-    -- at the load of a word of the block it stood there
+    -- at the load of a word of the block it was there
     module _ (m : ℕ) (inside : m < length (counts_words c)) where
       spot : place + m < shape.size
       spot = let ends = ends_at run last place (counts c) stands in omega (arith, ends, inside)

@@ -1,4 +1,4 @@
--- A look's words: those that the patches of one record give, where these lie apart from those of the others.
+-- A look's words: those that the patches of one record give, if these lie apart from those of the others.
 use Rattle.segment_invariant.proofs.Prelude.Std.{◌≡◌, ◌≢◌, ℕ, suc, ◌+◌, ◌<◌, ◌≤◌, List, [], ◌∷◌, ◌++◌, drop, length, inl, inr, sym, ap, subst, ◌∙◌, arith, slice_index, none}
 use Rattle.segment_invariant.proofs.Prelude.Machine.{word_at}
 use Rattle.segment_invariant.proofs.Prelude.Invariant.{Body, words_of, Stands}
@@ -35,7 +35,7 @@ module _ (copies : ThreeCopies) (image : List ℕ) where
       (ap (λ (l : List ℕ). slice_index l k) is ∙ get_or-take n list k 0 lt, each k lt)
 
   module _ (look : IsLook hd one two three image) where
-    -- a word behind the header and below the free pointer is one of the records'
+    -- a word after the header and below the free pointer is one of the records'
     pub list_word : (n : ℕ) → 16 ≤ n → n < hd.free → word_at image n ≡ patched_word (records_patches hd one two three records) n (word_at three n)
     list_word n from below =
         let behind : List Patch = unclaimed hd (length three) ∷ [] in
@@ -48,7 +48,7 @@ module _ (copies : ThreeCopies) (image : List ℕ) where
         ∙ ap (patched_word (records_patches hd one two three records) n)
         (none_more (unclaimed hd (length three)) [] n (inl below) (none_of_none n) (word_at three n)))))
 
-    -- where it lies apart from what is taken of the other records, it is what the patches of one give
+    -- if it lies apart from what is taken of the other records, it is what the patches of one give
     pub one_word : (k n : ℕ) → k < length records → 16 ≤ n → n < hd.free
         → ((j : ℕ) → Gives hd two list j → j ≢ k → IsApart hd one two three n (slice_index list j))
         → word_at image n

@@ -11,7 +11,7 @@ use Rattle.segment_looks.proofs.Patched.{patched_word-append}
 
 -- ---- one patch
 
--- a patch begins behind an index, or ends before it
+-- a patch begins after an index, or ends before it
 pub beside : (p : Patch) (n : ℕ) → (n < p.from) ⊎ (p.from + length p.words ≤ n) → has_word p n ≡ false
 beside p n (inl before) = grind arith
 beside p n (inr behind) = grind arith
@@ -55,7 +55,7 @@ first_not p rest n other apart = ap (λ (b : Bool). if b then word_at p.words (n
 
 -- ---- those of a record
 
--- so many numbers from one on lie before an index, or behind
+-- consecutive numbers are all before an index, or all after it
 pub apart : (from many n : ℕ) → ((i : ℕ) → i < many → from + i ≢ n) → (n < from) ⊎ (from + many ≤ n)
 apart from many n not = elim (dec_lt n from) [
   | yes before ↦ inl before
@@ -73,7 +73,7 @@ pub looked_most : (b : Bool) (two : List ℕ) (from many : ℕ) → length (if b
 looked_most true two from many = range_most two from many
 looked_most false two from many = let long = length-replicate {A = ℕ} many 0 in omega (arith, long)
 
--- where an index lies apart from all numbers of a range, it lies apart from fewer of them
+-- if an index lies apart from all numbers of a range, it lies apart from fewer of them
 fewer : (from many few n : ℕ) → few ≤ many → (n < from) ⊎ (from + many ≤ n) → (n < from) ⊎ (from + few ≤ n)
 fewer from many few n le (inl before) = inl before
 fewer from many few n le (inr behind) = inr (omega (arith, behind, le))
@@ -85,7 +85,7 @@ module _ (head : SegmentHead) (one two three : List ℕ) (x n : ℕ) where
   abbrev pub buckets : ℕ
   buckets = word_at three (x + 7)
 
-  -- an index lies apart from all that a look takes of a record, whose block has so many words
+  -- an index is outside all that a look takes of a record, whose block has `long` words
   pub record LiesBeside (long : ℕ) : Type 0 where
     pub four : 4 ≤ long
     pub block : (i : ℕ) → i < long → x + i ≢ n

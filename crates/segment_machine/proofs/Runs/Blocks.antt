@@ -1,4 +1,4 @@
--- Whether an actor may do an event of allocating, publishing or walking, or one of a shared cursor: Some where it may.
+-- Whether an actor may do an event of allocating, publishing or walking, or one of a shared cursor: Some if it may.
 use Rattle.std.proofs.Common.{◌≡◌, ℕ, ◌+◌, ◌*◌, ◌-◌, List, [], ◌∷◌, ◌++◌, length, replicate, inl, inr, refl, ap, Contains, Option, Some, None}
 use Rattle.std.specs.Prelude.{take, drop, ◌⊎◌}
 use Rattle.std.specs.Int.{w64, cast_unsigned}

@@ -1,4 +1,4 @@
--- Whether an actor may do an event of counting, packing or taking: Some where it may.
+-- Whether an actor may do an event of counting, packing or taking: Some if it may.
 use Rattle.std.proofs.Common.{◌≡◌, ◌≢◌, ◌∙◌, ℕ, ◌+◌, ◌*◌, ◌-◌, false, not, List, [], ◌∷◌, ◌++◌, inl, inr, refl, sym, ap, subst, Contains, Option, Some, None}
 use Rattle.std.specs.Prelude.{ℤ, ◌/◌, ◌%◌, ◌^◌, unwrap_or, drop}
 use Rattle.std.specs.List.{filter}
@@ -217,7 +217,7 @@ loads_bucket a at = or_else
     then (below bucket (buckets_of k.0.spec)) (λ within. then (same at (t.0.counts + 4 + bucket)) (λ here.
     Some (inl (t.0, k.0, bucket, inr (t.1, t.2, t.3, k.1), within, here)))))))
 
--- of the sparse histogram that the sample names, with the value that it has
+-- the count of a sample of the sparse histogram that the sample names, with its value
 abbrev loads_sample : (a : Actor) (at : ℕ) → Option (taking.MayLoadCount a at)
 loads_sample a at =
     let sample = at - 6 in

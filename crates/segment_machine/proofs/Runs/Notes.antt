@@ -1,4 +1,4 @@
--- Whether an actor may note something: Some where it may.
+-- Whether an actor may note something: Some if it may.
 use Rattle.std.proofs.Common.{◌≡◌, ◌≢◌, ◌∙◌, ℕ, zero, suc, ◌+◌, ◌*◌, ◌<◌, ◌≤◌, true, false, not, List, [], ◌∷◌, ◌++◌, map, length, inl, inr, refl, sym, ap, subst, true≢false, ⊎_elim, arith, ℤ, All, Contains, Option, Some, None}
 use Rattle.std.specs.Prelude.{pos, slice_index, unwrap_or, unsigned_abs, drop}
 use Rattle.std.specs.List.{filter}
@@ -71,13 +71,13 @@ seen_more words base x rest first others (suc i) below =
 pub none_seen : (words : List Sighting) (base i : ℕ) → i < 0 → word_seen words (base + i) ≡ Some 0
 none_seen words base i below = absurd (omega (arith, below))
 
--- words that were seen one behind the other
+-- words that were seen one after the other
 abbrev are_seen : (words : List Sighting) (base : ℕ) (list : List ℕ) → Option ((i : ℕ) → i < length list → word_seen words (base + i) ≡ Some (slice_index list i))
 are_seen words base [] = Some (none_seen words base)
 are_seen words base (x ∷ rest) =
     then (is_number (word_seen words base) x) (λ first. then (are_seen words (base + 1) rest) (λ others. Some (seen_more words base x rest first others)))
 
--- so many words, as they were seen
+-- `n` words from `base` on, as they were seen
 abbrev seen_from : (words : List Sighting) (base n : ℕ) → List ℕ
 seen_from words base zero = []
 seen_from words base (suc n) = unwrap_or (word_seen words base) 0 ∷ seen_from words (base + 1) n
@@ -120,7 +120,7 @@ may_know a known =
 
 -- ---- a delta
 
--- what was seen since at a word, of at least so much
+-- what was seen since at a word, and is at least this number
 abbrev saw_at : (list : List Sighting) (at least : ℕ) → Option ((word : ℕ) × Contains list (record { at = at; word = word }) × (least ≤ word))
 saw_at list at least =
     then (some_of {F = λ s. (s ≡ record { at = at; word = s.word }) × (least ≤ s.word)}

@@ -1,4 +1,4 @@
--- A run whose deeds may be done, each in its turn, leads from a state that is reached to one that is.
+-- A run whose actions may be done, each in its turn, leads from a state that is reached to one that is.
 use Rattle.std.proofs.Common.{◌⊎◌, ◌≤◌, ◌≡◌, ◌≢◌, ◌∙◌, ℕ, ◌+◌, true, Bool, ◌&&◌, List, [], ◌∷◌, length, refl, arith, length-append, length-set, take-append-drop, Option, Some, None, false}
 use Rattle.std.specs.Option.{is_some}
 use Rattle.std.proofs.lemmas.Bool.{and_parts}
@@ -36,7 +36,7 @@ abbrev pub may_all : (a : Actor) (events : List (Event × ℕ)) → Option (AreR
 may_all a [] = Some tt
 may_all a (e ∷ rest) = then (may a e.0) (λ ready. then (may_all (next a e.0 e.1) rest) (λ others. Some (ready, others)))
 
--- whoever has a number is there
+-- an actor with a number is there
 abbrev there_in : (o : core.Option Actor) → Option (o ≡ core.some (elim o [ core.some a ↦ a | core.none ↦ spent ]))
 there_in (core.some a) = Some refl
 there_in core.none = None
@@ -48,7 +48,7 @@ abbrev idles : (place : Place) → Option (place ≡ Idle)
 idles Idle = Some refl
 idles _ = None
 
--- what may be done leads on from every state that is reached
+-- from each start from which the old state is reached, the new one is reached too
 abbrev LeadsOn : ℕ → State → State → Type 0
 LeadsOn version old new = (start : State) → IsReached version start old → IsReached version start new
 
@@ -90,7 +90,7 @@ pub joins_in : (version : ℕ) (old : State) (id : ℕ) → 0 ≢ id → get_ele
 joins_in version old id other is that may start reached =
     joined_in old (done version old (joins id)) 0 id reached (actor_of old 0, actor_of old id, other, is, that, may, refl)
 
--- whether a deed may be done
+-- whether an action may be done
 abbrev may_do : (version : ℕ) (state : State) (deed : RunAction) → Option (LeadsOn version state (done version state deed))
 may_do version state (acts id before event behind) =
     let a = actor_of state id in

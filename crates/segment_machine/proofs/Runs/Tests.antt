@@ -1,4 +1,4 @@
--- Facts that are found by trying: where a test answers Some, it has the fact.
+-- Facts that are found by trying: if a test returns Some, it has the fact.
 use Rattle.std.proofs.Common.{◌≡◌, ◌≢◌, ℕ, ◌<◌, ◌≤◌, ◌==◌, Bool, true, false, ℤ, List, [], ◌∷◌, refl, eqb-true, leb-true, ltb-true, arith, ap, subst, Contains, Option, Some, None}
 use Rattle.std.specs.Prelude.{nat_le, nat_lt}
 use Rattle.std.specs.List.{All}
@@ -10,7 +10,7 @@ use Rattle.std.proofs.lemmas.Bool.Decides.{Decides-int_eq}
 use Rattle.std.proofs.lemmas.Slice.Eq.{bytes_eq-Decides}
 use Rattle.std.proofs.lemmas.List.Elements.{All-nil, All-cons, Contains-append_right}
 
--- one test, and then another that may rest on what it found
+-- one test, and then another that may depend on what it found
 abbrev pub then : {A B : Type 0} → Option A → (A → Option B) → Option B
 then None more = None
 then (Some x) more = more x

@@ -1,4 +1,4 @@
--- An actor goes along with an allocation.
+-- An actor follows an allocation.
 use Rattle.std.proofs.Common.{◌≡◌, ℕ, ◌+◌, ◌-◌, ◌<◌, ◌≤◌, ◌==◌, ◌⊎◌, Bool, true, false, ◌++◌, [], ◌∷◌, inl, inr, refl, sym, ap, ◌∙◌, subst, true≢false, eqb-true, Some, arith}
 use Rattle.std.proofs.lemmas.Bool.Decides.{nat_tests}
 use Rattle.std.specs.Prelude.{bit_and, nat_lt, if◌then◌else◌}
@@ -45,7 +45,7 @@ plan_rises shape old new wanted way (plan.Claim size end) is leads = let there :
 plan_rises shape old new wanted way (plan.Waste room) is leads = inr (room, is, cc leads)
 plan_rises shape old new wanted way plan.Full is leads = cc leads
 
--- words that suit an allocation have the cookie of what they are taken for
+-- words that an allocation takes get the cookie of what they are taken for
 suiting_cookie : (allocation : Allocation) (size : ℕ) (way : Purpose) → Suits allocation way size → cookie_of way ≡ cookie_for size allocation.size
 suiting_cookie allocation size purpose.Claim suits =
     let enough : nat_lt size allocation.size ≡ false = let most = suits.0 in grind (arith, nat_tests) in ap (λ (few : Bool). if few then 0xFFFFFFFFFFFFFFFF else 0xC8799269) (sym enough)
@@ -54,7 +54,7 @@ suiting_cookie allocation size purpose.Waste suits =
 
 module _ (a : Actor) (allocation : Allocation) (same : allocation.shape ≡ a.segment.shape) (least : 1 ≤ allocation.tag) (most : allocation.tag ≤ 3)
     (least_words : 5 ≤ allocation.size) (most_words : allocation.size ≤ allocation.shape.page) where
-  -- the allocation behind an event at a stage that found a number
+  -- the allocation after an event at a stage that found a number
   abbrev behind : ℕ → AllocStage → Allocation
   behind found stage = record allocation { seen = seen_after allocation found stage; stage = stage_after allocation found stage }
 

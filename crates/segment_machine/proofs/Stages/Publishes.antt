@@ -1,4 +1,4 @@
--- An actor goes along with a publish.
+-- An actor follows a publish.
 use Rattle.std.proofs.Common.{◌≡◌, ℕ, ◌==◌, Bool, true, false, List, [], ◌∷◌, ◌++◌, inl, inr, refl, sym, ap, ◌∙◌, subst, true≢false, eqb-true, arith, Contains, Option, Some}
 use Rattle.std.specs.Prelude.{if◌then◌else◌}
 use Rattle.std.proofs.lemmas.List.Elements.{Contains-push, Contains-append_right}
@@ -42,7 +42,7 @@ module _ (at : ℕ) where
   changed_by change own x rest false e stays behind is =
       ap (λ (here : Bool). if here then Some x else own_at (change_own at change rest) at) e ∙ behind is
 
-  -- and behind a change it is there, changed
+  -- and after a change it is there, changed
   changed : (change : Own → Own) (own : Own) (list : List Own) → ((x : Own) → (change x).at ≡ x.at) → own_at list at ≡ Some own
       → own_at (change_own at change list) at ≡ Some (change own)
   changed change own [] stays is = cc is
@@ -50,7 +50,7 @@ module _ (at : ℕ) where
 
 -- ---- what the actor offers
 
--- what may be published rests on the shape and on the histograms that are known
+-- what may be published depends on the shape and on the histograms that are known
 may_still : (a b : Actor) (own : Own) (made : Made) (next : ℕ) → b.segment.shape ≡ a.segment.shape → b.answers.names ≡ a.answers.names → MayPublish a own made
     → MayPublish b (record own { next = next }) made
 may_still a b own (Histogram name spec) next shape names (tag, named, lawful, fits) =

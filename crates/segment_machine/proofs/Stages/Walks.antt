@@ -1,4 +1,4 @@
--- An actor goes along with a walk.
+-- An actor follows a walk.
 use Rattle.std.proofs.Common.{◌≡◌, ℕ, ◌-◌, ◌<◌, ◌==◌, Bool, true, false, not, ◌&&◌, List, [], ◌∷◌, ◌++◌, length, get_or, ◌⊎◌, ⊎_elim, inl, inr, refl, sym, ap, ◌∙◌, subst, arith, length-append, append_assoc, Contains}
 use Rattle.std.specs.Prelude.{slice_index, if◌then◌else◌}
 use Rattle.std.proofs.lemmas.List.{append-nil, get_or-append_right}
@@ -15,7 +15,7 @@ use Rattle.segment_machine.specs.Actor.{is_bound}
 use Rattle.segment_machine.specs.Walking.{extended, behind}
 use Rattle.segment_machine.specs.Stages.{WalksAgree}
 
--- a walk that has given something stands at a record that it gave
+-- a walk that has given something is at a record that it gave
 stands_among : (given : List ℕ) → (stands_behind given ≡ 12) ⊎ Contains given (stands_behind given)
 stands_among [] = inl refl
 stands_among (x ∷ xs) = inr (Contains-get_or (x ∷ xs) (length xs) 0 (omega arith))
@@ -25,7 +25,7 @@ grows : (chain : List ℕ) (found : ℕ) (more : Bool) → IsPrefix chain (if mo
 grows chain found true = (found ∷ [], refl)
 grows chain found false = ([], sym (append-nil chain))
 
--- what the walk gave and what it meets now is a front of the chain that is seen then
+-- what the walk gave and what it visits now is a front of the chain that is seen then
 meets : (given rest chain : List ℕ) (found : ℕ) → chain ≡ given ++ rest → (length given < length chain → found ≡ slice_index chain (length given))
     → (found == 12) ≡ false → IsPrefix (given ++ found ∷ []) (extended chain (stands_behind given) found)
 meets given [] chain found is again goes =
@@ -55,7 +55,7 @@ gives given rest chain n found true good is again e = prefix_of_prefix given cha
 gives given rest chain n found false true is again e = meets given rest chain found is again e
 gives given rest chain n found false false is again e = prefix_of_prefix given chain _ (rest, is) (grows chain found _)
 
--- whoever may turn still may behind a next
+-- an actor that may turn still may after a next
 by_end : (ends : Bool) (cursor at found : ℕ) → is_bound (if ends then Idle else BehindCursor cursor at found) ≡ false
 by_end true cursor at found = refl
 by_end false cursor at found = refl

@@ -14,7 +14,7 @@ use Rattle.segment_promises.specs.Adoption.{named_counts, blocks_of, run_at}
 use Rattle.segment_promises.proofs.Adopting.Distinct.{IsOnce, once_none, once_more, once_both, once_rows, among_rows}
 use Rattle.segment_promises.proofs.Adopting.Owned.{own_counts, counts_named}
 
--- what a record names is its counts reference, where it is one of a histogram and names some
+-- what a record names is its counts reference, if it is one of a histogram and names some
 pub named_is : (words : List ℕ) (at place : ℕ) → Contains (named_counts words at) place
     → (field_at words at 2 ≡ 1) × (field_at words at 8 ≢ 0) × (place ≡ field_at words at 8)
 named_is words at place = by_test (is_of_type words 1 at && not (field_at words at 8 == 0)) refl

@@ -12,14 +12,14 @@ use Rattle.bucket_ranges.proofs.Named.{inner-distinct, IsInner-from_named}
 use Rattle.segment_promises.proofs.Adopting.Slices.{run_more, run_long, three_runs, fields, fields_run}
 
 module _ (words : List ℕ) where
-  -- the words of a block from word i of it on, so many
+  -- `n` words of a block, from its word `i` on
   abbrev pub run : ℕ → ℕ → ℕ → List ℕ
   run at i n = take n (drop (at + i) words)
 
   abbrev pub size_at : ℕ → ℕ
   size_at at = field_at words at 0
 
-  -- a histogram's record, a sample, the counts of a record, and a block of which nothing is said
+  -- a histogram's record, a sample, the counts of a record, and any other block
   abbrev pub record_at : ℕ → Record
   record_at at = record {
     name = name_of words at;
@@ -68,7 +68,7 @@ module _ (words : List ℕ) where
   abbrev pub whole : ℕ → List ℕ
   whole at = take (size_at at) (drop at words)
 
-  -- its fields and what is behind them
+  -- its fields and what follows them
   fields_first : (at n : ℕ) → n ≤ size_at at → at + size_at at ≤ length words → whole at ≡ fields words at 0 n ++ run at n (size_at at - n)
   fields_first at n few within =
       run_more words at n (size_at at - n) (size_at at) (omega (arith, few))
@@ -101,7 +101,7 @@ module _ (words : List ℕ) where
 
   -- ---- the records of histograms
 
-  -- where the words of a name lie among all words, it has as many bytes as its length says
+  -- if the words of a name lie among all words, it has as many bytes as its length says
   pub name_long : (at : ℕ) → at + named_words words at ≤ length words → length (name_of words at) ≡ name_length words at
   name_long at within =
       let n : ℕ = name_words (name_length words at) in
@@ -156,7 +156,7 @@ module _ (words : List ℕ) where
           let one : kind ≡ 1 = omega (arith, low, high, four, three, two) in
           ((λ i. sym one i ∷ min ∷ max ∷ n ∷ []), refl)
 
-  -- the ranges of a custom record are a run behind its name
+  -- the ranges of a custom record are a run after its name
   ranges_run : (at first n : ℕ) (custom : Bool) → (if custom then slice_range words first (first + n) else []) ≡ take (if custom then n else 0) (drop first words)
   ranges_run at first n true = ap (λ (k : ℕ). take k (drop first words)) span
     where

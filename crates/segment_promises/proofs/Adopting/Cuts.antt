@@ -41,7 +41,7 @@ module _ (words : List ℕ) (page free : ℕ) (begins : ℕ → Bool) (body : �
     pub each : (k : ℕ) (p : Piece) → get_elem? pieces k ≡ some p → IsCut p
     pub all : (b : ℕ) → begins b ≡ true → at ≤ b → (k : ℕ) × (get_elem? pieces k ≡ some (piece_at b))
 
-  -- no block begins before a word and ends behind it
+  -- no block begins before a word and ends after it
   abbrev pub IsBetween : ℕ → Type 0
   IsBetween at = (b : ℕ) → begins b ≡ true → (b + extent_at b ≤ at) ⊎ (at ≤ b)
 

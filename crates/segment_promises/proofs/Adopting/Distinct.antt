@@ -1,7 +1,7 @@
--- Lists in which nothing stands twice.
+-- Lists in which nothing occurs twice.
 use Rattle.segment_invariant.proofs.Prelude.Std.{◌≡◌, ℕ, zero, suc, List, [], ◌∷◌, ◌++◌, flat_map, Contains, ⊎_elim, refl, sym, ap, ◌∙◌, arith, some, some-ne-none, get_elem?, Contains-append_cases, at_from, contains_at, none_in}
 
--- nothing stands at two places
+-- nothing is at two places
 abbrev pub IsOnce : {X : Type 0} → List X → Type 0
 IsOnce {X} list = (i j : ℕ) (x : X) → get_elem? list i ≡ some x → get_elem? list j ≡ some x → i ≡ j
 
@@ -23,7 +23,7 @@ once_new x list once there =
     let e = once 0 (suc j) x refl at in
     omega (arith, e)
 
--- two lists with nothing in common, one behind the other
+-- two lists with nothing in common, one after the other
 pub once_both : {X : Type 0} (xs ys : List X) → IsOnce xs → IsOnce ys → ((x : X) → Contains xs x → ¬ (Contains ys x)) → IsOnce (xs ++ ys)
 once_both [] ys first second apart = second
 once_both (x ∷ xs) ys first second apart =
@@ -31,7 +31,7 @@ once_both (x ∷ xs) ys first second apart =
     (λ there. ⊎_elim (once_new x xs first) (apart x (0, omega arith, refl)) (Contains-append_cases xs ys x there))
     (once_both xs ys (once_behind x xs first) second (λ y (k, below, is). apart y (suc k, omega (arith, below), is)))
 
--- what is in the lists that stand for elements is in that of one
+-- what is in the lists of the elements is in the list of one of them
 pub among_rows : {X Y : Type 0} (f : X → List Y) (list : List X) (y : Y) → Contains (flat_map f list) y
     → (i : ℕ) × (x : X) × (get_elem? list i ≡ some x) × Contains (f x) y
 among_rows f [] y there = absurd (none_in y there)
@@ -40,7 +40,7 @@ among_rows f (x ∷ rest) y there = ⊎_elim
     (λ behind. let (i, z, at, has) = among_rows f rest y behind in (suc i, z, at, has))
     (Contains-append_cases (f x) (flat_map f rest) y there)
 
--- lists that stand for elements, of which no two have anything in common
+-- the lists of the elements, of which no two have anything in common
 pub once_rows : {X Y : Type 0} (f : X → List Y) (list : List X) → ((x : X) → IsOnce (f x))
     → ((i j : ℕ) (x z : X) (y : Y) → get_elem? list i ≡ some x → get_elem? list j ≡ some z → Contains (f x) y → Contains (f z) y → i ≡ j)
     → IsOnce (flat_map f list)

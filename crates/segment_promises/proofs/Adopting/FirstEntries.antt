@@ -1,4 +1,4 @@
--- What the entries come to that an image stands for, what deltas had taken of it, and what it has used: of each name that of its histogram.
+-- What the first entries of an image add up to, what deltas had taken of it, and what it has used: for each name what its histogram has.
 use Rattle.segment_invariant.proofs.Prelude.Std.{◌≡◌, ◌≢◌, ℕ, ◌+◌, ◌≤◌, ℤ, pos, ◌+ℤ◌, Bool, true, false, not, ◌&&◌, ◌==◌, cond, if◌then◌else◌, List, [], ◌∷◌, map, filter, flat_map, fold, sum_by, Contains, refl, sym, ap, ◌∙◌, arith, eqb-true, +ℤ_idl, +ℤ_idr, max, bytes_eq, int_eq, Decides-int_eq, bytes_eq-Decides, sum_by-cons, some, get_elem?, at_from, contains_at, IsTotal}
 use Rattle.segment_invariant.proofs.Prelude.Machine.{Histogram, Cost, Portion, Entry, is_of, tally_units, tally_sum, tally_noted, units_listed, taken_units, taken_sum, cost_of}
 use mathlib.Core.List.{map-map}
@@ -160,7 +160,7 @@ module _ (hists : List Histogram) (name : List ℕ) where
   pub costs_are : (f : Histogram → ℕ) → cost_of (map (λ (h : Histogram). record { name = h.name; units = f h }) hists) name ≡ of_name f hists name
   costs_are f = sum_of_map (λ (cost : Cost). if bytes_eq cost.name name then cost.units else 0) (λ (h : Histogram). record { name = h.name; units = f h }) hists
 
-  -- where one is at least another of each, it is so of all
+  -- if one number is at least another for each, it is so for all
   most_of_name : (f g : Histogram → ℕ) → ((h : Histogram) → f h ≤ g h) → of_name f hists name ≤ of_name g hists name
   most_of_name f g less = sum_by-le-sum_by (λ h. if bytes_eq h.name name then f h else 0) (λ h. if bytes_eq h.name name then g h else 0) hists
       (λ h. by_test (bytes_eq h.name name) (f h) (g h) (less h))
@@ -180,7 +180,7 @@ module _ (hists : List Histogram) (name : List ℕ) where
       let redundant_used = most_of_name (λ h. h.redundant) used_by (λ h. omega arith) in
       omega (arith, entries, redundant, used, units_used, redundant_used)
 
--- ---- where no two have the same name
+-- ---- if no two have the same name
 
 module _ (hists : List Histogram)
     (once : (i j : ℕ) (g h : Histogram) → get_elem? hists i ≡ some g → get_elem? hists j ≡ some h → g.name ≡ h.name → i ≡ j) where
@@ -191,7 +191,7 @@ module _ (hists : List Histogram)
       by_test true is = absurd (ne ((bytes_eq-Decides h.name name).0 is))
       by_test false is = refl
 
-  -- what is had of a name is had by its histogram
+  -- the number of a name is that of its histogram
   pub of_its_name : (f : Histogram → ℕ) (h : Histogram) → Contains hists h → of_name f hists h.name ≡ f h
   of_its_name f h there =
       let (i, here) = at_from hists h there in

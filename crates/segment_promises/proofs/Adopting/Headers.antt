@@ -1,4 +1,4 @@
--- Words that are shown by a layout of version 1 or 2 have a lawful header; so have those of a kept state.
+-- Words that are shown by a layout of version 1 or 2 have a valid header; so have those of a kept state.
 use Rattle.segment_invariant.proofs.Prelude.Std.{◌≡◌, ◌⊎◌, true, false, ℕ, [], ◌∷◌, get_or, get_or-drop, ◌+◌, ◌<◌, List, length, inl, inr, sym, ap, ◌∙◌, arith, eq-eqb, not, ◌&&◌, ◌||◌, ◌==◌, nat_lt, ◌%◌, Ok, slice_index, and_from, le-leb, le-ltb}
 use Rattle.segment_invariant.proofs.Prelude.Machine.{Dimensions, word_at, head_of, IsShown, IsShape, State}
 use Rattle.segment_invariant.proofs.Prelude.Invariant.{Anatomy, layout_of, Invariant}
@@ -11,7 +11,7 @@ use Rattle.segment_image.specs.declared.fault.ImageFault.TheVariants.{TooShort, 
 use Rattle.alloc_core.specs.Layout.{Layout, queue_block}
 use Rattle.alloc_core.proofs.Layouts.{free_word, free_from, length_shown, slice_shown}
 
--- a lawful shape is one that a header may have
+-- a valid shape is one that a header may have
 pub page_lawful : (shape : Dimensions) → IsShape shape → is_page shape.page ≡ true
 page_lawful shape lawful =
     and_from _ _ (and_from _ _ (le-leb 64 shape.page lawful.wide) (le-leb shape.page 65536 lawful.narrow)) (eq-eqb (shape.page % 16) 0 lawful.even)
@@ -20,7 +20,7 @@ pub size_lawful : (shape : Dimensions) → IsShape shape → is_size shape.size 
 size_lawful shape lawful =
     and_from _ _ (and_from _ _ (le-leb shape.page shape.size lawful.one) (le-leb shape.size 1048576 lawful.many)) (eq-eqb (shape.size % shape.page) 0 lawful.whole)
 
--- the words of the queue block, but for its next
+-- the words of the queue block, except for its next
 pub queue_word : (shape : Dimensions) (words : List ℕ) (layout : Layout) (shown : IsShown shape words layout) (j : ℕ) → j < 4
     → word_at words (12 + j) ≡ slice_index (4 ∷ 1 ∷ 0 ∷ shown.sound.queue.0 ∷ []) j
 queue_word shape words layout shown j below =

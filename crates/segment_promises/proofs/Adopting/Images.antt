@@ -19,7 +19,7 @@ use Rattle.segment_promises.specs.Adoption.{IsAdoptable}
 
 -- ---- checks
 
--- where checks find nothing, each of them passes
+-- if checks find nothing, each of them passes
 pub checks_pass : {F X : Type 0} (checks : List (Bool × F)) (x y : X) → checked checks x ≡ Ok y → (i : ℕ) (c : Bool × F) → get_elem? checks i ≡ some c → c.0 ≡ false
 checks_pass [] x y e i c there = absurd (some-ne-none c (sym there))
 checks_pass ((true, fault) ∷ rest) x y e i c there = cc e
@@ -32,7 +32,7 @@ faults_pass ((true, fault) ∷ rest) e i c there = cc e
 faults_pass ((false, fault) ∷ rest) e zero c there = ap (λ (c : Bool × _). c.0) (sym (some-injective (false, fault) c there))
 faults_pass ((false, fault) ∷ rest) e (suc i) c there = faults_pass rest e i c there
 
--- where nothing is made of a list, nothing is made of any of its elements
+-- if nothing is made of a list, nothing is made of any of its elements
 made_none : {X Y : Type 0} (f : X → Option Y) (l : List X) → filter_map f l ≡ [] → (i : ℕ) (x : X) → get_elem? l i ≡ some x → f x ≡ None
 made_none f [] e i x there = absurd (some-ne-none x (sym there))
 made_none {X} {Y} f (z ∷ rest) e i x there = by_first (made_none f rest) (f z) refl e i there
@@ -164,7 +164,7 @@ module _ (words references : List ℕ) (reading : Reading) (listed : IsListed wo
   none_bad : filter_map (bad_record words head) (with_earlier references) ≡ []
   none_bad = ap (λ (r : Reading). r.bad) (sym reads) ∙ adoptable.undamaged.lawful.0
 
-  -- each record stands beside those before it
+  -- each record is paired with those before it
   earlier_there : (k at : ℕ) → get_elem? references k ≡ some at → get_elem? (with_earlier references) k ≡ some (take k references, at)
   earlier_there k at here =
       let below = below_length references k at here in
@@ -176,7 +176,7 @@ module _ (words references : List ℕ) (reading : Reading) (listed : IsListed wo
       from_none : (k : ℕ) → 0 + k ≡ k
       from_none k = omega arith
 
-  -- what stands on it has no fault beside those before it
+  -- what is on it has no fault, given those before it
   pub no_fault : (k at : ℕ) → get_elem? references k ≡ some at → fault_behind words head (take k references) at ≡ None
   no_fault k at here = by_fault (fault_behind words head (take k references) at) refl
       (made_none (bad_record words head) (with_earlier references) none_bad k (take k references, at) (earlier_there k at here))

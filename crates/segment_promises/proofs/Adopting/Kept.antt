@@ -1,4 +1,4 @@
--- Words of version 2 of which all holds that the invariant says of the words alone may be adopted, if they are not corrupt and have used no more
+-- Words of version 2 that satisfy all that the invariant says of words alone may be adopted, if they are not corrupt and have used no more
 -- units than a segment has; so may those of a kept state.
 use Rattle.segment_invariant.proofs.Prelude.Std.{◌≡◌, ℕ, ◌+◌, ◌≤◌, true, false, List, length, refl, sym, ap, ◌∙◌, subst, arith, inl, inr, Contains}
 use Rattle.segment_invariant.proofs.Prelude.Machine.{Dimensions, word_at, head_of, field_at, name_words, record_buckets, record_single, Reading, reading_along, name_of, packed_bucket, IsStop, AreNameWords, IsListed}
@@ -56,7 +56,7 @@ module _ (shape : Dimensions) (opened : Anatomy) (words : List ℕ) (kept : Word
       padded_by at r (tag, lawful, its_name, of_kind, spec_there, same, fits, letters) =
           subst (λ (name : List ℕ). AreNameWords name (slice_range words (at + 15) (at + 15 + name_words (length name)))) (sym its_name) letters
 
-  -- and it has a lawful form
+  -- and it has a valid form
   listed_form : (at : ℕ) → Contains order at → field_at words at 2 ≡ 1 → HasForm opened.version words at
   listed_form at there one = elim (record_on_list shape opened words kept.laid at there one) [
     | inl (l, name, kind, r, among, place, made, (has, named, specified)) ↦ formed_as shape opened words kept.laid at r has

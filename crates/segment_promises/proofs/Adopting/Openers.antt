@@ -1,5 +1,5 @@
--- What holds of the opener of an adopted image: its units are all, it is the one opener, its shared cursors stand at the begin, it set no
--- flag, and it fits where what it knows and has seen lies behind the present.
+-- What holds of the opener of an adopted image: it has all units, it is the only opener, its shared cursors are at the start, it set no
+-- flag, and it fits if what it knows and has seen is the present or an earlier state.
 use Rattle.segment_invariant.proofs.Prelude.Std.{◌≡◌, ℕ, ◌<◌, ◌≤◌, Bool, true, false, List, [], ◌∷◌, map, replicate, sum_by, refl, sym, arith, All, Contains}
 use Rattle.segment_invariant.proofs.Prelude.Machine.{Histogram, Reading, IsStop, Actor, Cost, Entry, units_of, SawSample}
 use Rattle.segment_invariant.proofs.Prelude.Invariant.{Anatomy, order_of, IsFirst, IsFirstOf, Sees, IsRightlyKnown, RolesAreKept, Fits, IsSetBy}
@@ -39,7 +39,7 @@ module _ (words references : List ℕ) (reading : Reading) (cursors : ℕ) where
       as_it_was true = refl
       as_it_was false = refl
 
-  -- it fits where it sees what is there, knows the first record of each name, and met the sample of each of its entries
+  -- it fits if it sees what is there, knows the first record of each name, and saw the sample of each of its entries
   pub opener_fits : (anatomy : Anatomy) → anatomy.version ≡ 2 → Sees anatomy (replicate cursors 12) opener.seen → IsStop (order_of anatomy) anatomy.tail
       → All (IsRightlyKnown anatomy) opener.answers.names
       → ((entry : Entry) (of : ℕ) → Contains opener.entries.first entry → 0 < entry.units → IsFirst anatomy.records entry.name spec.Sparse of

@@ -14,7 +14,7 @@ use Rattle.segment_invariant.proofs.Consistency.PassedOver.{passed_word}
 use Rattle.segment_invariant.proofs.Frames.PassedOver.{PassedOver, in_opening}
 
 module _ (shape : Dimensions) (opened : Anatomy) (words : List ℕ) (kept : AreLaid shape opened words) where
-  -- a block stands at one place
+  -- there is one block at a place
   counts_there : (at : ℕ) (c d : Counts) → HasCounts kept.anatomy.pieces at c → HasCounts kept.anatomy.pieces at d → c ≡ d
   counts_there at c d first second =
       let bodies : counts c ≡ counts d = (one_stands shape words kept.anatomy kept.shown at none none (counts c) (counts d) first second).1 in
@@ -26,7 +26,7 @@ module _ (shape : Dimensions) (opened : Anatomy) (words : List ℕ) (kept : AreL
 -- ---- on the list
 
 module _ (shape : Dimensions) (opened : Anatomy) (words : List ℕ) (kept : AreLaid shape opened words) where
-  -- nobody's counts stand where a record that is passed over has its own
+  -- a counts block is not where a record is that is passed over, or where its counts are
   counts_apart : (at place : ℕ) (c : Counts) (body : Body) → HasCounts kept.anatomy.pieces at c → HoldsAs kept.anatomy.pieces place body → at ≢ place
   counts_apart at place c body has (size, tag, next, payload, stands, same) is =
       let one : counts c ≡ other size tag next payload =

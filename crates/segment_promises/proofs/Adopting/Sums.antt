@@ -1,4 +1,4 @@
--- Sums over keys: what comes to no more for each key comes to no more in all; and what is counted under keys of which each stands once.
+-- Sums over keys: what is no more for each key is no more in all; and what is counted under keys of which each occurs once.
 use Rattle.segment_invariant.proofs.Prelude.Std.{◌≡◌, ◌≢◌, ℕ, zero, suc, ◌+◌, ◌≤◌, ℤ, Bool, true, false, not, cond, if◌then◌else◌, List, [], ◌∷◌, length, filter, sum_by, refl, sym, ap, ◌∙◌, arith, some, get_elem?, int_eq, Decides-int_eq, sum_by-cons}
 use Rattle.std.proofs.lemmas.List.Sums.{sum_by-le-sum_by}
 use Rattle.segment_invariant.proofs.Lists.FewTerms.{sum_none}
@@ -29,7 +29,7 @@ module _ {X : Type 0} (key : X → ℤ) (weight : X → ℕ) where
       by_test true all mine behind = omega (arith, all, mine, behind)
       by_test false all mine behind = let one = sum_by-cons weight x (others k rest) in omega (arith, all, mine, behind, one)
 
-  -- under another key there are as many as before
+  -- under another key the number is unchanged
   others_else : (k l : ℤ) (list : List X) → k ≢ l → under (others k list) l ≡ under list l
   others_else k l [] ne = refl
   others_else k l (x ∷ rest) ne =
@@ -70,7 +70,7 @@ module _ {X : Type 0} (key : X → ℤ) (weight : X → ℕ) where
   first_out : (x : X) (rest : List X) → others (key x) (x ∷ rest) ≡ others (key x) rest
   first_out x rest = ap (λ (b : Bool). cond (not b) (x ∷ others (key x) rest) (others (key x) rest)) ((Decides-int_eq (key x) (key x)).1 refl)
 
--- what comes to no more for each key comes to no more in all
+-- what is no more for each key is no more in all
 module _ {X Y : Type 0} (key : X → ℤ) (weight : X → ℕ) (lock : Y → ℤ) (value : Y → ℕ) where
   covered_by : (n : ℕ) (xs : List X) (ys : List Y) → length xs ≤ n → ((k : ℤ) → under key weight xs k ≤ under lock value ys k)
       → sum_by weight xs ≤ sum_by value ys

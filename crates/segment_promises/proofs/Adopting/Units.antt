@@ -59,7 +59,7 @@ module _ (shape : Dimensions) (opened : Anatomy) (state : State) (kept : Invaria
       let spent = noted_covered shape opened state kept h.name in
       omega (arith, read, begun, spent)
 
-  -- and those that its sums stand for
+  -- and those that its sums have cost
   sums_are_covered : (h : Histogram) → Contains reading.hists h
       → (units_for h.sum ≤ spent_on h.name) × (units_for h.sum_mark ≤ spent_on h.name) × (units_for (h.sum -ℤ h.sum_mark) ≤ spent_on h.name)
   sums_are_covered h there =

@@ -1,4 +1,4 @@
--- In a state that is reached nothing that an actor met stands out of order: no block twice, and each sample behind the record of its histogram.
+-- In a state that is reached, what an actor visited is in order: no block twice, and each sample after the record of its histogram.
 use Rattle.segment_invariant.proofs.Prelude.Std.{◌≡◌, ◌≢◌, ℕ, zero, suc, ◌+◌, ◌≤◌, ℤ, List, ◌∷◌, ◌++◌, length, map, slice_index, ⊎_elim, sym, ap, ◌∙◌, subst, arith, append_assoc, length-append, Some, Contains, get_or, get_or_append_left, map-append, Contains-append_cases, some, get_elem?, at_from, split_at}
 use Rattle.segment_invariant.proofs.Prelude.Machine.{Dimensions, IsLinked, stops, IsPrefix, Actor, Spent, State}
 use Rattle.segment_invariant.proofs.Prelude.Invariant.{Listed, Anatomy, sample, order_of, Invariant}
@@ -10,9 +10,9 @@ use Rattle.segment_invariant.proofs.Counting.Samples.{sample_met}
 use Rattle.segment_promises.specs.Values.{NoRepeats}
 use Rattle.segment_promises.specs.Calls.{SamplesStandBehind}
 
--- ---- lists on which nothing stands twice
+-- ---- lists on which nothing occurs twice
 
--- no block stands twice in the front of a list
+-- no block occurs twice in the front of a list
 pub once_in : (words chain order : List ℕ) → IsPrefix chain order → IsLinked words order → NoRepeats chain
 once_in words chain order (rest, is) linked i j before within same =
     let long : length order ≡ length chain + length rest = ap length is ∙ length-append chain rest in
@@ -30,7 +30,7 @@ module _ (words order : List ℕ) (linked : IsLinked words order) where
       let place = one_place words order (suc (length p)) (suc (length r)) linked (omega (arith, first)) (omega (arith, second)) (here ∙ sym there) in
       omega (arith, place)
 
-  -- what stands behind another on the list stands behind it on its front
+  -- what comes after another on the list comes after it on its front
   behind_there : (chain rest front behind fs gs bs : List ℕ) (h s : ℕ) → order ≡ chain ++ rest → chain ≡ front ++ h ∷ behind
       → order ≡ (fs ++ h ∷ gs) ++ s ∷ bs → Contains chain s → Contains behind s
   behind_there chain rest front behind fs gs bs h s whole is apart met =
@@ -60,7 +60,7 @@ module _ (words order : List ℕ) (linked : IsLinked words order) where
           absurd (omega (arith, one, long))
       not_itself (suc k, below, same) = (k, omega (arith, below), same)
 
--- ---- what an actor met
+-- ---- what an actor visited
 
 abbrev references : List Listed → List ℕ
 references records = map (λ (l : Listed). l.reference) records
@@ -70,7 +70,7 @@ module _ (shape : Dimensions) (opened : Anatomy) (state : State) (kept : Invaria
   pub no_repeats : NoRepeats a.seen.chain
   no_repeats = once_in state.words a.seen.chain (order_of kept.anatomy) (kept.each id a mine lives).sees.walked kept.list.linked
 
-  -- what is listed behind its histogram stands behind it, where it was met
+  -- what is listed after its histogram comes after it where it was visited
   pub listed_behind : (histogram at : ℕ) (value : ℤ) (front behind : List ℕ)
       → Contains kept.anatomy.records (record { reference = at; made = Some (made.Sample histogram value) }) → Contains a.seen.chain at
       → a.seen.chain ≡ front ++ histogram ∷ behind → Contains behind at

@@ -1,4 +1,4 @@
--- What an actor lists of the samples behind the record of a sparse histogram, once it has passed them.
+-- What an actor lists of the samples after the record of a sparse histogram, once it has passed them.
 use Rattle.segment_invariant.proofs.Prelude.Std.{◌≡◌, ◌≢◌, ℕ, zero, suc, ◌+◌, ℤ, List, [], ◌∷◌, ◌++◌, length, slice_index, inl, inr, sym, ap, subst, ◌∙◌, arith, append_assoc, length-append, AllByRecursion, Contains, append-nil, at_from, split_at}
 use Rattle.segment_invariant.proofs.Prelude.Machine.{Actor, Known, Seen, SawOther, SawSample}
 use lib.Seq.{get_or-append_seam}
@@ -16,7 +16,7 @@ shows_all Does seen histogram [] all = all
 shows_all Does seen histogram (r ∷ rest) (inl (value, saw, does), all) = (inl (value, saw), shows_all Does seen histogram rest all)
 shows_all Does seen histogram (r ∷ rest) (inr none, all) = (inr none, shows_all Does seen histogram rest all)
 
--- on a list on which nothing stands twice, a record is none of those before it
+-- on a list on which nothing occurs twice, a record is none of those before it
 apart_from : (chain front passed rest : List ℕ) (histogram at : ℕ) → chain ≡ front ++ histogram ∷ (passed ++ at ∷ rest) → NoRepeats chain
     → (r : ℕ) → Contains passed r → r ≢ at
 apart_from chain front passed rest histogram at split once r has same =
@@ -48,7 +48,7 @@ not_before known a front passed rest at sparse split once Does passes value saw 
 
 -- ---- at the end of the list
 
--- it has passed all that it saw behind the histogram's record
+-- it has passed all that it saw after the histogram's record
 pub all_passed : (a : Actor) (histogram : ℕ) (passed : List ℕ) (comes : ComesTo histogram passed 12 a) → NoRepeats a.seen.chain
     → a.seen.chain ≡ comes.front ++ histogram ∷ passed
 all_passed a histogram passed comes once = comes.chain ∙ by comes.behind comes.stands comes.chain

@@ -2,7 +2,7 @@
 use Rattle.segment_invariant.proofs.Prelude.Std.{◌≡◌, ℕ, Bool, if◌then◌else◌, List, [], ◌∷◌, ◌++◌, Some, refl, sym, ap, ◌∙◌, eq-eqb, ne_eqb, dite, ℕ_discrete}
 use Rattle.segment_invariant.proofs.Prelude.Machine.{Sighting, word_seen, sight}
 
--- a word that is seen now is what was found, since it was so where it was seen before
+-- a word that is seen now is what was found, since it was the same if it was seen before
 pub seen_now : (list : List Sighting) (at found : ℕ) → ((word : ℕ) → word_seen list at ≡ Some word → found ≡ word) → word_seen (list ++ sight at found) at ≡ Some found
 seen_now [] at found same = ap (λ (b : Bool). if b then Some found else word_seen [] at) (eq-eqb at at refl)
 seen_now (s ∷ rest) at found same = dite (ℕ_discrete s.at at)

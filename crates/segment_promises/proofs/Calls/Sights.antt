@@ -1,4 +1,4 @@
--- What an actor saw since its call began to look it has still seen when it has seen more.
+-- What an actor saw since its call began to look stays seen when it has seen more.
 use Rattle.segment_invariant.proofs.Prelude.Std.{◌≡◌, ℕ, ◌+◌, ◌≤◌, List, ◌++◌, drop, length, inl, inr, refl, sym, ap, subst, ◌∙◌, Some, arith, Contains, drop-append-le, length-append, Contains-append_left, Contains-append_right}
 use Rattle.segment_invariant.proofs.Prelude.Machine.{buckets_of, single_of, packed_bucket, units_packed, Actor, Known, Sighting, SawCount, word_seen, sight, SawBucket}
 use Rattle.segment_machine.specs.declared.actor.Since.{Since}
@@ -8,12 +8,12 @@ use Rattle.segment_promises.specs.Calls.{BeganBefore, SeesMore}
 use Rattle.segment_promises.specs.Onward.{Grows, SeesOn}
 use Rattle.segment_promises.proofs.Growing.{still}
 
--- where nothing of what an actor saw was lost, it has seen no less
+-- if nothing of what an actor saw was lost, it has seen no less
 pub sees_more : (a b : Actor) → b.segment ≡ a.segment → b.since ≡ a.since → SeesOn a.seen b.seen → SeesMore a b
 sees_more a b segment since sees =
     record { segment = segment; since = since; singles = sees.singles; counts = sees.counts; words = sees.words }
 
--- what stands behind the front of a list still stands there when it has grown
+-- what is after the front of a list is still there when the list has grown
 behind : {X : Type 0} (front : ℕ) (old new : List X) (x : X) → front ≤ length old → Grows old new → Contains (drop front old) x → Contains (drop front new) x
 behind front old new x low (more, is) has =
     let later : drop front new ≡ drop front old ++ more = ap (drop front) is ∙ drop-append-le front old more low in

@@ -1,4 +1,4 @@
--- The buckets of a lawful spec, and the bucket that was found for a value.
+-- The buckets of a valid spec, and the bucket that was found for a value.
 use Rattle.segment_invariant.proofs.Prelude.Std.{◌≡◌, ◌≢◌, ℕ, zero, suc, ◌-◌, ◌<◌, ◌≤◌, true, true≢false, ℤ, List, subst, w32, of_z, to_z, length, refl, sym, ap, ◌∙◌, arith, None, dite, to_z-of_z, slice_index}
 use Rattle.segment_invariant.proofs.Prelude.Machine.{Spec, Linear, Boolean, Custom, Sparse, boundaries_of, buckets_of, spec_fault, has_buckets, key_of}
 use Rattle.segment_invariant.proofs.Prelude.Invariant.{key_of_bucket}
@@ -82,7 +82,7 @@ is_bucketed spec ranges are some = by spec (λ none. some (ap (λ (l : List ℕ)
     by (Custom values) _ = refl
     by Sparse more = absurd (more refl)
 
--- the ranges of a lawful spec are boundaries
+-- the ranges of a valid spec are boundaries
 pub are_always : (spec : Spec) → spec_fault spec ≡ None → AreBoundaries (boundaries_of spec)
 are_always (Linear low high n) lawful = are (Linear low high n) lawful refl
 are_always Boolean lawful = are Boolean lawful refl

@@ -1,5 +1,5 @@
--- How large the totals and marks of a histogram are in a kept state's words, where it is the first of its name: no total is above what
--- a segment may count, and no mark above its total, but that of the packed bucket in version 1, whose units may be in transit.
+-- How large the totals and marks of a histogram are in a kept state's words, if it is the first of its name: no total is above what
+-- a segment may count, and no mark above its total, except that of the packed bucket in version 1, whose units may be in transit.
 use Rattle.segment_invariant.proofs.Prelude.Std.{◌≡◌, ◌≢◌, Bool, true, false, ◌==◌, if◌then◌else◌, ℕ, ◌+◌, ◌<◌, ◌≤◌, ℤ, inl, inr, refl, sym, ap, ◌∙◌, arith, Option, Some, unwrap_or, eq-eqb, none}
 use Rattle.segment_invariant.proofs.Prelude.Machine.{Dimensions, field_at, SingleWord, Spec, buckets_of, packed_bucket, is_packed_bucket, record_buckets, record_single, total_of, mark_of, State}
 use Rattle.segment_invariant.proofs.Prelude.Invariant.{Record, histogram, Anatomy, form_at, key_of_bucket, HasRecord, IsFirst, Invariant}
@@ -40,7 +40,7 @@ module _ (shape : Dimensions) (opened : Anatomy) (state : State) (kept : Invaria
       (packed_test (record_single kept.anatomy.version state.words at) i packed)
       ∙ record_word shape state.words kept.anatomy kept.shown at r 10 has (omega arith)
 
-  -- where units of a bucket are in transit, it is the packed one in version 1
+  -- if units of a bucket are in transit, it is the packed one in version 1
   moving_bounded : (i : ℕ) → 0 < transit_of state.actors at i → IsMarkBounded kept.anatomy.version state.words at i
   moving_bounded i moves =
       let (q, stands, one, packs) = in_transit shape opened state kept at i moves in

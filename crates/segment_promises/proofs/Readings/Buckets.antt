@@ -1,4 +1,4 @@
--- The buckets of a histogram among words that are laid out, as a reading lists them: each under its key, and what is held of a key stands there.
+-- The buckets of a histogram among words that are laid out, as a reading lists them: each under its key, with what is held of the key.
 use Rattle.segment_invariant.proofs.Prelude.Std.{◌≡◌, ◌≢◌, Bool, true, false, ◌==◌, if◌then◌else◌, ℕ, ◌+◌, ◌<◌, ℤ, List, length, ⊎_elim, refl, sym, ap, subst, ◌∙◌, inl, inr, arith, Option, Some, None, slice_index, int_eq, eqb-true, eqb-false, range_with_len}
 use Rattle.segment_invariant.proofs.Prelude.Machine.{Dimensions, Spec, buckets_of, spec_fields, packed_bucket, record_buckets, total_of, mark_of}
 use Rattle.segment_invariant.proofs.Prelude.Invariant.{Record, Counts, Sample, Body, Anatomy, form_at, key_of_bucket, at_bucket, keyed, units_held, marks_held, all_held, HasRecord, IsFirst, HasKey, IsCountsOf}

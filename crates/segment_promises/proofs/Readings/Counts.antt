@@ -1,4 +1,4 @@
--- The counts of a histogram in a kept state's words: they are there, and where its totals are bounded, none is too large.
+-- The counts of a histogram in a kept state's words: they are there, and if its totals are bounded, none is too large.
 use Rattle.segment_invariant.proofs.Prelude.Std.{◌≡◌, Bool, true, false, if◌then◌else◌, ℕ, ◌<◌, refl, sym, ap, ◌∙◌, arith, List, not, ◌==◌, nat_lt, slice_index, range_with_len, and_from, eq-eqb, le-ltb}
 use Rattle.segment_invariant.proofs.Prelude.Machine.{Dimensions, head_of, field_at, buckets_of, spec_fields, is_sparse, record_buckets, total_of, IsShown}
 use Rattle.segment_invariant.proofs.Prelude.Invariant.{Record, record_words, Anatomy, layout_of, HasRecord, IsLawfulRecord}

@@ -1,4 +1,4 @@
--- The entries that actors have begun, that are counted, and that have ended: each of these has those behind it among it.
+-- The entries that actors have begun, those that are counted, and those that have ended: each of these lists includes the next.
 use Rattle.segment_invariant.proofs.Prelude.Std.{◌≡◌, ℕ, suc, ◌+◌, ◌≤◌, Bool, true, false, cond, ℤ, List, [], ◌∷◌, ◌++◌, map, refl, sym, ap, subst, ◌∙◌, ⊎_elim, arith, filter, flat_map, All, and_parts, map-append, All-contains, All-nil, filter-append, some, get_elem?}
 use Rattle.segment_invariant.proofs.Prelude.Machine.{Dimensions, Entry, EntryProgress, Actor, is_counted, has_ended, tally_units, counted_among, log_of, counted_of, all_counted, State}
 use Rattle.segment_invariant.proofs.Prelude.Invariant.{Anatomy, StandsRight, Invariant}
@@ -14,7 +14,7 @@ module _ (name : List ℕ) (key : ℤ) where
   both : (xs ys : List Entry) → units (xs ++ ys) ≡ units xs + units ys
   both = units_total name key
 
-  -- where each actor has no more of one kind than of another, all have
+  -- if each actor has no more of one kind than of another, all have
   rows_below : (f g : Actor → List Entry) (actors : List Actor) → ((i : ℕ) (a : Actor) → get_elem? actors i ≡ some a → units (f a) ≤ units (g a))
       → units (flat_map f actors) ≤ units (flat_map g actors)
   rows_below f g [] each = omega arith

@@ -16,7 +16,7 @@ use Rattle.segment_promises.proofs.Readings.Samples.{earlier_at, sample_is_right
 
 -- ---- lists
 
--- where nothing is made of any element, nothing is made of all
+-- if nothing is made of any element, nothing is made of all
 none_made : {X Y : Type 0} (f : X → Option Y) (l : List X) → ((i : ℕ) (x : X) → get_elem? l i ≡ some x → f x ≡ None) → filter_map f l ≡ []
 none_made f [] none = refl
 none_made f (x ∷ xs) none = ap (λ o. cons_option o (filter_map f xs)) (none 0 x refl) ∙ none_made f xs (λ i y there. none (suc i) y there)

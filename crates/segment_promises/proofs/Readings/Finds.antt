@@ -3,7 +3,7 @@ use Rattle.segment_invariant.proofs.Prelude.Std.{◌≡◌, Bool, true, false, c
 use Rattle.std.specs.List.{find}
 
 module _ {X : Type 0} (test : X → Bool) where
-  -- it is found where none before it passes
+  -- it is found if none before it passes
   pub find_there : (front behind : List X) (x : X) → All (λ y. test y ≡ false) front → test x ≡ true → find test (front ++ x ∷ behind) ≡ Some x
   find_there [] behind x none_before passes = ap (λ (b : Bool). cond b (Some x) (find test behind)) passes
   find_there (y ∷ front) behind x none_before passes =

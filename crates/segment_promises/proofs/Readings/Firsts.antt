@@ -1,4 +1,4 @@
--- Which records of a list are read, by the words: where no histogram on it has a fault, the first of each name.
+-- Which records of a list are read, by the words: if no histogram on it has a fault, the first of each name.
 use Rattle.segment_invariant.proofs.Prelude.Std.{◌≡◌, Bool, true, false, cond, ℕ, zero, suc, ◌<◌, List, [], ◌∷◌, ◌++◌, inl, inr, refl, sym, ap, subst, ◌∙◌, arith, None, not, All, Contains, filter, eqb-true, eq-eqb, cases_order, All-nil, All-cons, All-head, All-tail, All-weaker, Contains-append_right, bytes_eq-Decides, some, get_elem?, none_in, all_of, below_length, index_at, contains_filter}
 use Rattle.segment_invariant.proofs.Prelude.Machine.{field_at, is_of_type, name_of, record_fault}
 use Rattle.segment_invariant.proofs.Prelude.Invariant.{IsHistogram}
@@ -66,7 +66,7 @@ first_apart same (x ∷ rest) =
 
 module _ (words : List ℕ) (head : SegmentHead) (references : List ℕ)
     (lawful : (at : ℕ) → Contains references at → field_at words at 2 ≡ 1 → record_fault words head at ≡ None) where
-  -- all histograms are lawful
+  -- all histograms are valid
   all_lawful : lawful_records words head references ≡ histogram_records words references
   all_lawful =
       all_kept (λ reference. is_none (record_fault words head reference)) (histogram_records words references)

@@ -14,7 +14,7 @@ use Rattle.segment_promises.proofs.Joined.{opener_is, others_spent, gathered, fi
 
 -- ---- the flags of all actors
 
--- where none of some actors has a flag, all together have what was there
+-- if none of some actors has a flag, all together have what was there
 none_set : (f : Actor → Bool) (b : Bool) (l : List Actor) → ((k : ℕ) (c : Actor) → get_elem? l k ≡ some c → f c ≡ false) → fold ◌||◌ b (map f l) ≡ b
 none_set f b [] none = refl
 none_set f b (c ∷ rest) none =
@@ -22,7 +22,7 @@ none_set f b (c ∷ rest) none =
     ∙ none_set f b rest (λ k d there. none (suc k) d there)
 
 module _ (shape : Dimensions) (opened : Anatomy) (state : State) (a : Actor) (kept : Invariant shape opened state) (joins : IsJoined state a) where
-  -- a flag is set where the opener has set it
+  -- a flag is set if the opener has set it
   flag_is : (f : Actor → Bool) → ((units : ℕ) → f (purse units) ≡ false) → fold ◌||◌ false (map f state.actors) ≡ f a
   flag_is f unset = of_opener state.actors joins.0 (others_spent shape opened state a kept joins)
     where
@@ -61,7 +61,7 @@ module _ (shape : Dimensions) (opened : Anatomy) (state : State) (a : Actor) (ke
   knows : (known : Known) → Contains a.answers.names known → IsRightlyKnown kept.anatomy known
   knows known among = All-contains (IsRightlyKnown kept.anatomy) a.answers.names known (fits shape opened state a kept joins.0).names among
 
-  -- the names that are read are those that were answered
+  -- the names that are read are those of the answers of `hist`
   answers_read : (reading : Reading) → ReadsNames kept.anatomy.records reading → ReadsAnswers a.answers.names reading
   answers_read reading names = record {
     names = λ name. (

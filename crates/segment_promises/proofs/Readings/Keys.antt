@@ -1,12 +1,12 @@
--- Numbers that are listed under keys: where each key stands once, and what is held of any key is listed under it, those of a key are what
--- is held of it.
+-- Numbers that are listed under keys: if each key occurs once, and what is held of any key is listed under it, the numbers of a key add up
+-- to what is held of it.
 use Rattle.segment_invariant.proofs.Prelude.Std.{◌≡◌, ◌≢◌, ◌⊎◌, Bool, true, false, if◌then◌else◌, ℕ, zero, suc, ℤ, List, [], ◌∷◌, map, inl, inr, ⊎_elim, refl, sym, ap, ◌∙◌, sum_by, int_eq, Decides-int_eq, some, some-injective, get_elem?, none_at}
 use Rattle.segment_invariant.proofs.Prelude.Machine.{units_listed}
 use Rattle.std.specs.List.{zip}
 use Rattle.segment_invariant.proofs.Lists.FewTerms.{sum_none, sum_one}
 use Rattle.segment_promises.proofs.Counts.{sum_of_map}
 
--- numbers beside one another are equal or not
+-- under another number nothing is counted
 pub int_test : (a b : ℤ) (n : ℕ) → a ≢ b → (if int_eq a b then n else 0) ≡ 0
 int_test a b n apart = by_test (int_eq a b) (Decides-int_eq a b).0
   where
@@ -33,7 +33,7 @@ module _ {X : Type 0} (key : X → ℤ) where
       by_first false test (inl (i, y, there, same)) = inl (suc i, y, there, same)
       by_first false test (inr none) = inr (behind (λ same. cc (test.1 same)) none)
 
-  -- each key stands once, an element has the number that is held of its key, and of a key that no element has nothing is held
+  -- each key occurs once, an element has the number that is held of its key, and nothing is held of a key that no element has
   pub record IsListing (number : X → ℕ) (held : ℤ → ℕ) (list : List X) : Type 0 where
     pub apart : (i j : ℕ) (x y : X) → get_elem? list i ≡ some x → get_elem? list j ≡ some y → key x ≡ key y → i ≡ j
     pub holds : (i : ℕ) (x : X) → get_elem? list i ≡ some x → number x ≡ held (key x)
@@ -51,11 +51,11 @@ module _ {X : Type 0} (key : X → ℤ) (number : X → ℕ) (held : ℤ → ℕ
       ∙ sym (is.others k none))
       (under_or_not key list k)
 
-  -- the units of a list of keys, each beside its number
+  -- the units of a list of keys, each with its number
   pub units_are_held : (k : ℤ) → units_listed (map (λ x. (key x, number x)) list) k ≡ held k
   units_are_held k = sum_of_map (λ (count : ℤ × ℕ). if int_eq count.0 k then count.1 else 0) (λ x. (key x, number x)) list ∙ listed_sum k
 
-  -- and those of numbers that stand beside others under the keys
+  -- and those of numbers that are listed in place of others under the keys
   beside : (others : X → ℕ) (list : List X) → zip (map (λ (count : ℤ × ℕ). count.0) (map (λ x. (key x, others x)) list)) (map number list) ≡ map (λ x. (key x, number x)) list
   beside others [] = refl
   beside others (x ∷ rest) = ap (λ (l : List (ℤ × ℕ)). (key x, number x) ∷ l) (beside others rest)

@@ -17,7 +17,7 @@ module _ (shape : Dimensions) (opened : Anatomy) (words : List ℕ) (kept : AreL
   abbrev order : List ℕ
   order = order_of kept.anatomy
 
-  -- a published block is a lawful one
+  -- a published block is a valid one
   published_lawful : (at : ℕ) (body : Body) → Stands kept.anatomy.pieces at none body → is_claimed body ≡ true
       → is_block words (head_of words) at ≡ true
   published_lawful at body (k, there) claimed = lawful_piece shape words kept.anatomy kept.shown kept.blocks k _ there claimed

@@ -1,4 +1,4 @@
--- The marks of a histogram in a kept state's words: where they are bounded, their check finds nothing.
+-- The marks of a histogram in a kept state's words: if they are bounded, their check finds nothing.
 use Rattle.segment_invariant.proofs.Prelude.Std.{◌≡◌, ◌⊎◌, Bool, false, ◌||◌, ◌&&◌, ◌==◌, ℕ, ◌≤◌, inl, inr, refl, sym, ap, ◌∙◌, arith, Option, Some, None, List, not, nat_lt, range_with_len, eq-eqb, le-ltb}
 use Rattle.segment_invariant.proofs.Prelude.Machine.{Dimensions, field_at, SingleWord, buckets_of, packed_bucket, is_packed_bucket, record_buckets, record_single, total_of, mark_of, IsShown}
 use Rattle.segment_invariant.proofs.Prelude.Invariant.{Record, Anatomy, layout_of, HasRecord, IsLawfulRecord}

@@ -10,7 +10,7 @@ use Rattle.segment_invariant.proofs.Packing.OffForms.{few_buckets, disabling}
 use Rattle.segment_invariant.proofs.Consistency.Marks.{packed_all}
 use Rattle.segment_invariant.proofs.Consistency.Forms.{TellsRecord, tells_passed, tells_counts, told_count, told_mark}
 
--- a number is a test's mark where that test finds it
+-- a number is a test's mark if that test finds it
 tested : (form : Option SingleWord) (i : ℕ) → is_packed_bucket form i ≡ true → packed_bucket form ≡ Some i
 tested form i is = by_packed (packed_bucket form) refl
   where
@@ -41,7 +41,7 @@ module _ (shape : Dimensions) (opened : Anatomy) (words : List ℕ) (kept : AreL
   mark_is : (i : ℕ) → mark_of version words at i ≡ (if is_packed_bucket (form_at version r) i then r.mark else mark_words r.counts (buckets_of r.spec) i)
   mark_is i = λ j. if is_packed_bucket (tells.form j) i then tells.word 10 (omega arith) j else mark_words (tells.word 8 (omega arith) j) (tells.many j) i
 
-  -- where it names no counts, the packed units alone
+  -- if it names no counts, the packed units alone
   alone : r.counts ≡ 0 → (i : ℕ) → (total_of version words at i ≤ 4294967295) × (mark_of version words at i ≤ total_of version words at i)
   alone none_there i =
       let lawful = over.lawful in
@@ -70,7 +70,7 @@ module _ (shape : Dimensions) (opened : Anatomy) (words : List ℕ) (kept : AreL
           ap (λ (b : Bool). if b then 0 else field_at words r.counts (4 + buckets_of r.spec + i)) (eq-eqb r.counts 0 none_there) in
           omega (arith, nothing)
 
-  -- where it does, with its counts
+  -- if it does, with its counts
   mounted : r.counts ≢ 0 → (i : ℕ) → i < buckets_of r.spec
       → (total_of version words at i ≤ 4294967295) × (mark_of version words at i ≤ total_of version words at i)
   mounted some_there i below =

@@ -14,7 +14,7 @@ use Rattle.segment_invariant.proofs.Consistency.PassedOver.{told, told_shown, to
 use Rattle.segment_invariant.proofs.Consistency.Forms.{counts_are, told_counts, tells_passed}
 use Rattle.segment_promises.proofs.Readings.PassedOver.{passed_bounded, passed_sum}
 
--- a record whose counts are there, whose totals and marks are bounded, and whose sums are lawful
+-- a record whose counts are there, whose totals and marks are bounded, and whose sums are valid
 module _ (shape : Dimensions) (words : List ℕ) (anatomy : Anatomy) (shown : IsShown shape words (layout_of anatomy)) (version at : ℕ) (r : Record)
     (has : HasRecord anatomy.pieces at r) (right : IsLawfulRecord version shape.page r) where
   pub no_fault_of : (head_of words).version ≡ version → has_counts words (head_of words) at ≡ true → AreBounded version words at (buckets_of r.spec)

@@ -30,7 +30,7 @@ disabled_off version n word is =
     le-leb (2 ^ 63) word (ltb-false word (2 ^ 63)
     (not_low n word (word == 0) (nat_lt word (2 ^ 63)) (if version == 2 then frozen_of n (word - 2 ^ 63) else disabled_of n (word - 2 ^ 63)) is))
 
--- a form that is there is not bad where its counts are there once it is disabled
+-- a form that is there is not bad, if its counts are there once it is disabled
 single_lawful : (form : Option SingleWord) (counts : ℕ) → form ≢ None → (is_disabled form ≡ true → counts ≢ 0) → is_bad_single form counts ≡ false
 single_lawful (Some Empty) counts formed used = refl
 single_lawful (Some (Packed bucket units)) counts formed used = refl

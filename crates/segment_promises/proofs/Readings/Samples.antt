@@ -34,7 +34,7 @@ split_there l i x there = sym (take-append-drop i l) ∙ ap (λ (behind : List _
 any_passes : {X : Type 0} (p : X → Bool) (l : List X) (x : X) → Contains l x → p x ≡ true → list_any p l ≡ true
 any_passes p l x (k, below, is) passes = list_any-from_Any p l (k, x, below, is, passes)
 
--- what passes a test of what it stands for stands for what passes
+-- to filter and then map is to map and then filter, if the tests agree
 pub mapped_filter : {X Y : Type 0} (f : X → Y) (test : X → Bool) (p : Y → Bool) (l : List X) → ((i : ℕ) (x : X) → get_elem? l i ≡ some x → test x ≡ p (f x))
     → map f (filter test l) ≡ filter p (map f l)
 mapped_filter f test p [] same = refl
@@ -46,12 +46,12 @@ mapped_filter f test p (x ∷ rest) same =
     by_test true is later = (λ i. cond (is i) (f x ∷ later i) (later i))
     by_test false is later = (λ i. cond (is i) (f x ∷ later i) (later i))
 
--- where what passes one test never fails another, both keep the same
+-- if what passes one test never fails another, both keep the same
 pub kept_by : (b bad : Bool) → (b ≡ true → bad ≡ false) → (b && not bad) ≡ b
 kept_by true bad right = ap not (right refl)
 kept_by false bad right = refl
 
--- the records beside those before them are the records
+-- the records that are paired with those before them are the records
 pub without_earlier : (references : List ℕ) → map (λ (placed : List ℕ × ℕ). placed.1) (with_earlier references) ≡ references
 without_earlier references =
     let n : ℕ = length references in
@@ -61,7 +61,7 @@ without_earlier references =
     get_or-map-range_with_len (slice_index references) 0 n k k d (omega (arith, below, long)) (omega arith)
     ∙ get_or_default references k 0 d (omega (arith, below, long)))
 
--- and each stands at its place
+-- and each is at its place
 pub earlier_at : (references : List ℕ) (k : ℕ) (placed : List ℕ × ℕ) → get_elem? (with_earlier references) k ≡ some placed
     → (placed.0 ≡ take k references) × (get_elem? references k ≡ some placed.1)
 earlier_at references k placed there =

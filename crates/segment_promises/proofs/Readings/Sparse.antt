@@ -1,5 +1,5 @@
--- The samples of a sparse histogram among words that are kept, as a reading lists them: of each value the first, and what is held of a value
--- stands there.
+-- The samples of a sparse histogram among words that are kept, as a reading lists them: of each value the first, with what is held of the
+-- value.
 use Rattle.segment_invariant.proofs.Prelude.Std.{◌≡◌, Bool, true, false, ◌&&◌, ◌==◌, ℕ, zero, suc, ◌<◌, ℤ, List, [], ◌∷◌, inl, inr, ⊎_elim, refl, sym, ap, subst, ◌∙◌, arith, Some, filter, AllByRecursion, int_eq, and_parts, and_from, eqb-true, eq-eqb, cases_order, Decides-int_eq, All-weaker, some, some-injective, get_elem?, none_at}
 use Rattle.segment_invariant.proofs.Prelude.Machine.{Dimensions, head_of, field_at, Spec, buckets_of, is_of_type, sample_value}
 use Rattle.segment_invariant.proofs.Prelude.Invariant.{Record, Sample, Anatomy, order_of, HasRecord, HasSample, IsFirst, IsFirstOf, HasKey}
@@ -23,7 +23,7 @@ use Rattle.segment_promises.proofs.Readings.Samples.{samples_are}
 
 -- ---- what ascends
 
--- what holds of all behind holds of one of them
+-- what holds of all holds of one of them
 held_behind : {K : Type 0} (P : K → Type 0) (list : List K) (i : ℕ) (x : K) → AllByRecursion P list → get_elem? list i ≡ some x → P x
 held_behind P [] i x all there = absurd (none_at i x there)
 held_behind P (y ∷ rest) zero x all there = subst P (some-injective y x there) all.0

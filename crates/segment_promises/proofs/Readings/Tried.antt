@@ -9,7 +9,7 @@ use Rattle.bucket_ranges.specs.Reading.{before, next_of, is_block, IsWalk, IsLis
 use Rattle.bucket_ranges.proofs.Walks.{IsWalk-none, IsWalk-push, IsListed-from_end}
 use Rattle.segment_promises.specs.WorkedReadings.{ReadsAs}
 
--- behind these references the nexts give those, each of a lawful block and none twice, and then the end
+-- after these references the nexts give those, each of a valid block and none twice, and then the end
 abbrev pub goes_along : List ℕ → SegmentHead → List ℕ → List ℕ → Bool
 goes_along words head front [] = next_of words (before front (length front)) == 12
 goes_along words head front (at ∷ rest) =

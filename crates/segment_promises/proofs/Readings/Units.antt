@@ -14,7 +14,7 @@ use Rattle.segment_promises.specs.Reads.{units_read, ReadsUnits}
 use Rattle.segment_promises.proofs.Readings.Buckets.{units_of_key}
 use Rattle.segment_promises.proofs.Readings.Entries.{all_ended, all_begun}
 
--- where two tests let a number through, both are passed
+-- if two tests let a number through, both are passed
 both_pass : (b t : Bool) (n : ℕ) → 0 < (if b then (if t then n else 0) else 0) → (b ≡ true) × (t ≡ true)
 both_pass true true n above = (refl, refl)
 both_pass true false n above = absurd (omega (arith, above))

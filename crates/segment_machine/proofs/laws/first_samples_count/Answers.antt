@@ -16,7 +16,7 @@ known_s = record { name = letter_s; spec = spec.Sparse; reference = 40 }
 abbrev counting : EntryProgress
 counting = fresh (record { name = letter_s; key = negsuc 4; units = 1; amount = pos 0 })
 
--- between the histogram and the later sample stands the first one
+-- the first sample is between the histogram and the later one
 between_them : (front between behind : List ℕ) (histogram at : ℕ) → histogram ≡ 40 → at ≡ 64
     → 16 ∷ 40 ∷ 56 ∷ 64 ∷ [] ≡ front ++ histogram ∷ (between ++ at ∷ behind) → Contains between 56
 between_them [] between behind histogram at forty later is =
@@ -37,7 +37,7 @@ between_them (x ∷ y ∷ z ∷ w ∷ front) between behind histogram at forty l
 seen : {n m : ℕ} → Some n ≡ Some m → n ≡ m
 seen e = ap (λ (o : Option ℕ). unwrap_or o 0) e
 
--- which is no other than a sample of this value
+-- which is not seen as something other than a sample of this value
 no_other : (histogram : ℕ) (value : ℤ) → SawSample met_twice.seen histogram value 64 → SawOther met_twice.seen histogram value 56 → ⊥
 no_other histogram value saw other = ⊎_elim
     (λ t. t.2 (sym (seen t.1)))

@@ -18,17 +18,17 @@ use Rattle.segment_machine.proofs.laws.honest_answers.Goals as goal
 abbrev known_s : Known
 known_s = record { name = letter_s; spec = spec.Sparse; reference = 40 }
 
--- behind its loads
+-- after its loads
 abbrev done : Actor
 done = run snaps snapping
 
--- an answer of one value has it once
+-- an answer with one value has it once
 once : {X : Type 0} (first x y : X) (i j : ℕ) → get_elem? (first ∷ []) i ≡ some x → get_elem? (first ∷ []) j ≡ some y → i ≡ j
 once first x y zero zero here there = refl
 once first x y zero (suc j) here there = cc there
 once first x y (suc i) j here there = cc here
 
--- a sample that it met, and saw, is that of -5
+-- a sample that it visited and saw is that of -5
 the_value : (value : ℤ) (sample : ℕ) → Contains {X = ℕ} (16 ∷ 40 ∷ 56 ∷ []) sample → SawSample done.seen 40 value sample
     → (count : ℕ) × SawCount done (sample + 6) count × ((count ≡ 0) ⊎ Contains (negsuc 4 ∷ []) value)
 the_value value sample (zero, below, is) saw =

@@ -8,7 +8,7 @@ use Rattle.segment_machine.proofs.laws.samples_met.Goals as goal
 abbrev known_s : Known
 known_s = record { name = letter_s; spec = spec.Sparse; reference = 40 }
 
--- no record stands at 57
+-- there is no record at 57
 not_met : Contains {X = ℕ} (16 ∷ 40 ∷ 56 ∷ []) 57 → ⊥
 not_met (zero, below, is) = omega (arith, is)
 not_met (suc zero, below, is) = omega (arith, is)

@@ -84,7 +84,7 @@ module _ (words references : List ℕ) (reading : Reading) (narrow : All (λ wor
     apart = λ a b there here before. let p = placed a there in let e = blocks_apart a b there here before in omega (arith, p.long, e);
   }
 
-  -- its blocks behind the queue block, and all else word by word
+  -- its blocks after the queue block, and all else word by word
   pub pieces : List Piece
   pieces = (cut words page free (begins words references) body are_blocks 16 (free_bounds words references reading listed reads adoptable).0
       (λ b there. inr (placed b there).from)).0
@@ -116,7 +116,7 @@ module _ (words references : List ℕ) (reading : Reading) (narrow : All (λ wor
       same [] = refl
       same (at ∷ rest) = ap (λ (l : List ℕ). at ∷ l) (same rest)
 
-  -- behind the free pointer all is 0
+  -- from the free pointer on all is 0
   zeros_behind : drop free words ≡ replicate (length words - free) 0
   zeros_behind =
       ext_get_or 0 (drop free words) (replicate (length words - free) 0) (length-drop free words ∙ sym (length-replicate (length words - free) 0))

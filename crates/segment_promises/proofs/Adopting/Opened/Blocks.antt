@@ -103,7 +103,7 @@ module _ (words references : List ℕ) (reading : Reading) (narrow : All (λ wor
       inr (owner, record { there = contains_at references k owner here; one = one; some = some_there; is = sym is }))
       (Contains-append_cases references (flat_map (named_counts words) references) at (there_by_test (blocks_of words references) at there))
 
-  -- a lawful block stands at a word, and its words are those of its body
+  -- a valid block is at a word, and its words are those of its body
   pub record IsBlockOf (at : ℕ) (body : Body) : Type 0 where
     pub lawful : is_block words (head_of words) at ≡ true
     pub holds : words_of body ≡ whole words at

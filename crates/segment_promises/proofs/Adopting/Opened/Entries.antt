@@ -1,4 +1,4 @@
--- The first entries of an image and what deltas had taken of it: each has a key that is there, and the opener met the sample of each.
+-- The first entries of an image and what deltas had taken of it: each has a key that is there, and the opener saw the sample of each.
 use Rattle.segment_invariant.proofs.Prelude.Std.{◌≡◌, Bool, true, false, ℕ, zero, suc, ◌^◌, ◌<◌, ℤ, pos, List, [], ◌∷◌, ◌++◌, map, replicate, All, Contains, filter, flat_map, refl, sym, ap, ◌∙◌, subst, arith, ⊎_elim, not, ◌==◌, if◌then◌else◌, int_eq, append-nil, Contains-append_cases, split_among, none_in, one_in, contains_at, at_from, contains_mapped}
 use Rattle.segment_invariant.proofs.Prelude.Machine.{field_at, head_of, buckets_of, spec_of, Histogram, IsListed, Reading, reading_along, Entry, Portion, all_counted, all_taken, SawSample, IsStop}
 use Rattle.segment_invariant.proofs.Prelude.Invariant.{Anatomy, IsFirst, IsFirstOf, HasKey, Fits}
@@ -14,7 +14,7 @@ use Rattle.segment_promises.proofs.Adopting.Opened.Keys.{key_there, saw_sample, 
 use Rattle.segment_promises.proofs.Adopting.Opened.Names.{hist_read, first_read, one_read, knows}
 use Rattle.segment_promises.proofs.Adopting.Opened.Values.{value_first}
 
--- an entry of a histogram that has units stands for one of its counts
+-- an entry of a histogram that has units comes from one of its counts
 entry_count : (h : Histogram) (entry : Entry) → Contains (first_entries h) entry → 0 < entry.units
     → (count : ℤ × ℕ) × Contains h.counts count × (entry.name ≡ h.name) × (entry.key ≡ count.0)
 entry_count h entry there some_there = ⊎_elim
@@ -30,7 +30,7 @@ entry_count h entry there some_there = ⊎_elim
     no_units true among = none_in entry among
     no_units false among = let e = ap (λ (e : Entry). e.units) (one_in (sum_entry h.name h.sum) entry among) in omega (arith, e, some_there)
 
--- what stands beside another in two lists is of the first
+-- the first of a pair of two lists is in the first list
 zip_first : {X Y : Type 0} (xs : List X) (ys : List Y) (pair : X × Y) → Contains (zip xs ys) pair → Contains xs pair.0
 zip_first [] ys pair there = absurd (none_in pair there)
 zip_first (x ∷ xs) [] pair there = absurd (none_in pair there)
@@ -38,7 +38,7 @@ zip_first {X} {Y} (x ∷ xs) (y ∷ ys) pair (zero, below, is) = (0, omega arith
 zip_first (x ∷ xs) (y ∷ ys) pair (suc k, below, is) =
     let (j, within, same) = zip_first xs ys pair (k, omega (arith, below), is) in (suc j, omega (arith, within), same)
 
--- a list with nothing behind it, twice
+-- a list with nothing appended, twice
 in_rows : {X : Type 0} (l : List X) (x : X) → Contains ((l ++ []) ++ []) x → Contains l x
 in_rows {X} l x there = subst (λ (l : List X). Contains l x) (append-nil (l ++ []) ∙ append-nil l) there
 
@@ -73,7 +73,7 @@ module _ (words references : List ℕ) (reading : Reading) (narrow : All (λ wor
       let (other, here, same) = contains_mapped (λ (count : ℤ × ℕ). count.0) h.counts count.0 listed_there in
       subst (λ (t : Portion). HasKey its.records t.name count.0) is (subst (HasKey its.records h.name) same (hist_key h other among here))
 
-  -- of each entry of a sparse histogram the opener met the sample
+  -- for each entry of a sparse histogram the opener saw the sample
   met : (cursors : ℕ) (entry : Entry) (of : ℕ) → Contains (flat_map first_entries reading.hists) entry → 0 < entry.units → IsFirst its.records entry.name spec.Sparse of
       → (at : ℕ) × IsFirstOf its.records of entry.key at × Contains references at × SawSample (opener words references reading cursors).seen of entry.key at
   met cursors entry of there some_there first =

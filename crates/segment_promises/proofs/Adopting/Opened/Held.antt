@@ -31,7 +31,7 @@ module _ (words references : List ℕ) (reading : Reading) (narrow : All (λ wor
   abbrev IsRead : ℕ → Type 0
   IsRead at = Contains (read words references reading narrow listed reads adoptable) at
 
-  -- a piece stands at its place
+  -- a piece is at its place
   pub as_body : (k : ℕ) (p : Piece) (b : Body) → get_elem? its.pieces k ≡ some p → p.body ≡ b → Stands its.pieces p.at none b
   as_body k p b there is =
       (k, there ∙ (λ i. some (record { at = p.at; owner = unowned words references reading narrow listed reads adoptable k p there i; body = is i })))
@@ -57,7 +57,7 @@ module _ (words references : List ℕ) (reading : Reading) (narrow : All (λ wor
       pub sparse : spec_of words (field_at words at 4) ≡ spec.Sparse
       pub value : sample_value words at ≡ key
 
-    -- a piece holds nothing where the record, the counts and the sample that it may be do not
+    -- a piece holds nothing if the record, the counts and the sample that it may be hold nothing
     quiet : (k : ℕ) (p : Piece) → get_elem? its.pieces k ≡ some p → (IsRead p.at → name_of words p.at ≡ name → packed_at p.at ≡ 0)
         → ((owner : ℕ) → IsRead owner → name_of words owner ≡ name → field_at words owner 8 ≡ p.at → field_at words owner 8 ≢ 0 → counted_at owner p.at ≡ 0)
         → (IsItsSample p.at → valued (sample_at words p.at) ≡ 0) → holds p.body ≡ 0
@@ -84,7 +84,7 @@ module _ (words references : List ℕ) (reading : Reading) (narrow : All (λ wor
           value = sym (ap (λ (s : Sample). s.value) that) ∙ worth;
         })))
 
-    -- where no record of the name is read, nothing is held
+    -- if no record of the name is read, nothing is held
     pub none_held : ((at : ℕ) → IsRead at → name_of words at ≢ name) → all_held holds its.pieces ≡ 0
     none_held absent =
         sum_none (λ (p : Piece). holds p.body) its.pieces (λ j p there _.

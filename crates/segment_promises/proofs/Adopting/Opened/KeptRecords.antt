@@ -15,7 +15,7 @@ use Rattle.segment_promises.proofs.Adopting.Opened.Names.{read, read_body, first
 use Rattle.segment_promises.proofs.Adopting.Opened.Pieces.{is_record, is_sample, is_counts, listed_body, owned_body}
 use Rattle.segment_promises.proofs.Adopting.Opened.Values.{listed_sample, value_first, lawful_sample, its_first}
 
--- where an element stands in a list, by what is before it
+-- where an element is in a list, by what is before it
 pub split_place : (xs ys : List ℕ) (x : ℕ) (l : List ℕ) → l ≡ xs ++ x ∷ ys → (get_elem? l (length xs) ≡ some x) × (take (length xs) l ≡ xs)
 split_place xs ys x l is = (ap (λ (l : List ℕ). get_elem? l (length xs)) is ∙ at_end xs, ap (take (length xs)) is ∙ take-append_seam xs (x ∷ ys))
   where
@@ -28,7 +28,7 @@ module _ (words references : List ℕ) (reading : Reading) (narrow : All (λ wor
   abbrev its : Anatomy
   its = opened words references reading narrow listed reads adoptable
 
-  -- a record that is read stands as what its words say, and so do the counts that it names
+  -- a record that is read is there as what its words say, and so are the counts that it names
   pub has_record : (at : ℕ) → Contains references at → field_at words at 2 ≡ 1 → is_read words references at ≡ true → HasRecord its.pieces at (record_at words at)
   has_record at there one first =
       subst (Stands its.pieces at none) (read_body words references reading narrow listed reads adoptable at one first)

@@ -29,7 +29,7 @@ use Rattle.segment_promises.proofs.Adopting.Opened.Values.{sparse_named, sample_
 
 -- ---- what was seen
 
--- where each sighting says the word that is there, and some is of a word, that word was seen
+-- if each sighting says the word that is there, and some is of a word, that word was seen
 honest : (words : List ℕ) (l : List Sighting) (at : ℕ) (s : Sighting) → All (λ s. s.word ≡ word_at words s.at) l → Contains l s → s.at ≡ at
     → word_seen l at ≡ Some (word_at words at)
 honest words [] at s all there is = absurd (none_in s there)
@@ -105,7 +105,7 @@ module _ (words references : List ℕ) (reading : Reading) (narrow : All (λ wor
         | inr (inr five) ↦ (at, 5, sample (sample_at words at), stands, ap (λ (i : ℕ). at + i) five, inr (inr (inl refl)), of_z-to_z w64 (field_at words at 5) (each_narrow words narrow (at + 5)) ∙ ap (field_at words at) (sym five))
       ]))
 
-  -- what the opener has seen lies behind the present
+  -- what the opener has seen is the present, or an earlier state
   pub sees : (cursors : ℕ) (shared : List ℕ) → Sees its shared (opener words references reading cursors).seen
   sees cursors shared = record {
     free = inl (sym (are_cut words references reading narrow listed reads adoptable).ends);

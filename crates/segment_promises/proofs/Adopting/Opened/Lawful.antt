@@ -1,4 +1,4 @@
--- A histogram's record on the list of an image is lawful, whether it is read or passed over: its words, its single word, its marks, and the
+-- A histogram's record on the list of an image is valid, whether it is read or passed over: its words, its single word, its marks, and the
 -- counts block that it names.
 use Rattle.segment_invariant.proofs.Prelude.Std.{◌≡◌, ◌≢◌, Bool, true, false, ℕ, ◌+◌, ◌-◌, ◌*◌, ◌/◌, ◌^◌, ◌<◌, ◌≤◌, List, [], ◌∷◌, ◌++◌, length, take, drop, All, Contains, refl, sym, ap, ◌∙◌, subst, arith, Option, Some, None, length-append, get_or-drop, ◌%◌, not, ◌==◌, ◌&&◌, ◌||◌, nat_lt, if◌then◌else◌, slice_index, unwrap_or, range_with_len, eqb-true, eq-eqb, ne_eqb, ltb-false, le-ltb, leb-true, some, contains_at, contains_map}
 use Rattle.segment_invariant.proofs.Prelude.Machine.{field_at, head_of, SingleWord, Empty, FrozenEmpty, Frozen, spec_fields, spec_ranges, single_of, packed_bucket, is_packed_bucket, units_packed, is_packed_word, name_of, name_words, spec_of, is_sparse, record_single, record_buckets, record_fault, total_of, mark_of, IsListed, Reading, reading_along, is_off, units_in, AreNameWords, word_at}
@@ -25,7 +25,7 @@ use Rattle.segment_promises.proofs.Adopting.Opened.Records.{kind_found, name_fou
 
 -- ---- forms
 
--- a form without a fault is there, and is off only where counts are
+-- a form without a fault is there, and is off only if there are counts
 form_there : (form : Option SingleWord) (reference : ℕ) → is_bad_single form reference ≡ false → (form ≢ None) × (is_disabled form ≡ true → reference ≢ 0)
 form_there (Some single) reference good = ((λ e. cc e), λ off none_there. both (is_disabled (Some single)) (reference == 0) off (eq-eqb reference 0 none_there) good)
   where
@@ -35,7 +35,7 @@ form_there (Some single) reference good = ((λ e. cc e), λ off none_there. both
     both false b p q e = cc p
 form_there None reference good = cc good
 
--- in version 2 a word that is off has a form that is off, where it has one
+-- in version 2 a word that is off has a form that is off, if it has one
 off_disabled : (n word : ℕ) → single_of 2 n word ≢ None → is_off word ≡ true → is_disabled (single_of 2 n word) ≡ true
 off_disabled n word formed off =
     by_tests (word == 0) (nat_lt word (2 ^ 63)) (eqb-true word 0)
@@ -136,7 +136,7 @@ module _ (words references : List ℕ) (reading : Reading) (narrow : All (λ wor
       by_none true is good = not-false _ good
       by_none false is good = cc is
 
-  -- each mark is at most its total, and each total is such as a segment may count
+  -- each mark is at most its total, and each total is at most what a segment may count
   pub marks_small : (i : ℕ) → i < n → mark_of 2 words at i ≤ total_of 2 words at i
   marks_small i below =
       mark_small (mark_of 2 words at i) (total_of 2 words at i) (is_packed_bucket form i) (nat_lt 65535 (mark_of 2 words at i))
@@ -156,7 +156,7 @@ module _ (words references : List ℕ) (reading : Reading) (narrow : All (λ wor
       let all = length-append (r.letters ++ spec_ranges r.spec) r.rest in
       omega (arith, holds, long, first, all)
 
-  -- its words are those of a block of which nothing is said
+  -- its words are those of a block that is taken word by word
   pub as_other : words_of (histogram r) ≡ words_of (other_at words at)
   as_other =
       let (fits, named, paged) = spec_found words (head_of words) at none_bad in

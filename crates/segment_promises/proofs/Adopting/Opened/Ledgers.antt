@@ -177,7 +177,7 @@ module _ (words references : List ℕ) (reading : Reading) (narrow : All (λ wor
 
   -- ---- all of it
 
-  -- what one list has, with nothing behind it
+  -- a list with nothing appended, twice
   one_list : {X : Type 0} (l : List X) → (l ++ []) ++ [] ≡ l
   one_list l = append-nil (l ++ []) ∙ append-nil l
 

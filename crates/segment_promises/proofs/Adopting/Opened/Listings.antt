@@ -28,7 +28,7 @@ use Rattle.segment_promises.proofs.Adopting.Opened.Lawful.{specified, is_lawful,
 use Rattle.segment_promises.proofs.Adopting.Opened.Names.{read, read_listed}
 use Rattle.segment_promises.proofs.Adopting.Opened.Values.{sparse_named}
 
--- a packed number stands for no key that no bucket has
+-- a packed number has no units under a key that no bucket has
 no_key_packed : (kind : Spec) (k : ℤ) (packed : Option ℕ) (n : ℕ) → ((b : ℕ) → packed ≡ Some b → key_of_bucket kind b ≢ k) → at_bucket kind k packed n ≡ 0
 no_key_packed kind k None n absent = refl
 no_key_packed kind k (Some b) n absent = int_test (key_of_bucket kind b) k n (absent b refl)

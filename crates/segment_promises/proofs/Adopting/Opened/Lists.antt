@@ -1,5 +1,5 @@
--- The list of an image in its anatomy: each record stands as what was given to its maker, and no others are there; each claimed block says
--- its size.
+-- The list of an image in its anatomy: each record is there as what was given to its maker, and no others are there; each claimed block
+-- says its size.
 use Rattle.segment_invariant.proofs.Prelude.Std.{◌≡◌, ◌≢◌, inl, inr, true, ℕ, ◌+◌, ◌-◌, ◌^◌, ◌<◌, ◌≤◌, List, [], length, drop, take, All, Contains, refl, sym, ap, ◌∙◌, subst, arith, get_or-drop, slice_index, append-nil, IsPermutation-refl, none, some, get_elem?, all_of, contains_map, contains_mapped}
 use Rattle.segment_invariant.proofs.Prelude.Machine.{head_of, IsListed, Reading, reading_along, IsStop, IsLinked}
 use Rattle.segment_invariant.proofs.Prelude.Invariant.{Body, queue, plain, held, histogram, counts, sample, other, words_of, is_claimed, Piece, extent_of, Listed, Anatomy, Stands, StandsAs, ClaimedRight}
@@ -16,7 +16,7 @@ use Rattle.segment_promises.proofs.Adopting.Opened.Blocks.{begins, record_body}
 use Rattle.segment_promises.proofs.Adopting.Opened.NoRepeats.{listed_begins}
 use Rattle.segment_promises.proofs.Adopting.Opened.Pieces.{claimed_block, stood_block, record_cases, body_cases, listed_is, listed_body, owned_counts}
 
--- ---- what stands as a body stands as what was given to its maker
+-- ---- what is there as a body is there as what was given to its maker
 
 -- a body that a record on a list can be
 abbrev pub IsListable : Body → Type 0
@@ -34,7 +34,7 @@ stands_as pieces at (plain words) has listable = absurd listable
 stands_as pieces at (held block) has listable = absurd listable
 stands_as pieces at (counts c) has listable = absurd listable
 
--- a body that is on a list where it was given to a maker
+-- a body that is on a list if it was given to a maker
 listed_as : (records : List Listed) (at : ℕ) (b : Body) → Contains records (record { reference = at; made = made_by b }) → invariant.IsOnList records at b
 listed_as records at (histogram r) there = there
 listed_as records at (sample s) there = there
@@ -66,7 +66,7 @@ module _ (words references : List ℕ) (reading : Reading) (narrow : All (λ wor
   abbrev its : Anatomy
   its = opened words references reading narrow listed reads adoptable
 
-  -- a block of which nothing is said has a payload
+  -- a block that is taken word by word has a payload
   payload_long : (at : ℕ) → begins words references at ≡ true → 1 ≤ length (take (size_at words at - 4) (drop (at + 4) words))
   payload_long at begun =
       let p = placed words references reading narrow listed reads adoptable at begun in

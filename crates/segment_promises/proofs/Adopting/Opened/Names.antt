@@ -43,7 +43,7 @@ module _ (words references : List ℕ) (reading : Reading) (narrow : All (λ wor
   lawful : (at : ℕ) → Contains references at → field_at words at 2 ≡ 1 → record_fault words (head_of words) at ≡ None
   lawful = no_record_fault words references reading listed reads adoptable
 
-  -- a record that is read stands on the list as what it says
+  -- a record that is read is on the list as what it says
   pub read_listed : (at : ℕ) → Contains read at → Contains references at × (field_at words at 2 ≡ 1)
   read_listed at there =
       let is = read_from words (head_of words) references lawful at there in
@@ -78,7 +78,7 @@ module _ (words references : List ℕ) (reading : Reading) (narrow : All (λ wor
       let (one, first, named, specified) = listed_given at name kind given in
       (subst (Contains references) same (split_among xs ys is), there_by_test read at first, named, specified)
 
-  -- and what is read is the first of its name, also among those that stand before a place
+  -- and what is read is the first of its name, also among those before a place
   pub first_among : (front : List ℕ) (at : ℕ) (name : List ℕ) → IsHistogram words front name at → Contains read at
       → IsFirst (map (listed_at words references) front) name (spec_of words at) at
   first_among front at name is there =
@@ -114,7 +114,7 @@ module _ (words references : List ℕ) (reading : Reading) (narrow : All (λ wor
   pub read_hist : (at : ℕ) → Contains read at → Contains reading.hists (read_as at)
   read_hist at there = subst (λ (l : List Histogram). Contains l (read_as at)) (sym hists_are) (contains_map read_as read at there)
 
-  -- the opener was answered with them, and knows them
+  -- the opener has them as answers of `hist`, and knows them
   known_of : Histogram → Known
   known_of h = record { name = h.name; spec = h.spec; reference = h.reference }
 

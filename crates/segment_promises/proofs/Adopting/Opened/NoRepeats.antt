@@ -1,4 +1,4 @@
--- Of an image's blocks none stands twice: a record is no counts block, and no two records name one.
+-- No block of an image occurs twice: a record is no counts block, and no two records name the same one.
 use Rattle.segment_invariant.proofs.Prelude.Std.{◌≡◌, inl, inr, true, ℕ, zero, suc, ◌+◌, ◌^◌, ◌<◌, List, [], ◌∷◌, ◌++◌, length, flat_map, All, Contains, refl, sym, ap, ◌∙◌, subst, arith, ⊎_elim, not, ◌==◌, ◌&&◌, if◌then◌else◌, Bool, false, cases_order, eq-eqb, ne_eqb, Contains-append_left, Contains-append_right, some, some-injective, get_elem?, at_longer, at_from, contains_at, row_in, below_length, none_at}
 use Rattle.segment_invariant.proofs.Prelude.Machine.{field_at, head_of, is_of_type, IsListed, Reading, reading_along}
 use Rattle.segment_promises.specs.Adoption.{IsAdoptable, named_counts, blocks_of}
@@ -6,7 +6,7 @@ use Rattle.segment_promises.proofs.Adopting.Distinct.{IsOnce}
 use Rattle.segment_promises.proofs.Adopting.Opened.Anatomy.{placed}
 use Rattle.segment_promises.proofs.Adopting.Opened.Blocks.{begins, Owns, test_there}
 
--- ---- lists in which nothing stands twice
+-- ---- lists in which nothing occurs twice
 
 at_behind : {X : Type 0} (xs ys : List X) (j : ℕ) (y : X) → get_elem? ys j ≡ some y → get_elem? (xs ++ ys) (length xs + j) ≡ some y
 at_behind [] ys j y there = ap (get_elem? ys) none ∙ there
@@ -18,7 +18,7 @@ at_behind (x ∷ xs) ys j y there = ap (get_elem? (x ∷ (xs ++ ys))) next ∙ a
     next : suc (length xs) + j ≡ suc (length xs + j)
     next = omega arith
 
--- nothing of the front is behind it
+-- nothing in the front is also after it
 pub once_apart : {X : Type 0} (xs ys : List X) (x : X) → IsOnce (xs ++ ys) → Contains xs x → ¬ (Contains ys x)
 once_apart xs ys x once first last =
     let (i, here) = at_from xs x first in
@@ -32,7 +32,7 @@ once_last xs ys once i j x here there =
     let e = once (length xs + i) (length xs + j) x (at_behind xs ys i x here) (at_behind xs ys j x there) in
     omega (arith, e)
 
--- of lists that stand for elements no two have anything in common
+-- of the lists of the elements no two have anything in common
 pub rows_apart : {X Y : Type 0} (f : X → List Y) (list : List X) → IsOnce (flat_map f list) → (i j : ℕ) (x z : X) (y : Y)
     → get_elem? list i ≡ some x → get_elem? list j ≡ some z → Contains (f x) y → Contains (f z) y → i ≡ j
 rows_apart f [] once i j x z y here there has also = absurd (none_at i x here)
@@ -62,7 +62,7 @@ module _ (words references : List ℕ) (reading : Reading) (narrow : All (λ wor
           let least = p.least in
           ⊎_elim (λ first. omega (arith, first, least)) (λ last. omega (arith, last, least)) (adoptable.undamaged.apart i j at at before here there)
 
-  -- who owns a counts block names it
+  -- the owner of a counts block names it
   pub owner_names : (at owner : ℕ) → Owns words references reading narrow listed reads adoptable at owner → Contains (named_counts words owner) at
   owner_names at owner owns = by_test (is_of_type words 1 owner) (not (field_at words owner 8 == 0)) (eq-eqb _ 1 owns.one) (ap not (ne_eqb _ 0 owns.some))
     where

@@ -46,7 +46,7 @@ module _ (words references : List ℕ) (reading : Reading) (narrow : All (λ wor
     there : Contains references at
     there = subst (λ (l : List ℕ). Contains l at) (sym split) (Contains-append_right xs (at ∷ ys) at (0, omega arith, refl))
 
-    -- the first of its name stands before it
+    -- the first of its name comes before it
     named_before : (kind : Spec) × (first : ℕ) × IsFirst (map (listed_at words references) xs) (name_of words at) kind first
     named_before = by_first (first_or_none (HasName words (name_of words at)) (has_name_or_not words (name_of words at)) xs)
       where

@@ -48,7 +48,7 @@ module _ (words references : List ℕ) (reading : Reading) (narrow : All (λ wor
 
   -- ---- by their places
 
-  -- a block stands where it begins
+  -- a block is where it begins
   pub has_block : (at : ℕ) → begins words references at ≡ true → Stands its_pieces at none (body words references reading narrow listed reads adoptable at)
   has_block at there =
       let from = (placed words references reading narrow listed reads adoptable at there).from in
@@ -169,12 +169,12 @@ module _ (words references : List ℕ) (reading : Reading) (narrow : All (λ wor
         | inr (unlisted, (owner, owns, inr (read, that))) ↦ unlike _ _ _ refl is that
       ]
 
-  -- ---- and each of these stands where it should
+  -- ---- and each of these is where it should be
 
   abbrev its_body : ℕ → Body
   its_body = body words references reading narrow listed reads adoptable
 
-  -- a record of the list stands as its body
+  -- a record of the list is there as its body
   pub listed_is : (at : ℕ) → Contains references at → its_body at ≡ record_body words references at
   listed_is at there = ap (λ (b : Bool). if b then record_body words references at else counts_body words references at (owner_of words references at)) (test_there references at there)
 
@@ -182,7 +182,7 @@ module _ (words references : List ℕ) (reading : Reading) (narrow : All (λ wor
   listed_body at there =
       subst (Stands its_pieces at none) (listed_is at there) (has_block at (listed_begins words references reading narrow listed reads adoptable at there))
 
-  -- counts that a record names stand as the record says
+  -- counts that a record names are there as the record says
   pub owned_body : (at owner : ℕ) → IsOwner at owner → Stands its_pieces at none (counts_body words references at owner)
   owned_body at owner owns =
       let unlisted : is_listed words references at ≡ false = not_there (is_listed words references at) refl in

@@ -57,7 +57,7 @@ module _ (words : List ℕ) (head : SegmentHead) (at : ℕ) (none : record_fault
   pub sums_found : is_bad_record_sum words at ≡ false
   sums_found = check 6 _ refl
 
-  -- the counts that it names are a lawful block for them
+  -- the counts that it names are a valid block for them
   pub named_found : field_at words at 8 ≢ 0 → (is_sparse words at ≡ false) × (is_block words head (field_at words at 8) ≡ true)
       × (field_at words (field_at words at 8) 2 ≡ 2) × (4 + 2 * record_buckets words at ≤ field_at words (field_at words at 8) 0)
   named_found some_there = by_kind (is_sparse words at) refl

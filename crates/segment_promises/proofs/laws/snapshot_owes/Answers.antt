@@ -7,7 +7,7 @@ use Rattle.segment_promises.specs.Examples.{snaps, snapping, snapshot}
 use Rattle.segment_machine.specs.Examples.{run}
 use Rattle.segment_promises.proofs.laws.snapshot_owes.Goals as goal
 
--- behind its events
+-- after its events
 abbrev done : Actor
 done = run snaps snapping
 

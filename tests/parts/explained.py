@@ -21,19 +21,19 @@ SEGMENT = "segment,256,64,7\n"
 # A record after a segment and a histogram, and what is said of it.
 BAD_RECORDS = {
     "hist,B,liner": "field 2 after `hist` is `liner`; kinds are boolean, linear, custom, sparse",
-    "hits,B,boolean": "`hits` stands first; records begin with segment, hist, add, delta",
-    "hist,B,linear,1,x,3": "field 4 after `hist` is `x`; a number from 0 to 4294967295 may stand there",
+    "hits,B,boolean": "the record begins with `hits`; records begin with segment, hist, add, delta",
+    "hist,B,linear,1,x,3": "field 4 after `hist` is `x`; it has to be a number from 0 to 4294967295",
     "hist,B,linear,1,4294967296,3": "field 4 after `hist` is `4294967296`; "
-    "a number from 0 to 4294967295 may stand there",
-    "hist,B,custom,1,2,-3": "field 5 after `hist` is `-3`; a number from 0 to 4294967295 may stand there",
+    "it has to be a number from 0 to 4294967295",
+    "hist,B,custom,1,2,-3": "field 5 after `hist` is `-3`; it has to be a number from 0 to 4294967295",
     "hist,B,custom": "fields after `hist`: 2; its form is hist,NAME,custom,VALUE,.. with one value or more",
     "hist,B,linear,1,2": "fields after `hist`: 4; its form is hist,NAME,linear,MIN,MAX,BUCKETS",
     "hist,B,boolean,1": "fields after `hist`: 3; its form is hist,NAME,boolean or hist,NAME,sparse",
     "hist,B": "fields after `hist`: 1; its form is hist,NAME,KIND and what the kind needs",
     "add,A,1": "fields after `add`: 2; its form is add,NAME,VALUE,COUNT",
     "add,A,2147483648,1": "field 2 after `add` is `2147483648`; "
-    "a number from -2147483648 to 2147483647 may stand there",
-    "add,A,1,": "field 3 after `add` is ``; a number from 0 to 4294967295 may stand there",
+    "it has to be a number from -2147483648 to 2147483647",
+    "add,A,1,": "field 3 after `add` is ``; it has to be a number from 0 to 4294967295",
     "add,B,1,1": "field 1 after `add` is `B`; no `hist` record before it has this name",
     "delta,B": "field 1 after `delta` is `B`; no `hist` record before it has this name",
     "delta": "fields after `delta`: 0; its form is delta,NAME",
@@ -47,9 +47,9 @@ SHAPES = "PAGE is a multiple of 16 from 64 to 65536, and SIZE whole pages, at mo
 BAD_STARTS = {
     "": (1, "the script ends before this record"),
     "\n\n": (3, "the script ends before this record"),
-    "\r\nhist,A,boolean": (2, "`hist` stands first; the first record is segment,SIZE,PAGE,ID"),
+    "\r\nhist,A,boolean": (2, "the record begins with `hist`; the first record is segment,SIZE,PAGE,ID"),
     "segment,1000,64,7": (1, f"SIZE is 1000 and PAGE is 64; {SHAPES}"),
-    "segment,256,64,x": (1, "field 3 after `segment` is `x`; a number from 0 to 18446744073709551615 may stand there"),
+    "segment,256,64,x": (1, "field 3 after `segment` is `x`; it has to be a number from 0 to 18446744073709551615"),
     "segment,256,64": (1, "fields after `segment`: 2; its form is segment,SIZE,PAGE,ID"),
     "\ufeff\nsegment,1": (2, "fields after `segment`: 1; its form is segment,SIZE,PAGE,ID"),
 }
@@ -123,7 +123,7 @@ BAD_STARTS_ON = {
     "\nsegment,192,64,7": (2, "SIZE, PAGE and ID have to be those of BASE"),
     "segment,128,128,7\nadd,A,1,0": (1, "SIZE, PAGE and ID have to be those of BASE"),
     "segment,96,64,7": (1, f"SIZE is 96 and PAGE is 64; {SHAPES}"),
-    "hist,A,boolean": (1, "`hist` stands first; the first record is segment,SIZE,PAGE,ID"),
+    "hist,A,boolean": (1, "the record begins with `hist`; the first record is segment,SIZE,PAGE,ID"),
     "": (1, "the script ends before this record"),
 }
 
@@ -182,7 +182,7 @@ def lines_of_random_scripts(program: pathlib.Path, folder: pathlib.Path) -> Iter
             text, records = text + chance.choice(["\n", "\r\n", "\r\n\n"]), records + 1
         line = text.count("\n") + 1
         script.write_bytes(f"{text}hits".encode())
-        said = f'"{script}", line {line}: `hits` stands first; records begin with segment, hist, add, delta'
+        said = f'"{script}", line {line}: the record begins with `hits`; records begin with segment, hist, add, delta'
         yield f"random script {number}", both(
             program, ["run", script, folder / "out"], f"BadLine {records + 1}", 3, [said]
         )
@@ -304,7 +304,7 @@ def scripts_on(program: pathlib.Path, folder: pathlib.Path) -> Iterator[Case]:
         lines = [f'"{script}", line {line}: {said}', f'BASE "{base}" is of segment,128,64,7']
         yield f"{start!r} on an image", both(program, words, "BadLine 1", 3, lines)
     script.write_bytes(b"segment,128,64,7\nhits")
-    said = f'"{script}", line 2: `hits` stands first; records begin with segment, hist, add, delta'
+    said = f'"{script}", line 2: the record begins with `hits`; records begin with segment, hist, add, delta'
     yield "a bad record on an image", both(program, words, "BadLine 2", 3, [said])
     words[2] = "/dev/zero"
     yield "a script without an end on an image", both(

@@ -20,9 +20,9 @@ from support.made import ROOT
 LIST = ROOT / "crates.txt"
 # What a change of the machine must not prove again: nothing of it says what actors do.
 READING = [
-    "image_reader", "reading_texts", "reading_sums", "sum_texts", "reading_overviews", "reading_shows",
-    "recording_folders", "sum_commands", "persist_report_core", "segment_search", "segment_looks", "fault_texts",
-    "schedule",
+    "image_reader", "reading_texts", "reading_sums", "sum_texts", "reading_overviews", "text_styles",
+    "reading_shows", "recording_folders", "sum_commands", "persist_report_core", "segment_search", "segment_looks",
+    "fault_texts", "schedule",
 ]
 MACHINE = ["segment_machine", "segment_invariant", "segment_promises"]
 

@@ -7,9 +7,6 @@ use std::{env, fs};
 /// The variable of the environment that asks for the lines of every fault.
 pub const VARIABLE: &str = "PERSIST_REPORT_EXPLAIN";
 
-/// What the short help of a program says of the option that asks for them.
-pub const VARIABLE_HELP: &str = "Explain errors, as in a terminal or by PERSIST_REPORT_EXPLAIN=1";
-
 // The first part of the number of a device, as Linux has it.
 fn major(device: u64) -> u64 {
     device >> 8 & 0xfff

@@ -61,9 +61,9 @@ impl fmt::Display for Wanted {
         f.write_str(match self {
             Wanted::Word => "records begin with segment, hist, add, delta",
             Wanted::Kind => "kinds are boolean, linear, custom, sparse",
-            Wanted::Unsigned => "a number from 0 to 4294967295 may stand there",
-            Wanted::Long => "a number from 0 to 18446744073709551615 may stand there",
-            Wanted::Signed => "a number from -2147483648 to 2147483647 may stand there",
+            Wanted::Unsigned => "it has to be a number from 0 to 4294967295",
+            Wanted::Long => "it has to be a number from 0 to 18446744073709551615",
+            Wanted::Signed => "it has to be a number from -2147483648 to 2147483647",
         })
     }
 }

@@ -46,6 +46,6 @@ pub fn wanted_of(fault: ImageFault) -> &'static str {
         | ImageFault::BadRef
         | ImageFault::BadBlock
         | ImageFault::Loop
-        | ImageFault::NoMemory => "lawful",
+        | ImageFault::NoMemory => "valid",
     }
 }

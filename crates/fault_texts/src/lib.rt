@@ -27,7 +27,7 @@ mod world_table;
 
 pub use adopting::{adopt_lines, base_lines};
 pub use asked::{nearest_name, texts_for};
-pub use asking::{VARIABLE, VARIABLE_HELP, is_asked, is_terminal_at};
+pub use asking::{VARIABLE, is_asked, is_terminal_at};
 pub use c_table::C_TEXTS;
 pub use complaint::{Complaint, RecordForm, complaint_of};
 pub use damage::{bad_lines, stopped_lines};

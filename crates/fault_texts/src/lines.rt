@@ -103,7 +103,7 @@ impl fmt::Display for Finding {
             Some(Complaint::NoRecord) => f.write_str("the script ends before this record"),
             Some(Complaint::Field { index: 0, wanted }) => write!(
                 f,
-                "`{word}` stands first; {wanted}"
+                "the record begins with `{word}`; {wanted}"
             ),
             Some(Complaint::Field { index, wanted }) => {
                 let field = Shown(self.fields.get(index).unwrap_or_default());
@@ -116,7 +116,7 @@ impl fmt::Display for Finding {
             Some(Complaint::NotFirst) => {
                 write!(
                     f,
-                    "`{word}` stands first; the first record is segment,SIZE,PAGE,ID"
+                    "the record begins with `{word}`; the first record is segment,SIZE,PAGE,ID"
                 )
             }
             Some(Complaint::Shape) => {

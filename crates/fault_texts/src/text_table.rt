@@ -9,13 +9,13 @@ pub const TEXT_FAULTS: [(&str, &str, &str); 4] = [
     ),
     (
         "BadTotals",
-        "An input begins as totals, and is none: the line with this number, from 1, does not go on from those before it; or it is that of the first name, and the names do not ascend or their keys are not those of their specs.",
+        "An input begins as totals, and is none: the line with this number, from 1, does not continue those before it; or it is that of the first name, and the names do not ascend or their keys are not those of their specs.",
         "Write the totals again by `report --totals`. A file that was cut off lacks its last line.",
     ),
     (
         "Fell",
         "With --minus: the histogram that is named has less than in OLD, or is not there, and counts only grow.",
-        "Let OLD be an earlier image, look or totals of the same segment or folder. A segment that began anew has nothing of the one before: show it whole.",
+        "Let OLD be an earlier image, look or totals of the same segment or folder. A segment that began again has nothing of the one before: show it whole.",
     ),
     (
         "NotWhole",

@@ -13,7 +13,7 @@ use Rattle.segment_image.specs.declared.fault.ImageFault.TheVariants.{NoMemory}
 use Rattle.image_reader.specs.declared.reading.Reading.{Reading}
 use Rattle.image_reader.specs.Views.{reading_view}
 use Rattle.reading_shows.specs.declared.choice.Choice.TheVariants.{All}
-use Rattle.reading_shows.specs.declared.style.Style.{Style}
+use Rattle.text_styles.specs.declared.style.Style.{Style}
 use Rattle.reading_shows.specs.Showing.{IsShowOf}
 use Rattle.reading_sums.specs.declared.sums.Sums.{Sums}
 use Rattle.reading_sums.specs.Sums.{IsSumOver}

@@ -7,7 +7,7 @@ use Rattle.image_reader.specs.Keys.{HasMoreKeys}
 use Rattle.reading_texts.specs.Text.{IsTextOf}
 use Rattle.reading_texts.specs.Exporting.{IsExportOf}
 use Rattle.reading_shows.specs.declared.choice.Choice.TheVariants.{All}
-use Rattle.reading_shows.specs.declared.style.Style.{Style}
+use Rattle.text_styles.specs.declared.style.Style.{Style}
 use Rattle.reading_shows.specs.Showing.{IsShowOf}
 use Rattle.povundiri_c.specs.declared.texts.TextAsked.{TextAsked}
 use Rattle.povundiri_c.specs.declared.texts.TextAsked.TheVariants.{Report, Export, Show}

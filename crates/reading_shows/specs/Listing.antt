@@ -9,7 +9,7 @@ use Rattle.reading_texts.specs.Text.{kind_word}
 use Rattle.reading_texts.specs.Exporting.{joined}
 use Rattle.reading_overviews.specs.Numbers.{number}
 use Rattle.reading_shows.specs.declared.listing.ListColumns.{ListColumns}
-use Rattle.reading_shows.specs.declared.listing.ListStyle.{ListStyle}
+use Rattle.text_styles.specs.declared.list_style.ListStyle.{ListStyle}
 use Rattle.reading_shows.specs.declared.choice.Choice.{Choice}
 use Rattle.reading_shows.specs.Columns.{at_left, at_right, times}
 use Rattle.reading_shows.specs.Naming.{naming_of}

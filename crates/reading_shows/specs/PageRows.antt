@@ -5,7 +5,7 @@ use Rattle.std.specs.List.{flat_map, range_with_len}
 use Rattle.reading_texts.specs.declared.rows.HistRow.{HistRow}
 use Rattle.reading_texts.specs.Exporting.{joined}
 use Rattle.reading_overviews.specs.Numbers.{number}
-use Rattle.reading_shows.specs.declared.style.Frame.{Frame}
+use Rattle.reading_shows.specs.declared.frame.Frame.{Frame}
 use Rattle.reading_shows.specs.Shares.{percent}
 use Rattle.reading_shows.specs.Bars.{marks_of}
 use Rattle.reading_shows.specs.Naming.{range_text, has_line}

@@ -12,9 +12,9 @@ use Rattle.reading_texts.specs.Rows.{units_of, rows_of}
 use Rattle.reading_texts.specs.Text.{kind_word, record_fault_word, image_fault_word}
 use Rattle.reading_texts.specs.Exporting.{joined, is_sparse}
 use Rattle.reading_overviews.specs.Numbers.{number, signed}
-use Rattle.reading_shows.specs.declared.style.Style.{Style}
-use Rattle.reading_shows.specs.declared.style.Frame.{Frame}
-use Rattle.reading_shows.specs.declared.style.LineColumns.{LineColumns}
+use Rattle.text_styles.specs.declared.style.Style.{Style}
+use Rattle.reading_shows.specs.declared.frame.Frame.{Frame}
+use Rattle.reading_shows.specs.declared.frame.LineColumns.{LineColumns}
 use Rattle.reading_shows.specs.declared.naming.Naming.{Naming}
 use Rattle.reading_shows.specs.declared.choice.Choice.{Choice}
 use Rattle.reading_shows.specs.Choice.{is_chosen}

@@ -6,16 +6,16 @@ ghost use Rattle.image_reader.specs.Views.{histogram_view, reading_view};
 ghost use Rattle.reading_shows.specs.Writing.{IsTextIn, choice_in};
 
 use crate::choice::Choice;
-use crate::listing::{ListStyle, list_text};
+use crate::listing::list_text;
 use crate::page::page_text;
 use crate::showing::{show_since_text, show_text};
 use crate::source::Source;
-use crate::style::Style;
 use image_reader::Reading;
 use reading_overviews::overview_text;
 use reading_texts::{Label, export_text, report_text, table_text};
 use segment_image::SegmentHead;
 use std::alloc::{AllocError, Global};
+use text_styles::{ListStyle, Style};
 
 /// The form in which a reading is written.
 #[derive(Clone, Copy, Debug)]

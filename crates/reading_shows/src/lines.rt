@@ -10,14 +10,15 @@ ghost use Rattle.reading_shows.specs.Showing.{most_of, begins_gap as begins_gap_
 
 use crate::bars::put_bar;
 use crate::columns::{put_at_right, put_bytes};
+use crate::frame::{Frame, LineColumns};
 use crate::heights::height_of;
 use crate::naming::{Naming, has_line, is_truth, put_range};
 use crate::shares::put_percent;
 use crate::since::{came_at, most_that_came, put_came};
-use crate::style::{Frame, LineColumns, Style};
 use reading_overviews::put_number;
 use reading_texts::HistRow;
 use std::alloc::{AllocError, Global};
+use text_styles::Style;
 
 // The most units that a row has.
 pub(crate) fn most(rows: &[HistRow]) -> u64

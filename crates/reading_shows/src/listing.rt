@@ -20,17 +20,7 @@ use image_reader::{HistReading, Reading};
 use reading_overviews::put_number;
 use reading_texts::{HistRow, kind_word, rows_of, units};
 use std::alloc::{AllocError, Global};
-
-/// How a list of histograms is written.
-#[derive(Clone, Copy, Debug, PartialEq, Eq)]
-pub struct ListStyle {
-    /// The cells of a line, if the numbers leave room for the names.
-    pub width: u16,
-    /// Whether numbers have a comma between thousands.
-    pub is_human: bool,
-    /// Whether the lines are sorted by units, the most first, and not by name.
-    pub is_by_units: bool,
-}
+use text_styles::ListStyle;
 
 // A line of a list, as its separate texts.
 #[derive(Drop)]

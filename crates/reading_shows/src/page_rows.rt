@@ -4,10 +4,10 @@ ghost use Rattle.std.specs.Prelude.{◌≡◌, ◌<◌, ◌++◌, length, OnOk};
 ghost use Rattle.reading_shows.specs.PageRows.{drawn_bar, unit_row, row_in_page, rows_in_page};
 
 use crate::bars::marks;
+use crate::frame::Frame;
 use crate::lines::begins_gap;
 use crate::naming::{has_line, put_range};
 use crate::shares::put_percent;
-use crate::style::Frame;
 use itoa::Buffer;
 use reading_overviews::put_number;
 use reading_texts::{HistRow, put_parts};

@@ -5,11 +5,11 @@ ghost use Rattle.image_reader.specs.Readable.{IsReadable};
 ghost use Rattle.image_reader.specs.Views.{histogram_view};
 ghost use Rattle.reading_shows.specs.Showing.{meanwhile_line, redundant_line, redundant_text};
 
-use crate::style::Style;
 use image_reader::HistReading;
 use reading_overviews::put_number;
 use reading_texts::units;
 use std::alloc::AllocError;
+use text_styles::Style;
 
 // Puts the line of these units, which were counted a second time.
 fn put_redundant_text(text: &mut Vec<u8>, is_human: bool, units: u64) -> Result<(), AllocError>

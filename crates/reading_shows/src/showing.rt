@@ -11,15 +11,16 @@ ghost use Rattle.reading_shows.specs.SinceViews.{since_view};
 
 use crate::choice::{Choice, chosen};
 use crate::ending::put_ending;
+use crate::frame::{Frame, frame_of, shows_all_of};
 use crate::heading::put_numbers;
 use crate::lines::{put_left_out, put_rows};
 use crate::most::pick;
 use crate::redundant::{put_meanwhile, put_redundant};
 use crate::since::{Since, came_in_all, cames_of, counts_before};
-use crate::style::{Frame, Style, frame_of, shows_all_of};
 use image_reader::{HistReading, Reading};
 use reading_texts::{HistRow, rows_of};
 use std::alloc::{AllocError, Global};
+use text_styles::Style;
 
 // The units that came to a histogram with these rows since it had these counts, or 0 if the text does not say them.
 fn came_to_histogram(

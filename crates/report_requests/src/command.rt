@@ -18,7 +18,6 @@ use crate::scale::scale_command;
 use crate::show::show_command;
 use crate::size::size_command;
 use clap::Command;
-use fault_texts::VARIABLE_HELP;
 use std::alloc::{AllocError, Global};
 
 // What `--help` of the program has after the commands. The examples work in an empty folder, one after the other.
@@ -39,6 +38,9 @@ or a file cannot be opened, and 5 if memory or a thread is missing.
 
 With PERSIST_REPORT_EXPLAIN=1 in the environment every error is explained, as by
 --explain: for cron, systemd, containers and CI.";
+
+// What the short help says of the option that asks for explanations.
+const EXPLAIN_HELP: &str = "Explain errors, as in a terminal or by PERSIST_REPORT_EXPLAIN=1";
 
 // The commands that write texts.
 fn put_reading<'a>(alloc: Global, commands: &mut Vec<Command<'a>>) -> Result<(), AllocError> {
@@ -74,7 +76,7 @@ fn program<'a>(alloc: Global) -> Result<Command<'a>, AllocError> {
         .about("Show, convert, merge and continue the histograms of a Povundiri segment")
         .after_long_help(EXAMPLES)
         .subcommand_required(true)
-        .arg(explain_flag(alloc).help(VARIABLE_HELP))
+        .arg(explain_flag(alloc).help(EXPLAIN_HELP))
 }
 
 /// The command line of the program. The only error is that memory runs out.

@@ -2,8 +2,8 @@
 
 use crate::arguments::{excluding, flag, option, put};
 use clap::{Arg, ArgMatches};
-use reading_shows::{ListStyle, Style};
 use std::alloc::{AllocError, Global};
+use text_styles::{ListStyle, Style};
 
 // The orders of a list.
 static ORDERS: [&str; 2] = ["name", "units"];

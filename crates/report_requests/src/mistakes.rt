@@ -55,8 +55,8 @@ pub fn no_overview(alloc: Global) -> Result<Error, AllocError>
     )
 }
 
-/// Returns what is wrong with a command line whose labels no line may have: a mistake in a value. The only error is that
-/// memory runs out.
+/// Returns what is wrong with a command line whose labels no line may have: a mistake in a value. The only error is
+/// that memory runs out.
 pub fn no_labels(alloc: Global) -> Result<Error, AllocError>
     ensures { IfOk result (λ error. kind_of error ≡ ErrorKind.ValueValidation) }
 {

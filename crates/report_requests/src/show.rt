@@ -6,8 +6,8 @@ use crate::sum_options::{also_option, put_sum_options};
 use crate::task::Task;
 use crate::text_options::{put_repeat_options, to_found, to_option, whole_flag};
 use clap::{Arg, ArgMatches, Command, value_parser};
-use reading_shows::Style;
 use std::alloc::{AllocError, Global};
+use text_styles::Style;
 
 // What the command does.
 const DETAILS: &str = "Show the histograms of an image, or of the sum of several: numbers, quantiles

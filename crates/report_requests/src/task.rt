@@ -4,7 +4,7 @@ use crate::nth::Nth;
 use crate::scale::Scale;
 use crate::size::SizeTask;
 use crate::workers::Workers;
-use reading_shows::{ListStyle, Style};
+use text_styles::{ListStyle, Style};
 
 /// What a command does. The image in `file` is that on standard input if there is no file. A text goes to the file
 /// `to`, or to standard output if there is none.

@@ -43,7 +43,7 @@ fn count_option<'a>(alloc: Global) -> Result<Arg<'a>, AllocError> {
         alloc,
         "count",
         "LOOKS",
-        "With --every: end after so many looks",
+        "With --every: end after this many looks",
     )
     .value_parser(value_parser!(u32).range(1..))
     .requires_arg("every")

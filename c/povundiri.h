@@ -624,8 +624,8 @@ inline uint32_t povundiri_sums_new(struct povundiri_handle *out) {
 }
 
 /* Reads an image and adds it under a number, which may be any. For each name, a text shows the histograms of one spec: that of the image
- * with the least number. Any words may be passed; if you do not trust them, call povundiri_report_bounded first, since a reading takes at
- * least 24 bytes for each key. On any status but DONE the sum is unchanged.
+ * with the least number among those that have the name. Any words may be passed; if you do not trust them, call povundiri_report_bounded
+ * first, since a reading takes at least 24 bytes for each key. On any status but DONE the sum is unchanged.
  * Statuses: NULL, EMPTY, OTHER_KIND; IMAGE_..: the header has this fault; IMAGE_NO_MEMORY, NO_MEMORY; TOO_MANY.
  * Keep: pointers; handles; turns; process. */
 POVUNDIRI_CHECKED
@@ -635,8 +635,8 @@ inline uint32_t povundiri_sums_add(struct povundiri_handle *sums, uint64_t numbe
 }
 
 /* Adds the sum in a text that povundiri_sums_totals or `persist_report report --totals` wrote. Any bytes may be passed. `line`, which may
- * be null, is the number of a line that is wrong, from 1, on BAD_TOTALS, and else 0. On any status but DONE the sum is unchanged. If the
- * text names segments and a fold, these names are not kept.
+ * be null, is the number of a line that is wrong, from 1, on BAD_TOTALS, and else 0. On any status but DONE the sum is unchanged.
+ * Segments or a fold that the text may name are not kept.
  * Statuses: NULL, EMPTY, OTHER_KIND; BAD_TOTALS: these are no totals; NO_MEMORY; TOO_MANY.
  * Keep: pointers; handles; turns; process. */
 POVUNDIRI_CHECKED

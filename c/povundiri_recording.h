@@ -132,7 +132,7 @@ enum povundiri_missed {
  * samples are missed, as NO_SPACE, and it is tried again, a second later at the earliest. On any other status *recording is unchanged, and
  * on NULL and NOT_EMPTY *began as well.
  *   POVUNDIRI_NULL (any but the options), POVUNDIRI_NOT_EMPTY (*recording), POVUNDIRI_NO_MEMORY, POVUNDIRI_OPEN_NO_MEMORY
- *   POVUNDIRI_OPEN_BAD_SHAPE   no segment has as many bytes as the options say
+ *   POVUNDIRI_OPEN_BAD_SHAPE   `bytes` of the options is too small or too large for a segment
  *   POVUNDIRI_SYSTEM           began->fault says what: EEXIST: the folder is neither empty nor a recording's (povundiri_folder.h), and nothing
  *                              is changed in it; ENOTDIR: it is no folder;
  *                              ENOENT: that which it would be in is not there; ENAMETOOLONG, EACCES, EROFS and others as the calls say

@@ -20,11 +20,12 @@ abbrev pub is_bad_spec : List ℕ → ℕ → ℕ → Bool
 is_bad_spec words page reference =
     not (has_spec words reference) || nat_lt page (counts_words (record_buckets words reference))
 
--- whether the counts of a record with buckets are bad: there is no block of counts, or a total is too large
+-- whether the counts of a record with buckets are bad: its counts reference is not 0 and names no block of counts for its buckets, or a
+-- total is too large
 abbrev pub is_bad_bucket_counts : List ℕ → SegmentHead → ℕ → Bool
 is_bad_bucket_counts words head reference = not (has_counts words head reference) || has_large (totals_of head.version words reference)
 
--- whether the counts of a record are bad: a sparse one has none, no single word and no single mark
+-- whether the counts of a record are bad: those of a sparse one are if it has a counts reference, a single word or a single mark
 abbrev pub is_bad_counts : List ℕ → SegmentHead → ℕ → Bool
 is_bad_counts words head reference =
     if is_sparse words reference then not (has_no_units words reference) else is_bad_bucket_counts words head reference

@@ -16,15 +16,15 @@ pub enum RecordFault {
     /// page.
     #[error("BadSpec")]
     BadSpec = 3,
-    /// The counts reference names no block of counts of that size, or a bucket's total passes 2^32 - 1; or a sparse
-    /// histogram has a counts reference, a single word or a single mark.
+    /// The counts reference is not 0 and names no block of counts of that size, or a bucket's total passes 2^32 - 1; or
+    /// a sparse histogram has a counts reference, a single word or a single mark.
     #[error("BadCounts")]
     BadCounts = 4,
     /// The single word has no valid form, or it is disabled while there are no counts.
     #[error("BadSingle")]
     BadSingle = 5,
-    /// There is a single mark while no bucket is or was packed, or a bucket's mark is above its total, in the packed
-    /// bucket also above 65,535.
+    /// There is a single mark while no bucket is or was packed, or a bucket's mark is above its total; for the packed
+    /// bucket of a segment of version 1, only if it is above 65,535 as well.
     #[error("BadMark")]
     BadMark = 6,
     /// The sum, the sum mark or their difference is beyond 2^31 * (2^32 - 1) in size.

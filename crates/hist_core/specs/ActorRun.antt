@@ -192,7 +192,7 @@ abbrev pub IsAdding : Dimensions → List Entry → AddCall → Actor → Type 0
 IsAdding shape pending add a =
     (known : MachineKnown) × IsGhostNoting pending known.name add.units (counted_entry known add ∷ []) (IsAdd shape known (alone add) add) a
 
--- a `batch` counts an entry for each item and one for its sum
+-- a `batch` counts an entry for each item, and one for its sum unless that is 0
 abbrev pub IsBatching : Dimensions → List Entry → BatchCall → Actor → Type 0
 IsBatching shape pending batch a =
     (known : MachineKnown) × IsGhostNoting pending known.name batch.cost (counted_entries known batch) (IsBatch shape known batch) a

@@ -53,8 +53,8 @@ counted_entry known add = record {
   amount = add.amount;
 }
 
--- What is around its entry in the call to which it belongs: the entries before it, which have ended, those after it, of which nothing is
--- counted, and the units that the call holds.
+-- What is around its entry in the call to which it belongs: the entries before it, which have ended, those after it, of which nothing was
+-- done, and the units that the call holds.
 pub record Amid : Type 0 where
   pub before : List EntryProgress
   pub behind : List Entry
@@ -230,8 +230,8 @@ serves_counted known add a (raises words) = (words ≡ block_words known) × Nee
 abbrev pub StaysOpen : Actor → Actor → Type 0
 StaysOpen a b = (b.units ≡ a.units) × (b.entries ≡ record a.entries { running = b.entries.running })
 
--- What a step says: it continues; its entry has ended; or the block that it needs is refused, and nothing is counted. Its actor may turn to
--- another entry or another call then.
+-- What a step says: it continues; its entry has ended; or the block that it needs is refused, and nothing of its entry was done. Its actor
+-- may turn to another entry or another call then.
 abbrev pub AddGives : Dimensions → Known → Amid → Add → AddStep → Actor → Actor → Type 0
 AddGives shape known amid new More a b = FrameOfAdd a b × StaysOpen a b × DoesOnly false false (serves_counted known new a) a b × IsAdd shape known amid new b
 AddGives shape known amid new Done a b = FrameOfAdd a b × StaysOpen a b × DoesOnly false false (serves_counted known new a) a b × IsFree b × EntryHasEnded known amid new b

@@ -40,7 +40,7 @@ units_among items = sum_by (λ item. item.units) items
 abbrev pub sum_entries : List ℕ → ℤ → List Entry
 sum_entries name sum = if int_eq sum (pos 0) then [] else sum_entry name sum ∷ []
 
--- its entries: that of each item, then that of its sum
+-- its entries: that of each item, then that of its sum unless that is 0
 abbrev pub counted_entries : Known → Batch → List Entry
 counted_entries known batch = map (counted_entry known) batch.items.items ++ sum_entries known.name batch.sum
 
@@ -64,7 +64,7 @@ ItemWaits shape known item = OpensWith shape known item item.stage
 
 -- ---- where it is
 
--- the entries around that of an item: those before it have ended, and of those after it and of the sum nothing is counted
+-- the entries around that of an item: those before it have ended, and of those after it and of that of the sum nothing was done
 abbrev pub amid_of : Known → Batch → List Add → List Add → Amid
 amid_of known batch done rest = record {
   before = map (ended_entry known) done;

@@ -142,16 +142,18 @@ HasOtherSpec name spec seen =
 abbrev pub SawNoName : List ℕ → Seen → Type 0
 SawNoName name seen = All (SawOtherName seen name) seen.chain × SawEnd seen
 
--- No record of a name is on the list, and the block for the record of the name and a spec is refused.
+-- the actor saw the list to its end, and no record of the name on it; and the block for the record of the name and a spec is refused
 abbrev pub LacksRecord : List ℕ → Spec → Refusal → Actor → Actor → Type 0
 LacksRecord name spec cause a b =
     SawNoName name b.seen × (letters : List ℕ) × AreNameWords name letters × making.IsCause cause (BLOCK_HEADER + length (payload_words name spec letters)) a b
 
--- why a `hist` of a name and a spec is refused: there is no record of the name and no block for one, or the first one has another spec
+-- why a `hist` of a name and a spec is refused: its actor saw no record of the name and got no block for one, or saw that the first one has
+-- another spec
 abbrev pub IsHistCause : List ℕ → Spec → Refusal → Actor → Actor → Type 0
 IsHistCause name spec cause a b = LacksRecord name spec cause a b ⊎ ((cause ≡ why.OtherSpec) × HasOtherSpec name spec b.seen)
 
--- what it may do: it makes the record of the name and the spec that it asks for, if its actor has seen that there is none of the name
+-- what it may do: it links the record of the name and the spec that it asks for; and if its actor has seen that there is none of the name,
+-- it raises the free pointer for the block of that record
 abbrev pub serves_asked : Hist → Actor → SharedEffect → Type 0
 serves_asked h a (links made) = made ≡ made_of h
 serves_asked h a (raises words) =

@@ -59,7 +59,7 @@ add_load add (adding.Allocating allocation) = load_of (alloc.next_event allocati
 add_load add (adding.Sampling s) = sampling_load s s.stage
 add_load add _ = None
 
--- the word of a record that is compared as number k, if k and the words of the name are below 2^60, as in every record
+-- the word of a record that is compared as number k, if k and the number of words of the name are below 2^60, as in every record
 abbrev pub compared_load : Hist → ℕ → Option ℕ
 compared_load hist k =
     if nat_lt k (2 ^ 60) && nat_lt hist.letters (2 ^ 60) then loads (hist.reference + compared_index hist.letters k) else None

@@ -143,7 +143,8 @@ LooksAnew (Walking LoadingFirst) a b = b.since ≡ (looking a).since
 LooksAnew stage a b = b.since ≡ a.since
 
 -- It has ended: what its actor saw of the histogram since it began is its answer, and the last of its actor's snapshots; the values of a
--- sparse histogram ascend, each with units. For the rest it leaves unchanged what every event does (`FrameOfStep`).
+-- sparse histogram ascend, each with units. Apart from its snapshots its actor has unchanged what every event leaves unchanged
+-- (`FrameOfStep`).
 pub record SnapshotHasEnded (known : Known) (snapshot_call : SnapshotCall) (sum : ℤ) (redundant : ℕ) (a b : Actor) : Type 0 where
   pub beside : FrameOfStep a (record b { deltas = a.deltas })
   pub answered : Answered

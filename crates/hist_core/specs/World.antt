@@ -83,12 +83,12 @@ named_by (Batch name items sum) = some name.items
 named_by (Hist name spec) = none
 named_by SetCorrupt = none
 
--- none of these known histograms has that name, if a name is given
+-- none of these known histograms has that name; false if no name is given
 abbrev pub lacks_name : List KnownHist → Option (List ℕ) → Bool
 lacks_name list none = false
 lacks_name list (some name) = not (list_any (λ known. bytes_eq known.name.items name) list)
 
--- an actor that is there knows no histogram of that name, if a name is given
+-- an actor that is there knows no histogram of that name; false if there is no such actor, or if no name is given
 abbrev pub lacks : Option ActorRun → Option (List ℕ) → Bool
 lacks none name = false
 lacks (some actor_run) name = lacks_name actor_run.known.items name

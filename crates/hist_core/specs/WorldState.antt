@@ -347,7 +347,7 @@ abbrev pub CountsItems : List (ℤ × ℕ) → ℤ → Option Running → Type 0
 CountsItems items sum (Some (Batch batch)) = (map sample_of batch.items.items ≡ items) × (batch.sum ≡ sum)
 CountsItems items sum running = ⊥
 
--- a `batch` counts one entry for each item, and one for its sum
+-- a `batch` counts one entry for each item, and one for its sum unless that is 0
 abbrev pub IsBatchBegun : ℕ → List ℕ → List (ℤ × ℕ) → ℤ → WorldState → WorldState → Type 0
 IsBatchBegun actor name items sum old new =
     IsCountBegun actor name (batch_cost items sum) (λ boundaries. batch_entries name boundaries items sum) (CountsItems items sum) old new

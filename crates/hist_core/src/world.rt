@@ -191,9 +191,9 @@ impl World {
     ///   with what the actor knows of the name: its reference, or `OtherSpec`.
     /// - An `Add` runs: its entry is pending, nothing of it has begun, and its units are out of the pool. Or it is
     ///   refused: `ZeroCount` if it has no units, `NoUnits` if it has more than the pool.
-    /// - A `Batch` runs in the same way, with an entry for each item and one for the sum, or is refused in the same
-    ///   way, with no item counted. It costs the units of its items, or the size of its sum divided by 2^31 and rounded
-    ///   up, if that is more. A batch of no items and sum 0 has ended, `Added`, and no other has.
+    /// - A `Batch` runs in the same way, with an entry for each item and one for the sum unless that is 0, or is
+    ///   refused in the same way, with no item counted. It costs the units of its items, or the size of its sum divided
+    ///   by 2^31 and rounded up, if that is more. A batch of no items and sum 0 has ended, `Added`, and no other has.
     /// - A `Delta` and a `Snapshot` run, with a histogram of the name that the actor knows. A snapshot has done no
     ///   event yet.
     /// - A `SetCorrupt` runs, and never returns at once.
@@ -251,10 +251,12 @@ impl World {
     ///   Nothing that an earlier call saw or set is a cause. `OtherSpec`: the actor has seen that the first record of
     ///   the name has another spec.
     /// - A `Hist` that is refused `Full` or `Corrupt` has seen the list to its end: the next of the last record that
-    ///   its actor has visited was the end of the list when the actor loaded it. No record of the list has the name.
+    ///   its actor has visited was the end of the list when the actor loaded it. None of the records that the actor has
+    ///   visited has the name.
     /// - A refused `Add`, or the next item of a refused `Batch`, needed its block. With buckets: its actor has seen a
     ///   single word that is not off and cannot take the units, and has loaded a counts reference that was 0. Sparse:
-    ///   its actor has seen the list to its end, and no record of it after the histogram's is a sample of the value.
+    ///   its actor has seen the list to its end, and of the records that it has visited there, none after the
+    ///   histogram's is a sample of the value.
     /// - A refused `Add` or `Batch` has moved no units of other calls. They are moved only after the actor has found
     ///   counts, and of its histogram, if that has buckets, the actor has found none.
     /// - `Flagged`: the actor has set the corrupt flag. Once it has, no event of it claims a block.

@@ -65,7 +65,8 @@ IsStrayBy old words shared =
 
 -- ---- cursors of one word
 
--- The words have a list, the records that cursors gave are a front of its chain, and the word that they share is at its end.
+-- The words have a list, the records that cursors gave are a front of its chain, and the word that they share is at the end of that
+-- front.
 pub record IsShared (words chain given : List ℕ) (shared : ℕ) : Type 0 where
   pub list : IsList words chain
   pub front : IsPrefix given chain
@@ -115,8 +116,8 @@ pub data AreSharing : Sharing → Type 0 where
       → IsStep (old.cursors id) old.words old.shared (cursors id) shared step → ((other : ℕ) → other ≢ id → cursors other ≡ old.cursors other)
       → AreSharing (record old { shared = shared; cursors = cursors; given = given_after old.given step })
 
--- What they gave is a front of the chain, each record once, and the word is at its end. None strays, and one that says that the
--- list ends says so when all of the chain was given.
+-- What they gave is a front of the chain, each record once, and the word is at the end of that front. None strays, and one that says
+-- that the list ends says so when all of the chain was given.
 pub record GivesFront (state : Sharing) : Type 0 where
   pub front : IsPrefix state.given state.chain
   pub once : (i j : ℕ) → i < j → j < length state.given → slice_index state.given i ≢ slice_index state.given j

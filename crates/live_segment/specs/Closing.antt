@@ -46,8 +46,8 @@ pub record IsTally (opener : Actor) (h : Histogram) : Type 0 where
   pub sum_mark : h.sum_mark ≡ taken_sum (taken_of opener) h.name
 
 -- No record is bad, and the list does not stop. The names are exactly those that the segment was opened with and those that a `hist`
--- returned, each once, with the spec of each answer. A flag is set if a call has set it; the full one also if the segment was opened with
--- it.
+-- returned, each once, with the spec of each answer. The corrupt flag is set exactly if a call has set it; the full one exactly if a call
+-- has set it or the segment was opened with it.
 pub record IsJoinedReading (setting : Setting) (opener : Actor) (reading : Reading) : Type 0 where
   pub lawful : HasNoFault reading
   pub answers : ReadsAnswers opener.answers.names reading

@@ -174,8 +174,8 @@ impl<'a> Recorder<'a> {
     /// the list after the last record that it has seen there, each of these records has another name, and no block
     /// could be claimed, as for [`Recorder::add`]. After a refusal it knows what it knew. Beyond that it has only seen
     /// more of the segment, claimed blocks, published a record or, unless it returned `Ok`, set the full flag. Each
-    /// rise of the free pointer that a refused call made wasted the rest of a page that is too short for the block that
-    /// it needs [answer].
+    /// rise of the free pointer that a call refused with `Corrupt` or `Full` made wasted the rest of a page that is too
+    /// short for the block that it needs [answer].
     ///
     /// On `Ok`, and on `OtherSpec`, it has claimed and published nothing; or it has claimed one block, of the words of
     /// the record or up to four more, and that is the one record that it published, of the name and the spec. It made
@@ -224,7 +224,7 @@ impl<'a> Recorder<'a> {
     /// happened. `Ok`: the one entry of the sample is at the end of the log, with the key of the value's bucket, or
     /// with the value if the histogram is sparse. The count was taken from the share and is spent for the histogram's
     /// name. `Corrupt` or `Full`: a block was needed for the sample and none could be claimed. Log and share are
-    /// unchanged then, and the recorder has come to no count, mark or redundant count. What its calls returned, took
+    /// unchanged then, and the recorder has seen no further count, mark or redundant count. What its calls returned, took
     /// and were given is unchanged in any case, and it has seen and done no less [answer].
     ///
     /// - A block was needed: with buckets, the call has loaded a single word that could not take the units and a counts
@@ -302,9 +302,9 @@ impl<'a> Recorder<'a> {
     /// [`Recorder::most_keys`] says [few].
     ///
     /// All deltas of all recorders together have then taken enough, in a kept state of the segment, in which the
-    /// recorder's seat has done and seen what it has: for each key at least what it had accepted before, or was
-    /// accepted before it was made, what it had seen in a single word, and each count that it had seen; in version 2 a
-    /// count and a single word together. One exception, in version 1: for the packed bucket, if the call found the
+    /// recorder's seat has done and seen what it has: for each key at least what was accepted before the call, by the
+    /// recorder or before it was made, what it had seen in a single word, and each count that it had seen; in version 2
+    /// a count and a single word together. One exception, in version 1: for the packed bucket, if the call found the
     /// single word off, at least each count that it had seen, and no more is promised [owed].
     ///
     /// It asks for memory for as many keys as the histogram may have, of 16 bytes each: its buckets, or its samples on
@@ -391,14 +391,15 @@ impl<'a> Recorder<'a> {
     /// The cursor is below the number that [`Segment::create`] was given.
     ///
     /// Some: a record within the segment, the next one on a chain after the place where the cursor was. That chain has
-    /// all that the recorder visited, and what each cursor gave it is there in the order in which it was given. None:
-    /// the call loaded the next of the record at which it had found the cursor, and that was the end of the list, where
-    /// a chain ends that has all that the recorder visited; a later call may return a record. Before that its exchanges
-    /// may have come too late [answer]. It was given that record by this cursor, or nothing [given].
+    /// each record that the recorder has seen on the list, made, been given, or seen as the tail or at a shared cursor,
+    /// and what each cursor gave it is there in the order in which it was given. None: the call loaded the next of the
+    /// block at which it had found the cursor, and that was the end of the list, where a chain ends that has all these
+    /// records too; a later call may return a record. Before that its exchanges may have come too late [answer]. It was
+    /// given that record by this cursor, or nothing [given].
     ///
     /// In a kept state of the segment, in which the recorder's seat has done and seen what it has, the cursor has given
-    /// all recorders together a front of the list, each record once, and is after it; and what it gave one of them is
-    /// there in that order. If the call returns None, this front is all of the list [shared].
+    /// all recorders together a front of the list, each record once, and is at the end of that front; and what it gave
+    /// one of them is in the order of the list. If the call returns None, this front is all of the list [shared].
     pub fn next_shared(&mut self, cursor: usize) -> Option<u64>
         requires { cursor < (view_of_recorder self.old).segment.cursors }
         ensures kept { self.new.segment ≡ self.old.segment }

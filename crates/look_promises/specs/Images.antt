@@ -61,8 +61,8 @@ looked_counts one two at place n c = record c {
   marks = slice_range one (place + BLOCK_HEADER + n) (place + BLOCK_HEADER + n + n);
 }
 
--- If a look takes a counts reference from a record that it follows, it has the counts block with these counts and marks, and otherwise as
--- it is at the last moment.
+-- If a look takes a counts reference from a record that it follows, it has the counts block with these counts and marks; all else of that
+-- block is as it is at the last moment.
 abbrev pub LooksShowCounts : Type 0
 LooksShowCounts = (shape : Dimensions) (opened : Anatomy) (at : ℕ → State) (first last : ℕ) (moments : Moments) (one two three image : List ℕ)
     → RunsThrough shape opened at → AreLoaded shape at first last moments one two three
@@ -182,8 +182,8 @@ units_looked two at place n = sum_by (total_looked two at place n) (range_with_l
 abbrev pub units_in_words : List ℕ → ℕ → ℕ → ℕ
 units_in_words words at n = sum_by (total_of VERSION_FROZEN words at) (range_with_len 0 n)
 
--- If the units that a look has of a record are no more than those that the record had at a moment before the second copy, each total of the
--- look is the one of that moment.
+-- If the units that a look has of a record are no more than those that the record had at a moment that is no later than any load of the
+-- second copy, each total of the look is the one of that moment.
 abbrev pub LooksAreOfOneMoment : Type 0
 LooksAreOfOneMoment = (shape : Dimensions) (opened : Anatomy) (at : ℕ → State) (first last moment : ℕ) (moments : Moments) (one two three : List ℕ)
     → RunsThrough shape opened at → AreLoaded shape at first last moments one two three
@@ -195,8 +195,8 @@ LooksAreOfOneMoment = (shape : Dimensions) (opened : Anatomy) (at : ℕ → Stat
 
 -- ---- two looks
 
--- A look whose second copy was loaded after another's has no total of a bucket, and no count of a sample, below that of the other look.
--- Their other copies may have been loaded at the same time.
+-- A look whose second copy was loaded no earlier than another's has no total of a bucket, and no count of a sample, below that of the other
+-- look. Their other copies may have been loaded in any order.
 abbrev pub LooksRise : Type 0
 LooksRise = (shape : Dimensions) (opened : Anatomy) (at : ℕ → State) (first other last : ℕ) (moments later : Moments) (one two three four five six : List ℕ)
     → RunsThrough shape opened at → AreLoaded shape at first last moments one two three → AreLoaded shape at other last later four five six

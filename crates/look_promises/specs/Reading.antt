@@ -48,8 +48,8 @@ LooksAreAdoptable = (shape : Dimensions) (opened : Anatomy) (at : ℕ → State)
     → IsLook (head_loaded shape opened at moments.three) one two three image → (head_loaded shape opened at moments.three).corrupt ≡ false
     → IsListed image (head_of image) references → IsAdoptable image references (reading_along image (head_of image) references)
 
--- If one look's second copy was loaded after another's, the later look reads as all histograms of the earlier one, and for each key it has
--- no fewer units.
+-- If one look's second copy was loaded no earlier than another's, the later look reads as all histograms of the earlier one, and for each
+-- key it has no fewer units.
 abbrev pub ReadingsRise : Type 0
 ReadingsRise = (shape : Dimensions) (opened : Anatomy) (at : ℕ → State) (first other last : ℕ) (moments later : Moments) (one two three four five six image next : List ℕ)
     (reading beyond : Reading) (g : Histogram)

@@ -149,8 +149,8 @@ pub fn looks_count_values()
     ensures { LooksCountValues }
 {}
 
-/// If all the units that a look takes from a record are no more than those that the record had at a moment before the
-/// second copy, each total that it takes is the one of that moment.
+/// If all the units that a look takes from a record are no more than those that the record had at a moment no later
+/// than any load of the second copy, each total that it takes is the one of that moment.
 ///
 /// No total is less than it was then, so none can be more. A redundant count is such a sum of units, loaded as one
 /// word, in the first copy.
@@ -158,9 +158,9 @@ pub fn looks_are_of_one_moment()
     ensures { LooksAreOfOneMoment }
 {}
 
-/// If one look's second copy was loaded after another's, the later look has no total of a bucket, and no count of a
-/// sample, below that of the earlier one. So the difference of the two is what was counted between them, and is never
-/// negative.
+/// If one look's second copy was loaded no earlier than another's, the later look has no total of a bucket, and no
+/// count of a sample, below that of the earlier one. So the difference of the two is what was counted between them, and
+/// is never negative.
 ///
 /// Nothing is required of the other copies: two looks may be taken at the same time.
 pub fn looks_rise()
@@ -245,9 +245,9 @@ pub fn looks_are_adoptable()
     ensures { LooksAreAdoptable }
 {}
 
-/// If one look's second copy was loaded after another's, the later look reads as all histograms of the earlier one, and
-/// for each key it has no fewer units. So the difference of the two readings is what was counted between them, and is
-/// never negative.
+/// If one look's second copy was loaded no earlier than another's, the later look reads as all histograms of the
+/// earlier one, and for each key it has no fewer units. So the difference of the two readings is what was counted
+/// between them, and is never negative.
 ///
 /// Nothing is required of the other copies: two looks may be taken at the same time.
 pub fn readings_rise()

@@ -102,7 +102,7 @@ impl Handle {
     }
 
     /// Calls the recorder that it holds, which stays where it is. A handle that holds nothing returns `empty`, and one
-    /// that holds a segment `other`: it is unchanged.
+    /// that holds anything else `other`: it is unchanged.
     pub(crate) fn call_recorder<B, F: FnOnce(&mut JoinableRecorder) -> B>(
         &mut self,
         empty: B,

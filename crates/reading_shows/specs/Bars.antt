@@ -1,10 +1,11 @@
--- The bar of a bucket. Its length is proportional to the units, and the bucket with the most units has the longest bar.
+-- The bar of a bucket. Its length is proportional to the height of the bucket, which is its units or their logarithm; the highest bucket
+-- has the longest bar.
 use Rattle.std.specs.Prelude.{Bool, ℕ, ◌+◌, ◌-◌, ◌*◌, ◌/◌, ◌%◌, if◌then◌else◌, ◌==◌, min, List, [], ◌∷◌, ◌++◌, codes}
 use Rattle.reading_shows.specs.Columns.{times}
 use Rattle.reading_shows.specs.Shares.{share_of}
 
--- how many of `marks` marks the bar of a number of units has, rounded up: at least one if there are units, and all of them if no bucket
--- has more units
+-- how many of `marks` marks the bar of a number of units, or of their logarithm, has, rounded up: none for 0; else at least one, and all of
+-- them if no bucket has more
 abbrev pub marks_of : ℕ → ℕ → ℕ → ℕ
 marks_of units most marks = min (share_of units most marks (most - 1)) marks
 

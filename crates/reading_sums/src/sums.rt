@@ -231,8 +231,8 @@ impl Sums {
         }
     }
 
-    /// Returns the sum as a reading: for each name the histogram whose image has the least number, the first of equal
-    /// ones, in the order of the names, each with its index as reference [shown]. The names of a well-formed sum
+    /// Returns the sum as a reading: for each name the histogram whose least image number is the least, the first of
+    /// equal ones, in the order of the names, each with its index as reference [shown]. The names of a well-formed sum
     /// ascend, so each is there once [names], and its histograms are readable [readable]. The reading is full or
     /// corrupt if some image is [full] [corrupt], and has no id, no bad records and no stop [rest].
     pub fn reading(&self, alloc: Global) -> Result<Reading, AllocError>

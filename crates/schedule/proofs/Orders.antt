@@ -36,6 +36,7 @@ pub first_bad : (first : List (List ℕ)) (later : List (List (List ℕ))) (open
 first_bad first later opening orders i within opened so_far none = record {
   place = suc i;
   number_is = omega arith;
+  there = inl (omega arith);
   bad = none;
   first = before;
 }

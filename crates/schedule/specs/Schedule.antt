@@ -1,5 +1,5 @@
 -- What the bytes of a schedule mean, or their first fault.
-use Rattle.std.specs.Prelude.{◌≡◌, ⊤, ℕ, zero, suc, ◌+◌, ◌<◌, ◌≤◌, List, ◌∷◌, length, map, slice_index_or, [], Some, None}
+use Rattle.std.specs.Prelude.{◌≡◌, ◌⊎◌, ⊤, ℕ, zero, suc, ◌+◌, ◌<◌, ◌≤◌, List, ◌∷◌, length, map, slice_index_or, [], Some, None}
 use Rattle.csv.specs.Reading.{records, default_config, strip_bom}
 use Rattle.schedule.specs.declared.fault.ScheduleFault.{ScheduleFault}
 use Rattle.schedule.specs.declared.fault.ScheduleFault.TheVariants.{Read, TooLong, NoMemory, BadLine}
@@ -29,6 +29,7 @@ IsBadAt rows (suc before) = order_in (slice_index_or rows (suc before) []) ≡ N
 pub record IsFirstBad (rows : List (List (List ℕ))) (number : ℕ) : Type 0 where
   pub place : ℕ
   pub number_is : number ≡ place + 1
+  pub there : (place < length rows) ⊎ ((rows ≡ []) × (number ≡ 1))
   pub bad : IsBadAt rows place
   pub first : (earlier : ℕ) → earlier < place → ¬ (IsBadAt rows earlier)
 

@@ -468,8 +468,8 @@ abbrev pub is_beaten : Place → Bool
 is_beaten (Beaten tail behind) = true
 is_beaten _ = false
 
--- The list is ahead of what came too late: the tail comes after at least one record for each link of an actor that did, unless the actor is
--- still to move it on; and each shared cursor comes after at least one for each exchange that did.
+-- The list is ahead of what came too late: up to the tail, with the record there, the list has at least one record for each link of an
+-- actor that did, unless the actor is still to move it on; and so it has up to each shared cursor for each exchange that did.
 pub record IsAhead (chain : List ℕ) (present : ℕ) (cursors : List ℕ) (place : Place) (beaten : ℕ) (lost : List ℕ) : Type 0 where
   pub links : is_beaten place ≡ false → IsReachedAt chain beaten present
   pub many : length lost ≡ length cursors

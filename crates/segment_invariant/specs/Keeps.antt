@@ -168,7 +168,7 @@ abbrev pub KeptIsChain : Type 0
 KeptIsChain = (shape : Dimensions) (opened : Anatomy) (state : State) → IsOpening shape opened → (kept : Invariant shape opened state)
     → ListIsChain (opening_of shape opened).words (opening_of shape opened).claims state.words state.cursors state.actors (order_of kept.anatomy)
 
--- its flags are set if they were set at the opening, or somebody has set them
+-- its flags are set exactly if they were set at the opening, or somebody has set them
 abbrev pub KeptFlagsAreSet : Type 0
 KeptFlagsAreSet = (shape : Dimensions) (opened : Anatomy) (state : State) → Invariant shape opened state
     → FlagsAreSet (opening_of shape opened).words state.words state.actors

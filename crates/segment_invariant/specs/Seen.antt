@@ -123,7 +123,7 @@ abbrev pub IsNoLater : List ℕ → ℕ → ℕ → Type 0
 IsNoLater chain seen present =
     (i j : ℕ) × (i ≤ j) × (j ≤ length chain) × (slice_index (stops chain) i ≡ seen) × (slice_index (stops chain) j ≡ present)
 
--- a place is reached after this many records of the list, or later
+-- a place that has at least this many records of the list up to it, itself among them
 abbrev pub IsReachedAt : List ℕ → ℕ → ℕ → Type 0
 IsReachedAt chain least at = (k : ℕ) × (least ≤ k) × (k ≤ length chain) × (slice_index (stops chain) k ≡ at)
 

@@ -65,7 +65,8 @@ abbrev pub has_room : SegmentHead → ℕ → ℕ → Bool
 has_room head counts n =
     nat_le n MAX_BUCKETS && ((counts == 0) || (nat_le HEADER_WORDS counts && nat_le (counts + counts_words n) head.free))
 
--- the patches of a histogram's record: none if it or its counts do not lie below the free pointer, or if it has too many buckets
+-- the patches of a histogram's record: none if it does not lie below the free pointer, if its counts do not lie after the header and below
+-- it, or if it has too many buckets
 abbrev pub histogram_patches : SegmentHead → List ℕ → List ℕ → List ℕ → ℕ → List Patch
 histogram_patches head one two three at =
     if nat_le (at + HISTOGRAM_LEAST) head.free && has_room head (counts_reference two three at) (field_at three at HISTOGRAM_BUCKETS)

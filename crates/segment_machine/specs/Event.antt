@@ -51,8 +51,8 @@ change version event found = change_of (operation 0 version event) found
 abbrev pub after : ℕ → ℕ → Event → List ℕ → List ℕ
 after size version event words = slice_set words (spot size event) (change version event (word_at words (spot size event)))
 
--- when an actor may do it. Loads may come in any order, but what it stores depends on what it has loaded and stored before: so the events
--- of each call that change a word come in the order that the format gives them
+-- when an actor may do it. Most loads may come in any order, but what it stores depends on what it has loaded and stored before: so the
+-- events of each call that change a word come in the order that the format gives them
 abbrev pub Ready : Actor → Event → Type 0
 Ready a (allocating_event event) = allocating.Ready a event
 Ready a (publishing_event event) = publishing.Ready a event

@@ -203,7 +203,7 @@ abbrev pub SingleMarksApart : Type 0
 SingleMarksApart =
     Ready (loaded 1 2) (taking_event (raise_single_mark 16 2)) × (¬ (Ready (loaded 1 2) (taking_event (raise_mark 40 2))))
 
--- a mark is not loaded as if it were a count, and no event of a taker stores a word or exchanges one
+-- a mark is not loaded as if it were a count, and no event of a taker stores a word, or exchanges one if it is as expected
 abbrev pub MarksRise : Type 0
 MarksRise =
     (¬ (Ready (loaded 0 3) (taking_event (load_count 39))))

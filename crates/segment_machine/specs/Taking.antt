@@ -151,7 +151,7 @@ next a (load_redundant histogram) found = record a { seen = record a.seen { coun
 abbrev pub IsSumWithin : ℕ → Type 0
 IsSumWithin found = unsigned_abs (cast_signed w64 found) ≤ 2147483648 * 4294967295
 
--- a later sample of a value, which the actor visited and which counts nothing
+-- a later sample of a value, which the actor visited
 abbrev pub IsLaterSample : Actor → ℕ → Type 0
 IsLaterSample a sample =
     (known : Known) × (value : ℤ) × (first : ℕ) × Sparse a known.reference known × Contains a.seen.chain sample

@@ -62,8 +62,8 @@ struct Part {
 /// It records into the same segment [kept], and each histogram that it knew it knows at the same place [same].
 ///
 /// The only error is `NoMemory`, if memory runs out for the report: the recorder is then unchanged [answer]. It asks
-/// for 120 bytes for each histogram, for its name twice, and for eight bytes for each of its keys; then for what the `hist`
-/// of each asks for.
+/// for 120 bytes for each histogram, for its name twice, and for eight bytes for each of its keys; then for what the
+/// `hist` of each asks for.
 pub fn merge(
     alloc: Global,
     recorder: &mut Recorder,

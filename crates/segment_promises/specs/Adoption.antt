@@ -24,7 +24,8 @@ use Rattle.segment_machine.specs.declared.actor.Role.TheVariants.{Opener}
 
 -- ---- the opener
 
--- the entries that a histogram of an image stands for: one of no amount for each key that has units, and one of no units for its sum
+-- the entries that a histogram of an image stands for: one of no amount for each key that has units, and one of no units for its sum,
+-- unless that is 0
 abbrev pub first_entries : Histogram → List Entry
 first_entries h =
     map (λ count. record { name = h.name; key = count.0; units = count.1; amount = pos 0 }) (filter (λ count. not (count.1 == 0)) h.counts)

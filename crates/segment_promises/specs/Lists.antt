@@ -109,7 +109,7 @@ CursorsGiveFronts = (shape : Dimensions) (opened : Anatomy) (state : State) (cha
     → (place : ℕ) × (place ≤ length chain) × (slice_index (stops chain) place ≡ slice_index state.cursors cursor)
     × IsPermutation (all_given state.actors cursor) (take place chain)
 
--- a shared cursor returns None only if it found the end of the list after the record that it loaded; then all that its caller had made,
+-- a shared cursor returns None only if it found the end of the list after the block that it loaded; then all that its caller had made,
 -- been given or seen was given
 abbrev pub CursorsGiveAll : Type 0
 CursorsGiveAll = (shape : Dimensions) (opened : Anatomy) (state : State) → Invariant shape opened state

@@ -88,8 +88,8 @@ pub record ReadsAmounts (opened : Anatomy) (state : State) (h : Histogram) : Typ
   pub marks : (key : ℤ) → mark_read h key ≡ taken_units (all_taken state.actors) h.name key
   pub sum_mark : h.sum_mark ≡ taken_sum (all_taken state.actors) h.name
 
--- the id is the opening's, and each flag is read if it was set at the opening or an actor has set it; so the corrupt one is read if an
--- actor has seen it
+-- the id is the opening's, and each flag is read exactly if it was set at the opening or an actor has set it; so the corrupt one is read if
+-- an actor has seen it
 pub record ReadsHead (opened : Anatomy) (state : State) (reading : Reading) : Type 0 where
   pub id : reading.id ≡ opened.id
   pub corrupt : IsSetBy reading.corrupt opened.corrupt (map (λ a. a.done.spoiled) state.actors)
@@ -123,7 +123,7 @@ pub record ReadsLog (opened : Anatomy) (a : Actor) (h : Histogram) : Type 0 wher
   pub sum_mark : h.sum_mark ≡ taken_sum (taken_of a) h.name
 
 -- Once all recorders are joined, the words read as exactly the histograms that `hist` returned, with the counts and the sum that one thread
--- records of the accepted samples; and each flag is read if it was set at the opening or a call set it.
+-- records of the accepted samples; and each flag is read exactly if it was set at the opening or a call set it.
 abbrev pub JoinedReads : Type 0
 JoinedReads = (shape : Dimensions) (opened : Anatomy) (state : State) (a : Actor) (reading : Reading) → Invariant shape opened state
     → IsJoined state a → IsReading state.words (head_of state.words) reading

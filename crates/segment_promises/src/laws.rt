@@ -118,8 +118,8 @@ pub fn words_read()
 /// For any kept state: whenever everything stops, the words read as exactly the published histograms, with all units
 /// except those in transit.
 ///
-/// - No record is bad, and the list does not stop. The id is the opening's. A flag is read if the opening had it or
-///   an actor has set it; so the corrupt one is read if an actor has seen it.
+/// - No record is bad, and the list does not stop. The id is the opening's. A flag is read exactly if the opening had
+///   it or an actor has set it; so the corrupt one is read if an actor has seen it.
 /// - For each name on the list exactly one histogram is read: the first record, with the spec that its maker was
 ///   given.
 /// - For each key the units are those that were counted, less those in transit. So a bucket holds every unit of ended
@@ -134,8 +134,8 @@ pub fn stopped_reads()
 /// once, with its spec.
 ///
 /// Units and sum are the tally of the opener's log: what one thread records of the accepted samples. The redundant
-/// count is that of the opening plus the units noted since. Marks and sum mark are what was taken. A flag is read if
-/// the opening had it or an actor has set it.
+/// count is that of the opening plus the units noted since. Marks and sum mark are what was taken. A flag is read
+/// exactly if the opening had it or an actor has set it.
 pub fn joined_reads()
     ensures { JoinedReads }
 {}
@@ -184,7 +184,8 @@ pub fn chains_are_links()
     ensures { ChainsAreLinks }
 {}
 
-/// A walk along the list gives the front of the chain; at its end it has given all that its caller had made or seen.
+/// A walk along the list gives the front of the chain; at its end it has given all that its caller had made, been given
+/// or seen.
 pub fn walks_give_all()
     ensures { WalksGiveAll }
 {}
@@ -199,7 +200,7 @@ pub fn cursors_give_fronts()
     ensures { CursorsGiveFronts }
 {}
 
-/// A shared cursor returns None only once all that its caller had made or seen was given.
+/// A shared cursor returns None only once all that its caller had made, been given or seen was given.
 pub fn cursors_give_all()
     ensures { CursorsGiveAll }
 {}
@@ -245,9 +246,9 @@ pub fn kept_are_adoptable()
 /// An image that has none of the faults of adoption opens a kept segment, with any number of shared cursors.
 ///
 /// Its records are those on the image's list. Its opener has one first entry for each key that has units, and one for
-/// each sum. The marks and sum marks count as taken before the opening, and its pool has all units except those that
-/// the image has used. So all that holds of a kept state holds of each state that is reached from there. Such a state
-/// is consistent, with the image's words as its opening.
+/// each sum that is not 0. The marks and sum marks count as taken before the opening, and its pool has all units except
+/// those that the image has used. So all that holds of a kept state holds of each state that is reached from there.
+/// Such a state is consistent, with the image's words as its opening.
 pub fn adoption_opens()
     ensures { AdoptionOpens }
 {}

@@ -51,8 +51,8 @@ IsWhole a known key =
     → packed_bucket (single_of a.segment.version (buckets_of known.spec) word) ≡ Some bucket → bucket_key (Some known) bucket ≢ key)
 
 -- Units of each key are enough for a recorder, by what it had before a call and what it has after it. For a whole key they are at least
--- what it had accepted, or what was accepted before it was made, and what it had seen in a single word. For any key they are at least each
--- count that it had seen; in version 2 with what it had seen in a single word.
+-- what was accepted, by the recorder or before it was made, and at least what it had seen in a single word. For any key they are at least
+-- each count that it had seen; in version 2 with what it had seen in a single word.
 pub record IsEnough (known : Known) (old new : Actor) (units : ℤ → ℕ) : Type 0 where
   pub accepted : (key : ℤ) → IsWhole new known key → tally_units (accepted_by old) known.name key ≤ units key
   pub packed : (bucket n : ℕ) → bucket < buckets_of known.spec → IsWhole new known (bucket_key (Some known) bucket) → HadPacked old known bucket n

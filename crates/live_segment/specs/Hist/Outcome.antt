@@ -46,7 +46,7 @@ IsHistRefusal asked why old new =
     All (SawOtherName new.seen asked.name.items) new.seen.chain × SawAllOfList old.seen new.seen
     × HasNoRoom why (BLOCK_HEADER + length asked.payload.items) old new
 
--- what it owes then: the answer of a record that it made, only if the cause is another spec
+-- what it owes then: if the cause is another spec, at most the answer of one record that it made; else none
 abbrev pub OwesAs : Asked → Refusal → Actor → Type 0
 OwesAs asked OtherSpec a = Owes asked a
 OwesAs asked why a = a.answers.owed ≡ []

@@ -44,8 +44,8 @@ LoadsType word me found me' =
     DoesAt (λ at. walking_event (load_published at BLOCK_TYPE)) word me found me' × SamplesStandBehind me.0 × NoRepeats me.0.seen.chain
 
 -- The records of the list are these, in its order, each once and within the segment: first those that the recorder had seen there, and
--- among them all that it had seen elsewhere. It has seen them now, and that the list ended after the last of them; a cursor that it had
--- loaded may be let go, and all else is unchanged.
+-- among them all that it had made, been given, or seen as the tail or at a shared cursor. It has seen them now, and that the list ended
+-- after the last of them; a cursor that it had loaded may be let go, and all else is unchanged.
 pub record HasWalked (old : Actor) (given : List ℕ) (new : Actor) : Type 0 where
   pub view : new ≡ record old {
     hand = record old.hand { place = new.hand.place };

@@ -192,7 +192,7 @@ pub extern "C" fn povundiri_proved_close(
     }
 }
 
-/// Gives up a segment or a recorder: its handle is empty then, and `none` is put in its place. 4 if `none` holds
+/// Gives up a segment, a recorder or a sum: its handle is empty then, and `none` is put in its place. 4 if `none` holds
 /// something [full], 3 if the handle holds nothing [empty], and all is unchanged; else 0, and it holds nothing
 /// from then on [done].
 #[unsafe(no_mangle)]

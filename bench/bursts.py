@@ -1,5 +1,5 @@
-"""Programs that record bursts of samples: built, and run by turns. Each takes FORM SHARING THREADS BURSTS (record.cpp)
-and prints picoseconds."""
+"""Builds programs that record bursts of samples, and runs them by turns. Each takes FORM SHARING THREADS BURSTS
+(record.cpp) and prints picoseconds."""
 
 from __future__ import annotations
 
@@ -21,14 +21,14 @@ Words = list[Path]
 
 
 def compiled(folder: Path, name: str, *words: str) -> Words:
-    """The program of a source here, which lies in the folder then."""
+    """The program of a source in this folder, compiled into `folder`."""
     program = pathlib.Path(folder) / name
     subprocess.run(["c++", "-std=c++17", "-O2", "-pthread", "-o", program, HERE / f"{name}.cpp", *words], check=True)
     return [program]
 
 
 def nanoseconds(program: Words, run: Sequence[object], bursts: int, processor: int | None = None) -> float:
-    """The nanoseconds a sample of one turn, on any processors or on one."""
+    """The nanoseconds per sample in one turn, on any processors or on one."""
     place = [] if processor is None else ["taskset", "--cpu-list", str(processor)]
     words = [*place, *program, *map(str, run), str(bursts)]
     return int(subprocess.run(words, check=True, capture_output=True, text=True).stdout.splitlines()[-1]) / 1000
@@ -37,8 +37,8 @@ def nanoseconds(program: Words, run: Sequence[object], bursts: int, processor: i
 def least_by_turns(
     programs: Sequence[Words], run: Sequence[object], options: argparse.Namespace, threads: int
 ) -> list[float]:
-    """The least nanoseconds a sample of each program. One thread has as many turns on each processor: where others
-    share the machine, one processor can be slower by a third than the next, for seconds."""
+    """The least nanoseconds per sample of each program. A single thread has `turns` turns on each processor: if others
+    use the machine too, one processor can be a third slower than the next, for seconds."""
     processors: list[int | None] = [None] if threads > 1 else [*sorted(os.sched_getaffinity(0))]
     least = [float("inf")] * len(programs)
     for processor in processors * options.turns:

@@ -47,7 +47,7 @@ Worker worker_of(povundiri::Segment& segment, const Options& options, std::size_
     return worker;
 }
 
-// Values in no order, of one that fits each bucket to one beyond the greatest.
+// Unsorted values: for packed samples one value, else values of all buckets, some beyond the greatest.
 std::vector<std::int32_t> values_of(bool packed) {
     std::vector<std::int32_t> values;
     std::uint32_t state = 1;
@@ -58,7 +58,7 @@ std::vector<std::int32_t> values_of(bool packed) {
     return values;
 }
 
-// The worker is the thread's own, and so is its handle: beside the handle of another it would share a line of the cache with that.
+// Each thread takes its worker, and so its handle, by value: handles next to each other would share a cache line.
 void record(Worker worker, std::size_t samples, const std::vector<std::int32_t>& values) {
     for (const povundiri::Hist histogram : worker.histograms) {
         for (std::size_t i = 0; i < samples; ++i) {
@@ -67,7 +67,7 @@ void record(Worker worker, std::size_t samples, const std::vector<std::int32_t>&
     }
 }
 
-// Picoseconds for each sample of a thread.
+// Picoseconds per sample of a thread.
 double burst(const Options& options, const std::vector<std::int32_t>& values) {
     povundiri::Segment segment(povundiri::shape(65'536, 4096));
     std::vector<Worker> workers;

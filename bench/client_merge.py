@@ -3,7 +3,7 @@
 
     client_merge.py FOLDER FILES HISTOGRAMS BUCKETS
 
-FOLDER/client gets so many files of so many histograms first, as a process each would leave them.
+It first fills FOLDER/client with FILES files of HISTOGRAMS histograms each, as that many processes would leave them.
 """
 
 from __future__ import annotations
@@ -33,7 +33,7 @@ def fill(path: pathlib.Path, keys: Sequence[str], seed: int) -> None:
 
 
 def extra_values() -> int:
-    """How many more numbers than a value this version of the client writes."""
+    """How many numbers this version of the client writes beside a value."""
     return MmapedDict.write_value.__code__.co_argcount - 3
 
 

@@ -10,9 +10,10 @@ crate, in which the last column is the most memory that its checks had at a time
 check of all of it.
 
 The processes of 'rt ci' are looked at twice a second; what ended between two looks is reported as being in no line of
-the table. The status is 1 where a step failed. Run it on a clean clone, on a machine that does nothing else.
+the table. The status is 1 if a step failed. Run it on a clean clone, on a machine that does nothing else.
 
-With --proofs it runs 'rt ci' alone, and writes what that took to FILE. So each run of .ci/run says what it takes.
+With --proofs it runs 'rt ci' alone, and writes what that took to FILE. This is how each run of .ci/run reports what it
+takes.
 """
 
 from __future__ import annotations
@@ -165,7 +166,7 @@ def watched(words: Sequence[str], costs: Costs) -> int:
     """The status of a command whose processes are looked at."""
     running = subprocess.Popen(words, cwd=ROOT, stdin=subprocess.DEVNULL)
     while running.poll() is None:
-        # What ends meanwhile is not there any more.
+        # A process that ends meanwhile is not there any more.
         with contextlib.suppress(OSError, ValueError, IndexError):
             costs.look(running.pid)
         time.sleep(SECONDS_BETWEEN)
@@ -173,7 +174,7 @@ def watched(words: Sequence[str], costs: Costs) -> int:
 
 
 def taken(start: float, before: float) -> str:
-    """What was taken since a moment, at which that much had been."""
+    """What was taken since the moment `start`, when processes had taken `before` minutes."""
     by_clock = (time.monotonic() - start) / 60
     return f"{processor_minutes() - before:.1f} minutes of processor time, {by_clock:.1f} by the clock"
 

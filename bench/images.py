@@ -56,7 +56,7 @@ class Segment(layout.Words):
         return at
 
     def publish_all(self, references: Iterable[int], is_scattered: bool) -> list[int]:
-        """Publishes blocks as they come, or in no order; returns them in the order of the list."""
+        """Publishes blocks as they come, or shuffled; returns them in the order of the list."""
         listed = list(references)
         if is_scattered:
             random.Random(7).shuffle(listed)
@@ -66,8 +66,8 @@ class Segment(layout.Words):
 
 
 def adoptable(data: bytes) -> bytes:
-    """The bytes of a valid image as one of version 2, which may be adopted: a single word that is disabled, and in
-    which nothing was packed, has another form there."""
+    """The bytes of a valid image as one of version 2, which may be adopted: there a single word that was disabled
+    before anything was packed has another form."""
     words = layout.words_of(data)
     words[1] = 2
     for at, word in enumerate(words):
@@ -117,7 +117,7 @@ def boolean_histograms(size: int, names: Iterable[str], is_scattered: bool = Fal
 
 
 def boolean(size: int) -> Image:
-    """Boolean histograms of 16 words, each with a packed bucket, whose names stand in no order."""
+    """Boolean histograms of 16 words, each with a packed bucket, with unsorted names."""
     return boolean_histograms(size, names_of(size // 16))
 
 
@@ -132,7 +132,7 @@ def alike(size: int) -> Image:
 
 
 def sparse_samples(size: int, is_scattered: bool) -> Image:
-    """One sparse histogram and as many samples as fit, whose values stand in no order."""
+    """One sparse histogram and as many samples as fit, with unsorted values."""
     segment = Segment(size)
     chance = random.Random(2)
     record = segment.first_block(16, HISTOGRAM)
@@ -155,7 +155,7 @@ def sparse_samples(size: int, is_scattered: bool) -> Image:
 
 
 def sparse(size: int) -> Image:
-    """One sparse histogram and as many samples as fit, whose values stand in no order."""
+    """One sparse histogram and as many samples as fit, with unsorted values."""
     return sparse_samples(size, is_scattered=False)
 
 
@@ -249,7 +249,7 @@ def shared(size: int) -> Image:
 
 
 def refused(size: int) -> Image:
-    """Records as those of `shared`, each bad by the mark of its last bucket, which is looked at last."""
+    """Records as those of `shared`, each bad because of the mark of its last bucket, which is checked last."""
     data, _, references = overlapping_records(size, 1)
     report = lambda: ["".join(f"!bad,{at},BadMark\n" for at in references).encode()]
     return Image(data, report, 0, f"{len(references):,} bad records")

@@ -45,7 +45,7 @@ povundiri::Hist histogram(povundiri::Recorder& recorder, std::size_t number) {
     return hist;
 }
 
-// Picoseconds for each sample of a thread, beside one that looks or not.
+// Picoseconds per sample of a thread, with or without another thread that looks.
 double samples(std::size_t threads, bool looks) {
     static const std::vector<std::int32_t> kinds = values();
     povundiri::Segment segment(povundiri::shape_for(64 << 10));

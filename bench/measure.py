@@ -47,7 +47,7 @@ def summary(pieces: Iterable[bytes]) -> tuple[int, int]:
 
 
 def answered(program: pathlib.Path, path: pathlib.Path, gibibytes: float) -> Answer:
-    """What the program returns to 'report PATH' with so much memory."""
+    """What the program returns to 'report PATH' with at most this much memory."""
     command: list[str | pathlib.Path] = [sys.executable, HERE / "peak.py", str(gibibytes), program, "report", path]
     with subprocess.Popen(command, stdout=subprocess.PIPE, stderr=subprocess.PIPE) as running:
         assert running.stdout is not None and running.stderr is not None

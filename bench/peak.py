@@ -3,9 +3,9 @@
 
     peak.py GIB COMMAND WORD..
 
-The streams are the command's. Behind all that the command writes on the error stream there is one more line, with its
-status (of a signal, the number with a minus; after ten minutes it is killed) and the most memory that it had, in
-KiB. It is a program of its own since a command seems to have had at least the memory of the process that started it.
+The streams are the command's. After all that the command writes to the error stream comes one more line, with its
+status (of a signal, the number with a minus; after ten minutes it is killed) and the most memory that it had, in KiB.
+This is a program of its own since a command is reported to have had at least the memory of the process that started it.
 """
 
 from __future__ import annotations

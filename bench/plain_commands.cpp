@@ -49,7 +49,7 @@ File open(const char* path, const char* mode, const char* fault) {
     return file;
 }
 
-// The records of a script, whose fields stand in its own bytes: what is in quotes is moved together there.
+// The records of a script. Their fields are parts of the script's own bytes: a field in quotes is unquoted in place.
 class Records {
 public:
     explicit Records(std::string& text) : at_(text.data()), end_(text.data() + text.size()) {
@@ -234,7 +234,7 @@ struct Stop {
     Fault why = nullptr;
 };
 
-// Makes the calls of a worker, each `workers` after the one before.
+// Makes the calls of a worker: from the call `part` on, one in `workers`.
 Stop work(Segment& segment, const Script& script, std::size_t part, std::size_t workers, Word units) {
     Recorder recorder(segment, units);
     std::vector<std::optional<std::size_t>> places(script.hists.size());
@@ -266,7 +266,7 @@ void make_histograms(Segment& segment, const Script& script) {
     }
 }
 
-// Runs all workers, each in a thread of its own, and tells the refusal of the least record.
+// Runs all workers, each in a thread of its own, and reports the refusal with the lowest record number.
 void run_workers(Segment& segment, const Script& script, std::size_t workers) {
     std::vector<Word> units(workers);
     for (std::size_t i = 0; i < script.calls.size(); ++i) units[i % workers] += script.calls[i].count;
@@ -283,7 +283,7 @@ void run_workers(Segment& segment, const Script& script, std::size_t workers) {
     if (least != nullptr) refuse(*least);
 }
 
-// Makes or empties OUT after all else, so a fault before leaves it unchanged. A fault of the device does not.
+// Makes or empties OUT last, so that an earlier fault leaves it unchanged. A fault of the device does not.
 void write_image(const char* path, const Words& words) {
     std::string bytes(8 * words.size(), '\0');
     for (std::size_t i = 0; i < words.size(); ++i) {

@@ -71,7 +71,7 @@ struct Reading {
     Fault stopped = nullptr;
 };
 
-// All bytes that a file has left, up to one more than there may be.
+// All bytes that a file has left, but no more than one above `most`.
 inline std::string bytes_of(std::FILE* file, std::size_t most) {
     std::string bytes(most + 1, '\0');
     const std::size_t taken = std::fread(bytes.data(), 1, bytes.size(), file);
@@ -309,7 +309,7 @@ private:
         return nullptr;
     }
 
-    // Of the samples of a sparse histogram the first of each value counts.
+    // Sorts the samples of a sparse histogram; of several samples of one value only the first counts.
     static void settle(Histogram& histogram) {
         std::vector<Bucket>& buckets = histogram.buckets;
         std::stable_sort(buckets.begin(), buckets.end(),
@@ -335,7 +335,7 @@ private:
 
 class Text {
 public:
-    // Room for so many bytes, so that they need not be moved while they become more.
+    // Reserves room for the whole text, so that it is not moved while it grows.
     explicit Text(std::size_t room) { text_.reserve(room); }
 
     Text& operator<<(std::string_view text) {
@@ -402,7 +402,7 @@ inline void write_out(std::FILE* file, std::string_view text) {
     if (std::fflush(file) != 0 || !is_written) throw Failure{"Write", 4};
 }
 
-// Tells a fault, and gives the status of the program.
+// Does the work, reports a fault of it, and returns the status of the program.
 template <typename Work>
 int status_of(const Work& work) {
     try {

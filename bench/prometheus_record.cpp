@@ -37,7 +37,7 @@ void record(prometheus::Histogram& histogram, const std::vector<double>& values)
     for (std::size_t i = 0; i < kSamples; ++i) histogram.Observe(values[i % kValues]);
 }
 
-// Picoseconds for each sample of a thread.
+// Picoseconds per sample of a thread.
 double burst(bool shared, std::size_t threads, const std::vector<double>& values) {
     const std::vector<std::uint32_t> boundaries = plain::linear();
     const std::vector<double> ends(boundaries.begin() + 1, boundaries.end() - 1);

@@ -86,7 +86,7 @@ public:
     }
 
 private:
-    // The units are packed into the single word, or added to a count where the counts are in use.
+    // Packs the units into the single word, or adds them to a count if the counts are in use.
     bool add_to_bucket(const Known& histogram, std::size_t bucket, Word count) {
         auto& single = segment_[histogram.reference + kSingle];
         for (;;) {
@@ -128,7 +128,7 @@ Plan plan_of(bool packed, bool shared, std::size_t threads) {
     return plan;
 }
 
-// The histograms as they are before a burst: empty, and with counts after each record if they are to be in use.
+// Stores the histograms as they are before a burst: empty, and with counts after each record if counts are to be in use.
 void lay_out(Segment& segment, const Plan& plan, bool packed) {
     segment.clear();
     if (packed) return;
@@ -140,7 +140,7 @@ void lay_out(Segment& segment, const Plan& plan, bool packed) {
     }
 }
 
-// Values in no order, of one that fits each bucket to one beyond the greatest.
+// Unsorted values: for packed samples one value, else values of all buckets, some beyond the greatest.
 std::vector<std::int32_t> values_of(bool packed) {
     std::vector<std::int32_t> values;
     std::uint32_t state = 1;
@@ -160,7 +160,7 @@ void record(Segment& segment, const std::vector<Known>& known, std::size_t sampl
     }
 }
 
-// Picoseconds for each sample of a thread.
+// Picoseconds per sample of a thread.
 double burst(Segment& segment, const Plan& plan, const std::vector<std::int32_t>& values) {
     auto start = std::chrono::steady_clock::now();
     std::vector<std::thread> running;

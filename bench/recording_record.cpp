@@ -3,11 +3,11 @@
 //     recording_record FORM SHARING THREADS BURSTS
 //     recording_record rolls MILLISECONDS
 //
-// The words and what is printed are those of record.cpp. Each burst has a recording of its own, in a folder of its own, of which each
-// thread has counted one sample in each histogram before it.
+// The words and what is printed are those of record.cpp. Each burst has a recording of its own, in a folder of its own; before it, each
+// thread has counted one sample in each histogram.
 //
-// With `rolls` a thread counts a million samples while a segment is begun each so many milliseconds, and prints nanoseconds: how long the
-// slowest in ten thousand takes of those for which none is begun, and the slowest of the others, and how many there are of these.
+// With `rolls` a thread counts a million samples, one of which begins a segment every MILLISECONDS. It prints, in nanoseconds, what 99.99 %
+// of the samples that begin none take at most, and the slowest of the others; and then how many others there are.
 
 #include <sys/stat.h>
 #include <unistd.h>
@@ -68,7 +68,7 @@ Worker worker_of(povundiri::Recording& recording, const Options& options, std::s
     return worker;
 }
 
-// Values in no order, of one that fits each bucket to one beyond the greatest.
+// Unsorted values: for packed samples one value, else values of all buckets, some beyond the greatest.
 std::vector<std::int32_t> values_of(bool packed) {
     std::vector<std::int32_t> values;
     std::uint32_t state = 1;
@@ -94,7 +94,7 @@ povundiri::Recording recording_in(const Folder& folder) {
     return povundiri::Recording(folder.path(), options);
 }
 
-// Picoseconds for each sample of a thread.
+// Picoseconds per sample of a thread.
 double burst(const Options& options, const std::vector<std::int32_t>& values) {
     const Folder folder;
     povundiri::Recording recording = recording_in(folder);
@@ -111,7 +111,7 @@ double burst(const Options& options, const std::vector<std::int32_t>& values) {
     return took.count() / static_cast<double>(recorded);
 }
 
-// A sample that spends all units of a segment but a few begins the next one.
+// Counts samples. Every now and then one takes nearly all units of a segment, so that the next such sample begins another segment.
 void rolls(std::chrono::milliseconds apart) {
     constexpr std::uint32_t kMost = 4'290'000'000;
     const Folder folder;

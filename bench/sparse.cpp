@@ -2,8 +2,8 @@
 //
 //     sparse VALUES BURSTS
 //
-// The histogram has VALUES values. It prints the least time of BURSTS bursts of a million samples of count 1, whose values are of
-// these in no order, in picoseconds for each sample.
+// The histogram has VALUES values. It prints the least time of BURSTS bursts of a million samples of count 1, with these values in no
+// order, in picoseconds per sample.
 
 #include <algorithm>
 #include <chrono>

@@ -85,7 +85,7 @@ public:
         return false;
     }
 
-    // What it counted, so that nothing of it is left out.
+    // What it counted. It is checked, so that the compiler leaves nothing out.
     Word counted() const { return words_[kRecord + kRedundant] + begun_ + ended_; }
 
 private:

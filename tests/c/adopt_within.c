@@ -1,5 +1,5 @@
-/* Adopts the image in the file FILE, and then asks for its report with no key at all. Of each call it prints the status, and the most bytes
- * that the library had from its heap at a time. */
+/* Adopts the image in the file FILE, and then asks for its report under a limit of no keys. For each call it prints the status, and the
+ * most bytes that the library had from its heap at a time. */
 #include <povundiri.h>
 #include <stdbool.h>
 #include <stdio.h>

@@ -1,4 +1,4 @@
-/* What a test checks: a line for each that fails, and after each group of them a line with its name. */
+/* The checks of a test: each check that fails prints a line, and each group of checks prints a line with its name at its end. */
 #ifndef CHECKS_H
 #define CHECKS_H
 
@@ -26,7 +26,7 @@ static void check_status(int line, const char *call, uint32_t wanted, uint32_t c
 #define ANSWERS(status, call) check_status(__LINE__, #call, POVUNDIRI_##status, (call))
 #define DONE(call) ANSWERS(DONE, call)
 
-/* Runs a group of checks; 1 where one failed. */
+/* Runs a group of checks; returns 1 if one failed. */
 static __attribute__((unused)) int group(const char *name, void (*checks)(void)) {
     failed_here = 0;
     checks();
@@ -35,7 +35,7 @@ static __attribute__((unused)) int group(const char *name, void (*checks)(void))
     return failed_here != 0;
 }
 
-/* A group that cannot be run here, which is said; 0. */
+/* Says that a group cannot be run here, and why; returns 0. */
 static __attribute__((unused)) int left_out(const char *name, const char *why) {
     printf("left out: %s: %s\n", name, why);
     return 0;

@@ -1,4 +1,4 @@
-// What a test in C++ checks, beside what checks.h has: calls that return a povundiri::Status.
+// Checks of tests in C++, in addition to those of checks.h: of calls that return a povundiri::Status.
 #pragma once
 
 #include "checks.h"

@@ -62,7 +62,7 @@ void is_whole(Handle& segment) {
     HOLDS(units == UINT32_MAX && outstanding == 0);
 }
 
-// The first recorder is of the other segment; so is the second, where both cross.
+// The first recorder is of the other segment; so is the second, if both cross.
 void cross(bool both) {
     Handle here, there;
     DONE(povundiri_create(kShape, &here.it));

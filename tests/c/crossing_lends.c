@@ -1,5 +1,5 @@
-/* Two threads pass recorders to segments at the same moment, one or both of them to a segment that is not the recorder's own. Whatever they
- * are answered, no recorder and no unit is lost: in the end both segments have all their units again. */
+/* Two threads pass recorders to segments at the same moment, one or both of them to a segment that is not the recorder's own. Whatever the
+ * calls return, no recorder and no unit is lost: in the end both segments have all their units again. */
 #define _POSIX_C_SOURCE 200809L
 
 #include <pthread.h>
@@ -20,7 +20,7 @@ struct pass {
 /* How many of the two threads are there. */
 static int ready;
 
-/* A thread continues once both are there: so that their calls begin within a few steps of each other, it does not sleep. */
+/* Waits until both threads are there, without sleeping, so that their calls begin within a few steps of each other. */
 static void meet(void) {
     __atomic_fetch_add(&ready, 1, __ATOMIC_SEQ_CST);
     while (__atomic_load_n(&ready, __ATOMIC_SEQ_CST) < 2) sched_yield();
@@ -45,14 +45,14 @@ static bool is_empty(const struct pass *pass) {
     return pass->status == POVUNDIRI_ELSEWHERE || (pass->joins && pass->status == POVUNDIRI_DONE);
 }
 
-/* It was answered what it may be, and its handle holds a recorder or none, as that says. */
+/* The call returned a status that it may return, and its handle holds a recorder or none, as that status says. */
 static void answered(const struct pass *pass) {
     HOLDS(pass->status == POVUNDIRI_DONE || pass->status == POVUNDIRI_OTHER_SEGMENT || pass->status == POVUNDIRI_ELSEWHERE ||
           pass->status == POVUNDIRI_BUSY);
     HOLDS(pass->recorder->full != is_empty(pass));
 }
 
-/* The recorder of a handle, if there is one, is joined to the segment that it is of. */
+/* The recorder in a handle, if there is one, is joined to its own segment. */
 static void come_home(struct povundiri_handle *recorder, struct povundiri_handle *here, struct povundiri_handle *there) {
     uint32_t status;
     if (!recorder->full) return;
@@ -68,8 +68,8 @@ static void is_whole(struct povundiri_handle *segment) {
     HOLDS(units == UINT32_MAX && outstanding == 0);
 }
 
-/* The first thread lends a recorder of the other segment. The second lends or joins one to the other segment: one of the first, where both
- * cross, else its own, and then its call is done, or returns BUSY. */
+/* The first thread lends a recorder of the other segment. The second lends or joins one to the other segment: a recorder of the first
+ * segment if both cross, else one of the other segment itself, and then its call is done, or returns BUSY. */
 static void cross(bool both, bool joins) {
     const struct povundiri_shape shape = {1024, 256, 7, 0, 2};
     struct povundiri_handle here = {0}, there = {0};

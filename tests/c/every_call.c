@@ -154,7 +154,7 @@ static void nulls_of_recorders(void) {
     let_go(&segment, &recorder);
 }
 
-/* Every call of a recorder is made with this handle, and answers this status. */
+/* Every call of a recorder is made with this handle, and returns this status. */
 static void asks_for_a_recorder(struct povundiri_handle *it, uint32_t status) {
     const struct povundiri_spec sparse = {POVUNDIRI_SPARSE, 0, 0, 0};
     struct povundiri_totals totals;
@@ -176,7 +176,7 @@ static void asks_for_a_recorder(struct povundiri_handle *it, uint32_t status) {
     HOLDS(povundiri_next_shared(it, 0, words) == status);
 }
 
-/* Every call of a segment is made with this handle, and answers this status. */
+/* Every call of a segment is made with this handle, and returns this status. */
 static void asks_for_a_segment(struct povundiri_handle *it, struct povundiri_handle *recorder, uint32_t status) {
     struct povundiri_handle out = {0};
     uint64_t words[WORDS];
@@ -189,7 +189,7 @@ static void asks_for_a_segment(struct povundiri_handle *it, struct povundiri_han
     HOLDS(povundiri_outstanding(it, &number) == status);
 }
 
-/* Every call of a sum is made with this handle, and answers this status. */
+/* Every call of a sum is made with this handle, and returns this status. */
 static void asks_for_a_sum(struct povundiri_handle *it, struct povundiri_handle *sums, uint32_t status) {
     uint64_t words[16] = {0};
     char text[16];
@@ -375,8 +375,8 @@ static void has_units(struct povundiri_handle *it, uint32_t wanted) {
     HOLDS(units == wanted);
 }
 
-/* A recorder whose share is used up continues, with the same histograms at the same numbers. In the end all units are there but those that
- * were counted. */
+/* A recorder whose share is used up is lent more and continues, with the same histograms at the same numbers. In the end the segment has
+ * all units but those that were counted. */
 static void lends(void) {
     struct povundiri_handle segment = segment_of(WORDS, PAGE), recorder = recorder_of(&segment, 2);
     struct povundiri_totals totals = {0, 0, 0};
@@ -847,7 +847,7 @@ static uint32_t usual_show(struct povundiri_handle *sums, char *text, size_t roo
     return povundiri_sums_show(sums, 0, text, room, needed);
 }
 
-/* A sum has this text; an array that is a byte too short for it stays as it was. */
+/* A sum has this text; an array that is a byte too short for it is not written to. */
 static void says(int line, struct povundiri_handle *sums, text_call *call, const char *wanted) {
     const size_t length = strlen(wanted);
     char text[REPORT];
@@ -909,7 +909,7 @@ static void texts_of_sums(void) {
     DONE(povundiri_sums_drop(&sums));
 }
 
-/* What is refused leaves the sum as it was. */
+/* What is refused leaves the sum unchanged. */
 static void refused_images(void) {
     static const uint32_t AT[] = {0, 1, 3, 2, 5, 5, 7, 13}, WORD[] = {1, 3, 65, 2048, 0, 2, 15, 0};
     static const uint32_t FAULT[] = {POVUNDIRI_IMAGE_BAD_COOKIE, POVUNDIRI_IMAGE_BAD_VERSION, POVUNDIRI_IMAGE_BAD_PAGE,
@@ -959,7 +959,7 @@ static void totals_again(void) {
     DONE(povundiri_sums_drop(&sums));
 }
 
-/* Totals that would not fit are refused, and the sum is as it was: the units of a histogram together, and how many images there are. */
+/* Totals that would not fit are refused, and the sum is unchanged: by the units of a histogram together, and by the number of images. */
 static void too_many(void) {
     static const char UNITS[] =
         "totals,1\nimages,1,0,0,0,0\nhist,n,1,0,0,0,0,boolean\nkey,0,18446744073709551614,0\nkey,1,1,0\nkey,2,0,0\nend,1\n";

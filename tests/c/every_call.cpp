@@ -227,7 +227,8 @@ void names() {
     HOLDS(!std::error_code(Status::Done) && std::string(povundiri::category().name()) == "povundiri");
 }
 
-// A shape for bytes is valid, has them or a little less, and a page of 2,048 words where there are 4,096; and outside of the bounds none is.
+// A shape for a number of bytes is valid, has these bytes or a little less, and pages of at least 2,048 words if it has 4,096 words or
+// more. For bytes out of bounds it is not valid.
 void shapes() {
     struct Row {
         std::uint64_t bytes, size, page;

@@ -26,7 +26,7 @@ static void pass(const struct gate *gate) {
     HOLDS(read(gate->ends[0], &byte, 1) == 1);
 }
 
-/* Waits until nobody else has its other end. */
+/* Waits until no other process has its other end. */
 static void wait_for_ends(struct gate *gate) {
     char byte;
     close(gate->ends[1]);
@@ -190,7 +190,8 @@ static void pre_fork_server(void) {
 
 /* ---- A daemon ---- */
 
-/* Opens, becomes a daemon, and counts: `leaves` as the file is not to be passed on to children of the daemon, of which one lives on. */
+/* Opens the file, becomes a daemon, and counts. With `leaves` the daemon no longer passes the file on to its children, and has a child that
+ * lives on. */
 static void become_daemon(const struct gate *ready, const struct gate *stop, const struct gate *last, bool leaves) {
     struct povundiri_file file = {0};
     struct povundiri_handle segment = {0};
@@ -323,7 +324,7 @@ static void generations(void) {
 static volatile int is_over;
 static volatile int other_faults;
 
-/* EBUSY comes where a child has the lock, for as long as a busy machine does not let it run. */
+/* EBUSY comes if a child has the lock, for as long as a busy machine does not let it run. */
 static void *open_and_close(void *name) {
     while (!is_over) {
         struct povundiri_file file = {0};

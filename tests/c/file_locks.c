@@ -1,4 +1,4 @@
-/* Who has a file, and what signals and limits do to its opening: file_locks FOLDER
+/* Which process has a file, and what signals and limits do to its opening: file_locks FOLDER
  *
  * It is linked with a povundiri_file.c of which some calls to the system come here: -Dflock=test_flock and so on. */
 #include "files.h"
@@ -66,7 +66,7 @@ static void second_open(void) {
     DONE(open_and_count("twice", POVUNDIRI_ADOPT_OR_FAIL, 1, &opened));
 }
 
-/* The lock is with the file that is open: no other descriptor of the path gives it away. */
+/* The lock belongs to the open file: closing another descriptor of the path does not end it. */
 static void other_descriptors(void) {
     struct povundiri_file file = {0};
     int i;
@@ -80,7 +80,8 @@ static void other_descriptors(void) {
     HOLDS(opened_by_another("others") == 0);
 }
 
-/* Nor does a daemon that closes all that it has; and what it opens after that under the same number is not closed with the file. */
+/* Nor does closing the file's own descriptor, as a daemon does that closes all; and what is then opened under the same number is not closed
+ * with the file. */
 static void all_descriptors_closed(void) {
     struct povundiri_file file = {0};
     int descriptor, other;
@@ -96,7 +97,8 @@ static void all_descriptors_closed(void) {
     HOLDS(opened_by_another("daemons") == 0);
 }
 
-/* A child that has a lock of the file, by a descriptor that only reads, for so long. It has it when this returns. */
+/* Starts a child that holds a lock of the file for some milliseconds, by a descriptor that only reads. It has the lock when this
+ * returns. */
 static pid_t reader_for(const char *name, int how, int milliseconds) {
     int ready[2];
     char byte;
@@ -115,7 +117,7 @@ static pid_t reader_for(const char *name, int how, int milliseconds) {
     return child;
 }
 
-/* Opens the file while a reader has such a lock for 50 ms; once more where a busy machine made that too long. */
+/* Opens the file while a reader has such a lock for 50 ms; once more if a busy machine made that too long. */
 static uint32_t open_while_probed(int how) {
     struct povundiri_opened opened = {0};
     uint32_t status = POVUNDIRI_SYSTEM;
@@ -139,7 +141,7 @@ static void readers_that_probe(void) {
     HOLDS(opened.fault == EBUSY && end_of(child) == 0 && units_in(path_of("probed")) == 7);
 }
 
-/* A child that has the lock, gives the file another name a little later, makes a new one where it `makes_one`, and ends. */
+/* Starts a child that has the lock, gives the file another name a little later, makes a new file if `makes_one`, and ends. */
 static pid_t owner_that_sets_aside(bool makes_one) {
     int ready[2];
     char byte;
@@ -160,8 +162,8 @@ static pid_t owner_that_sets_aside(bool makes_one) {
     return child;
 }
 
-/* While the lock is waited for, its owner sets the file aside: the file of the name is opened, once more where a busy machine made the wait
- * too long. */
+/* While this process waits for the lock, its owner sets the file aside: then the file that now has the name is opened; once more if a busy
+ * machine made the wait too long. */
 static void other_file_of_the_name(void) {
     int makes_one, tries;
     for (makes_one = 0; makes_one < 2; makes_one += 1) {
@@ -191,7 +193,7 @@ static void set_it_aside_and_make_one(void) {
     store("between", "", 0);
 }
 
-/* So it is where that happens between the opening and the lock. */
+/* The same if that happens between the opening and the lock. */
 static void other_file_before_the_lock(void) {
     static void (*const happens[])(void) = {set_it_aside, set_it_aside_and_make_one};
     struct povundiri_opened opened;
@@ -294,7 +296,7 @@ static void limit_of_length(void) {
     HOLDS(units_in(path_of("limited")) == 6);
 }
 
-/* Fills the device on which a name stands, to its last byte. */
+/* Fills the device of the folder to its last byte, by a file of this name. */
 static void fill(const char *name) {
     static const char bytes[4096] = {1};
     const int descriptor = open(path_of(name), O_WRONLY | O_CREAT, 0600);
@@ -305,7 +307,7 @@ static void fill(const char *name) {
     HOLDS(errno == ENOSPC && close(descriptor) == 0);
 }
 
-/* A file that was cut is judged by what it has: no room is wanted for what is not there. */
+/* A file that was cut off is judged by the bytes that it has: no room is asked for those that are missing. */
 static void cut_on_full_device(void) {
     struct povundiri_opened opened;
     make_segment("cut", 5);

@@ -1,5 +1,5 @@
-/* What povundiri_open makes of each file that stands at a path, by each policy; and that neither a kill nor a fault of the system at any
- * call of it loses a unit: file_policies FOLDER
+/* What povundiri_open does with each kind of file at a path, by each policy; and that no unit is lost by a kill or a fault of the system at
+ * any of its calls: file_policies FOLDER
  *
  * It is linked with a povundiri_file.c of which the calls to the system come here: -Drenameat2=test_renameat2 and so on. */
 #include "files.h"
@@ -11,7 +11,7 @@
 
 /* ---- The system's calls ---- */
 
-/* At which of the calls that come the process is killed, or the call fails, from 1 on; 0 for none. */
+/* At which of the next calls, from 1 on, the process is killed, or the call fails; 0 for none. */
 static int calls, killed_at, failing_at, cannot_rename_to_free;
 
 /* Whether this call is to fail. */
@@ -105,7 +105,7 @@ int test_unlink(const char *path) {
 
 /* ---- Memory ---- */
 
-/* Which allocation of those that come is refused, from 1 on; 0 for none. Those of the library come by heap.h. */
+/* Which of the next allocations, from 1 on, is refused; 0 for none. Those of the library go through heap.h. */
 static int allocations, refused_at;
 
 static bool is_refused(void) {
@@ -127,7 +127,7 @@ void *test_calloc(size_t count, size_t size) {
 
 /* ---- Files that were set aside ---- */
 
-/* Removes all that stands in the folder. */
+/* Removes everything in the folder. */
 static void clear(void) {
     DIR *all = opendir(folder);
     const struct dirent *entry;
@@ -135,7 +135,7 @@ static void clear(void) {
     closedir(all);
 }
 
-/* How many files of the folder have these bytes, of those whose name begins so. */
+/* How many files of the folder whose names begin so have these bytes. */
 static int with_bytes(const char *beginning, const void *bytes, size_t length) {
     DIR *all = opendir(folder);
     const struct dirent *entry;
@@ -214,7 +214,7 @@ static void refused_and_set_aside(void) {
     }
 }
 
-/* Has each value of 's' counted so often in the file; how many values it has. */
+/* Sets the count of each value of 's' in the file; returns how many values it has. */
 static int set_counts(const char *name, uint64_t count) {
     size_t length, i;
     unsigned char *bytes = bytes_at(path_of(name), &length);
@@ -305,7 +305,7 @@ static void numbers(void) {
     free(before);
 }
 
-/* Where the system knows no RENAME_NOREPLACE, it is done by link and unlink: never over a file either. */
+/* If the system does not know RENAME_NOREPLACE, files are renamed by link and unlink: never over another file either. */
 static void without_renameat2(void) {
     cannot_rename_to_free = 1;
     numbers();
@@ -447,7 +447,7 @@ static void spent(void) {
 
 /* ---- Kills and faults at each call to the system ---- */
 
-/* What stands at the path before, and what is to stand there or under another name after it. */
+/* What is at the path before a call. next_start() checks what is there, or under another name, after the call that follows. */
 enum start { NOTHING_THERE, GROWS, IS_DAMAGED, IS_SPENT, STARTS };
 
 static unsigned char *begin(enum start start, size_t *length) {
@@ -462,7 +462,7 @@ static unsigned char *begin(enum start start, size_t *length) {
     return bytes_at(path_of("at_each"), length);
 }
 
-/* Behind a stop the next call succeeds, and no unit is lost. */
+/* After a stop the next call succeeds, and no unit is lost. */
 static void next_start(enum start start, const unsigned char *before, size_t length) {
     struct povundiri_opened opened;
     DONE(open_and_count("at_each", POVUNDIRI_ADOPT_OR_BEGIN_ANEW, 1, &opened));
@@ -471,7 +471,7 @@ static void next_start(enum start start, const unsigned char *before, size_t len
     HOLDS(units_in(path_of("at_each")) == (start == GROWS ? 6 : 1));
 }
 
-/* Kills it at each call in turn; how often it was. */
+/* Kills the process at each of its calls in turn; returns how often it was killed. */
 static int kill_at_each_call(enum start start) {
     int at, end = 1000 + SIGKILL;
     for (at = 1; end == 1000 + SIGKILL && at < 1000; at += 1) {
@@ -495,13 +495,14 @@ static int kill_at_each_call(enum start start) {
     return at - 2;
 }
 
-/* Whether a file that was there has its bytes, under its name or the one that it was given; and one that was not there none. */
+/* Whether a file that was there before has its bytes, under its own name or the one that it was given; if none was there, whether the file
+ * is still missing or empty. */
 static int is_as_before(const struct povundiri_opened *opened, const unsigned char *before, size_t length) {
     if (before == NULL) return length_of("at_each") <= 0;
     return has_bytes(opened->set_aside[0] != 0 ? opened->set_aside : path_of("at_each"), before, length);
 }
 
-/* Has each call fail in turn; how often it did. */
+/* Lets each call fail in turn; returns how often povundiri_open failed by that. */
 static int fail_at_each_call(enum start start) {
     uint32_t status = POVUNDIRI_SYSTEM;
     int at, failed = 0;
@@ -549,7 +550,7 @@ static int is_no_memory(uint32_t status, int fault) {
            status == POVUNDIRI_ADOPT_NO_MEMORY;
 }
 
-/* Refuses each allocation in turn; how often one was. No file is set aside for lack of memory. */
+/* Refuses each allocation in turn; returns how often that refused the call. No file is set aside for lack of memory. */
 static int refuse_each_allocation(enum start start) {
     struct povundiri_opened opened;
     int at, refused = 0;
@@ -584,14 +585,15 @@ static void refused_memory(void) {
     for (start = 0; start < STARTS; start += 1) HOLDS(refuse_each_allocation((enum start)start) >= 4);
 }
 
-/* Waits for a file, but not for ever; whether it is there. */
+/* Waits for a file, but not for ever; returns whether it is there. */
 static bool comes(const char *path) {
     long i;
     for (i = 0; i < 2000000 && access(path, F_OK) != 0; i += 1) sched_yield();
     return access(path, F_OK) == 0;
 }
 
-/* Kills a process that makes a large segment, at any moment once its file is there; more often where the making ends before the kills come. */
+/* Kills a process that makes a large segment, at any moment once its file is there; more often if the segment is made before the kills
+ * come. */
 static void kills_amid_making(void) {
     const struct povundiri_shape large = {1048576, 65536, 7, 8, 2};
     int i, killed = 0;

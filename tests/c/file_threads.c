@@ -1,6 +1,6 @@
 /* Threads that open, damage, set aside and close the same files, under the thread sanitizer: file_threads FOLDER
  *
- * Each unit that was counted stands in the file of its path, or in one of those that were set aside. */
+ * Each unit that was counted is in the file of its path, or in one of those that were set aside. */
 #include "files.h"
 
 #include <dirent.h>
@@ -25,7 +25,7 @@ static int damage(const char *path) {
     return done;
 }
 
-/* One unit more in the file, where this thread gets it. */
+/* Counts one unit in the file, if this thread gets it. */
 static int count_once(struct thread *thread, int round) {
     const char *path = path_of(PATH_NAMES[(thread->number + round) % PATHS]);
     struct povundiri_file file = {0};

@@ -32,7 +32,7 @@ enum { LARGEST = 8388688 };
 
 static const char *folder;
 
-/* The path of a name in the folder, until the fourth call of this thread after this. */
+/* The path of a name in the folder. It is valid until this thread's fourth call after this one. */
 static const char *path_of(const char *name) {
     static __thread char paths[4][4096];
     static __thread int turn;
@@ -97,7 +97,7 @@ static UNUSED int mode_of(const char *name) {
     return stat(path_of(name), &about) == 0 ? (int)(about.st_mode & 07777) : -1;
 }
 
-/* The bytes of a path, for free(). */
+/* The bytes of the file at a path, to be freed by free(). */
 static UNUSED unsigned char *bytes_at(const char *path, size_t *length) {
     const int descriptor = open(path, O_RDONLY | O_CLOEXEC);
     struct stat about;
@@ -131,7 +131,7 @@ static UNUSED int open_file(struct povundiri_file *file, const char *name) {
     return povundiri_file_open(file, path_of(name), povundiri_file_bytes(WORDS, CURSORS), NULL);
 }
 
-/* Adds so many units of 3 to the histogram 's'. */
+/* Adds `count` units of 3 to the histogram 's'. */
 static UNUSED void count_units(struct povundiri_handle *segment, uint32_t count) {
     struct povundiri_handle recorder = {0};
     size_t hist = 0;
@@ -141,7 +141,7 @@ static UNUSED void count_units(struct povundiri_handle *segment, uint32_t count)
     DONE(povundiri_join(segment, &recorder));
 }
 
-/* Opens by a policy, and adds units if that is done. */
+/* Opens the file by a policy, and adds units if that succeeds. */
 static UNUSED uint32_t open_and_count(const char *name, enum povundiri_policy policy, uint32_t count, struct povundiri_opened *opened) {
     struct povundiri_file file = {0};
     struct povundiri_handle segment = {0};
@@ -154,7 +154,7 @@ static UNUSED uint32_t open_and_count(const char *name, enum povundiri_policy po
     return status;
 }
 
-/* A file with a segment in which 's' has so many units of 3; no other file of the name stands there. */
+/* Makes a file with a segment in which 's' has `count` units of 3, in place of any other file of the name. */
 static UNUSED void make_segment(const char *name, uint32_t count) {
     struct povundiri_opened opened;
     unlink(path_of(name));
@@ -162,7 +162,7 @@ static UNUSED void make_segment(const char *name, uint32_t count) {
     HOLDS(opened.outcome == POVUNDIRI_MADE);
 }
 
-/* How many units of 3 's' has in the segment that stands in a file; -1 if none does. It is only read. */
+/* How many units of 3 's' has in the segment in a file; -1 if there is no segment. The file is only read. */
 static UNUSED long units_in(const char *path) {
     size_t length, needed = 0;
     unsigned char *bytes = bytes_at(path, &length);
@@ -185,7 +185,7 @@ static UNUSED long units_in(const char *path) {
     return found;
 }
 
-/* What another process gets that opens the file, as a segment of one word. */
+/* What another process gets if it opens the file, as a segment of one word. */
 static UNUSED int opened_by_another(const char *name) {
     const pid_t child = fork();
     if (child == 0) {

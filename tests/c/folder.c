@@ -1,5 +1,5 @@
 /* 'folder report FOLDER' prints the report of what a folder has, 'folder fold FOLDER' folds it and prints how many segments were added, and
- * 'folder count FOLDER' prints how many stand there. On a fault its status is 3. */
+ * 'folder count FOLDER' prints how many segments there are. On a fault its status is 3. */
 #include <stdio.h>
 #include <stdlib.h>
 #include <string.h>

@@ -1,5 +1,5 @@
 // Forked children of a process with segments and recorders: forked FOLDER. Their calls are refused, and when they end, nothing is touched
-// or locked; the parent continues as before. And what ends after main, in any order.
+// or locked; the parent continues as if there had been no child. And objects that end after main, in any order.
 
 #include <pthread.h>
 #include <sys/wait.h>
@@ -168,7 +168,7 @@ void child_that_exits() {
     home = Home();
 }
 
-// The thread that forks is the only one of the child. It ends there, and its thread_local.
+// The thread that forks is the only one of the child. It ends there, and so does its thread_local.
 void thread_that_ends() {
     Home home = made("ends.seg");
     std::thread([&home] {
@@ -209,7 +209,7 @@ void fork_while_locked() {
     is_as_it_was(home);
 }
 
-// Children open files of their own; that of the parent when the parent has closed it.
+// Children open files of their own, and that of the parent once the parent has closed it.
 void server_that_forks() {
     Home home = made("server.seg");
     const auto worker = [](const char* name) {
@@ -254,7 +254,7 @@ void daemon_that_opens() {
     HOLDS(Segment::try_open(path_of("kept.seg").c_str(), kShape, Policy::AdoptOrFail, opened, kept) == std::errc::invalid_argument);
 }
 
-// What a process that ends leaves in its file: it counted three times.
+// What a process leaves in its file when it ends: it counted three units.
 void leaves(const char* name) {
     Opened opened;
     HOLDS(!Segment::try_open(path_of(name).c_str(), kShape, Policy::AdoptOrFail, opened));
@@ -281,7 +281,7 @@ void fill(Segment& segment, const char* name) {
     std::exit(failed_here != 0);
 }
 
-// Counts by a recorder of a segment in this file, and ends the process.
+// Counts with a recorder of a segment in this file, and ends the process.
 [[noreturn]] void end_with(Segment& segment, Recorder& recorder, const char* name) {
     fill(segment, name);
     DONE(segment.try_recorder(recorder));
@@ -289,7 +289,7 @@ void fill(Segment& segment, const char* name) {
     exit_here();
 }
 
-// Statics end in the order in which they were not begun, and thread_locals before them.
+// Statics end in the reverse of the order in which they began, and thread_locals before them.
 void statics_in_any_order() {
     const auto segment_first = [] {
         static Segment segment;
@@ -321,7 +321,7 @@ void statics_in_any_order() {
     leaves("local_recorder.seg");
 }
 
-// A thread that still records where main has ended, and the segment with it.
+// A thread that still uses its recorder when main has ended, and the segment with it.
 void thread_behind_main() {
     const auto process = [] {
         static Segment segment;
@@ -342,7 +342,7 @@ void thread_behind_main() {
     leaves("behind_main.seg");
 }
 
-// The two ends that end no object: what was counted stands there, and all other units.
+// The two ways to end a process that destroy no object: the file has what was counted, and all other units.
 void quick_ends() {
     const auto process = [](bool is_quick) {
         static Segment segment;

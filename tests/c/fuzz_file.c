@@ -1,8 +1,8 @@
 /* Opens files of any bytes, for libFuzzer: clang -fsanitize=fuzzer,address,undefined. FUZZ_FOLDER names the folder in which it works.
  *
- * A file that is neither new nor begins as a segment's is refused and untouched; one whose image is refused is unchanged, under its
- * name or the one that it was given; and what is adopted or made can be recorded into and opened again. Each of these that does not hold
- * ends the run. */
+ * A file that is neither new nor begins as a segment's is refused and untouched; one whose image is refused is unchanged, under its name or
+ * the one that it was given; and what is adopted or made can be recorded into and opened again. The run ends if one of these does not
+ * hold. */
 #include "files.h"
 
 int LLVMFuzzerInitialize(int *count, char ***words);
@@ -92,7 +92,7 @@ static int is_longer_by_zeros(const unsigned char *content, size_t length) {
     return same;
 }
 
-/* Whether a file has these bytes; of one that `is_full` the shared cursors, which come after the image, may be others. */
+/* Whether a file has these bytes; if it `is_full`, the shared cursors, which come after the image, may differ. */
 static int has_image(const char *path, const unsigned char *content, size_t length, int is_full) {
     size_t there, known = length;
     unsigned char *bytes = bytes_at(path, &there);
@@ -105,7 +105,7 @@ static int has_image(const char *path, const unsigned char *content, size_t leng
     return same;
 }
 
-/* The file alone, and adopt. */
+/* Opens the file alone, and makes a segment in it or adopts its image. */
 static void try_file(const unsigned char *content, size_t length, struct povundiri_shape shape) {
     struct povundiri_file file = {0};
     struct povundiri_handle segment = {0};
@@ -134,7 +134,7 @@ static void try_file(const unsigned char *content, size_t length, struct povundi
     povundiri_file_close(&file);
 }
 
-/* Opened again, it is adopted with as many units. */
+/* Opened again, the file is adopted with the same number of units. */
 static void open_again(struct povundiri_shape shape, uint32_t units) {
     struct povundiri_file file = {0};
     struct povundiri_handle segment = {0};

@@ -64,7 +64,7 @@ static void *count(void *argument) {
     return NULL;
 }
 
-/* What both threads counted is there, and the handle goes on to the one that joins them. */
+/* Everything that both threads counted is there, and the thread that joins the other one continues with the handle. */
 static void hand_on(void (*wait)(int), void (*pass)(int)) {
     struct hand one = {wait, pass, 0}, other = {wait, pass, 1};
     const struct povundiri_shape shape = {1024, 256, 7, 0, 2};

@@ -1,4 +1,4 @@
-/* The library's heap, in place of the one that it has. A test says before it includes this which requests are refused: is_refused(). */
+/* A heap for the library, in place of its own. Before it includes this, a test defines which requests are refused: is_refused(). */
 #ifndef HEAP_H
 #define HEAP_H
 

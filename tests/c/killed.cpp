@@ -1,13 +1,14 @@
-// Four threads record until they are killed, and tell in a second shared file what they have begun and ended (tally.hpp).
+// Four threads record until they are killed, and write into a second shared file what they have begun and ended (tally.hpp).
 //
 //     killed PLACE FILE TALLY SEED VERSION WORDS PAGE [LOOKS]
 //
-// PLACE is 'file': the segment lies in FILE, which is mapped, and continues where one stands there; or 'heap': it lies in the heap, and goes
-// on with the image FILE where there is such a file. It prints 'begins' first. A status that may not come ends it with status 3.
+// PLACE is 'file': the segment is in FILE, which is mapped; if FILE has a segment already, that one is continued. Or it is 'heap': the
+// segment is in the heap; if there is an image FILE, the segment continues from that. The program prints 'begins' first. A status that may
+// not come ends it with status 3.
 //
-// With LOOKS it looks so many times at its own segment, by its handle and, in a file, also by that, and ends then with status 0. Each look is
-// reported, and a bucket that has fewer units than had ended before, more than were begun behind it, or fewer than the look before ends it
-// with status 3. It prints how many looks were taken amid a call.
+// With LOOKS it looks LOOKS times at its own segment, by its handle and, if it is in a file, by turns also by that; then it ends with
+// status 0. The report of each look is read. Status 3 ends the program if a bucket has fewer units than had ended before the look, more
+// than were begun when it was done, or fewer than the look before had. It prints how many looks were taken amid a call.
 
 #include <fcntl.h>
 #include <sys/mman.h>
@@ -109,14 +110,14 @@ private:
         pending.end(done("add", recorder_.try_add(hist, value, count)));
     }
 
-    // Values come into use one after the other, so that samples are still made late.
+    // Values come into use one after the other, so that samples are still made late in a run.
     void sample(std::uint64_t turn) {
         const auto limit = std::min<std::uint64_t>(tally::kSparseValues, 2 + turn / 40);
         const std::uint32_t value = below(static_cast<std::uint32_t>(limit));
         add(sparse_, tally::kSparse + value, static_cast<std::int32_t>(value) - 64);
     }
 
-    // Where there is no room for the counts, the first item may be counted alone.
+    // If there is no room for the counts, the first item alone may be counted.
     void batch() {
         const std::uint32_t first = below(10), second = (first + 1 + below(9)) % 10;
         tally::Pending one(cells_[tally::kLinear + first], 2), other(cells_[tally::kLinear + second], 3);
@@ -199,7 +200,7 @@ Units units_of(const std::vector<std::uint64_t>& image) {
     return units;
 }
 
-// What all threads began of each cell, or ended.
+// What all threads together have begun of each cell, or have ended.
 Units told(const tally::Thread* threads, std::atomic<std::uint64_t> tally::Cell::*which) {
     Units units(tally::kCells);
     for (std::size_t cell = 0; cell < tally::kCells; ++cell) {
@@ -208,7 +209,7 @@ Units told(const tally::Thread* threads, std::atomic<std::uint64_t> tally::Cell:
     return units;
 }
 
-// Looks at the segment while it is recorded into, and at what it had before.
+// Looks at the segment again and again while threads record into it; `before` is what it had when they began.
 void look(const Options& options, const povundiri::Segment& segment, const tally::Thread* threads, const Units& before) {
     Units last = before;
     std::uint64_t amid = 0;

@@ -1,4 +1,4 @@
-/* What povundiri_file_open takes and what it refuses, and what it leaves as it was: mapped_file FOLDER */
+/* What povundiri_file_open takes and what it refuses, and what it leaves unchanged: mapped_file FOLDER */
 #include "files.h"
 
 #include <sys/socket.h>
@@ -40,7 +40,8 @@ static void not_open(void) {
     povundiri_file_close(NULL);
 }
 
-/* New are an empty file, and zeros to the end as far as the largest segment's file goes. All blocks are there then. */
+/* A file is new if it is empty, or has zeros alone and is no longer than the largest segment's file. Once it is open, all its blocks are
+ * there. */
 static void new_files(void) {
     static const off_t zeros[] = {0, 1, 8, 15, 16, 17, 4096, 8224, 65536, LARGEST};
     struct povundiri_file file = {0};
@@ -55,7 +56,7 @@ static void new_files(void) {
     }
 }
 
-/* Opens what is no file of a segment: it has its bytes, its length and no more blocks. */
+/* Opens a file that is not a segment's: it keeps its bytes and its length, and gets no more blocks. */
 static void refuse(int line, const char *name, const void *bytes, size_t length) {
     struct povundiri_file file = {0};
     const off_t blocks = blocks_of(name);
@@ -99,7 +100,7 @@ static void others_files(void) {
     refuse(__LINE__, "sparse_header", NULL, (size_t)1 << 30);
 }
 
-/* A header of which some words are 0 still, with zeros after, was not made to its end. */
+/* A header of which some words are still 0, with zeros after it, was not finished. */
 static void unfinished(void) {
     static const uint64_t header[18] = {0, COOKIE, 2, 64, 64, 7, 1, 0, 16, 12, 0, 0, 0, 4, 1, 0, 12, 0};
     uint64_t changed[18];
@@ -160,7 +161,7 @@ static void one_zero(void) {
     HOLDS(open_and_count("one_zero", POVUNDIRI_ADOPT_OR_FAIL, 1, &opened) == POVUNDIRI_SYSTEM && opened.fault == EEXIST);
 }
 
-/* Opens a segment's file that was cut off at a length, which stays as it was; the status. */
+/* Opens a segment's file that was cut off at a length, which stays unchanged; returns the status. */
 static uint32_t status_where_cut(off_t at) {
     struct povundiri_opened opened;
     size_t length;
@@ -199,7 +200,7 @@ static void cut_headers(void) {
     HOLDS(opened.outcome == POVUNDIRI_MADE && units_in(path_of("cut")) == 1);
 }
 
-/* What is refused is as long as it was, also where room for more cursors would have been made. */
+/* A file that is refused keeps its length, even if room for more cursors would have been made. */
 static void refused_as_it_was(void) {
     const uint64_t wrong = 16; /* the free pointer, before the record */
     struct povundiri_opened opened;
@@ -271,7 +272,7 @@ static void links(void) {
     HOLDS(length_of("made_by_link") == 8224 && units_in(path_of("target")) == 5);
 }
 
-/* A file that has to be there: none is made, also where the last one was set aside. */
+/* A file that has to be there: none is made, even if the last one was set aside. */
 static void existing(void) {
     static const struct povundiri_file_options options = {POVUNDIRI_FILE_EXISTING, 0};
     const uint64_t wrong = 16; /* the free pointer, before the record */

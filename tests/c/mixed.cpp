@@ -23,7 +23,7 @@ void both_record() {
     HOLDS(plain::name(povundiri::Status::Forked) == "Forked");
 }
 
-// An empty segment has no recorders, whoever asks.
+// An empty segment has no recorders, also if code without exceptions asks for one.
 void thrown_without_exceptions() {
     Segment none;
     try {

@@ -64,7 +64,7 @@ std::uint64_t recorded(Segment& segment) {
     return counts.redundant();
 }
 
-// Makes a file with so many units in it.
+// Makes a file with a segment in which `units` units are counted.
 void make(const char* name, std::uint32_t units) {
     Opened opened;
     HOLDS(!open(name, Policy::AdoptOrFail, opened) && opened.outcome() == Outcome::Made && *opened.set_aside() == 0);
@@ -84,7 +84,7 @@ void goes_on() {
     std::vector<std::uint64_t> image;
     DONE(opened.segment.try_close(image));
     HOLDS(image.size() == 4096 && !opened.segment);
-    // Closed, it is for others.
+    // Once it is closed, others may open it.
     Opened again;
     HOLDS(!open("goes_on", Policy::AdoptOrFail, again) && recorded(again.segment) == 3);
 }
@@ -132,7 +132,7 @@ void faults() {
     HOLDS(open("busy", Policy::AdoptOrSetAside, opened) == std::errc::device_or_resource_busy && *opened.set_aside() == 0);
     HOLDS(recorded(first.segment) == 1);
     HOLDS(Segment::try_open(nullptr, kShape, Policy::AdoptOrFail, opened) == Status::Null);
-    // Who may write it is trusted only if the options say so.
+    // A file that its group may write is trusted only if the options say so.
     HOLDS(chmod(path_of("goes_on").c_str(), 0660) == 0);
     HOLDS(open("goes_on", Policy::AdoptOrSetAside, opened) == std::errc::operation_not_permitted);
     povundiri_file_options options{};

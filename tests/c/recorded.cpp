@@ -21,10 +21,10 @@ namespace {
 
 std::atomic<bool> device_is_full{false};
 
-// What the clock shows, in nanoseconds, where a test has it; else 0.
+// What the clock shows, in nanoseconds, if a test sets it; else 0.
 std::atomic<std::int64_t> shown{0};
 
-// A clock that does not go while the machine has something else to do: only by a microsecond each time that it is read, and as it is told.
+// A clock that does not depend on how busy the machine is: it advances by a microsecond each time that it is read, and by what pass() adds.
 class Clock {
    public:
     Clock() { shown = std::int64_t{1} << 50; }
@@ -125,8 +125,8 @@ void again() {
     HOLDS(recording.fold() == 1 && units_in(recording.report(), "b") == 28);
 }
 
-// A segment with a whole image that may not be continued, since its group may write it: it stays and is counted, and nothing is said of its
-// image.
+// A segment with a whole image that may not be continued, since its group may write it: it stays and is counted, and no fault of its image
+// is reported.
 void not_continued() {
     const std::string path = folder("writable"), first = path + "/0000000001.seg";
     Recording recording;
@@ -138,7 +138,7 @@ void not_continued() {
     HOLDS(metric_of(recording, "b").add(1, 4) && units_in(recording.report(), "b") == 7);
 }
 
-// The counts of one do not fit in a page, and those of the other not behind its record.
+// The counts of one histogram do not fit in a page, and those of the other do not fit there after its record.
 void too_large() {
     Recording recording;
     RecordingOptions options = small();
@@ -332,8 +332,8 @@ void many_threads() {
     HOLDS(units_in(recording.report(), "b") == kThreads * kSamples + 2LL * kMost);
 }
 
-// Threads count by turns in two recordings that roll, with ever more metrics: no sample comes to the other one, also when one of them was
-// left or has ended.
+// Threads count by turns in two recordings that roll, with ever more metrics: no sample goes to the wrong recording, even if one of them
+// was left or has ended.
 void by_turns() {
     constexpr int kThreads = 4, kMetrics = 60, kRounds = 200;
     constexpr std::uint32_t kMany = 40'000'000;
@@ -386,7 +386,8 @@ void by_turns() {
     HOLDS(!last.add(1));
 }
 
-// A key whose destructor counts a sample, as often as it is told. Destructors are called in the order of the keys, several times over.
+// A thread's key whose destructor counts a sample, as often as its value says. Destructors are called in the order of the keys, several
+// times over.
 Metric counted_at_end;
 std::atomic<int> samples_at_end{0};
 
@@ -621,7 +622,7 @@ void long_totals() {
     }));
 }
 
-// What no_space has, where the device is full while it records, and has room again.
+// The same as no_space(), if the device becomes full while the process records, and then has room again.
 void full_disk() {
     Recording recording;
     HOLDS(opens(folder("disk"), recording, small()));

@@ -22,7 +22,7 @@ inline std::string home;
 
 inline std::string folder(const char* name) { return home + "/" + name; }
 
-// So small that a few histograms fill one, and as fast as it goes.
+// Options for segments that are so small that a few histograms fill one, and that may follow one another at once.
 inline RecordingOptions small() {
     RecordingOptions options{};
     options.bytes = 16'384;
@@ -30,7 +30,7 @@ inline RecordingOptions small() {
     return options;
 }
 
-// How many segments stand in a folder, and the bytes of one; -1 if it is not there.
+// How many segments are in a folder; and below, the bytes of a file, -1 if it is not there.
 inline std::uint64_t segments_in(const std::string& path) {
     std::uint64_t segments = 0;
     HOLDS(povundiri_folder_count(path.c_str(), &segments) == 0);

@@ -51,7 +51,7 @@ bool is_made(const std::string& path, const char* text) {
     return file != nullptr && std::fputs(text, file) >= 0 && std::fclose(file) == 0;
 }
 
-// What is named as a recording's mark, and is none: nothing is removed there, or made.
+// Something has the name of a recording's mark, and is none: nothing is removed there, or made.
 void marks() {
     const std::string path = folder("marked"), mark = path + "/recording", spare = path + "/spare-1-0123456789abcdef";
     HOLDS(mkdir(path.c_str(), 0700) == 0 && is_made(spare, "not a segment") && is_made(folder("empty"), ""));
@@ -74,7 +74,7 @@ void marks() {
     HOLDS(opens(path, recording) && bytes_of(spare) == -1);
 }
 
-// A spare that nobody holds is removed. What has not the name of one is not, and what somebody holds is not either.
+// A spare that nobody holds is removed. A file without the name of a spare is not, and a spare that somebody holds is not either.
 void spares() {
     const std::string path = folder("spares");
     const std::vector<std::string> others = {"spare-",
@@ -153,7 +153,7 @@ class Finals {
         return stand(segments);
     }
 
-    // Folds with so few descriptors, and says what the system's fault is, or 0.
+    // Folds with a limit of descriptors, and returns the system's fault, or 0.
     int fold(rlim_t descriptors, std::uint64_t& folded) const {
         struct rlimit limit, few;
         int fault = -1;
@@ -165,7 +165,7 @@ class Finals {
         return setrlimit(RLIMIT_NOFILE, &limit) == 0 && status == (fault == 0 ? POVUNDIRI_DONE : POVUNDIRI_SYSTEM) ? fault : -1;
     }
 
-    // Whether so many segments stand there, the sum is whole, and no new totals are left.
+    // Whether there are this many segments, the sum is whole, and no new totals are left.
     bool stand(std::uint64_t segments) const {
         return segments_in(path_) == segments && units_beside(path_, "b") == units_ && bytes_of(path_ + "/totals.new") == -1;
     }
@@ -178,7 +178,7 @@ class Finals {
     long long units_ = 0;
 };
 
-// More final segments than the process may open at once: they are folded in rounds. Where it may not open four files, none is.
+// More final segments than the process may open at once: they are folded in rounds. If it may not open four files, none is folded.
 void few_descriptors() {
     HOLDS(in_child([] {
         Finals finals("few");
@@ -194,7 +194,7 @@ void few_descriptors() {
     }));
 }
 
-// The system has no descriptor left for a moment, behind each number of segments.
+// The system has no descriptor left for a moment, after each number of segments that were opened.
 void no_descriptor() {
     Finals finals("none_left");
     std::uint64_t folded = 9;

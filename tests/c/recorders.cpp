@@ -66,8 +66,8 @@ bool counts_one(Segment& segment) {
     return segment.try_recorder(recorder) == Status::Done && recorder.try_boolean("b", hist) == Status::Done && recorder.add(hist, 1);
 }
 
-// Threads that come and go, of four at a time; fewer where the thread sanitizer remembers each. There a stand-in takes the place of the
-// proved functions, whose segments have no words.
+// How many threads come and go, four at a time; fewer under the thread sanitizer, which remembers each. There a stand-in, whose segments
+// have no words, takes the place of the proved functions.
 #if defined(STAND_IN)
 constexpr int kComing = 8'000;
 constexpr bool kHasWords = false;
@@ -105,7 +105,7 @@ void threads_come_and_go() {
     DONE(segment.try_close(image));
 }
 
-// Of one segment, from all threads at once: its mutex is all that they have.
+// Calls of one segment from all threads at once, with nothing but the segment's own mutex.
 void calls_at_once() {
     constexpr int kThreads = 4, kTurns = 2000;
     Segment segment;
@@ -191,7 +191,7 @@ void is_of_its_recorder() {
     HOLDS(!one->add(others, 1) && !one->batch(others, {{1, 1}}, 1) && added == 9);
     RETURNS(Empty, Recorder().try_add(Hist(), 1));
     RETURNS(Empty, Recorder().try_delta(ones, counts));
-    // At the place of one that ended.
+    // A recorder at the address of one that has ended.
     one.reset();
     one.emplace();
     DONE(segment.try_recorder(*one));

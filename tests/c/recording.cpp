@@ -2,8 +2,9 @@
 //
 //     recording FOLDER TALLY SEED BYTES APART SECONDS [MODE]
 //
-// TALLY is a file of cells that is shared with whoever kills the program: of each thread and metric what it has begun to count, and what
-// has ended (tally.hpp). SECONDS 0: until it is killed. What was missed is taken back from what was begun. MODE is '-', or some of:
+// TALLY is a file of cells that is shared with the process that kills the program: for each thread and metric, the units that it has begun
+// to count, and those of calls that have ended (as in tally.hpp). SECONDS is how long it records; 0: until it is killed. What was missed is
+// taken back from what was begun. MODE is '-', or some of:
 //     r   a thread reads the report of the folder again and again: no units fall, and they are between what had ended and what was begun
 //     f   a thread folds again and again
 //     i   a thread has recorded one sample, and is idle
@@ -59,7 +60,7 @@ Tally& tally_of(const std::string& path) {
 
 std::atomic<bool> ends{false};
 
-// One life of a thread: some thousand samples, of so many values of the sparse histogram.
+// One life of a thread: some thousand samples; those of the sparse histogram have `values` different values.
 void live(const std::vector<povundiri::Metric>& metrics, Cell (&cells)[kMetrics], std::uint32_t seed, std::uint32_t values) {
     std::mt19937 chance(seed);
     const std::uint32_t samples = 200 + chance() % 4000;
@@ -101,7 +102,7 @@ Sums sums_of(const Tally& tally, std::atomic<std::uint64_t> Cell::*which) {
     return sums;
 }
 
-// The report of the folder, or nothing where too many folds have ended meanwhile.
+// The report of the folder, or nothing if too many folds have ended meanwhile.
 std::string report_of(povundiri::Recording& recording) {
     try {
         return recording.report();

@@ -1,6 +1,6 @@
-/* Each allocation of each call is refused alone: the call says so, and made once more it returns as if nothing had been. Of an add and of a batch
- * to a sparse histogram, which grow an index, the call is done all the same. Indexes with a limit keep no more than it allows. In the end
- * all blocks were given back. The library's heap is that of heap.h. */
+/* Each allocation of each call is refused alone: the call reports it, and if it is made once more it returns as if nothing had happened. An
+ * add or a batch to a sparse histogram, where an index grows, succeeds nevertheless. Indexes with a limit keep no more than it allows. In
+ * the end all blocks have been given back. The library's heap is that of heap.h. */
 #include <stdlib.h>
 
 #include "checks.h"
@@ -164,7 +164,7 @@ static struct sparse made_sparse(uint64_t words) {
     return sparse;
 }
 
-/* Adds with the allocation of this number refused, and looks at what is counted. Whether there was one of this number. */
+/* Adds with the allocation of this number refused, and checks what is counted. Returns whether there was one of this number. */
 static bool adds_without(struct povundiri_handle *recorder, size_t hist, int32_t value, size_t number) {
     const int before = refused;
     until_refused = number;
@@ -220,7 +220,7 @@ static void batch_of_values(void) {
     HOLDS(number > 2 && blocks == 0);
 }
 
-/* A second recorder, which meets on the list what the first one has made. */
+/* A second recorder, which finds on the list what the first one has made. */
 static void second_recorder(void) {
     bool asked = true;
     size_t number;

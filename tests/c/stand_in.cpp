@@ -1,7 +1,6 @@
-// Stands in for the proved functions where the thread sanitizer watches what is in c/: it cannot see into the library that rt builds. A
-// segment counts units and recorders as that does, and one total for all histograms; it has no words. Each call reads and writes its
-// handles, so two at once are found. What threads share of a segment is relaxed, so that it puts no call of one thread before a call of
-// another.
+// Takes the place of the proved functions when the thread sanitizer watches what is in c/: it cannot see into the library that rt builds. A
+// segment counts units and recorders as there, and one total for all histograms; it has no words. Each call reads and writes its handles,
+// so two at once are found. What threads share of a segment is relaxed, so that it puts no call of one thread before a call of another.
 
 #include <algorithm>
 #include <atomic>
@@ -19,7 +18,7 @@ struct Words {
     std::atomic<std::uint64_t> total{0};
 };
 
-// What a handle leads to: a segment, or a recorder with so many histograms.
+// What a handle points to: a segment, or a recorder with a number of histograms.
 struct Held {
     bool is_segment;
     Words* words;
@@ -32,7 +31,7 @@ void release(Words* words) {
     if (words->owners.fetch_sub(1, std::memory_order_acq_rel) == 1) delete words;
 }
 
-// What a handle has, which is written again as a call does.
+// What a handle has. The handle is written again, as by a real call.
 Held* held(povundiri_handle* handle) {
     const povundiri_handle was = *handle;
     *handle = was;

@@ -1,6 +1,6 @@
-/* Linked into a program with the words of `wraps` (tests/parts/recordings.py): its calls to the system that others can see come here first.
- * Where the environment has STOP_AT, a number from 1 on, the process kills itself before that one of these calls. Where
- * it has STOP_TELLS, the process says at its end how many there were. */
+/* Linked into a program with the words of `wrapped` (tests/parts/recordings.py): those of its calls to the system that others can see come
+ * here first. If the environment has STOP_AT, a number from 1 on, the process kills itself before that one of these calls. If it has
+ * STOP_TELLS, the process prints at its end how many there were. */
 #define _GNU_SOURCE
 
 #include <fcntl.h>

@@ -1,7 +1,7 @@
-// What threads have begun to count and have ended, in a page that is shared with whoever kills them.
+// What threads have begun to count and have ended, in memory that is shared with the process that kills them.
 //
-// A thread alone writes its own numbers. It adds to 'begun' before a call and to 'ended' after it, so at any moment the segment has of
-// a cell at least what all threads ended, and at most what they began.
+// Only a thread itself writes its numbers. It adds to 'begun' before a call and to 'ended' after it, so at any moment the segment has, for
+// each cell, at least what all threads have ended, and at most what they have begun.
 
 #pragma once
 

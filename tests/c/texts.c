@@ -1,6 +1,6 @@
 /* Prints a text of an image, as a program does that has no more than its words: 'texts WHAT FILE [PREFIX or WIDTH]', where WHAT is report,
- * export or show. Where the image has a fault it prints that on the error stream, and its status is 3. An array that is one byte too short
- * stays as it is. 'texts sum FILE..' prints the report of the sum of images in their order, which have the numbers from 0 on; that of each
+ * export or show. If the image has a fault it prints that on the error stream, and its status is 3. An array that is one byte too short is
+ * not written to. 'texts sum FILE..' prints the report of the sum of images in their order, which have the numbers from 0 on; that of each
  * is added by its totals. */
 #include <stdio.h>
 #include <stdlib.h>
@@ -26,7 +26,7 @@ static uint32_t text_of(const struct asked *asked, char *text, size_t room, size
     return povundiri_report(asked->words, asked->length, text, room, needed);
 }
 
-/* The text in an array of exactly its length; where one that is a byte shorter was written to, there is none. */
+/* The text in an array of exactly its length, or none if an array that is a byte shorter was written to. */
 static char *text_in_room(const struct asked *asked, size_t length) {
     char *const text = malloc(length + 1);
     size_t needed = 0, i;

@@ -1,14 +1,14 @@
 """Images are adopted, recorded into and read again, by `trials adopt`.
 
-Of each image a plain reckoning (plain_adoption.py) says whether it may be adopted, or by which fault it may not. A
+For each image a plain calculation (plain_adoption.py) says whether it may be adopted, or by which fault it may not. A
 segment that continues with one reads as the plain reader reads the image, and in addition what was recorded: in each of
 its histograms and in new ones of all kinds. So no record is bad then. The first delta of a histogram takes what no
 delta had taken yet, and the units that are left are those that the image had not used, but for what was recorded.
 
-The images are those of schedules of version 2 where they stop: known ones, worked examples at every event, and others
-that come of a seed. Each of them is adopted, but for those that were found corrupt. Then come forged images: those of
-forge.py in version 2, and those of forge_adoption.py, which may be adopted but for a reason or two. Each fault and each
-reason has to come into play.
+The images are those that schedules of version 2 have where they are stopped: known ones, worked examples at every
+event, and others that are generated from a seed. Each of them is adopted, but for those that were found corrupt. Then
+come forged images: those of forge.py in version 2, and those of forge_adoption.py, which may be adopted but for a
+reason or two. Each fault and each reason has to come into play.
 """
 
 from __future__ import annotations
@@ -33,9 +33,10 @@ from support.program import Case, answer, built
 PROGRAM = "trials"
 STEPPED = "stepped"
 VERSION = 2
-# So many images are adopted by one process.
+# How many images one process adopts.
 TOGETHER = 100
-# There are so many images of each of the two kinds of forged ones for each 6 of --images.
+# Of each of the two kinds of forged images there is one for each 6 of --images. With at least this many of each kind,
+# each fault and each reason has to come into play.
 ENOUGH_IMAGES = 1000
 FAULTS = ("OldVersion", "Corrupt", "Damaged", "NoUnits", "Image Deleted", None)
 FULL = 2
@@ -177,7 +178,7 @@ def wrong_going(words: Words, lines: Sequence[str]) -> str | None:
 
 
 def wrong_image(data: bytes, lines: Sequence[str], seen: Seen) -> str | None:
-    """What is wrong with what came of an image, or None."""
+    """What is wrong with the lines that came for an image, or None."""
     words = words_of(data, collections.Counter())
     fault = plain_adoption.fault_of(words, 0, seen)
     if fault is not None:
@@ -222,7 +223,7 @@ def wrongs_of(program: pathlib.Path, images: Sequence[Image], seen: Seen) -> Ite
 
 
 def stops(stepped: pathlib.Path, path: pathlib.Path, name: str, events: Iterable[int]) -> list[Image]:
-    """The images of the schedule in a file where it stops."""
+    """The images of the schedule in a file, if it stops after these numbers of events."""
     return [
         (f"{name} after {event} events", answer(stepped, [path, "--stop", str(event), "--image"]).output)
         for event in events
@@ -239,7 +240,7 @@ def worked_stops(
 
 
 def seeded_stops(stepped: pathlib.Path, folder: pathlib.Path, seed: str, number_of_stops: int) -> list[Image]:
-    """The images of the schedule of a seed at its end and at some events, or at each where their number is 0."""
+    """The images of the schedule of a seed at its end and at some events, or at each if their number is 0."""
     chance = random.Random(f"{seed} adopted")
     path = folder / f"{seed}.csv"
     _, came = seeded_schedules.schedule_of(chance, lambda text: replayed(stepped, path, text), [VERSION])
@@ -272,7 +273,7 @@ def stopped_images(stepped: pathlib.Path, options: argparse.Namespace) -> list[I
 
 
 def wrong_stopped(data: bytes, wrong: str | None) -> str | None:
-    """What is wrong with an image of a stop, or None: it is adopted, but where the segment was found corrupt."""
+    """What is wrong with an image of a stop, or None: it is adopted, unless the segment was found corrupt."""
     words = words_of(data, collections.Counter())
     fault = plain_adoption.fault_of(words, 0, collections.Counter())
     wanted = "Corrupt" if words[6] & 1 else None

@@ -109,7 +109,7 @@ def calls(program: pathlib.Path, folder: pathlib.Path) -> Iterator[Case]:
 
 
 def limited(kilobytes: int) -> dict[str, Any]:
-    """The setting under which a program has so many kilobytes of addresses, as with `ulimit -v`."""
+    """The setting under which a program has at most this many kilobytes of addresses, as with `ulimit -v`."""
     return {"preexec_fn": lambda: resource.setrlimit(resource.RLIMIT_AS, (1024 * kilobytes, 1024 * kilobytes))}
 
 

@@ -41,7 +41,7 @@ CHECKS: tuple[tuple[str, list[str], bool], ...] = (
 )
 
 
-# Every so many of the known images has its texts compared.
+# One in this many of the known images has its texts compared.
 STRIDE = 8
 PREFIX = "my_1"
 WIDTH = 61
@@ -178,7 +178,7 @@ def sums(installed: native.Installed) -> Iterator[Case]:
 
 
 def report_in(program: Path, file: pathlib.Path) -> Answer:
-    """The report of the segment that stands at byte 8 of a file, or what was said in its place."""
+    """The report of the segment at byte 8 of a file, or what was said in its place."""
     image = file.with_suffix(".img")
     found = answer(program, ["extract", file, image])
     return answer(program, ["report", image]) if found == Answer(error=b"8\n") else found
@@ -194,7 +194,7 @@ def recorded_twice(
     installed: native.Installed, program: pathlib.Path, source: pathlib.Path, home: pathlib.Path
 ) -> str | None:
     """A program that records a thousand samples into latency.seg, or into the folder metrics, run twice: the second
-    time it continues with what stands there."""
+    time it continues with what is there."""
     built = installed.program(source)
     home.mkdir()
     for _ in range(2):

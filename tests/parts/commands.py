@@ -33,7 +33,7 @@ def wanted_of(case: pathlib.Path) -> Answer:
 
 
 def image_of(case: pathlib.Path, status: int) -> bytes | None:
-    """What has to stand in OUT after the command; None if there has to be no OUT."""
+    """What has to be in OUT after the command; None if there has to be no OUT."""
     written = (case / "OUT.expected").read_bytes()
     return written if written or status == 0 else None
 

@@ -2,7 +2,7 @@
 
 A block of the page is code, and the text before it names the file that has it, or commands, each after a `$`. They run
 one after the other in a new folder, which has the examples. What they print, on both streams, is compared line by line;
-`[..]` stands for any lines. Where there is no `sqlite3`, the commands that ask for it are left out, and a line says so.
+`[..]` stands for any lines. If there is no `sqlite3`, the commands that need it are left out, and a line says so.
 
 Each command of README.md that begins with the program succeeds, and prints the lines that are indented below it. The
 part `c` runs those after its program in C++, and `shown_steps` those of `stepped`.
@@ -30,7 +30,7 @@ PROMPT = "$ "
 ANY_LINES = "[..]"
 ENGINE = "sqlite3"
 SECONDS = 120
-# Fewer would not be the page.
+# With fewer the page was not read as it should be.
 LEAST_TASKS = 12
 LEAST_IN_README = 6
 
@@ -58,7 +58,7 @@ def commands(block: Iterable[str]) -> list[tuple[str, list[str]]]:
 
 
 def pattern(lines: Iterable[str]) -> str:
-    """What matches lines, where some stand for any lines."""
+    """The pattern of these lines, of which some stand for any lines."""
     return "".join(r"(?:.*\n)*" if line == ANY_LINES else f"{re.escape(line)}\n" for line in lines)
 
 
@@ -73,7 +73,7 @@ def wrong_command(command: str, wanted: Sequence[str], folder: pathlib.Path, set
 
 
 def wrong_code(before: str, block: Iterable[str]) -> str | None:
-    """What is wrong with a block of code that stands in a file, or None."""
+    """What is wrong with a block of code that is taken from a file, or None."""
     named = re.search(r"From\s`([^`]+)`", before)
     if named is None:
         return "no file is named that has this code"

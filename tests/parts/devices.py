@@ -21,11 +21,11 @@ from support.program import EXAMPLE, SCRIPT, Answer, Case, Path, Word, answer, c
 
 PROGRAM = "persist_report"
 REPORT = Answer(b"A,boolean,0,1,1\nA,boolean,1,2,2\nA,total,3,2\n")
-# What comes where the script is run once more on its own image.
+# What comes if the script is run once more on its own image.
 RESUMED = Answer(b"A,boolean,0,1,2\nA,boolean,1,2,4\nA,total,6,4\n")
 READ_FAULT, WRITE_FAULT = fault("Read", 4), fault("Write", 4)
 MOST_BYTES = 8_388_608
-# What stands in OUT before a command.
+# What is in OUT before a command.
 STOOD = b"what stood there before"
 
 # What is stored at a word of a valid header, and the fault that the image then has.
@@ -148,7 +148,8 @@ def pipe_without_reader() -> int:
 
 
 def answer_to_short_file(program: pathlib.Path, path: pathlib.Path, most: int) -> Answer:
-    """The answer where standard output is a file that may have so many bytes; its output is what the file then has."""
+    """The answer if standard output is a file that may have at most `most` bytes; its output is what the file then
+    has."""
 
     def limited() -> None:
         signal.signal(signal.SIGXFSZ, signal.SIG_IGN)
@@ -238,7 +239,7 @@ def inputs_of_commands(program: pathlib.Path, folder: pathlib.Path) -> Iterator[
 def wrong_folder(
     folder: pathlib.Path, beside: set[pathlib.Path], out: pathlib.Path, wanted: bytes | None
 ) -> str | None:
-    """What is wrong where OUT is wanted with these bytes, and these files in its folder; or None."""
+    """What is wrong if OUT is wanted with these bytes, and these files in its folder; or None."""
     if content(out) != wanted:
         return f"{(content(out) or b'')[:50]!r} stands in OUT"
     strays = set(folder.iterdir()) ^ beside
@@ -266,7 +267,7 @@ def images_of(program: pathlib.Path, folder: pathlib.Path) -> Iterator[bytes]:
 
 
 def inputs_as_outputs(program: pathlib.Path, folder: pathlib.Path) -> Iterator[Case]:
-    """OUT is an input too: that is read whole before OUT is another, and stays where the command has a fault."""
+    """OUT is an input too: it is read whole before OUT is replaced, and stays if the command has a fault."""
     run_image, merged, resumed = images_of(program, folder)
     script, example, bad = SCRIPT.read_bytes(), EXAMPLE.read_bytes(), b"no script and no image"
     cases_of = {
@@ -302,7 +303,7 @@ def inputs_as_outputs(program: pathlib.Path, folder: pathlib.Path) -> Iterator[C
 
 
 def links(program: pathlib.Path, folder: pathlib.Path) -> Iterator[Case]:
-    """OUT is a link: it stays one, and what it leads to is replaced, or made where it leads to nothing."""
+    """OUT is a link: it stays one, and the file that it leads to is replaced, or made if there is none."""
     run_image, *_ = images_of(program, folder)
     room = folder / "links"
     (room / "other").mkdir(parents=True)
@@ -395,7 +396,7 @@ def open_files(program: pathlib.Path, folder: pathlib.Path) -> Iterator[Case]:
 
 
 def answer_behind_closed_pipe(program: pathlib.Path, folder: pathlib.Path) -> Answer:
-    """The answer of `run` whose OUT is a pipe that is closed before the script comes."""
+    """The answer of a `run` whose OUT is a pipe that is closed before the script comes."""
     script, out = folder / "script-pipe", folder / "out-pipe"
     os.mkfifo(script)
     os.mkfifo(out)
@@ -408,7 +409,7 @@ def answer_behind_closed_pipe(program: pathlib.Path, folder: pathlib.Path) -> An
 
 
 def answer_to_short_out(program: pathlib.Path, words: Sequence[Word], most: int) -> Answer:
-    """The answer where files may have so many bytes."""
+    """The answer if files may have at most `most` bytes."""
 
     def limited() -> None:
         signal.signal(signal.SIGXFSZ, signal.SIG_IGN)
@@ -466,7 +467,7 @@ def wrong_short_out(
     wanted: Answer,
     left: bytes | None,
 ) -> str | None:
-    """What is wrong where files may have so many bytes, or None. OUT follows these words."""
+    """What is wrong if files may have at most `most` bytes, or None. OUT is the word after these."""
     beside = prepared(out, stood)
     wrong = difference(wanted, answer_to_short_out(program, [*words, out], most))
     return wrong or wrong_folder(out.parent, beside, out, left)

@@ -5,8 +5,8 @@ read out.
 begun and at least what had ended. The image of the last stop is adopted by the next run, which continues in its own
 heap.
 
-In the memory stand other segments too: what the segment was made of, and the image that was adopted. These have what
-was there before.
+The memory has other segments too: what the segment was made of, and the image that was adopted. These have what was
+there before.
 """
 
 from __future__ import annotations

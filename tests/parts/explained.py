@@ -290,7 +290,7 @@ def bases(program: pathlib.Path, folder: pathlib.Path) -> Iterator[Case]:
 
 
 def scripts_on(program: pathlib.Path, folder: pathlib.Path) -> Iterator[Case]:
-    """Scripts that are not recorded on in an image."""
+    """Scripts that cannot be recorded into an image."""
     base, script, out = folder / "base.img", folder / "script.csv", folder / "out"
     answer(program, ["run", SCRIPT, base])
     words: list[Word] = ["resume", base, script, out]
@@ -382,7 +382,7 @@ def wants(program: pathlib.Path, folder: pathlib.Path, options: argparse.Namespa
         )
         if came in wanted or made.met <= place:
             break
-    # Where there is no memory for the lines either, the line stands alone.
+    # If there is no memory for these lines either, the line of the fault comes alone.
     yield "no memory", None if came in wanted else difference(wanted[0], came)
 
 

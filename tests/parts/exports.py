@@ -282,7 +282,7 @@ def labeled(program: pathlib.Path, parse: Parse | None) -> Iterator[Case]:
 
 
 def by_name(program: pathlib.Path, parse: Parse | None, folder: pathlib.Path) -> Iterator[Case]:
-    """`--families`: names made lawful, labels, and names that clash."""
+    """`--families`: names that are made valid, labels, and names that clash."""
     script, image = folder / "families", folder / "families.img"
 
     def made(hists: Iterable[str], counts: str = FAMILY_COUNTS) -> bytes:

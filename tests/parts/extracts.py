@@ -1,7 +1,7 @@
 """Segments in files of any bytes: `extract` beside a plain search, for every number from 1 on and one more.
 
-A segment stands at each multiple of eight bytes at which a valid header stands, with all its words before the end; also
-inside the words of another segment.
+A segment is found at each multiple of eight bytes where there is a valid header, with all its words before the end of
+the file; also inside the words of another segment.
 """
 
 from __future__ import annotations
@@ -36,7 +36,7 @@ FAULTS = [
 
 
 def size_at(data: bytes, at: int) -> int | None:
-    """The words of the segment that stands at a place, or None."""
+    """How many words the segment at a place has, or None if there is none."""
     if len(data) < at + 8 * HEADER:
         return None
     words = struct.unpack_from(f"<{HEADER}Q", data, at)
@@ -67,7 +67,7 @@ def segments(data: bytes) -> list[tuple[int, bytes]]:
 
 
 def wrong_of(program: pathlib.Path, folder: pathlib.Path, data: bytes) -> str | None:
-    """What is wrong with what comes of a file for each number, or None."""
+    """What is wrong with what is extracted from a file for each number, or None."""
     file, out = folder / "file", folder / "out"
     file.write_bytes(data)
     wanted = [(Answer(error=f"{place}\n".encode()), image) for place, image in segments(data)]
@@ -83,7 +83,7 @@ def wrong_of(program: pathlib.Path, folder: pathlib.Path, data: bytes) -> str | 
 
 
 def noise(chance: random.Random, size: int) -> bytes:
-    """Bytes in which cookies stand now and then, and lengths of zeros."""
+    """Bytes in which there are cookies now and then, and runs of zeros."""
     parts: list[bytes] = []
     while sum(map(len, parts)) < size:
         parts.append(

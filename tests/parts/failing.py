@@ -1,6 +1,6 @@
 """Each read, write, sync, lock, renaming, opening, allocation and start of a thread fails in turn: the right fault, no
-output where none was begun, and OUT and its folder as they were. And the program is killed at each call that makes a
-file: OUT is the old file or the whole new one.
+output if none was begun, and OUT and its folder unchanged. And the program is killed at each call that makes a file:
+OUT is the old file or the whole new one.
 
 For this the program is traced (tracer.py).
 """
@@ -25,9 +25,9 @@ PROGRAM = "persist_report"
 Files = dict[str, bytes]
 READ_FAULT, WRITE_FAULT, BUSY = fault("Read", 4), fault("Write", 4), fault("Busy", 4)
 NO_MEMORY, NO_THREAD = fault("NoMemory", 5), fault("NoThread", 5)
-# What comes where the program is not even loaded.
+# What comes if the program is not even loaded.
 NOT_LOADED = (127, -signal.SIGSEGV)
-# What stands in OUT before a command; None if there is no OUT.
+# What is in OUT before a command; None if there is no OUT.
 STOOD = b"what stood there before"
 BEFORE: tuple[bytes | None, ...] = (STOOD, None)
 # Of three workers the second alone makes blocks, and each histogram is one worker's: so any run writes the same image.
@@ -85,7 +85,7 @@ class Command:
         self.made = self.left()
 
     def prepare(self, stood: bytes | None) -> None:
-        """Puts OUT into its folder with what stood there, and nothing else."""
+        """Makes OUT's folder, with OUT as it is before the command and nothing else."""
         if self.out:
             shutil.rmtree(self.out.parent, ignore_errors=True)
             self.out.parent.mkdir()
@@ -93,17 +93,17 @@ class Command:
                 (self.out.parent / name).write_bytes(data)
 
     def left(self) -> Files:
-        """What stands in OUT's folder: the bytes of each file by its name."""
+        """What is in OUT's folder: the bytes of each file by its name."""
         return {path.name: path.read_bytes() for path in self.out.parent.iterdir()} if self.out else {}
 
     def failing(self, made: tracer.Fault, stood: bytes | None = STOOD) -> tuple[Answer, Files]:
-        """What it returns where calls fail, and what then stands in OUT's folder."""
+        """What it returns if calls fail, and what is then in OUT's folder."""
         self.prepare(stood)
         settings = {"env": {**os.environ, **tracer.EACH_BY_ITSELF}}
         return tracer.answer(self.program, self.words, made, **settings), self.left()
 
     def each(self, stood: bytes | None = STOOD, **which: Any) -> Iterator[tuple[int, Answer, Files]]:
-        """The place of each call that is meant, the answer if it fails, and what then stands in OUT's folder."""
+        """The place of each call that is meant, the answer if it fails, and what is then in OUT's folder."""
         place = 0
         while True:
             made = tracer.Fault(at=place, **which)
@@ -114,7 +114,7 @@ class Command:
             place += 1
 
     def untouched(self, wanted: Answer, came: Answer, left: Files, stood: bytes | None = STOOD) -> str | None:
-        """What is wrong where a fault was wanted and OUT's folder as it was, or None."""
+        """What is wrong if a fault was wanted, and OUT's folder unchanged; or None."""
         right = folder_of(stood) if self.out else {}
         return difference(wanted, came) or (None if left == right else f"{told(left)} stand in OUT's folder")
 
@@ -137,7 +137,7 @@ def told(left: Files) -> list[str] | str:
 def wrong_where(
     command: Command, wanted: Answer, what: str, before: Iterable[bytes | None] = (STOOD,), **fault: Any
 ) -> str | None:
-    """What is wrong where each such call fails in turn, and a fault is wanted and OUT unchanged; or None."""
+    """What is wrong if each such call fails in turn, and a fault is wanted and OUT unchanged; or None."""
     for stood in before:
         tried = 0
         for place, came, left in command.each(stood, **fault):
@@ -151,8 +151,8 @@ def wrong_where(
 
 
 def wrong_where_some(command: Command, faults: Sequence[Answer], what: str, **fault: Any) -> str | None:
-    """What is wrong where each such call fails in turn, and one of these faults is wanted and OUT unchanged, or the
-    right answer; or None. The last of the faults has to come."""
+    """What is wrong if each such call fails in turn, and what is wanted is one of these faults with OUT unchanged, or
+    the right answer; or None. The last of the faults has to come."""
     for stood in BEFORE:
         tried = 0
         for place, came, left in command.each(stood, **fault):
@@ -183,8 +183,8 @@ def wrong_syncs(command: Command) -> str | None:
 
 
 def wrong_locks(command: Command) -> str | None:
-    """The lock of OUT is taken where OUT stands, and tried again where another has it. Without a lock of its own the
-    new file is written all the same, and another one is made where a run that tidies up has the lock."""
+    """The lock of OUT is taken if there is an OUT, and tried again if another process has it. A new file that cannot be
+    locked is written all the same, and if a run that tidies up has its lock, another one is made."""
     refused = tracer.Fault((tracer.LOCK,), at=0, error=errno.ENOLCK)
     wrong = command.untouched(WRITE_FAULT, *command.failing(refused)) or (
         None if refused.met == 1 else "more was locked after a refusal"
@@ -231,7 +231,7 @@ def wrong_random_bytes(command: Command) -> str | None:
 
 
 def wrong_clashes(command: Command) -> str | None:
-    """Where the new file's name is taken, another is tried."""
+    """If the new file's name is taken, another is tried."""
     for stood in BEFORE:
         refused, taken = (fatal_openings(command, stood, error) for error in (errno.EACCES, errno.EEXIST))
         if taken != refused[:-1]:
@@ -248,7 +248,7 @@ def fatal_openings(command: Command, stood: bytes | None, error: int) -> list[in
 
 
 def wrong_kill(command: Command, came: Answer, left: Files, stood: bytes | None) -> str | None:
-    """What is wrong where the program was killed, or None. The new file may be beside OUT, which is unchanged."""
+    """What is wrong after the program was killed, or None. The new file may be beside OUT, which is unchanged."""
     if came.status != -signal.SIGKILL:
         return f"wanted a kill, came the status {came.status}"
     if left == command.made:

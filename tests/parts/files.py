@@ -2,9 +2,9 @@
 of a file that is damaged or spent.
 
 The programs are in `tests/c`. They are compiled with `c/povundiri_file.c`, so that the address sanitizer and the
-undefined-behaviour sanitizer see into it, and the thread sanitizer for threads that open files at once. Of some the
-calls to the system come to the program, which has each of them fail, or is killed there. Then libFuzzer opens files of
-any bytes for a minute, where clang has it.
+undefined-behaviour sanitizer see into it, and the thread sanitizer for threads that open files at once. In some of them
+the calls to the system come to the program, which lets each of them fail, or is killed there. Then libFuzzer opens
+files of any bytes for a minute, if clang has it.
 """
 
 from __future__ import annotations
@@ -40,7 +40,7 @@ CHECKS: tuple[tuple[str, list[str], tuple[str, ...]], ...] = (
 FUZZER = ["clang", "-std=c99"]
 FUZZER_FLAGS = ["-fsanitize=fuzzer,address,undefined", "-fno-sanitize-recover=all"]
 FUZZER_WORDS = ["-max_len=1024", "-len_control=0"]
-# Files that are opened some thousand times stand here, where there is such a folder.
+# Files that are opened some thousand times are put here, if there is such a folder.
 MEMORY = "/dev/shm"
 
 

@@ -2,7 +2,7 @@
 
 All of it is taken from the page: the commands that copy the libraries, and each file, which is a block after a line
 that names it. `rt run` proves the program and builds it. The libraries are copied with the proofs that the gate has
-made, and are proved first where there are none. Then the program is run twice in one folder: the first run prints what
+made, and are proved first if there are none. Then the program is run twice in one folder: the first run prints what
 `stdout` has, and the second continues in the image of the first.
 
 The lines in Rattle of README.md and of the README of live_segment are run too, as functions of a program, by `rt try`.
@@ -23,7 +23,7 @@ from support.program import ROOT, Answer, Case, answer, difference
 PROGRAM = None
 NAME = "first_program"
 PAGE = ROOT / "docs" / "USING.md"
-# The folder of this repository, as the page has it, and the one where the page has the program.
+# The folder of this repository, as the page names it, and the folder of the program there.
 CLONE = "povundiri"
 HOME = pathlib.Path("crates") / NAME
 CRATES = "crates.txt"
@@ -85,7 +85,7 @@ def make_repository(folder: pathlib.Path, found: Mapping[pathlib.Path, str]) -> 
 
 
 def wrong_proof(home: pathlib.Path) -> str | None:
-    """What is wrong where the program is proved and built, or None."""
+    """What is wrong when the program is proved and built, or None."""
     came = subprocess.run(["rt", "run"], cwd=home, capture_output=True, text=True)
     if came.returncode != 0:
         return f"status {came.returncode}\n{(came.stdout + came.stderr)[-MOST_SHOWN:]}"

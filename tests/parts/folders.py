@@ -1,10 +1,11 @@
 """The folders of recordings, beside a plain model of them (plain_folders.py): what `report`, `show` and `export` say of
 one, and what `fold` makes of it.
 
-Folders of forged segments, whole ones and damaged ones, with totals that name some which still stand, or others of the
-same number, while some are locked. A fold is killed at each of its calls to the system, or each of them fails: the sum
-is what it was, and a later fold ends it. A reader beside folds and beside whoever begins segments never sees a number
-fall. The recordings of the library are folded by the program, and the folders of the program by the library.
+Folders of forged segments, whole ones and damaged ones, with totals that name some that are still there, or others of
+the same number, while some are locked. A fold is killed at each of its calls to the system, or each of them fails: the
+sum is what it was, and a later fold ends it. A reader that runs beside folds and beside a process that begins segments
+never sees a number fall. The recordings of the library are folded by the program, and the folders of the program by the
+library.
 """
 
 from __future__ import annotations
@@ -77,10 +78,10 @@ FAILING = {
     "removing": ((87, 263), errno.EACCES),
     "allocating": (tracer.GROWTHS, errno.ENOMEM),
 }
-# A reader reads beside folds until there were so many of both, which takes so long at most.
+# A reader reads beside folds until there were this many of both, for at most this many seconds.
 LEAST_READINGS = 100
 MOST_SECONDS = 60
-# No segment is begun while so many files are in the folder.
+# No segment is begun while this many files are in the folder.
 MOST_FILES = 20
 # How often a reading begins at most, and the call that lists a folder.
 MOST_TIMES = 16
@@ -118,8 +119,8 @@ def put(folder: pathlib.Path, number: int, data: bytes) -> None:
 
 
 def totals_of(chance: random.Random, segments: dict[int, bytes]) -> bytes:
-    """Totals of a fold that name some segments: some that stand and were not removed, some of which another has the
-    number, and some that are gone."""
+    """Totals of a fold that name some segments: some that are still there and were not removed, some whose number
+    another segment has, and some that are gone."""
     whole, names = plain_sums.Sum(), []
     for number in sorted(chance.sample(range(1, 12), chance.randint(1, 5))):
         data = segments.get(number)
@@ -184,7 +185,7 @@ def wrong_files(path: pathlib.Path, wanted: Folder) -> str | None:
 
 
 def folded(program: pathlib.Path, path: pathlib.Path, locked: Collection[int], title: str) -> Iterator[Case]:
-    """A fold while some segments are locked, and the texts behind it."""
+    """A fold while some segments are locked, and the texts after it."""
     before = Folder.at(path)
     wanted, left = before.folded(locked)
     with all_locked(path, locked):
@@ -363,8 +364,8 @@ def refusals(program: pathlib.Path, top: pathlib.Path) -> Iterator[Case]:
 
 
 def to_be_folded(path: pathlib.Path) -> Folder:
-    """A folder with segments, totals that name one of them, and one of which another has the number; and one that is
-    damaged in it, so that a look and the image itself are the same."""
+    """A folder with four segments, and totals that name two: one that is still there, and one whose number another of
+    the four has."""
     crash, made_of = CRASH.read_bytes(), made(path)
     for number in (1, 2):
         put(made_of, number, mapped(with_id(crash, 100 + number)))
@@ -413,7 +414,7 @@ def kills(program: pathlib.Path, top: pathlib.Path) -> Iterator[Case]:
 
 
 def failures(program: pathlib.Path, top: pathlib.Path) -> Iterator[Case]:
-    """Each call of a kind fails in turn in a fold; allocations from one on."""
+    """Each call of a kind fails in turn in a fold; an allocation with all that come after it."""
     folder = to_be_folded(top / "failures")
     whole = folder.reading()[0]
     text, report = plain_sums.totals_text(whole), plain_sums.report_of(whole, 0)
@@ -468,7 +469,7 @@ class Beginner:
 
 
 def images_in(report: bytes) -> int:
-    """How many images a report is of; none of an empty one, and one where it does not say."""
+    """How many images a report is of: none if it is empty, and one if it does not say."""
     lines = [line for line in report.splitlines() if line.startswith(b"!images,")]
     return int(lines[0].split(b",")[1]) if lines else int(bool(report))
 
@@ -543,7 +544,7 @@ def beside(program: pathlib.Path, top: pathlib.Path) -> Iterator[Case]:
 
 @dataclasses.dataclass
 class AtListings(tracer.Fault):
-    """Does something before a folder is listed, so many times. No call fails."""
+    """Does something before a folder is listed, the first `times` times. No call fails."""
 
     folder: str = ""
     times: int = 0
@@ -563,8 +564,8 @@ class AtListings(tracer.Fault):
 
 
 def amid_readings(program: pathlib.Path, top: pathlib.Path) -> Iterator[Case]:
-    """A segment is begun and a fold ends each time after a reader has read the totals: it begins again, sixteen times
-    at most, and then it has each segment once, or is Busy."""
+    """Each time after a reader has read the totals, a segment is begun and a fold ends: the reader begins again,
+    sixteen times at most, and in the end it has each segment once, or is Busy."""
     for folds in (0, 1, 2, 7, MOST_TIMES - 1, MOST_TIMES):
         beginner, folding = Beginner(made(top / f"{folds} folds")), []
         beginner.begin()

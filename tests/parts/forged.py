@@ -16,8 +16,7 @@ ENOUGH_IMAGES = 1000
 
 
 def cases(program: pathlib.Path, options: argparse.Namespace) -> Iterator[Case]:
-    """Each image on standard input; and, where there were enough of them, whether each rule of the format came into
-    play.
+    """Each image on standard input; and, if there were enough of them, whether each rule of the format came into play.
 
     The same seed gives the same images. One whose answer differs is kept in the current folder.
     """

@@ -1,8 +1,8 @@
 """Each growth of memory is refused in turn, and memory is there again after it.
 
-Of the calls of the libraries, which `trials` makes, each allocation is refused (allocations.py): the call says so, and
-it, when it is made again, and all calls after it return what they always do. If an index of names or of samples cannot
-grow, the call returns what it always does. Calls that take no memory ask for none.
+Of the calls of the libraries, which `trials` makes, each allocation is refused (allocations.py): the call reports it.
+When it is made again, it returns what it always does, and so do all calls after it. If an index of names or of samples
+cannot grow, the call returns what it always does. Calls that take no memory ask for none.
 
 The commands and `stepped` report `NoMemory`, with no output but what `stepped` had written before, and OUT unchanged.
 Of them each growth is refused for which the C library asks the system (tracer.py).
@@ -24,11 +24,11 @@ from support import allocations, native, tracer
 from support.program import ROOT, Answer, Case, answer, built, difference, untried
 
 PROGRAM = "trials"
-# Says what is wrong with the answer of a command and with what then stands in OUT's folder, or None.
+# Says what is wrong with the answer of a command and with what is then in OUT's folder, or None.
 WrongAnswer = Callable[[failing.Command, Answer, failing.Files], Optional[str]]
 GROWTH: dict[str, Any] = {"numbers": tracer.GROWTHS, "growth": True, "error": errno.ENOMEM}
 SCHEDULE = ROOT / "examples" / "pack_before_disabling.csv"
-# A world that goes on with an image, in which an actor finds a histogram and adds to it.
+# A world that continues with an image, in which an actor finds a histogram and adds to it.
 IMAGE = ROOT / "examples" / "crash.img"
 ADOPTED = f"""adopt,{IMAGE},1
 hist,0,cache.hit,boolean
@@ -50,9 +50,9 @@ TAKING = (
 TAKING_NONE = (
     "begin SetCorrupt", "step", "recorder", "units", "knows", "next_shared", "set_corrupt", "lend", "join", "close",
 )
-# Those that also let an index of names or of samples grow: where that is refused, they go on without. The first `add`
-# of a sparse histogram that meets a sample takes as much as four samples need. The last `batch` is of five values more,
-# and lets the list of samples grow twice.
+# Those that also let an index of names or of samples grow: if that is refused, they continue without it. The first
+# `add` of a sparse histogram that visits a sample takes as much as four samples need. The last `batch` is of five
+# values more, and lets the list of samples grow twice.
 INDEXED = ("hist", "add", "batch", "merge")
 # How each says that memory was refused.
 NO_MEMORY = "NoMemory"
@@ -77,11 +77,11 @@ ASKED = {
 # `merge` for all histograms 88 bytes each, then for each of them twice its name and 8 bytes for each of its keys, and
 # then again for all 32 bytes each, before the `hist` of each.
 MERGED = {"boolean": 3, "custom": 4, "sparse": 10, "A": 3, "B": 3, "C": 3, "D": 3, "a_name_that_is_longer": 3}
-# `hist` asks for so many bytes at most in all, but where a list or an index of its recorder grows: the list of what it
-# knows, the index of that, and the index of names. The first `hist` lets all three grow, and no more than two others
+# `hist` asks for at most MOST_OF_HIST bytes in all, unless a list or an index of its recorder grows: the list of what
+# it knows, the index of that, and the index of names. The first `hist` lets all three grow, and no more than two others
 # one of them. What these ask for is bounded, and not known to the byte: it is the library's that has lists and maps. So
-# is what the index of samples asks for in the `add` that first meets samples, and where its list of samples grows twice
-# in a `batch`.
+# is what the index of samples asks for in the `add` that first visits samples, and in the `batch` where its list of
+# samples grows twice.
 MOST_OF_HIST = 512
 MOST_OF_GROWTH = 2048
 GROWING_HISTS = 3
@@ -152,7 +152,7 @@ def refused_line(name: str) -> str:
 
 
 def with_line(lines: Sequence[str], place: int, line: str) -> list[str]:
-    """The lines of a run, and a line behind the line `try` of this place."""
+    """The lines of a run, with one line more after the line `try` of this place."""
     tries = [at for at, one in enumerate(lines) if one.startswith("try ")]
     return [*lines[:tries[place] + 1], line, *lines[tries[place] + 1:]]
 
@@ -167,7 +167,7 @@ def wrong_refusal(lines: list[str], one: allocations.Asked, came: Answer) -> str
 
 
 def merges_of(lines: list[str]) -> tuple[list[str], list[list[str]], list[str]]:
-    """The lines before the merges of a run, those of each merge, and those behind them."""
+    """The lines before the merges of a run, those of each merge, and those after them."""
     tries = [at for at, line in enumerate(lines) if line.startswith("try ")] + [len(lines)]
     merges = [(start, end) for start, end in zip(tries, tries[1:]) if lines[start] == "try merge"]
     return lines[:merges[0][0]], [lines[start + 1:end] for start, end in merges], lines[merges[-1][1]:]
@@ -181,8 +181,8 @@ def added_by(line: str) -> tuple[str, str]:
 
 
 def stopped_merge(whole: Sequence[str], reached: int) -> list[str]:
-    """The lines of a merge that was refused when it had reached so many histograms, where these are the lines of a
-    whole one: what it added before stays, and of the one where it stopped nothing is added."""
+    """The lines of a merge that was refused when it had reached a number of histograms, if `whole` are the lines of a
+    merge that was done: what it added before stays, and nothing is added of the histogram where it stopped."""
     added = [added_by(line) for line in whole if line.startswith("added ")]
     if not reached:
         return [refused_line("merge"), f"{UNITS} units"]
@@ -211,8 +211,8 @@ def wrong_merge(lines: list[str], came: Answer) -> str | None:
 def wrong_allocation(
     program: pathlib.Path, refuser: allocations.Refuser, plain: Answer, place: int, one: allocations.Asked
 ) -> str | None:
-    """What is wrong where an allocation of a call is refused, or None. A call may do with another one in its place;
-    then that is refused too."""
+    """What is wrong if an allocation of a call is refused, or None. A call may do with another one in its place; then
+    that is refused too."""
     lines = plain.output.decode().splitlines()
     came, asked = refuser.answer(program, ["growths"], place)
     if came == plain and any(other.place == one.place for other in asked[place + 1:]):
@@ -238,7 +238,7 @@ def library_cases(
 
 
 def wrong_command(command: failing.Command, wrong_answer: WrongAnswer) -> tuple[str | None, int]:
-    """What is wrong where each growth of a command is refused in turn, or None; and how many were."""
+    """What is wrong if each growth of a command is refused in turn, or None; and how many were."""
     tried = 0
     for place, came, left in command.each(**GROWTH):
         if came.status in failing.NOT_LOADED and not tried:
@@ -255,7 +255,7 @@ def wrong_of_command(command: failing.Command, came: Answer, left: failing.Files
 
 
 def wrong_of_stepped(command: failing.Command, came: Answer, _: failing.Files) -> str | None:
-    """What is wrong with the answer of `stepped`, or None: it may have told what was done before."""
+    """What is wrong with the answer of `stepped`, or None: it may have written what was done before."""
     if not command.right.output.startswith(came.output) or ("--image" in command.words and came.output):
         return f"came {came.output[:200]!r}"
     return difference(Answer(came.output, STEPPED_OUT_OF_MEMORY, 5), came)
@@ -264,7 +264,7 @@ def wrong_of_stepped(command: failing.Command, came: Answer, _: failing.Files) -
 def commands(
     program: pathlib.Path, stepped: pathlib.Path, folder: pathlib.Path
 ) -> Iterator[tuple[failing.Command, WrongAnswer]]:
-    """The commands that are tried, each with what tells what is wrong with its answer."""
+    """The commands that are tried, each with the function that says what is wrong with its answer."""
     for command in failing.commands(program, folder):
         yield command, wrong_of_command
     adopted = folder / "adopted.csv"

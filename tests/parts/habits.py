@@ -53,7 +53,7 @@ def asked_to_explain(program: pathlib.Path) -> Iterator[Case]:
 
 
 def closed_pipes(program: pathlib.Path, folder: pathlib.Path) -> Iterator[Case]:
-    """Where nobody reads standard output any more, no line follows that of the fault, however it was asked for."""
+    """If nobody reads standard output any more, no line follows that of the fault, in whatever way it was asked for."""
     out = folder / "closed"
     commands: dict[str, list[Word]] = {
         "report": ["report", EXAMPLE],
@@ -155,7 +155,7 @@ def twice(program: pathlib.Path, folder: pathlib.Path) -> Iterator[Case]:
 
 
 def typed(program: pathlib.Path, words: Sequence[Word]) -> Answer:
-    """The answer where standard input is a terminal at which the input is ended at once."""
+    """The answer if standard input is a terminal, at which the input is ended at once."""
     mine, its = pty.openpty()
     running = subprocess.Popen([program, *words], stdin=its, stdout=subprocess.PIPE, stderr=subprocess.PIPE)
     os.close(its)
@@ -166,7 +166,7 @@ def typed(program: pathlib.Path, words: Sequence[Word]) -> Answer:
 
 
 def without_file(program: pathlib.Path) -> Iterator[Case]:
-    """A command without FILE says that it reads standard input, where that is a terminal; and only there."""
+    """A command without FILE says that it reads standard input, if that is a terminal; and only then."""
     short = fault("Image TooShort", 3)
     said = b"persist_report: reads the image from standard input, since no FILE is named (Ctrl-C ends it)\n"
     for command in ("report", "show", "export"):
@@ -177,13 +177,13 @@ def without_file(program: pathlib.Path) -> Iterator[Case]:
 
 
 def of_stepped(text: str, status: int, lines: Sequence[str]) -> Answer:
-    """The answer of `stepped` that tells a fault and then these lines, and then what it means and what to do."""
+    """The answer of `stepped` that reports a fault, then these lines, and then what it means and what to do."""
     wanted = explained(text, status, lines)
     return Answer(error=wanted.error.replace(b"persist_report: ", b"stepped: ", 1), status=status)
 
 
 def stepped_schedules(folder: pathlib.Path) -> Iterator[tuple[list[Word], Answer]]:
-    """Command lines of `stepped` with a fault, each with its answer where that is explained."""
+    """Command lines of `stepped` with a fault, each with its answer if that is explained."""
     bad, image, schedule = folder / "bad.csv", folder / "short.img", folder / "adopts.csv"
     bad.write_bytes(b"world,128,64,7,1,2\n\n\nstop,0\n")
     image.write_bytes(EXAMPLE.read_bytes()[:-1])

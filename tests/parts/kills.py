@@ -72,7 +72,7 @@ class Chain(bounds.Runs):
         self.met["units"] += sum(units.values()) - sum(self.before.values())
 
     def run(self, kills: int) -> str | None:
-        """What is wrong after one of so many kills, or None."""
+        """What is wrong after one of a number of kills, or None."""
         for number in range(kills):
             said = self.kill()
             wrong = f"it said {said}" if said else self.wrong()

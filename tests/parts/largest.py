@@ -39,7 +39,7 @@ def samples(chance: random.Random) -> tuple[bytes, bytes]:
 
 
 def names(chance: random.Random) -> tuple[bytes, bytes]:
-    """As many boolean histograms as fit, each with one unit, whose names stand in no order on a list in no order."""
+    """As many boolean histograms as fit, each with one unit, with random names, on a list in no order."""
     references = range(FIRST, SIZE, 16)
     taken = [f"h{number:07x}" for number in chance.sample(range(16**7), len(references))]
     words = [int.from_bytes(name.encode(), "little") for name in taken]

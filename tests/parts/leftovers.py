@@ -29,7 +29,7 @@ OTHER_NAMES = [
     NEW + "-" + DIGITS[:15], ".persist_report_" + DIGITS, "x" + LEFT,
 ]
 NO_TEXT = os.fsencode(NEW) + b"0123456789abcd\xff\xfe"
-# How many runs of each of so many loops write into one folder at once, and how many of these are killed.
+# How many runs each loop has, one after the other, and how many loops write into one folder at once.
 RUNS, LOOPS = 60, 4
 
 
@@ -38,7 +38,7 @@ def merge_into(out: pathlib.Path) -> list[Word]:
 
 
 def removed(program: pathlib.Path, folder: pathlib.Path) -> Iterator[Case]:
-    """Each command that writes a file removes what was left beside it, also where OUT is there."""
+    """Each command that writes a file removes what was left beside it, also if OUT is there."""
     base = folder / "base"
     answer(program, ["run", SCRIPT, base])
     for name, words in commands(base, "out"):
@@ -100,7 +100,7 @@ def kept(program: pathlib.Path, folder: pathlib.Path) -> Iterator[Case]:
 
 
 def untidied(program: pathlib.Path, folder: pathlib.Path) -> Iterator[Case]:
-    """A folder that cannot be listed, and a file that cannot be opened: the run goes on. A user who may read anything
+    """A folder that cannot be listed, and a file that cannot be opened: the run continues. A user who may read anything
     becomes another first."""
     room, own = folder / "untidied", folder / "program"
     own.write_bytes(program.read_bytes())
@@ -168,8 +168,8 @@ def killed(program: pathlib.Path, folder: pathlib.Path) -> Iterator[Case]:
 
 
 def loop(program: pathlib.Path, folder: pathlib.Path, chance: random.Random, number: int) -> str | None:
-    """What is wrong with one of the runs that write into a folder, one after the other, or None. Of every second loop
-    each run is killed at some moment, which is sooner or later by how long the runs before it took."""
+    """What is wrong with one of the runs that write into a folder, one after the other, or None. In every second loop
+    each run is killed at a random moment, sooner after runs that were done by then, and later after others."""
     longest = 0.02
     for turn in range(RUNS):
         words = merge_into(folder / f"out {number} {turn % 3}")

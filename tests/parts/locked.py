@@ -2,7 +2,7 @@
 it reads anything until the new file has OUT's name. What came to OUT meanwhile is not replaced either. Inputs are not
 locked.
 
-Another process holds a lock where the test does: the lock belongs to what was opened, and the program opens files
+A lock that the test holds is like that of another process: it belongs to what was opened, and the program opens files
 itself.
 """
 
@@ -62,7 +62,7 @@ def commands(base: pathlib.Path, out: Path) -> Iterator[tuple[str, list[Word]]]:
 
 
 def renewed(folder: pathlib.Path) -> pathlib.Path:
-    """OUT with what stood there, in a folder with nothing else."""
+    """OUT as it is before a command, in a folder with nothing else."""
     out = folder / "out"
     for path in folder.iterdir():
         path.unlink()
@@ -71,7 +71,7 @@ def renewed(folder: pathlib.Path) -> pathlib.Path:
 
 
 def touched(folder: pathlib.Path, wanted: Mapping[str, bytes]) -> str | None:
-    """What is wrong where other files stand in a folder than were wanted, or None."""
+    """What is wrong if other files are in a folder than were wanted, or None."""
     left = {path.name: path.read_bytes() for path in folder.iterdir() if not path.is_fifo()}
     return (
         None
@@ -120,7 +120,8 @@ def wrong_behind_link(program: pathlib.Path, folder: pathlib.Path) -> str | None
 
 
 def wrong_for_a_moment(program: pathlib.Path, folder: pathlib.Path) -> str | None:
-    """Who looks at a file for 50 ms keeps no command from it; tried again where a busy machine makes that longer."""
+    """A process that has a file locked for 50 ms keeps no command from it; tried again if a busy machine makes that
+    longer."""
     for _ in range(TRIES):
         out = renewed(folder)
         looks = open(out, "rb")
@@ -152,8 +153,8 @@ def wrong_of_inputs(program: pathlib.Path, out: pathlib.Path) -> str | None:
 
 
 class Waiting:
-    """A command whose script comes by a pipe, as far as it gets before that: it has opened OUT, and made its new
-    file."""
+    """A command whose script comes through a pipe, as far as it gets before the script comes: it has opened OUT, and
+    made its new file."""
 
     def __init__(self, program: pathlib.Path, folder: pathlib.Path) -> None:
         self.folder = folder
@@ -176,7 +177,7 @@ class Waiting:
 
 
 def wrong_meanwhile(program: pathlib.Path, folder: pathlib.Path) -> str | None:
-    """The lock of OUT is had until the new file has its name."""
+    """The lock of OUT is held until the new file has its name."""
     out = renewed(folder)
     waiting = Waiting(program, folder)
     held, before = is_locked(out), out.read_bytes()
@@ -194,7 +195,7 @@ def wrong_meanwhile(program: pathlib.Path, folder: pathlib.Path) -> str | None:
 
 
 def wrong_newcomer(program: pathlib.Path, folder: pathlib.Path) -> str | None:
-    """What comes to OUT where nothing stood is not replaced."""
+    """If there was no OUT, a file that comes there meanwhile is not replaced."""
     out = renewed(folder)
     out.unlink()
     waiting = Waiting(program, folder)

@@ -25,7 +25,7 @@ PROGRAM = "persist_report"
 LOOKS_A_RUN, RUNS_A_FILE, ADOPTED_EACH = 100, 2, 10
 # How many looks go by until one is at the memory of the process.
 IN_MEMORY_EACH = 7
-# The looks of a run that are taken from inside are one of so many of all.
+# A run that looks at its own segment takes LOOKS / INSIDE looks, by the LOOKS of the command line.
 INSIDE = 4
 VERSION = 2
 ID = 7
@@ -98,7 +98,7 @@ class Watched(bounds.Runs):
         return self.adopted(report.output) if wrong is None and number % ADOPTED_EACH == 0 else wrong
 
     def run(self, looks: int) -> str | None:
-        """What is wrong with one of so many looks at a run, which is killed then, or None."""
+        """What is wrong with one of the looks at a run, which is killed after them, or None."""
         words = self.words("file", self.file, self.tally)
         with subprocess.Popen(words, stdout=subprocess.PIPE, stderr=subprocess.PIPE) as running:
             assert running.stderr is not None

@@ -32,9 +32,9 @@ STOOD = b"what stood there before"
 # The first histogram of the example, and its units, which are also its redundant count.
 FIRST_NAME, FIRST_UNITS = b"request.ms", 70
 HISTOGRAM_TAG, HISTOGRAM_REDUNDANT = 1, 13
-# A header's word with the segment's id: the first words, up to this one, tell a segment from another.
+# A header's word with the segment's id: the first words, up to this one, say which segment it is.
 ID = 4
-# A word of a header that no running program changes is damaged in so many of the copies.
+# How often the last copy is cut, the version may be another one, and the id of one copy is another one.
 DAMAGED = 0.1
 # How often a file is shown again and again while it changes, and how many looks there are at it then.
 CHAINS, LOOKS_OF_CHAIN = 60, 4
@@ -117,7 +117,7 @@ class Changing(tracer.Fault):
 
 @dataclasses.dataclass
 class Following(tracer.Fault):
-    """The same for looks that follow one another, at each of which the file is opened anew; and no wait takes time."""
+    """The same for looks that follow one another, at each of which the file is opened again; and no wait takes time."""
 
     path: pathlib.Path = pathlib.Path()
     copies: Sequence[bytes] = ()
@@ -136,7 +136,7 @@ class Following(tracer.Fault):
 
 
 def changed(words: Sequence[int], chance: random.Random) -> list[int]:
-    """The words of another copy: some behind the header are others, mostly as large as words that are there."""
+    """The words of another copy: some after the header have other values, such as a segment may have."""
     copy = list(words)
     for _ in range(chance.choice([0, 1, 5, 50])):
         place = chance.randrange(layout.QUEUE + layout.NEXT, len(copy))
@@ -297,7 +297,7 @@ def look_at(copy: bytes) -> bytes | None:
 
 
 def related(data: bytes, chance: random.Random) -> bytes:
-    """An image with other words than an image, many of which are counts."""
+    """An image in which some words of another image are changed, many of them counts."""
     words = list(layout.words_of(data))
     places = [place for place in range(layout.QUEUE + layout.NEXT, len(words)) if 0 < words[place] < 1000]
     for place in chance.sample(places, min(len(places), chance.choice([1, 5, 50]))):
@@ -306,7 +306,7 @@ def related(data: bytes, chance: random.Random) -> bytes:
 
 
 def scripted(program: pathlib.Path, folder: pathlib.Path, chance: random.Random) -> list[bytes]:
-    """Images of a script that goes on, in which a sparse histogram has many values."""
+    """Images of a script that gets longer, in which a sparse histogram has many values."""
     script, image, copies = folder / "script", folder / "image", []
     lines = ["segment,4096,64,7", "hist,many,sparse", "hist,load,linear,1,1000,20", "hist,yes,boolean"]
     for _ in range(LOOKS_OF_CHAIN):
@@ -323,8 +323,8 @@ def scripted(program: pathlib.Path, folder: pathlib.Path, chance: random.Random)
 def copies_of_chain(
     program: pathlib.Path, folder: pathlib.Path, number: int, images: Sequence[bytes], chance: random.Random
 ) -> list[bytes]:
-    """What a file has at looks that follow one another: images of a script that goes on, known images in any order, or
-    a forged one that changes."""
+    """What a file has at looks that follow one another: images of a script that gets longer, known images in any order,
+    or a forged one that changes."""
     if number % 3 == 0:
         return scripted(program, folder, chance)
     if number % 3 == 1:

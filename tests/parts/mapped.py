@@ -1,5 +1,5 @@
-"""Mapped files where an image may stand: `report`, `show` and `export` beside plain readers, and what `merge` and
-`resume` make of one beside what they make of the closed image.
+"""Mapped files in place of images: `report`, `show` and `export` beside plain readers, and what `merge` and `resume`
+make of one beside what they make of the closed image.
 
 A mapped file is a word of zeros, the image, shared cursors, and zeros to a multiple of sixteen bytes.
 """
@@ -30,7 +30,7 @@ SCRIPT = "segment,{},{},{}\nhist,mapped.only,boolean\nadd,mapped.only,1,5\n"
 
 
 def mapped(image: bytes, cursors: int, chance: random.Random) -> bytes:
-    """The mapped file with an image and so many shared cursors."""
+    """The mapped file of an image, with a number of shared cursors."""
     file = bytes(8) + image + chance.randbytes(8 * cursors)
     return file + bytes(-len(file) % 16)
 

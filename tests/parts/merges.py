@@ -1,7 +1,7 @@
-"""Merges of two images that scripts made: the new image has what both had above their marks, by a plain reckoning.
+"""Merges of two images that scripts made: the new image has what both had above their marks, by a plain calculation.
 
-The images come of one worker or of many. Of one worker the marks are known by the script too: a delta takes all before
-it.
+The images come from one worker or from many. With one worker the marks are known from the script too: a delta takes all
+before it.
 """
 
 from __future__ import annotations
@@ -49,7 +49,7 @@ class Merged:
         self.specs: dict[str, Any] = {}
 
     def take(self, image: bytes) -> None:
-        """Adds what an image has above its marks; at a histogram whose spec is another one there it stops."""
+        """Adds what an image has above its marks; it stops at a histogram that has another spec in the new segment."""
         for name, histogram in read(image).items():
             shown = name.decode()
             if self.specs.setdefault(shown, histogram["spec"]) != histogram["spec"]:

@@ -35,23 +35,23 @@ STOPPED = (
     "open", "close", "flock", "fsync", "ftruncate", "link", "mmap", "posix_fallocate", "pread", "rename", "unlink",
     "write",
 )
-# A program that begins segments has made so many of these calls after some milliseconds.
+# A program that begins segments makes this many of these calls within some milliseconds.
 BEGINNINGS = 100
-# The programs that check something, and which calls to the system each of them stands before.
+# The programs that check something, and which calls to the system each of them intercepts.
 CHECKED = {"recorded": ("clock_gettime", "posix_fallocate"), "recorded_folders": ("open",)}
 THREADS = "-fsanitize=thread"
 # The reasons for what is missed, in the order of the library; what a run may miss that nothing disturbs.
 REASONS = ("too_large", "other_spec", "no_space", "rolling", "forked", "ended", "no_memory")
 MAY_MISS = ("too_large", "rolling")
 MOST_SECONDS = 100
-# In which a program makes BEGINNINGS calls, also on a machine that has much else to do.
+# In this time a program makes BEGINNINGS calls, also on a busy machine.
 ENOUGH_SECONDS = 60
 
 Counts = collections.Counter[bytes]
 
 
 def told(tally: pathlib.Path) -> tuple[Counts, Counts]:
-    """What was begun of each histogram, and what has ended."""
+    """The units of each histogram that were begun, and those that have ended, by a tally."""
     begun: Counts = collections.Counter()
     ended: Counts = collections.Counter()
     data = tally.read_bytes() if tally.exists() else b""
@@ -67,7 +67,7 @@ def units_of(report: bytes) -> Counts:
 
 
 class Folder:
-    """A folder, and what all that ran there have told."""
+    """A folder, and the tallies of all programs that ran there."""
 
     def __init__(
         self, recording: pathlib.Path, reader: pathlib.Path, home: pathlib.Path, chance: random.Random
@@ -134,7 +134,7 @@ class Folder:
 
 
 def killed(runs: Folder, kills: int, mode: str) -> str | None:
-    """What is wrong after one of so many kills, or None."""
+    """What is wrong after one of a number of kills, or None."""
     for number in range(kills):
         with runs.running(0, runs.chance.choice(SIZES), mode):
             time.sleep(runs.chance.random() ** 3 * 0.2)
@@ -153,7 +153,7 @@ def killed(runs: Folder, kills: int, mode: str) -> str | None:
 
 
 def seen(runs: Folder, before: Counts) -> Counts | str:
-    """What a reader finds while others record; or what is wrong, as where a number falls."""
+    """What a reader finds while others record; or what is wrong, for instance that a number falls."""
     ended = runs.counts()[1]
     came = runs.report()
     if came.status == 3 and came.error == b"Busy\n":
@@ -216,7 +216,7 @@ def to_its_end(runs: Folder, mode: str) -> str | None:
 
 
 def stopped(words: Sequence[Path], at: int) -> int:
-    """The status of a program that is killed before so manyeth a call."""
+    """The status of a program that is killed before the call of this number."""
     environment = {**os.environ, "STOP_AT": str(at)}
     return subprocess.run([*words], env=environment, capture_output=True, timeout=MOST_SECONDS).returncode
 
@@ -266,7 +266,7 @@ def folds_killed(runs: Folder) -> str | None:
             if wrong is not None:
                 return f"killed before call {at} of {calls}: {wrong}"
         print(f"folds: killed before each of {calls} calls", flush=True)
-        # The last calls close what is locked, behind those that remove: of these some are not made.
+        # The last calls close what is locked. Before them come those that remove: some of these are not made.
         if stopped([runs.reader, "fold", runs.folder], calls - len(runs.numbers()) - 3) != -9 or not runs.numbers():
             return "an earlier fold was not killed amid what it removes"
     return runs.wrong()
@@ -290,7 +290,7 @@ def beginnings_killed(runs: Folder, mode: str) -> str | None:
 
 
 def wrapped(calls: Sequence[str]) -> list[str]:
-    """How a program is linked that stands before these calls to the system."""
+    """How a program is linked that intercepts these calls to the system."""
     return [f"-Wl,--wrap={call}" for call in calls]
 
 
@@ -327,7 +327,7 @@ class Programs:
         return built
 
     def collected(self) -> Iterator[Case]:
-        """What prometheus-cpp writes of a recording, where that is installed."""
+        """What prometheus-cpp writes of a recording, if prometheus-cpp is installed."""
         package = "prometheus-cpp-core"
         try:
             cflags, libs = (native.run(["pkg-config", words, package]).split() for words in ("--cflags", "--libs"))

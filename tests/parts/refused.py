@@ -1,6 +1,6 @@
 """Memory that is refused: the program under ever larger limits of its data, until it needs no more.
 
-For small images the C library is told to ask the system for each allocation by itself. So each limit refuses the first
+For small images the C library is set to ask the system for each allocation by itself. So each limit refuses the first
 allocation with which the program would have more than that, and each page more lets it come further.
 """
 
@@ -26,7 +26,7 @@ STEP = 100
 THREAD_STEP = 40
 NO_MEMORY, NO_THREAD = fault("NoMemory", 5), fault("NoThread", 5)
 NOT_LOADED = 127
-# What stands in OUT before each command.
+# What is in OUT before each command.
 STOOD = b"what stood there before"
 SCRIPT = b"segment,256,64,7\nhist,A,boolean\nhist,S,sparse\nadd,A,1,2\nadd,S,-5,1\nadd,A,0,1\ndelta,A\nadd,S,7,70000\n"
 EACH_BY_ITSELF = {"MALLOC_MMAP_THRESHOLD_": "0", "MALLOC_TOP_PAD_": "0"}
@@ -48,7 +48,7 @@ COMMAND_LINES: list[list[Word]] = [
 def answer_within(
     program: Path, pages: int, words: Sequence[Word], data: bytes = b"", setting: Mapping[str, str] = EACH_BY_ITSELF
 ) -> Answer:
-    """What the program returns with so many pages of data."""
+    """What the program returns with at most this many pages of data."""
     limits = (PAGE * pages, PAGE * pages)
     limited: dict[str, Any] = {"preexec_fn": lambda: resource.setrlimit(resource.RLIMIT_DATA, limits)}
     return answer(program, words, data, env={**os.environ, **setting}, **limited)
@@ -71,8 +71,8 @@ def wrong_of(
 ) -> str | None:
     """What is wrong with the answers under limits that grow by `step` from these pages on, or None.
 
-    Each has to be NoMemory until it is the one that the program gives with ample memory; and NoMemory has to come.
-    Where there is none to start a worker, it is NoThread. Before, `out` is unchanged, and nothing else is made beside
+    Each has to be NoMemory until it is the one that the program gives with ample memory; and NoMemory has to come. If
+    there is no memory to start a worker, it is NoThread. Before, `out` is unchanged, and nothing else is made beside
     it.
     """
     ample = answer(program, words, data)

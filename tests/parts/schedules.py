@@ -1,7 +1,7 @@
 """Schedules of the stepped world, replayed by the program `stepped`.
 
 Those in the folder cases/schedules have known answers: NNN.csv is a schedule, and NNN.out, NNN.err and NNN.status are
-what comes of it; NNN.report and NNN.words are what it shows after the events of NNN.stop. The answers are those of an
+its result; NNN.report and NNN.words are what it shows after the events of NNN.stop. The answers are those of an
 independent implementation.
 
 Worked examples end with words and answers that the format gives. They are stopped at every event. Others are generated
@@ -32,7 +32,7 @@ from support.program import ROOT, Answer, Case, Word, answer, difference
 PROGRAM = "stepped"
 FOLDER = ROOT / "tests" / "cases" / "schedules"
 FULL = "/dev/full"
-# Words of a command line that stops where it is read, and the status.
+# Words of a command line that ends the program when it is read, and the status.
 USAGES: list[tuple[list[str], int]] = [
     ([], 2), (["a", "--report", "--image"], 2), (["a", "--stop", "x"], 2), (["--help"], 0),
 ]
@@ -118,7 +118,7 @@ def wrong_units(words: plain_reader.Words, done: seeded_schedules.Done) -> str |
 def wrong_stop(
     program: pathlib.Path, schedule: seeded_schedules.Schedule, path: pathlib.Path, lines: Sequence[bytes], events: int
 ) -> str | None:
-    """What is wrong where a schedule stops after so many events, or None."""
+    """What is wrong if a schedule stops after a number of events, or None."""
     done = seeded_schedules.Done(schedule, lines, events)
     came = answer(program, [path, "--stop", str(events)])
     wrong = difference(Answer(b"".join(done.lines)), came)
@@ -132,7 +132,8 @@ def wrong_stop(
 
 
 def wrong_seeded(program: pathlib.Path, seed: str, stops: int, folder: pathlib.Path) -> str | None:
-    """What is wrong with the schedule of a seed, or None. It is stopped at so many events, or at each if they are 0."""
+    """What is wrong with the schedule of a seed, or None. It is stopped at `stops` of its events, or at each if `stops`
+    is 0."""
     chance = random.Random(seed)
     path = folder / f"{seed}.csv"
     schedule, came = seeded_schedules.schedule_of(chance, lambda text: replayed(program, path, text))
@@ -149,7 +150,7 @@ def wrong_seeded(program: pathlib.Path, seed: str, stops: int, folder: pathlib.P
 
 
 def answers_of(lines: Iterable[bytes]) -> list[str]:
-    """The answers of calls that lines say, each behind its actor."""
+    """The answers of calls in these lines, each after its actor."""
     fields = (line.decode().rstrip("\n").split(",", 3) for line in lines)
     return [f"{actor},{said[0]}" for _, actor, what, *said in fields if what == "answer"]
 
@@ -237,7 +238,7 @@ def wrong_lines(lines: bytes, image: bytes, last: bytes) -> str | None:
 
 
 def wrong_gone_on(program: pathlib.Path, events: int, folder: pathlib.Path) -> str | None:
-    """What is wrong where the known schedule stops after so many events, and another continues with its image, or
+    """What is wrong if the known schedule stops after a number of events, and another continues with its image, or
     None."""
     image = folder / f"stopped-{events}.img"
     path = folder / f"goes-on-{events}.csv"

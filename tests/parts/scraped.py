@@ -83,7 +83,7 @@ def lint(program: pathlib.Path, tools: monitoring.Tools, image: pathlib.Path, ha
 
 
 def linted(program: pathlib.Path, tools: monitoring.Tools) -> Iterator[Case]:
-    """`promtool check metrics` of both exports of every known image, some side by side."""
+    """`promtool check metrics` of both exports of every known image, several at a time."""
     images = [*sorted(known.FOLDER.glob("*.img")), CRASH]
     with concurrent.futures.ThreadPoolExecutor(MOST_SIDE_BY_SIDE) as pool:
         for has_families in (False, True):
@@ -138,7 +138,7 @@ def rows_of(program: pathlib.Path, image: pathlib.Path) -> dict[str, list[tuple[
 
 
 def quantile_of(rows: list[tuple[int, int, int]], quantile: float) -> float:
-    """The quantile that straight lines through the buckets give. Of the last bucket it is the end of the one before."""
+    """The quantile that straight lines through the buckets give. In the last bucket it is the end of the one before."""
     rank, before = quantile * sum(count for _, _, count in rows), 0
     for low, high, count in rows:
         if before + count >= rank:
@@ -179,7 +179,7 @@ def asked(program: pathlib.Path, tools: monitoring.Tools, folder: pathlib.Path) 
 
 
 def labeled(program: pathlib.Path, tools: monitoring.Tools, folder: pathlib.Path) -> Iterator[Case]:
-    """Labels in names: a query adds up what they tell apart."""
+    """Labels in names: a query adds up series that differ only in a label."""
     script, image = folder / "script", folder / "image"
     script.write_bytes(SCRIPT)
     answer(program, ["run", script, image])
@@ -192,7 +192,7 @@ def labeled(program: pathlib.Path, tools: monitoring.Tools, folder: pathlib.Path
 
 
 def cases(program: pathlib.Path, options: argparse.Namespace) -> Iterator[Case]:
-    """The known images, two services in one folder, and queries; untried where the programs cannot be had."""
+    """The known images, two services in one folder, and queries; untried if the programs cannot be had."""
     with tempfile.TemporaryDirectory() as name:
         folder = pathlib.Path(name)
         packages = folder / "packages"

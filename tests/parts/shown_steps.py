@@ -116,7 +116,7 @@ def wrong_known(program: pathlib.Path, case: pathlib.Path) -> str | None:
 
 
 def wrong_stop(program: pathlib.Path, schedule: pathlib.Path, lines: str, events: int) -> str | None:
-    """What is wrong with the picture of a schedule that stops after so many events, or None."""
+    """What is wrong with the picture of a schedule that stops after a number of events, or None."""
     wanted = Answer(plain_steps.picture(schedule.read_text(), lines, events).encode())
     wrong = difference(wanted, answer(program, [schedule, "--show", "--stop", str(events)]))
     return wrong and f"after {events} events: {wrong}"
@@ -129,7 +129,7 @@ def wrong_stored(program: pathlib.Path, pool: concurrent.futures.Executor, sched
 
 
 def wrong_words(program: pathlib.Path, path: pathlib.Path, text: str, said: Sequence[str]) -> str | None:
-    """What is missing in a picture of which words are known, or None."""
+    """Which of the rows that are known are missing in a picture, or None."""
     path.write_text(text)
     came = answer(program, [path, "--show"])
     rows = {line.split("\t")[1].strip() for line in came.output.decode().splitlines()}
@@ -138,8 +138,8 @@ def wrong_words(program: pathlib.Path, path: pathlib.Path, text: str, said: Sequ
 
 
 def wrong_late(program: pathlib.Path, path: pathlib.Path, text: str, said: Sequence[str]) -> str | None:
-    """What of these rows is missing in a picture, or stands in another order, or None. Every exchange that fails is one
-    of them."""
+    """Which of these rows are missing in a picture, or in another order there, or None. Every exchange that fails is
+    one of them."""
     path.write_text(text)
     came = answer(program, [path, "--show"])
     rows = [line.split("\t")[1].strip() for line in came.output.decode().splitlines()]
@@ -158,7 +158,7 @@ def wrong_loads(program: pathlib.Path, path: pathlib.Path, text: str, said: Sequ
 
 
 def wrong_readme(program: pathlib.Path) -> str | None:
-    """What of the picture in README.md does not stand in the picture of the race, or None."""
+    """What of the picture in README.md is not in the picture of the race, or None."""
     shown = README.read_text().split("stepped examples/race_for_a_name.csv --show ")[1].split("\n\n")[0]
     rows = answer(program, [RACE, "--show"]).output.decode().expandtabs(8).splitlines()
     at = 0

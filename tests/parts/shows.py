@@ -212,8 +212,8 @@ def sparse(program: pathlib.Path, folder: pathlib.Path, options: argparse.Namesp
 
 
 def redundant(program: pathlib.Path, folder: pathlib.Path) -> Iterator[Case]:
-    """The example with a redundant count of its own: with `--explain`, in front of the command or behind it, one more
-    line says it, where it is not the units. No variable of the environment asks for that line."""
+    """The example with a redundant count of its own: with `--explain`, before the command or after it, one more line
+    shows it, if it differs from the units. No variable of the environment asks for that line."""
     words = list(struct.unpack(f"<{EXAMPLE.stat().st_size // 8}Q", EXAMPLE.read_bytes()))
     record = next(at for at in range(len(words)) if words[at + 1 : at + 3] == [forge.BLOCK_COOKIE, HISTOGRAM_TAG])
     text = EXAMPLE_TEXT

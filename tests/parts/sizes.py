@@ -21,7 +21,7 @@ PROGRAM = "persist_report"
 SETS = 300
 ORDERS = 4
 MOST_TRIED = 7
-# At least so many of a hundred sets have an order that needs as many pages as are printed.
+# At least this many of a hundred sets have an order that needs as many pages as are printed.
 LEAST_TIGHT = 80
 RACES = (
     "First uses at the same moment may take more: for each further thread a record of the histogram or of the value,"
@@ -114,7 +114,7 @@ def some_hists(chance: random.Random, page: int) -> list[Hist]:
 
 
 def first_uses(hists: Sequence[Hist], values: int) -> list[tuple[str, int]]:
-    """Values of each histogram, so that each has its counts or its records: two buckets, or so many values."""
+    """Values of each histogram, so that each has its counts or its records: two buckets, or `values` values."""
     adds: list[tuple[str, int]] = []
     for name, spec in hists:
         adds.extend((name, value) for value in (range(1, values + 1) if spec[0] == "sparse" else (0, 1)))
@@ -146,7 +146,7 @@ def wrong_run(
 
 
 def wrong_set(program: pathlib.Path, folder: pathlib.Path, chance: random.Random) -> tuple[str | None, bool]:
-    """What is wrong with the size of a set of histograms, or None; and whether an order needs as many pages, where all
+    """What is wrong with the size of a set of histograms, or None; and whether an order needs that many pages, if all
     are tried."""
     page = chance.choice([64, 64, 80, 128, 256, 1024])
     hists, values = some_hists(chance, page), chance.randint(0, 3)

@@ -82,8 +82,8 @@ def among(
 
 
 class Copies:
-    """Three copies of words, which are loaded one after the other. With its first load a copy, and each before it that
-    has none, has all words as they are."""
+    """Three copies of words, which are loaded one after the other. At its first load a copy gets all words as they are
+    then, and so does each copy before it that had no load."""
 
     def __init__(self) -> None:
         self.words: list[list[int]] = []

@@ -17,7 +17,7 @@ from support.program import EXAMPLE, Answer, Case, Word, answer, content, differ
 PROGRAM = "persist_report"
 FOLDERS = 60
 CRASH = sums.CRASH
-# Words behind the inputs, and how the plain renderers are asked for the same.
+# Words after the inputs, and how the plain renderers are asked for the same.
 CHOICES: list[tuple[list[Word], dict[str, Any]]] = [
     ([], {}),
     (["--all"], {"shows_all": True}),
@@ -37,8 +37,8 @@ def beside(
     wrong: Answer | None = None,
     **options: Any,
 ) -> str | None:
-    """Where what came is not the page of a sum that comes from there, of which these inputs are left out; what else is
-    wrong comes behind it."""
+    """Where what came is not the page of a sum that comes from `source`, without the inputs that are left out; what
+    else is wrong is reported after these."""
     told = sums.told(left)
     status = wrong.status if wrong is not None else 3 if left else 0
     wanted = Answer(came.output, told + (wrong.error if wrong is not None else b""), status)
@@ -122,7 +122,8 @@ def sources(program: pathlib.Path, top: pathlib.Path) -> Iterator[Case]:
 
 
 def wrong(program: pathlib.Path, top: pathlib.Path) -> Iterator[Case]:
-    """What is wrong with what was read comes behind the page; `--strict` comes before it, and so does what fell."""
+    """What is wrong with the inputs is reported after the page. With `--strict`, or if a number fell, there is no
+    page."""
     crash = CRASH.read_bytes()
     words = list(layout.words_of(EXAMPLE.read_bytes()))
     words[20] = 5
@@ -163,7 +164,7 @@ def overviews(program: pathlib.Path, top: pathlib.Path) -> Iterator[Case]:
 
 
 def same_as_text(program: pathlib.Path, top: pathlib.Path) -> Iterator[Case]:
-    """The page of one image in a folder has the histograms that the page of the image has, behind another overview."""
+    """The page of one image in a folder has the histograms that the page of the image has, after another overview."""
     crash = CRASH.read_bytes()
     (top / "crash.img").write_bytes(crash)
     page = answer(program, ["show", CRASH, "--html"]).output

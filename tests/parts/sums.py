@@ -1,5 +1,5 @@
 """Sums of many inputs, beside a plain sum (plain_sums.py): folders of forged images, lists of files, totals that are
-read again, and what came since an earlier sum; each text, by any number of workers. On a terminal a line tells how far
+read again, and what came since an earlier sum; each text, by any number of workers. On a terminal a line shows how far
 a sum is."""
 
 from __future__ import annotations
@@ -26,14 +26,14 @@ MOST_IMAGES = 12
 WORKERS = (1, 2, 3, 7, 16)
 # More files than are open at once, and as few as a program may open.
 MANY, FEW_OPEN = 900, 24
-# What goes to the start of a line and erases it, and so many seconds after which a line tells how far a sum is.
+# What goes to the start of a line and erases it, and after how many seconds a line shows how far a sum is.
 ERASE, PATIENCE = b"\r\x1b[K", 2
 CRASH = ROOT / "examples" / "crash.img"
 STOOD = b"what stood there before"
 MAPPED = 0.1
-# Why what nobody may read is told as.
+# The reason that is reported for what cannot be read.
 UNREAD = "Read"
-# How files begin, and whether they are then inputs of a folder: the cookie, maybe behind a word of zeros, or the first
+# How files begin, and whether they are then inputs of a folder: the cookie, maybe after a word of zeros, or the first
 # line of totals, each whole.
 FRONTS = [
     (plain_sums.COOKIE, True),
@@ -72,7 +72,7 @@ Value,total,9,-170141183460469231731687303715884105728
 !images,3
 !other,Load,2,18446744073709551615
 """
-# Lines behind the first one of texts that are no totals, each with the line that is told.
+# Lines after the first one of texts that are no totals, each with the number of the line that is reported.
 NO_TOTALS = [
     ("", 2),
     ("images,0,0,0,0,0\nend,0", 4),
@@ -89,7 +89,7 @@ NO_TOTALS = [
     ),
     ("images,1,0,0,0,0\nhist,A,1,0,0,0,0,sparse\nkey,3,2,0\nkey,-7,1,0\nend,1\n", 3),
     ("images,1,0,0,0,0\nhist,A,1,0,0,0,0,sparse\nkey,3,2,0\nkey,3,1,0\nend,1\n", 3),
-    # Units that pass 64 bits together, a spec that is not lawful, and keys that are not those of the spec.
+    # Units that pass 64 bits together, a spec that is not valid, and keys that are not those of the spec.
     ("images,1,0,0,0,0\nhist,A,1,0,0,0,0,sparse\nkey,-7,18446744073709551615,0\nkey,3,1,0\nend,1\n", 3),
     (
         "images,1,0,0,0,0\nhist,A,1,0,0,0,0,sparse\nkey,1,2,0\nkey,2,1,0\nhist,B,1,0,0,0,0,sparse\nkey,7,1,0\n"
@@ -106,7 +106,7 @@ def text_of(data: bytes, **options: object) -> bytes:
     return plain_export.text_of(plain_export.families_of(data))
 
 
-# Each text of a sum: the words that ask for it, and what it is, where so many inputs were left out.
+# Each text of a sum: the words that ask for it, and what it is, if `left` inputs were left out.
 def texts_of(whole: plain_sums.Sum, left: int) -> list[tuple[list[str], bytes]]:
     return [
         (["report"], plain_sums.report_of(whole, left)),
@@ -397,7 +397,7 @@ def has_far_number(data: bytes) -> bool:
 
 
 def files(program: pathlib.Path, top: pathlib.Path) -> Iterator[Case]:
-    """Files that are named twice, that are missing, on standard input; an empty folder; one image as ever."""
+    """Files that are named twice, that are missing, on standard input; an empty folder; one image, as without a sum."""
     crash, example = CRASH.read_bytes(), EXAMPLE.read_bytes()
     twice, _ = plain_sums.sum_of([(CRASH, crash), (CRASH, crash)])
     yield "a file twice", difference(Answer(plain_sums.report_of(twice, 0)), answer(program, ["report", CRASH, CRASH]))
@@ -452,7 +452,7 @@ def files(program: pathlib.Path, top: pathlib.Path) -> Iterator[Case]:
 
 
 def looked(program: pathlib.Path, top: pathlib.Path, crash: bytes) -> Iterator[Case]:
-    """With `--live` each image is looked at, and totals are read as ever."""
+    """With `--live` each image is looked at, and totals are read as always."""
     two, _ = plain_sums.sum_of([(1, crash), (2, crash)])
     written = top / "crash.tot"
     written.write_bytes(plain_sums.totals_text(plain_sums.sum_of([(1, crash)])[0]))
@@ -511,7 +511,7 @@ def totals(program: pathlib.Path, top: pathlib.Path, crash: bytes) -> Iterator[C
 
 
 def by_hand(program: pathlib.Path, top: pathlib.Path) -> Iterator[Case]:
-    """Totals by hand: the text and the report of some, and the line that is told of others."""
+    """Totals by hand: the text and the report of some, and the line that is reported of others."""
     written = top / "ends.tot"
     written.write_bytes(ENDS + b"of,3,77\nof,4,18446744073709551615\nfold,4\nend,3\n")
     came = answer(program, ["report", written, "--totals"])
@@ -580,7 +580,7 @@ def unreadable(program: pathlib.Path, top: pathlib.Path) -> Iterator[Case]:
 
 
 def fed(pipes: Sequence[tuple[pathlib.Path, bytes]], seconds: float) -> threading.Thread:
-    """A thread that writes into pipes that have names, after so many seconds into the first."""
+    """A thread that writes into named pipes, into the first after some seconds."""
 
     def feed() -> None:
         for number, (path, data) in enumerate(pipes):
@@ -595,12 +595,12 @@ def fed(pipes: Sequence[tuple[pathlib.Path, bytes]], seconds: float) -> threadin
 
 
 def far(place: bytes, units: bytes) -> bytes:
-    """The pattern of the line that tells how far a sum of four inputs is."""
+    """The pattern of the line that shows how far a sum of four inputs is."""
     return re.escape(ERASE) + b"persist_report: %s of 4 files, %s units so far" % (place, units)
 
 
 def told_meanwhile(program: pathlib.Path, top: pathlib.Path) -> Iterator[Case]:
-    """A line tells how far a sum is: on a terminal, where it takes long. It is erased before anything else is told."""
+    """A line shows how far a sum is, on a terminal, if it takes long. It is erased before anything else is written."""
     crash, empty = CRASH.read_bytes(), top / "empty"
     empty.write_bytes(b"")
     three, left = plain_sums.sum_of([(1, crash), (2, crash), (empty, b""), (3, crash)])

@@ -117,7 +117,7 @@ def pairs(fields: Iterable[str]) -> Pairs:
 def tally(samples: Iterable[Sample], batches: Iterable[Batch]) -> dict[str, plain_tally.Histogram]:
     """What they add up to: a sample adds its value as often as it has units, a batch its sum.
 
-    All four histograms were made, whoever records into them.
+    All four histograms were made, even if nothing was recorded into them.
     """
     histograms = {name: plain_tally.Histogram.of(spec) for name, spec in SPECS.items()}
     for name, value, count in samples:
@@ -217,7 +217,7 @@ def rounds(program: pathlib.Path, words: Sequence[Word]) -> tuple[list[list[str]
 def recorded(
     program: pathlib.Path, threads: int, seed: int, number: int = ROUNDS, limit: int | None = None
 ) -> str | None:
-    """What is wrong with so many rounds, or None. With a limit, the indexes of each recorder have at most so many
+    """What is wrong with `number` rounds, or None. With a limit, the indexes of each recorder have at most that many
     entries."""
     words = [threads, seed, number, *([] if limit is None else [limit])]
     every, wrong = rounds(program, ["record", *map(str, words)])

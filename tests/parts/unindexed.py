@@ -2,8 +2,8 @@
 returns what it always does.
 
 An index that is full stops at its place, and searches walk on from there. The limits are every small number of entries,
-none among them, so that an index stops at each of the first records that it meets, and some larger ones, at which one
-index is full and another is not.
+none among them, so that an index stops at each of the first records that its recorder visits, and some larger ones, at
+which one index is full and another is not.
 """
 
 from __future__ import annotations
@@ -20,7 +20,7 @@ PROGRAM = "trials"
 
 # The rounds of a run: one of each version.
 ROUNDS = 2
-# Every limit below this is tried with each number of threads, and so many others up to the last. A recorder meets 4
+# Every limit below SMALL is tried with each number of threads, and OTHERS more below LARGEST. A recorder visits 4
 # histograms, and up to some hundred samples.
 SMALL = 10
 OTHERS = 6

@@ -1,5 +1,5 @@
-"""Worked examples of images: what is stored in the words of one, or where its bytes are cut, and what then has to be
-answered."""
+"""Worked examples of images: what is stored in the words of one, or where its bytes are cut, and the answer that then
+has to come."""
 
 from __future__ import annotations
 

@@ -13,7 +13,7 @@ from parts import worked
 from support.program import EXAMPLE, Answer, Case, Word, answer, difference, fault
 
 PROGRAM = "persist_report"
-# Words of an image, by where they stand.
+# Words of an image, by their indices.
 Stored = Mapping[int, int]
 
 VERSION, FREE, SECOND_COUNT = 1, 7, 37
@@ -70,7 +70,8 @@ SCRIPTS = {
         b"segment,64,64,7\nhist,A,boolean\nhist,B,boolean\nhist,C,boolean\nhist,D,boolean\n",
         fault("Refused 5 Full", 3),
     ),
-    # The records of three histograms fill the segment. Each sample of S is refused, whoever adds it: the first is told.
+    # The records of three histograms fill the segment. Each sample of S is refused, whichever worker adds it: the first
+    # one is reported.
     "two samples without room": (
         b"segment,64,64,7\nhist,A,boolean\nhist,B,boolean\nhist,S,sparse\nadd,A,1,1\nadd,S,1,1\nadd,S,2,1\n",
         fault("Refused 6 Full", 3),

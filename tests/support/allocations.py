@@ -1,4 +1,4 @@
-"""Runs a program so that one of its allocations is refused, and tells all of them (Linux, with a shared C library).
+"""Runs a program so that one of its allocations is refused, and reports all of them (Linux, with a shared C library).
 
 `refuse.c` is loaded before the program: each allocation goes by way of its `malloc` and `realloc`, also one for which
 the C library asks the system for nothing.
@@ -41,8 +41,8 @@ class Refuser:
     def answer(
         self, program: Path, words: Iterable[Word], refused: int | None = None, lasting: bool = False
     ) -> tuple[Answer, list[Asked]]:
-        """What the program returns where the allocation at `refused` is refused, from 0, or none, and all allocations
-        of the calls that it named. Where it is `lasting`, so are those after it of the same call."""
+        """What the program returns if the allocation with the number `refused`, from 0, is refused, or none; and all
+        allocations of the calls that it named. With `lasting`, those after it of the same call are refused too."""
         settings = {**os.environ, "LD_PRELOAD": str(self.library), "REFUSE_LOG": str(self.log)}
         if refused is not None:
             settings["REFUSE_AT"] = str(refused)

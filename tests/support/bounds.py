@@ -1,7 +1,7 @@
 """What a killed program may have left: of each bucket at least the units that it had ended, and at most those that it
 had begun.
 
-The program is `tests/c/killed.cpp`, and the file in which it tells both is that of `tests/c/tally.hpp`.
+The program is `tests/c/killed.cpp`, and the file into which it writes both is that of `tests/c/tally.hpp`.
 """
 
 from __future__ import annotations
@@ -87,15 +87,15 @@ def short_of(units: Units, least: Units, version: int) -> list[Cell]:
 
 
 def wrong_of(units: Units, faults: list[str], before: Units, data: bytes, version: int) -> str | None:
-    """What is wrong with the units of a report, beside those that were there before and what the threads told; or
-    None."""
+    """What is wrong with the units of a report, by those that were there before and what the threads wrote into the
+    tally; or None."""
     return wrong_between(units, faults, before, data, data, version)
 
 
 def wrong_between(
     units: Units, faults: list[str], before: Units, first: bytes, last: bytes, version: int
 ) -> str | None:
-    """The same of words that were read between two moments, with what the threads told at the first and at the last."""
+    """The same of words that were read between two moments, with the tally at the first and at the last."""
     if faults:
         return f"the report has {faults[:3]}"
     begun, ended = numbers(last)[0], numbers(first)[1]

@@ -8,7 +8,7 @@ from support.program import EXAMPLE, Case, Path, Word, answer, difference, fault
 
 
 def cases(program: Path, words: Sequence[Word]) -> Iterator[Case]:
-    """The faults where these words ask for the command: of the file, the bytes and the device."""
+    """The faults of the command that these words ask for: of the file, the bytes and the device."""
     yield "a missing file", difference(fault("Read", 4), answer(program, [*words, "missing.img"]))
     yield "too many bytes", difference(fault("TooLong", 3), answer(program, words, bytes(8_388_609)))
     yield "no words", difference(fault("NotWords", 3), answer(program, [*words, "-"], EXAMPLE.read_bytes()[:-1]))

@@ -134,8 +134,8 @@ def said_by(program: pathlib.Path, *words: Word) -> tuple[int, str]:
 
 
 def mixed(installed: native.Installed, folder: pathlib.Path) -> Iterator[Case]:
-    """Files with exceptions and without in one program; what throws then throws, or ends it where povundiri_raise.cpp
-    is built without."""
+    """Files with exceptions and without in one program; what throws then throws, or ends the program if
+    povundiri_raise.cpp is built without exceptions."""
     plain = compiled(folder, native.PROGRAMS / "mixed_plain.cpp", "-fno-exceptions")
     status, said = said_by(installed.program(native.PROGRAMS / "mixed.cpp", plain))
     wrong = None if status == 0 and "failed" not in said else f"status {status}: {said}"

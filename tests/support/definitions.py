@@ -44,8 +44,8 @@ def crates() -> list[str]:
 
 
 def names_in(text: str, with_public: bool) -> Iterator[tuple[str | None, str, str]]:
-    """Which definitions a file brings in to name them, and those for others where that is wanted: the crate, or None
-    for its own, the module and the name."""
+    """Which definitions a file imports to name them, and if wanted also those that it imports for others: the crate, or
+    None for its own, the module and the name."""
     for kind, crate, module, names in IMPORT.findall(text):
         if with_public or not kind.startswith("pub"):
             for name in names.split(","):
@@ -73,7 +73,7 @@ def comment_above(lines: Sequence[str], place: int) -> str:
 
 
 def in_short(comment: str) -> str:
-    """The first sentence, or the whole where it is short, without a sign at the end."""
+    """The first sentence, or the whole if it is short, without a sign at the end."""
     whole = comment.replace("`", "").strip()
     if len(whole) > MOST_SIGNS:
         whole = re.split(r"(?<=[^.])\. (?=[A-Z])", whole)[0]
@@ -94,7 +94,7 @@ def definitions(text: str) -> Iterator[tuple[str, str]]:
 
 
 def grouped(listed: Iterable[tuple[str, str]]) -> list[tuple[list[str], str]]:
-    """Definitions with one comment between them stand in one entry."""
+    """Definitions that share a comment are in one entry."""
     groups: list[tuple[list[str], str]] = []
     for name, comment in listed:
         if groups and groups[-1][1] == comment:
@@ -116,8 +116,7 @@ def wrapped(entry: str) -> list[str]:
 
 
 def module_lines(crate: str, file: pathlib.Path, used: Collection[tuple[str, str, str]]) -> list[str]:
-    """The lines of a module, or none where nothing of it is listed. One in a room has the room's name before its
-    own."""
+    """The lines of a module, or none if nothing of it is listed. One in a room has the room's name before its own."""
     text = file.read_text()
     module = ".".join(file.relative_to(ROOT / "crates" / crate / "specs").with_suffix("").parts)
     begin = re.match(r"(?:--.*\n)*", text)

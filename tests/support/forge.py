@@ -81,7 +81,7 @@ class Forge(Words):
         return [0, 0, 0], []
 
     def histogram(self) -> Record | None:
-        """A histogram where there is room for it, valid but for a name of 129 bytes or 1,001 buckets now and then."""
+        """A histogram if there is room for it, valid but for a name of 129 bytes or 1,001 buckets now and then."""
         chance = self.chance
         kind = chance.choice([LINEAR, BOOLEAN, CUSTOM, SPARSE])
         name = chance.choice(NAMES) if chance.random() < 0.97 else b"m" * 129
@@ -396,7 +396,7 @@ IN_ORDER = [
 
 
 def neighbouring_faults(forge: Forge, record: Record) -> None:
-    """A fault of one check and one of the next, of which the first has to be told."""
+    """A fault of one check and one of the next, of which the first has to be reported."""
     chance = forge.chance
     first = chance.randrange(len(IN_ORDER) - 1)
     for faults in IN_ORDER[first : first + 2]:
@@ -419,7 +419,7 @@ def sample_fault(forge: Forge, record: Record) -> None:
 
 
 def near(forge: Forge) -> int:
-    """A value that stands near some limit."""
+    """A value near some limit."""
     edges = [
         0, 1, 2, 3, 5, 12, 15, 16, 64, 128, 1000, 65_535, 65_536, 2**31 - 1, 2**31, MOST_UNITS, 2**32, TOP, 2**64 - 1,
     ]

@@ -110,7 +110,7 @@ def word_behind(made: Forge) -> None:
 
 
 def too_little_room(made: Forge) -> None:
-    """The free pointer leaves so many words of its page; 5 are enough."""
+    """The free pointer leaves from 1 to 5 words of its page; 5 are enough."""
     end = made.free + -made.free % made.page
     left = end - made.chance.choice([1, 2, 3, 4, 5])
     made.free = max(left, made.free)
@@ -144,7 +144,7 @@ def unpadded_name(made: Forge) -> None:
 
 
 def unused_counts(made: Forge) -> None:
-    """A count, or a count and its mark, where the single word is not frozen."""
+    """A count, or a count and its mark, although the single word is not frozen."""
     record = made.chance.choice(made.histograms)
     if record.counts and made.words[record.at + 9] < layout.TOP:
         bucket = made.chance.randrange(record.n)

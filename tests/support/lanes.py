@@ -2,8 +2,8 @@
 
     lanes.py
 
-Prints the number for `rt ci`, which reads it from RT_JOBS: one a processor, as many as memory holds. By itself `rt ci`
-plans on up to three times the memory that a check takes here, and then leaves processors idle.
+Prints the number for `rt ci`, which reads it from RT_JOBS: one for each processor, but no more than memory holds. By
+itself `rt ci` plans on up to three times the memory that a check takes here, and then leaves processors idle.
 """
 
 from __future__ import annotations
@@ -11,7 +11,7 @@ from __future__ import annotations
 import os
 import pathlib
 
-# No check of a crate has been seen to take more; `bench/gate.py` tells.
+# No check of a crate has been seen to take more; `bench/gate.py` shows what they take.
 BYTES_FOR_A_CHECK = 5 * 10**9
 
 
@@ -25,7 +25,7 @@ def free_bytes() -> int:
 
 
 def lanes() -> int:
-    """One a processor that this process may run on, as many as memory holds, and at least one."""
+    """One for each processor that this process may run on, but no more than memory holds, and at least one."""
     return max(1, min(len(os.sched_getaffinity(0)), free_bytes() // BYTES_FOR_A_CHECK))
 
 

@@ -1,10 +1,10 @@
 #!/usr/bin/env python3
-"""Holds the crates that read free of the machine, by crates.txt.
+"""Checks by crates.txt that the crates that read do not depend on the machine.
 
     tests/support/layers.py
 
-It prints each crate with its depth: 1 for one that stands on no other crate of the workspace, and one more for each on
-the longest way down. Where a crate that reads stands on the machine it says by which way, and the status is 1.
+It prints each crate with its depth: 1 for one that depends on no other crate of the workspace, and one more for each on
+the longest way down. If a crate that reads depends on the machine, it says by which way, and the status is 1.
 """
 
 from __future__ import annotations
@@ -18,7 +18,7 @@ sys.path.insert(0, str(pathlib.Path(__file__).resolve().parents[1]))
 from support.made import ROOT
 
 LIST = ROOT / "crates.txt"
-# What a change of the machine must not prove again: nothing of it says what actors do.
+# A change of the machine must not require that these crates are proved again: nothing in them says what actors do.
 READING = [
     "image_reader", "reading_texts", "reading_sums", "sum_texts", "reading_overviews", "text_styles",
     "reading_shows", "recording_folders", "sum_commands", "persist_report_core", "segment_search", "segment_looks",
@@ -26,7 +26,7 @@ READING = [
 ]
 MACHINE = ["segment_machine", "segment_invariant", "segment_promises"]
 
-# The crates of a list, each with those of the list that it stands on.
+# The crates of a list, each with those of the list that it depends on.
 Needs = dict[str, list[str]]
 
 
@@ -39,7 +39,7 @@ def parsed(text: str) -> Needs:
 
 
 def way(needs: Needs, crate: str, below: str) -> list[str] | None:
-    """The crates from one down to another, or None where it does not stand on that."""
+    """The crates from one down to another, or None if it does not depend on that."""
     if crate == below:
         return [crate]
     down = (way(needs, need, below) for need in needs[crate])
@@ -47,7 +47,7 @@ def way(needs: Needs, crate: str, below: str) -> list[str] | None:
 
 
 def depths(needs: Needs) -> dict[str, int]:
-    """How deep each crate stands."""
+    """The depth of each crate."""
     @functools.cache
     def depth(crate: str) -> int:
         return 1 + max(map(depth, needs[crate]), default=0)
@@ -56,7 +56,7 @@ def depths(needs: Needs) -> dict[str, int]:
 
 
 def difference(text: str | None = None) -> str | None:
-    """Which crates that read stand on the machine, each with the way down, or are not there; or None."""
+    """Which crates that read depend on the machine, each with the way down, or which crates are missing; or None."""
     needs = parsed(LIST.read_text() if text is None else text)
     came = [f"{LIST.name} has no crate {crate}" for crate in READING + MACHINE if crate not in needs]
     ways = [] if came else [way(needs, crate, below) for crate in READING for below in MACHINE]
@@ -65,10 +65,10 @@ def difference(text: str | None = None) -> str | None:
 
 
 def let_through() -> str | None:
-    """The lists that have to be refused and are not, or None: of each crate that reads, where it stands on the machine
-    itself or by a crate below it; and where the list lacks one."""
+    """How many lists that have to be refused are not, or None. In them each crate that reads depends on the machine,
+    itself or by a crate below it; or the list lacks a crate."""
     text = LIST.read_text()
-    # A line may have words between the crate and what it stands on.
+    # A line may have words between the crate and what it depends on.
     wrong = [re.sub(rf"(?m)^({crate}(?: [^:\n]*)?):", rf"\1: {by}", f"{text}between: {below}\n")
              for crate in READING for below in MACHINE for by in (below, "between")]
     wrong += [text.replace(f"\n{crate}", f"\nno_{crate}") for crate in READING + MACHINE]

@@ -10,7 +10,7 @@ from collections.abc import Collection, Iterable
 SEGMENT_COOKIE = 0x408305DC
 MOST_WORDS = 1_048_576
 PAGE = 65_536
-# The words of the header that recorders change, and where the first block may stand.
+# The words of the header that recorders change, and where the first block may begin.
 FLAGS, FREE, TAIL, QUEUE, FIRST = 6, 7, 8, 12, 16
 CORRUPT, FULL = 1, 2
 
@@ -46,7 +46,7 @@ class Words:
         self.store(QUEUE, BLOCK_HEADER, 1, 0, QUEUE)
 
     def store(self, at: int, *words: int) -> None:
-        """Stores what of the words lies in the segment."""
+        """Stores those of the words that lie in the segment."""
         kept = words[: max(0, len(self.words) - at)]
         self.words[at : at + len(kept)] = array.array("Q", [word % WORD for word in kept])
 
@@ -55,7 +55,7 @@ class Words:
         return self.page - self.free % self.page
 
     def block(self, size: int, tag: int) -> int | None:
-        """A new block of so many words or up to four more, or None if it does not fit."""
+        """A new block of `size` words or up to four more, or None if it does not fit."""
         if self.free + size > len(self.words) or size > self.page:
             return None
         if size > self.room():

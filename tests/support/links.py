@@ -19,7 +19,7 @@ def documents() -> list[pathlib.Path]:
 
 
 def broken() -> str | None:
-    """The links that lead to no file that is there, or to one that is made and not kept; or None."""
+    """The links that lead to a file that is not there, or that is made and not kept; or None."""
     found = []
     for file in documents():
         for target in LINK.findall(file.read_text()):

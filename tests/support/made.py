@@ -1,4 +1,4 @@
-"""Documents that are made of the sources: where they differ from what these say, and how they are made anew."""
+"""Documents that are made of the sources: where they differ from what these say, and how they are made again."""
 
 from __future__ import annotations
 
@@ -39,8 +39,8 @@ def run(
     source: str,
     folder: pathlib.Path | None = None,
 ) -> int:
-    """The program of a script: with --write it writes the files; without, it says what differs, and the status is 1
-    where anything does."""
+    """The program of a script: with --write it writes the files; without, it says what differs, and the status is 1 if
+    anything does."""
     if arguments == ["--write"]:
         write(documents)
         return 0

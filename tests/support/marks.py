@@ -1,11 +1,11 @@
 """Lets 'rt lib' use the libraries that the gate has proved: 'rt ci' leaves each in out/ of its crate without the mark
-that tells what it was made of, and without that 'rt lib' proves all of them once more, one by one.
+that says what it was made of, and without marks 'rt lib' proves all of them once more, one by one.
 
     marks.py note FILE     before the gate: writes down the sum of what each library is made of
     marks.py keep FILE     after it has passed: marks each library of which that sum is the same
 
-The sums and marks are those of `rt` on the PATH. 'rt ci' begins with empty folders out/, so what stands there was made
-in between.
+The sums and marks are those of `rt` on the PATH. 'rt ci' begins with empty folders out/, so what is there was made in
+between.
 """
 
 from __future__ import annotations

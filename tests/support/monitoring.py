@@ -122,7 +122,7 @@ def served(words: Sequence[str], ready: str, log: pathlib.Path) -> Iterator[str]
 
 
 class Page(http.server.BaseHTTPRequestHandler):
-    """Gives the same text to whoever asks."""
+    """Gives the same text to every client."""
 
     text = b""
 

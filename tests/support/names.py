@@ -1,5 +1,5 @@
 #!/usr/bin/env python3
-"""Holds that a capitalised name of specs/ is defined in one file, so that it means one thing wherever a clause has it.
+"""Checks that a capitalised name of specs/ is defined in one file, so that it means one thing wherever a clause has it.
 
     tests/support/names.py
 

@@ -52,8 +52,8 @@ def compiler(suffix: str) -> list[str]:
 
 
 def groups(said: str) -> Iterator[Case]:
-    """The name of each group of checks that a program tells of, and what failed in it or None. What it leaves out is
-    printed."""
+    """The name of each group of checks that a program reports, and what failed in it or None. What the program leaves
+    out is printed."""
     failed: list[str] = []
     for line in said.splitlines():
         name, _, how = line.rpartition(": ")

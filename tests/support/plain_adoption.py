@@ -1,4 +1,4 @@
-"""Why an image may not be adopted, and what it has used: a plain slow reckoning, written apart from the program.
+"""Why an image may not be adopted, and what it has used: a plain slow calculation, written apart from the program.
 
 It follows the text of the format one sentence at a time. It reads by the plain reader, and shares nothing with the
 program.

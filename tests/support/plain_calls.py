@@ -158,7 +158,7 @@ def sample(world: Schedule, histogram: int, value: int) -> Generator[Event, int,
 
 
 def packed(word: int, bucket: int, count: int) -> int | None:
-    """The word with so many units of a bucket more, or None."""
+    """The single word with `count` more units of a bucket, or None."""
     if word == 0 and count <= 65_535:
         return bucket * 2**32 + count
     if word and word >> 32 == bucket and word % 2**32 + count <= 65_535:
@@ -338,8 +338,8 @@ class Calls:
         self.running[actor] = call(self.world, self.known.get(actor, {}), self.records[number - 1]), None
 
     def step(self, actor: int, words: Sequence[int], change: list[int]) -> Event | None:
-        """What an actor's call does by its next event, or None if it is not told. The event changed this, and is to
-        have changed no more."""
+        """The next event of an actor's call, or None if the call has one event alone. `change` is what the event
+        changed, and has to be all that it changes."""
         events, found = self.running[actor]
         if events is None:
             return None

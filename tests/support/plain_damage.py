@@ -35,7 +35,7 @@ def rows(data: bytes) -> Wanted:
 
 
 def damage_of(data: bytes) -> str | None:
-    """The first bad record, or why the list of records stops early where none is bad; raises the image's fault."""
+    """The first bad record, or if none is bad why the list of records stops early; raises the image's fault."""
     _, bad_records, stopped, _ = plain_reader.reading_of(data, collections.Counter())
     if bad_records:
         reference, fault = bad_records[0]
@@ -44,7 +44,7 @@ def damage_of(data: bytes) -> str | None:
 
 
 def whole(data: bytes, without: Wanted) -> Wanted:
-    """What comes with `--whole`, where this comes without it and is no fault: the same text, and then the fault."""
+    """What comes with `--whole`, if this comes without it and is no fault: the same text, and then the fault."""
     output, error, status = without
     if status != 0:
         return without

@@ -33,7 +33,7 @@ NO_LABELS: Mapping[str, str] = {}
 
 
 def is_own(key: str, value: str, taken: Collection[str]) -> bool:
-    """Whether a label may come from a name, where lines have labels of these keys."""
+    """Whether a label may come from a name, if lines have labels of these keys."""
     return (
         KEY.fullmatch(key) is not None
         and "__" not in key
@@ -128,7 +128,7 @@ OF_SEGMENT = ("bad_records", "segment_flag")
 
 
 class Clash(Exception):
-    """Two names that are no families side by side."""
+    """Two names that cannot be families side by side."""
 
 
 class Member(NamedTuple):
@@ -142,14 +142,14 @@ class Member(NamedTuple):
 
 
 def member_of(name: str, histogram: dict[str, Any], taken: Collection[str]) -> Member:
-    """A histogram as a member of its family, where lines have labels of these keys."""
+    """A histogram as a member of its family, if lines have labels of these keys."""
     base, own = split(name, taken)
     family = re.sub("[^a-zA-Z0-9_]", "_", base)
     return Member(name, family, own, plain_reader.KINDS[histogram["kind"]], histogram)
 
 
 def clash(one: Member, other: Member) -> bool:
-    """Whether two histograms are no families side by side."""
+    """Whether two histograms cannot be families side by side."""
     if one.family == other.family:
         return one.kind != other.kind or one.own == other.own
     ends = {f"{family}{end}" for family in (one.family, other.family) for end in ENDS}

@@ -18,7 +18,7 @@ from support.layout import SEGMENT_COOKIE, data_of
 from support.plain_sums import Part, Sum, Wrong
 
 MARK, TOTALS, NEW_TOTALS, LOCK = "recording", "totals", "totals.new", "fold.lock"
-# A fold takes so many files at once.
+# How many files a fold takes at once.
 AT_ONCE = 256
 # The bytes that an id is read from, and its word.
 FRONT, ID = 48, 4
@@ -89,7 +89,7 @@ def with_segment(whole: Sum, number: int, data: bytes) -> Sum:
 
 @dataclasses.dataclass
 class Folder:
-    """What stands in a recording's folder."""
+    """What is in a recording's folder."""
 
     path: pathlib.Path
     totals: bytes | None
@@ -126,8 +126,8 @@ class Folder:
         return [(number, data) for number, data in sorted(self.segments.items()) if (number, id_of(data)) not in named]
 
     def reading(self) -> tuple[Sum, Left]:
-        """The sum of the folder, and which segments are left out, with why. Those that cannot be looked at are read
-        behind the others as they are."""
+        """The sum of the folder, and which segments are left out, with the reasons. Those that cannot be looked at are
+        read after the others, as they are."""
         whole, others, left = self.summed(), [], []
         for number, data in self.unnamed():
             look = looked(data)
@@ -146,7 +146,7 @@ class Folder:
 
     def folded(self, locked: Collection[int] = ()) -> tuple[Folder, Left]:
         """What a fold makes of the folder while the segments of some numbers are locked, and which cannot be added,
-        with why."""
+        with the reasons."""
         whole, left = self.summed(), []
         present = Folder(self.path, self.totals, dict(self.segments))
         standing = [(number, own) for number, own in self.named() if number in locked and number in self.segments]

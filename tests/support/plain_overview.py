@@ -95,8 +95,8 @@ def list_lines(
 
 
 def answer(lines: Callable[..., Iterator[str]], data: bytes, **options: Any) -> tuple[bytes, bytes, int]:
-    """What a program writes to its two streams, and its status, where it writes these lines: a name that no histogram
-    has is a fault after them."""
+    """What a program that writes these lines writes to its two streams, and its status: a name that no histogram has is
+    a fault after them."""
     try:
         text = "".join(f"{line}\n" for line in lines(data, **options)).encode()
         missing = plain_show.missing_of(data, options.get("names", ()))

@@ -2,7 +2,7 @@
 """A plain slow reader of images, written apart from the program, to compare its answers with.
 
 It follows the text of the format one sentence at a time and shares nothing with the program. Beside the answer it
-tells which of the format's rules came into play, so that a test can say what it has tried.
+counts which of the format's rules came into play, so that a test can say what it has tried.
 
     plain_reader.py report [FILE]
 
@@ -314,7 +314,7 @@ def check_marks(words: Words, at: int, totals: Sequence[int], named: int | None,
 
 
 def marks_of(words: Words, at: int, n: int, named: int | None) -> list[int]:
-    """The marks of the buckets: that of the packed bucket stands in the record, the others after the counts."""
+    """The marks of the buckets: that of the packed bucket is in the record, the others come after the counts."""
     counts = words[at + 8]
     marks = list(words[counts + 4 + n : counts + 4 + 2 * n]) if counts else [0] * n
     if named is not None:

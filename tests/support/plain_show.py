@@ -23,7 +23,7 @@ def tenths(value: int) -> str:
 
 
 def percent(part: int, whole: int) -> str:
-    """To the nearest tenth, halves upward; 0.0% stands for nothing alone, and 100.0% for all."""
+    """To the nearest tenth, halves upward; only nothing is 0.0%, and only all is 100.0%."""
     share = math.floor(fractions.Fraction(part * 1000, whole) + fractions.Fraction(1, 2)) if whole else 0
     if share == 0 and part > 0:
         return "<0.1%"
@@ -54,7 +54,7 @@ def mean_of(total: int, units: int, is_human: bool) -> str:
 
 
 def bar_of(units: int, most: int, width: int, is_ascii: bool) -> str:
-    """A bar of exactly so many cells, rounded up to a whole sign or to an eighth of a block."""
+    """A bar in exactly `width` cells, rounded up to a whole sign or to an eighth of a block."""
     if units == 0:
         return " " * width
     if is_ascii:
@@ -81,7 +81,7 @@ def values_of(kind: str, low: int, high: int) -> str:
 
 
 def quantile_of(rows: Iterable[Row], total: int, thousandths: int, kind: str) -> str:
-    """The values of the first row up to which there are so many thousandths of the units."""
+    """The values of the first row up to which there are at least `thousandths` thousandths of the units."""
     up_to = 0
     for low, high, units in rows:
         up_to += units
@@ -112,7 +112,7 @@ def has_line(kind: str, row: Row) -> bool:
     return row[2] > 0 or (kind == "boolean" and row[0] < 2)
 
 
-# What each row has more than before, by its least value; None where this is not told.
+# What each row has more than before, by its least value; None if this is not shown.
 Came = Optional[dict[int, int]]
 
 

@@ -47,7 +47,7 @@ def worst_pages(blocks: Sequence[int], page: int) -> int:
 
 
 def bound(blocks: Sequence[int], page: int) -> int | None:
-    """The pages of the formula in docs/COOKBOOK.md; None if a segment has no room for so many."""
+    """The pages of the formula in docs/COOKBOOK.md; None if no segment can have that many."""
     fewest = MOST_WORDS
     for most in {*blocks, page}:
         load = FIRST + sum(block + max(0, block - most) for block in blocks)

@@ -52,7 +52,7 @@ def in_counts(words: Sequence[int], histogram: int, block: int, place: int) -> s
 
 
 def meaning(words: Sequence[int], at: int) -> str:
-    """What a word means, as the words stand."""
+    """What a word means, with the words as they are."""
     blocks = blocks_of(words)
     block = next((block for block in blocks if block <= at < block + words[block]), None)
     if block is None:
@@ -82,7 +82,7 @@ def packed(word: int) -> str:
 
 
 def single(version: int, buckets: int, word: int) -> str:
-    """A single word in words, or its number where docs/FORMAT.md has no such word."""
+    """A single word in words, or its number if docs/FORMAT.md has no such word."""
     is_packed = word % TOP >> 32 < buckets and 1 <= word % 2**32 <= 65_535
     if word < TOP:
         return packed(word) if is_packed else str(word) if word else "empty"
@@ -100,7 +100,7 @@ def letters(word: int) -> str:
 
 
 def value(words: Sequence[int], at: int, number: int) -> str:
-    """What a number says in a word, as the words stand."""
+    """What a number says in a word, with the words as they are."""
     block = next((block for block in blocks_of(words) if block <= at < block + words[block]), None)
     if block is None:
         return str(number)
@@ -144,7 +144,7 @@ def asked(record: Sequence[str]) -> str:
 
 
 def effect(words: list[int], event: Event | None, change: Sequence[int]) -> str:
-    """What an event did, which changed this of the words: they stand as they did before."""
+    """What an event did that made this change; `words` are those before it, and are then changed."""
     if change:
         at, old, new = change
         words[at] = new
@@ -162,7 +162,7 @@ def row(number: int | str, actor: int, cell: str) -> str:
 
 
 def picture(schedule: str, lines: str, most: int | None = None) -> str:
-    """The picture of a schedule, whose replay writes these lines, up to so many events."""
+    """The picture of a schedule, whose replay writes these lines, up to `most` events."""
     records = list(csv.reader(schedule.splitlines()))
     size, page, segment_id, actors, version = map(int, records[0][1:])
     world = Schedule(size, page, segment_id, actors, version)

@@ -23,12 +23,12 @@ TOTALS = b"totals,1\n"
 COOKIE = SEGMENT_COOKIE.to_bytes(8, "little")
 MOST = 2**64 - 1
 
-# Numbers of images are below this in what is put behind other inputs.
+# An input that is added after others has only numbers of images below this.
 NUMBER_LIMIT = 2**62
 # The kinds by the numbers that records have.
 LINEAR, BOOLEAN, CUSTOM, SPARSE = 1, 2, 3, 4
 NUMBERS = {word: number for number, word in plain_reader.KINDS.items()}
-# The kind and the numbers behind it, by which specs are ordered.
+# The kind and the numbers after it, by which specs are ordered.
 Spec = tuple[int, ...]
 
 
@@ -87,7 +87,7 @@ def of_image(data: bytes) -> Sum:
 
 
 def has_its_keys(spec: Spec, keys: list[int]) -> bool:
-    """Whether a spec is lawful, and these are the least values of its buckets; any may be keys of a sparse one."""
+    """Whether a spec is valid, and these are the least values of its buckets; a sparse one may have any keys."""
     kind, *numbers = spec
     if kind == LINEAR:
         boundaries = plain_reader.linear_boundaries(*numbers)
@@ -110,8 +110,8 @@ def many(texts: Iterable[str]) -> list[int]:
 
 
 def of_totals(data: bytes) -> Sum:
-    """What the lines of totals say; raises the number of the line that is wrong, as a fault. Where each goes on from
-    those before it, that is the line of the first name that is not above the one before, or lacks keys of its spec."""
+    """What the lines of totals say; raises the number of the line that is wrong, as a fault. If each line has the right
+    form, that is the line of the first name that is not above the one before, or whose keys or units cannot be."""
     at, names, wrong = 0, 0, 0
     try:
         lines = [line.split(",") for line in data.decode("latin-1").split("\n")]
@@ -197,7 +197,7 @@ def fits(part: Part) -> bool:
 
 
 def added(one: Sum, other: Sum) -> Sum:
-    """The sum of both, one behind the other; raises that a total does not fit."""
+    """The sum of both, one after the other; raises a fault if a total does not fit."""
     parts = dict(one.parts)
     for key, part in other.parts.items():
         if part.least >= NUMBER_LIMIT or part.least + one.images > MOST:
@@ -213,7 +213,7 @@ def added(one: Sum, other: Sum) -> Sum:
 
 
 def sum_of(inputs: Iterable[tuple[T, bytes]]) -> tuple[Sum, list[tuple[T, str]]]:
-    """The sum of inputs that have names, and which are left out, with why."""
+    """The sum of inputs that have names, and which are left out, with the reasons."""
     whole, left = Sum(), []
     for name, data in inputs:
         try:
@@ -305,7 +305,7 @@ def reading_of(whole: Sum) -> tuple[dict[bytes, plain_reader.ReadHistogram], lis
 
 @contextlib.contextmanager
 def read_as(whole: Sum) -> Iterator[None]:
-    """The plain reader reads any bytes as a sum."""
+    """While the plain reader reads any bytes as this sum."""
     with mock.patch.object(plain_reader, "reading_of", return_value=reading_of(whole)):
         yield
 
@@ -317,7 +317,7 @@ def text_by(whole: Sum, writer: Callable[..., bytes], **options: Any) -> bytes:
 
 
 def overview_of(whole: Sum, left: int) -> Iterator[str]:
-    """The lines of the overview of a sum for people, of which so many inputs were left out. Beside its images,
+    """The lines of the overview of a sum for people, of which `left` inputs were left out. Beside its images,
     histograms and units, it has those that are not 0."""
     shown = shown_of(whole)
     kinds = [plain_reader.KINDS[spec[0]] for spec, _ in shown.values()]
@@ -339,7 +339,7 @@ def overview_of(whole: Sum, left: int) -> Iterator[str]:
 
 
 def ending_of(whole: Sum, left: int) -> Iterator[str]:
-    """The lines behind the report of a sum: of how many images it is, what it does not show, what was left out."""
+    """The lines after the report of a sum: of how many images it is, what it does not show, what was left out."""
     shown = shown_of(whole)
     others = [
         (name, part) for (name, spec), part in sorted(whole.parts.items()) if shown[name][0] != spec

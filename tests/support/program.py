@@ -39,12 +39,12 @@ def built(name: str) -> pathlib.Path:
 
 
 def fault(text: str, status: int) -> Answer:
-    """The answer that tells a fault: one line on the error stream and nothing else."""
+    """The answer that reports a fault: one line on the error stream and nothing else."""
     return Answer(error=f"persist_report: {text}\n".encode(), status=status)
 
 
 def explained(text: str, status: int, lines: Iterable[str]) -> Answer:
-    """The answer that tells a fault and then these lines, and then what it means and what to do."""
+    """The answer that reports a fault, then these lines, and then what it means and what to do."""
     meant = {name: (meaning, remedy) for name, meaning, remedy in faults.texts()}
     name = next(word for word in reversed(text.split()) if word in meant)
     return Answer(

@@ -4,13 +4,13 @@ clauses.
 
     tests/support/proved.py [--write]
 
-A doc comment names the clauses of its function in brackets, each behind a sentence that it carries: 'Returns the bucket
-of the value [bucket].' A clause that stands alone needs no name, and then the whole comment is its sentence. A clause
-without a bracket is refused, and so is a bracket without a clause, and a clause that names a definition without a
-comment.
+A doc comment names the clauses of its function in brackets, each after the sentence that says what it promises:
+'Returns the bucket of the value [bucket].' A function's only clause needs no name, and then the whole comment is its
+sentence. A clause without a bracket is refused, and so is a bracket without a clause, and a clause that names a
+definition without a comment.
 
 With --write it writes the pages. Without, it says what differs in the pages that are there, and what was refused; the
-status is 1 where anything was.
+status is 1 if anything was.
 """
 
 from __future__ import annotations
@@ -29,9 +29,9 @@ from support.made import ROOT
 PAGES = ROOT / "docs" / "proved"
 INDEX = ROOT / "docs" / "PROVED.md"
 WIDTH = 140
-# How many signs a clause may have that is shown as it stands.
+# How many signs a clause may have that is shown as it is.
 SHORT = 80
-# A crate with more lines than this has a page for each module with more than so many.
+# A crate with more than MOST_LINES lines has a page for each module with more than LARGE.
 MOST_LINES, LARGE = 700, 200
 # Programs of the tests, which promise nothing.
 PROGRAMS_OF_TESTS = ("trials", "worked_lists", "worked_looks", "worked_rows", "worked_sums")
@@ -79,7 +79,7 @@ def imported(lines: Iterable[str]) -> Names:
 
 
 def clauses_from(lines: Sequence[str], place: int) -> tuple[list[Clause], int]:
-    """The clauses that stand from a line on, and the line behind them."""
+    """The clauses that begin at a line, and the line after them."""
     found = []
     while (match := CLAUSE.match(lines[place])) is not None:
         text = match[3]
@@ -102,7 +102,7 @@ def comment_above(lines: Sequence[str], place: int) -> list[str]:
 
 
 def head_from(lines: Sequence[str], place: int) -> tuple[str, int]:
-    """The head of the function that begins on a line, on one line and without its type parameters, and the line behind
+    """The head of the function that begins on a line, on one line and without its type parameters, and the line after
     it."""
     head = lines[place].strip()
     while (
@@ -188,7 +188,7 @@ def refused() -> Iterator[str]:
 
 
 def said_of(definition: Definition) -> str | None:
-    """The first sentence of the comment of a definition, '' where it has none, or None where it is of no crate here."""
+    """The first sentence of the comment of a definition, '' if it has none, or None if it is of no crate here."""
     crate, module, name = definition
     file = ROOT / "crates" / crate / "specs" / f"{module.replace('.', '/')}.antt"
     if not file.is_file():
@@ -204,8 +204,7 @@ def said_of(definition: Definition) -> str | None:
 
 
 def clause_entry(clause: Clause, function: Function, told: dict[str, str]) -> str:
-    """A clause as it stands, where it is short, and what the definitions that it names say, where they were not told
-    yet."""
+    """A clause as it is, if it is short, and what the definitions that it names say, if that is not on the page yet."""
     cited = {}
     for name in dict.fromkeys(NAME.findall(clause.text)):
         if name in function.names and (said := said_of(function.names[name])) is not None:
@@ -237,7 +236,7 @@ def wrapped(text: str, first: str = "", later: str = "") -> list[str]:
 
 
 def comment_lines(comment: Iterable[str]) -> list[str]:
-    """A doc comment as it stands on a page: its paragraphs and its lists."""
+    """A doc comment as a page has it: its paragraphs and its lists."""
     shown = LINK.sub(r"\1", "\n".join(comment))
     shown = BRACKET.sub(lambda names: "[" + ", ".join(f"`{name}`" for name in names[1].split(", ")) + "]", shown)
     lines = []
@@ -290,7 +289,7 @@ def sections(crate: str) -> Iterator[tuple[str, str, list[str]]]:
 
 
 def pages(crate: str) -> Iterator[tuple[str, list[str]]]:
-    """The pages of a crate: one, or where that is longer than a reader likes, others for its largest modules."""
+    """The pages of a crate: one, and if that is longer than a reader likes, others for its largest modules."""
     found = list(sections(crate))
     is_long = sum(len(entries) for _, _, entries in found) > MOST_LINES
     lines = made_by(f"`{crate}`", about(root_of(crate).read_text()))

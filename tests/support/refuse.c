@@ -1,7 +1,7 @@
 /* Loaded before a program (LD_PRELOAD), it refuses chosen allocations of the calls that the program names, and writes all of them down.
  *
- * The program names a call by a line "try CALL" of its standard output, up to the next line. REFUSE_LOG is a file: behind a run it has a line
- * "TRY SIZE" for each allocation that the calls asked for, where TRY counts the calls from 0. REFUSE_AT is the allocation that gets a
+ * The program names a call by a line "try CALL" of its standard output, up to the next line. REFUSE_LOG is a file: after a run it has a
+ * line "TRY SIZE" for each allocation that the calls asked for, where TRY counts the calls from 0. REFUSE_AT is the allocation that gets a
  * null pointer, from 0; with REFUSE_LASTING set, all later ones of the same call do too. Programs of one thread alone. */
 #include <fcntl.h>
 #include <stdbool.h>

@@ -13,8 +13,8 @@ from collections.abc import Sequence
 
 NAMES = ["chromium", "chromium-browser", "google-chrome"]
 MOST_SECONDS = 120
-# Loads each page at each width, one after the other. An element is too wide where it ends beyond its window or has more
-# inside than it is wide; a number is clipped where an element around it shows less than there is.
+# Loads each page at each width, one after the other. An element is too wide if it ends beyond its window or has more
+# inside than it is wide; a number is clipped if an element around it shows less than there is.
 SCRIPT = """
 const result = [];
 const short = element => element.tagName + ' ' + element.textContent.slice(0, 40);

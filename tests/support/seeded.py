@@ -1,4 +1,4 @@
-"""Lawful scripts that are generated from a seed: all kinds of histograms, in segments with room to spare for up to 16
+"""Valid scripts that are generated from a seed: all kinds of histograms, in segments with room to spare for up to 16
 workers."""
 
 from __future__ import annotations
@@ -123,8 +123,8 @@ def calls_of(chance: random.Random, histograms: dict[str, Histogram], most: int)
 
 
 def blocks_of(histograms: dict[str, Histogram], calls: list[ScriptCall]) -> Iterator[int]:
-    """The words of the blocks that a segment may need: where workers meet, each makes a block, and one of these is
-    used."""
+    """The words of the blocks that a segment may need: if several workers make the same block at once, each makes one,
+    and one of these is used."""
     for name, one in histograms.items():
         own = len(one.boundaries) - 2 if one.kind == "custom" else 0
         yield 16 + -(-len(name) // 8) + own

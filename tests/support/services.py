@@ -1,4 +1,4 @@
-"""`examples/cpp/service.cpp`, run in folders that a release, a fault or a disk left it. Whatever it finds, it answers
+"""`examples/cpp/service.cpp`, run in folders as a release, a fault or a disk left them. Whatever it finds, it answers
 requests until it is told to end, and says what it could not record.
 """
 
@@ -30,7 +30,7 @@ FIRST = "0000000001.seg"
 
 
 def requests_of(report: Answer) -> int:
-    """How many requests a report tells of."""
+    """How many requests a report has."""
     total = re.search(rb"^latency_us,total,(\d+),", report.output, re.MULTILINE)
     return 0 if total is None else int(total[1])
 

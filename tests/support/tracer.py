@@ -1,6 +1,6 @@
 """Runs a program so that chosen calls of it to the system fail, or so that it is killed at one (Linux on x86-64).
 
-The program is traced (ptrace): each call to the system stops it where the call begins and where it ends. A call that is
+The program is traced (ptrace): each call to the system stops it when the call begins and when it ends. A call that is
 to fail is not made, and the program is given an error in its place. Nor is one made at which the program is killed.
 """
 
@@ -46,7 +46,7 @@ Registers = list[tuple[int, int]]
 
 
 class Call(ctypes.Structure):
-    """What the system tells of a call where it begins."""
+    """What the system reports of a call when it begins."""
 
     _fields_ = [
         ("kind", ctypes.c_uint8),
@@ -63,7 +63,7 @@ class Fault:
     """Which calls fail: of those with these numbers, on these files and those in these folders alone if any are named,
     the one at `at`, from 0; and all after it, if it is `lasting`; or those after it up to the thread's next call of
     another number, if it is one `growth`, for which the C library asks more than once. With `kills` the program is
-    killed there instead. With `most`, each read and write of them moves so many bytes at most instead.
+    killed there instead. With `most`, each read and write of them moves at most that many bytes instead.
     """
 
     numbers: tuple[int, ...]
@@ -84,7 +84,7 @@ class Fault:
         return path is not None and (path in self.files or os.path.dirname(path) in self.files)
 
     def pass_by(self, thread: int) -> None:
-        """Meets a thread's call that is not meant."""
+        """Handles a thread's call that is not meant."""
         if thread == self.refused:
             self.refused = None
 
@@ -116,7 +116,7 @@ def ptrace(request: int, thread: int, address: int = 0, data: int = 0) -> None:
 
 
 def begin(thread: int, call: Call, fault: Fault) -> Registers:
-    """Meets a call that begins; the registers that are to be set when it ends, each with its value."""
+    """Handles a call that begins; returns the registers that are to be set when it ends, each with its value."""
     if not fault.is_meant(thread, call):
         fault.pass_by(thread)
         return []
@@ -137,8 +137,8 @@ def begin(thread: int, call: Call, fault: Fault) -> Registers:
 
 
 def meet(thread: int, fault: Fault, to_set: dict[int, Registers]) -> None:
-    """Meets a thread that stands at a call, where it begins or ends. `to_set` has what is to be set there, by
-    thread."""
+    """Handles a thread that was stopped at a call, when that begins or ends. `to_set` has what is to be set at its end,
+    by thread."""
     call = Call()
     ptrace(CALL_INFO, thread, ctypes.sizeof(call), ctypes.addressof(call))
     if call.kind == BEGINS:
@@ -179,7 +179,7 @@ def follow(first: int, fault: Fault) -> int:
 
 
 def answer(program: Path, words: Iterable[Word], fault: Fault, **settings: typing.Any) -> Answer:
-    """What the program returns where calls fail."""
+    """What the program returns if calls fail."""
     with tempfile.TemporaryFile() as output, tempfile.TemporaryFile() as error:
         streams: dict[str, typing.Any] = {"stdin": subprocess.DEVNULL, "stdout": output, "stderr": error}
         running = subprocess.Popen([program, *words], preexec_fn=lambda: ptrace(TRACE_ME, 0), **streams, **settings)

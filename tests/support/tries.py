@@ -11,10 +11,10 @@ from collections.abc import Collection, Iterable, Iterator
 
 from support.program import ROOT, Answer, content, difference
 
-# The line of a case: how it ended, its status where it did, and whether it wrote what was wanted. Before it stands what
-# it told.
+# The line of a case: how it ended, its status if it did, and whether it wrote what was wanted. Before it comes what the
+# case reported.
 LINE = re.compile(rb"(.*?)^case=(\S+) run=(\S+)(?: status=(\S+))?(.*?)$\n", re.MULTILINE | re.DOTALL)
-# What a case wrote that has no file of the output that is wanted.
+# What a case wrote for which there is no file with the output that is wanted.
 SHOWN = re.compile(rb"^== (\S+)$\n", re.MULTILINE)
 
 # How much is shown of how an output differs.
@@ -47,7 +47,7 @@ def store(cases: Iterable[Case], folder: pathlib.Path) -> None:
     """Writes a folder of cases as `rt try` reads it: NAME is the standard input, NAME.args the words, NAME.stdout the
     output.
 
-    Of a case that tells a fault there is no NAME.stdout, since `rt try` shows what it tells only then.
+    For a case that ends with a fault there is no NAME.stdout: only then `rt try` shows what the case reports.
     """
     folder.mkdir()
     for case in cases:

@@ -1,6 +1,6 @@
 """Worked looks at a segment of 64 words with a linear histogram at 16, its counts at 32 and a sample at 42, by hand.
 
-Word i of copy k is 1000 k + i where nothing else is said, so each word of a look tells from which copy it comes.
+Word i of copy k is 1000 k + i if nothing else is said, so each word of a look shows from which copy it comes.
 """
 
 from __future__ import annotations
@@ -10,7 +10,7 @@ from collections.abc import Iterator, Mapping
 from support.layout import FREE, FROZEN, SEGMENT_COOKIE
 
 SIZE = 64
-# Words that are others, by where they stand.
+# Words that have other values, by their indices.
 Others = Mapping[int, int]
 NONE: Others = {}
 
@@ -19,7 +19,7 @@ ONE = {7: 32, 8: 12, 15: 12}
 TWO = {19: 42, 24: 32, 25: FROZEN, 45: 12}
 THREE = {18: 1, 19: 42, 23: 3, 24: 32, 25: FROZEN, 34: 2, 44: 3, 45: 50}
 
-# What a look has of the histogram's fields, counts and marks, and of the sample, where both are on the list.
+# What a look has of the histogram's fields, counts and marks, and of the sample, if both are on the list.
 FIELDS = {26: 1026, 27: 2027, 28: 1028, 29: 1029}
 COUNTS = {36: 2036, 37: 2037, 38: 2038}
 NO_COUNTS = {36: 0, 37: 0, 38: 0}
@@ -27,7 +27,8 @@ MARKS = {39: 1039, 40: 1040, 41: 1041}
 SAMPLE = {8: 42, 45: 12, 48: 2048, 49: 1049}
 ENDED = {19: 12}
 
-# What the second and the third copy have that is other, and what is other in the look than in the third copy.
+# The words of the second and of the third copy that differ from the above, and those of the look that differ from the
+# third copy.
 LOOKS: dict[str, tuple[Others, Others, Others]] = {
     "at rest": ({}, {}, {**FIELDS, **COUNTS, **MARKS, **SAMPLE}),
     "counts that came into use between the loads of their reference and of the single word": (

@@ -107,7 +107,8 @@ def packed(bucket: int, units: int) -> int:
 THREE_SAMPLES = dict(enumerate(struct.unpack("<128Q", EXAMPLE.read_bytes())))
 MINUS_3, MINUS_5, MINUS_15 = WORD - 3, WORD - 5, WORD - 15
 
-# Words at the end of some: where they stand, and what they are; in both versions, and in the one or the other.
+# Words at the end of some schedules, by their indices: those that are the same in both versions, and those of one
+# version.
 WORDS = {
     "two samples, packed": {7: 32, 24: 0, 25: packed(1, 2), 27: 2, 29: 2},
     "packed, then mounted": {7: 42, 24: 32, 26: 0, 27: 2, 28: 0, 29: 3, 36: 1, 38: 0},
@@ -146,7 +147,7 @@ WORDS_OF_VERSION: dict[int, dict[str, Mapping[int, int]]] = {
     },
 }
 
-# The last answers of some, each behind its actor, in their order.
+# The last answers of some, each after its actor, in their order.
 ANSWERS = {
     "packed, then mounted": ["0,snapshot,2,3,0,1,1,2,2,0"],
     "deltas and marks": ["0,delta,2,1,2", "0,added", "0,delta,0,0,1", "0,delta,0", "0,snapshot,2,3,0,1,1,2,2,0"],

@@ -95,56 +95,54 @@ pub fn size_lines(alloc: Global, input: Source<'_, '_>) -> Result<String, AllocE
     )
 }
 
+impl Finding {
+    // A field of the record; one that it does not have is shown as an empty one.
+    fn field(&self, index: usize) -> Shown<'_> {
+        Shown(self.fields.get(index).unwrap_or_default())
+    }
+}
+
 impl fmt::Display for Finding {
     fn fmt<W: fmt::Write>(&self, f: &mut fmt::Formatter<W>) -> fmt::Result {
-        let word = Shown(self.fields.get(0).unwrap_or_default());
+        let word = self.field(0);
         match self.complaint {
             None => f.write_str("the record has no valid form or place"),
             Some(Complaint::NoRecord) => f.write_str("the script ends before this record"),
-            Some(Complaint::Field { index: 0, wanted }) => write!(
-                f,
-                "the record begins with `{word}`; {wanted}"
-            ),
+            Some(Complaint::Field { index: 0, wanted }) => {
+                write!(f, "the record begins with `{word}`; {wanted}")
+            }
             Some(Complaint::Field { index, wanted }) => {
-                let field = Shown(self.fields.get(index).unwrap_or_default());
+                let field = self.field(index);
                 write!(f, "field {index} after `{word}` is `{field}`; {wanted}")
             }
             Some(Complaint::Count(form)) => {
                 let count = self.fields.len().saturating_sub(1);
                 write!(f, "fields after `{word}`: {count}; its form is {form}")
             }
-            Some(Complaint::NotFirst) => {
-                write!(
-                    f,
-                    "the record begins with `{word}`; the first record is segment,SIZE,PAGE,ID"
-                )
-            }
-            Some(Complaint::Shape) => {
-                let size = Shown(self.fields.get(1).unwrap_or_default());
-                let page = Shown(self.fields.get(2).unwrap_or_default());
-                write!(
-                    f,
-                    "SIZE is {size} and PAGE is {page}; PAGE is a multiple of 16 from 64 to 65536, and SIZE whole pages, at most 1048576"
-                )
-            }
+            Some(Complaint::NotFirst) => write!(
+                f,
+                "the record begins with `{word}`; the first record is segment,SIZE,PAGE,ID"
+            ),
+            Some(Complaint::Shape) => write!(
+                f,
+                "SIZE is {} and PAGE is {}; PAGE is a multiple of 16 from 64 to 65536, and SIZE whole pages, at most 1048576",
+                self.field(1),
+                self.field(2)
+            ),
             Some(Complaint::OtherSegment) => f.write_str(
                 "SIZE, PAGE and ID have to be those of BASE",
             ),
             Some(Complaint::LateSegment) => f.write_str(
                 "only the first record may be a `segment` record",
             ),
-            Some(Complaint::LateHist) => {
-                f.write_str(
-                    "a `hist` record comes after an `add` or a `delta` record; all of these come last",
-                )
-            }
-            Some(Complaint::UnknownName) => {
-                let name = Shown(self.fields.get(1).unwrap_or_default());
-                write!(
-                    f,
-                    "field 1 after `{word}` is `{name}`; no `hist` record before it has this name"
-                )
-            }
+            Some(Complaint::LateHist) => f.write_str(
+                "a `hist` record comes after an `add` or a `delta` record; all of these come last",
+            ),
+            Some(Complaint::UnknownName) => write!(
+                f,
+                "field 1 after `{word}` is `{}`; no `hist` record before it has this name",
+                self.field(1)
+            ),
         }
     }
 }

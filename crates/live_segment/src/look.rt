@@ -9,15 +9,22 @@ use segment_looks::{LookFault, compose};
 use std::alloc::{AllocError, Global};
 
 impl Segment {
-    // A copy of the words, each loaded once. No clause says which numbers were loaded.
+    // Loads each word once. No clause says which numbers were loaded.
+    fn load_words(&self, words: &mut [u64])
+        requires { length words.old ≡ self.now.setting.shape.size }
+        ensures { length words.new ≡ length words.old }
+    {
+        for (i, word) in words.iter_mut().enumerate() {
+            *word = self.table.shared.peek(i + 1);
+        }
+    }
+
+    // A copy of the words, each loaded once.
     fn copy_words(&self, alloc: Global) -> Result<Vec<u64>, AllocError>
         ensures { IfOk result (λ words. length words.items ≡ self.now.setting.shape.size) }
     {
-        let size = self.size() as usize;
-        let mut words = Vec::with_capacity(alloc, size)?;
-        for i in 0..size {
-            words.push_reserved(self.table.shared.peek(i + 1));
-        }
+        let mut words = vec![in alloc; 0; self.size() as usize]?;
+        self.load_words(&mut words);
         Ok(words)
     }
 

@@ -133,48 +133,28 @@ impl fmt::Display for Failure {
         match self {
             Failure::Usage(error) => write!(f, "{error}"),
             Failure::Fault(fault) => writeln!(f, "persist_report: {fault}"),
-            Failure::Explained(fault, lines) => {
-                writeln!(f, "persist_report: {fault}")?;
-                f.write_str(lines.as_str())
-            }
-            Failure::Scale(fault, lines) => {
-                writeln!(f, "persist_report: {fault}")?;
-                f.write_str(lines.as_str())
-            }
+            Failure::Explained(fault, lines) => write!(f, "persist_report: {fault}\n{lines}"),
+            Failure::Busy(lines) => write!(f, "persist_report: Busy\n{lines}"),
+            Failure::Scale(fault, lines) => write!(f, "persist_report: {fault}\n{lines}"),
             Failure::Clash {
                 first,
                 second,
                 lines,
-            } => {
-                writeln!(
-                    f,
-                    "persist_report: Clash {} {}",
-                    Shown(first),
-                    Shown(second)
-                )?;
-                f.write_str(lines.as_str())
-            }
+            } => write!(
+                f,
+                "persist_report: Clash {} {}\n{lines}",
+                Shown(first),
+                Shown(second)
+            ),
             Failure::Input { fault, name, lines } => {
-                writeln!(f, "persist_report: {fault}: {name}")?;
-                f.write_str(lines.as_str())
+                write!(f, "persist_report: {fault}: {name}\n{lines}")
             }
             Failure::Since { fault, name, lines } => {
-                writeln!(f, "persist_report: {fault} {}", Shown(name))?;
-                f.write_str(lines.as_str())
+                write!(f, "persist_report: {fault} {}\n{lines}", Shown(name))
             }
-            Failure::TooMany(lines) => {
-                f.write_str("persist_report: TooMany\n")?;
-                f.write_str(lines.as_str())
-            }
-            Failure::NotWhole(lines) => {
-                f.write_str("persist_report: NotWhole\n")?;
-                f.write_str(lines.as_str())
-            }
+            Failure::TooMany(lines) => write!(f, "persist_report: TooMany\n{lines}"),
+            Failure::NotWhole(lines) => write!(f, "persist_report: NotWhole\n{lines}"),
             Failure::Left => Ok(()),
-            Failure::Busy(lines) => {
-                f.write_str("persist_report: Busy\n")?;
-                f.write_str(lines.as_str())
-            }
         }
     }
 }

@@ -90,11 +90,8 @@ fn flag<'a>(alloc: Global, name: &'a str, help: &'a str) -> Arg<'a> {
         .help(help)
 }
 
-fn command<'a>(alloc: Global) -> Result<Command<'a>, AllocError> {
-    let schedule = Arg::new(alloc, "SCHEDULE")
-        .required(true)
-        .help("Schedule of calls and steps, as CSV")
-        .long_help(SCHEDULE);
+// Adds the options that say what is printed, of which at most one is given, and where a schedule stops.
+fn with_outputs<'a>(alloc: Global, command: Command<'a>) -> Result<Command<'a>, AllocError> {
     let picture = flag(alloc, "show", "Draw the steps as a picture for people");
     let report = flag(
         alloc,
@@ -111,13 +108,7 @@ fn command<'a>(alloc: Global) -> Result<Command<'a>, AllocError> {
         "look",
         "Write the look that the records take, put\ntogether at the end, as an image",
     );
-    Command::new(alloc, "stepped")
-        .version("0.1.0")
-        .about("Replay a schedule of calls on a segment, one atomic step at a time")
-        .long_about(LONG_ABOUT)
-        .after_help(SHORT_EXAMPLE)
-        .after_long_help(EXAMPLES)
-        .arg(schedule)?
+    command
         .arg(
             picture
                 .conflicts_with("report")?
@@ -127,15 +118,28 @@ fn command<'a>(alloc: Global) -> Result<Command<'a>, AllocError> {
         .arg(stop_argument(alloc))?
         .arg(report.conflicts_with("image")?.conflicts_with("look")?)?
         .arg(image.conflicts_with("look")?)?
-        .arg(look)?
-        .arg(flag(
-            alloc,
-            "explain",
-            "Explain errors (on by default in a terminal)",
-        )
-        .long_help(
-            "Explain errors: file, line, reason and what to do (on by default in a\nterminal)",
-        ))
+        .arg(look)
+}
+
+fn command<'a>(alloc: Global) -> Result<Command<'a>, AllocError> {
+    let schedule = Arg::new(alloc, "SCHEDULE")
+        .required(true)
+        .help("Schedule of calls and steps, as CSV")
+        .long_help(SCHEDULE);
+    let explain = flag(
+        alloc,
+        "explain",
+        "Explain errors (on by default in a terminal)",
+    )
+    .long_help("Explain errors: file, line, reason and what to do (on by default in a\nterminal)");
+    let command = Command::new(alloc, "stepped")
+        .version("0.1.0")
+        .about("Replay a schedule of calls on a segment, one atomic step at a time")
+        .long_about(LONG_ABOUT)
+        .after_help(SHORT_EXAMPLE)
+        .after_long_help(EXAMPLES)
+        .arg(schedule)?;
+    with_outputs(alloc, command)?.arg(explain)
 }
 
 fn show_of(matches: &ArgMatches<'_>) -> Show {

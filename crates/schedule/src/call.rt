@@ -93,15 +93,15 @@ fn read_batch(alloc: Global, behind: &[&[u8]]) -> Result<Option<Call>, AllocErro
 fn read_hist(
     alloc: Global,
     behind: &[&[u8]],
-    record: &ByteRecord,
+    csv_record: &ByteRecord,
 ) -> Result<Option<Call>, AllocError>
-    requires { texts behind.now ≡ drop 2 (fields_of record.now) }
+    requires { texts behind.now ≡ drop 2 (fields_of csv_record.now) }
     ensures { IfOk result (λ call. option_map call_view call ≡ hist_in (texts behind.now)) }
 {
     let [name, kind, ..] = behind else {
         return Ok(None);
     };
-    match read_spec(alloc, kind, record, 4)? {
+    match read_spec(alloc, kind, csv_record, 4)? {
         Some(spec) => Ok(Some(Call::Hist(Vec::from_slice(alloc, name)?, spec))),
         None => Ok(None),
     }
@@ -112,13 +112,13 @@ pub(crate) fn read_call(
     alloc: Global,
     word: &[u8],
     behind: &[&[u8]],
-    record: &ByteRecord,
+    csv_record: &ByteRecord,
 ) -> Result<Option<Call>, AllocError>
-    requires { texts behind.now ≡ drop 2 (fields_of record.now) }
+    requires { texts behind.now ≡ drop 2 (fields_of csv_record.now) }
     ensures { IfOk result (λ call. option_map call_view call ≡ call_in word.now (texts behind.now)) }
 {
     if word == b"hist".as_slice() {
-        read_hist(alloc, behind, record)
+        read_hist(alloc, behind, csv_record)
     } else if word == b"add".as_slice() {
         read_add(alloc, behind)
     } else if word == b"batch".as_slice() {

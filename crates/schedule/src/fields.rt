@@ -8,12 +8,12 @@ use csv::ByteRecord;
 use std::alloc::{AllocError, Global};
 
 /// The fields of a record, in order.
-pub(crate) fn list_fields(alloc: Global, record: &ByteRecord) -> Result<Vec<&[u8]>, AllocError>
-    ensures { IfOk result (λ fields. texts fields.items ≡ fields_of record.now) }
+pub(crate) fn list_fields(alloc: Global, csv_record: &ByteRecord) -> Result<Vec<&[u8]>, AllocError>
+    ensures { IfOk result (λ fields. texts fields.items ≡ fields_of csv_record.now) }
 {
     let mut fields = Vec::new(alloc);
-    for i in 0..record.len() {
-        if let Some(field) = record.get(i) {
+    for i in 0..csv_record.len() {
+        if let Some(field) = csv_record.get(i) {
             fields.push(field)?;
         }
     }

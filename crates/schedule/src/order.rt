@@ -92,11 +92,11 @@ fn image_of<'a>(fields: &[&'a [u8]]) -> Option<(&'a [u8], usize)>
 /// The world that the first record asks for, or nothing if it has no valid form.
 pub(crate) fn read_opening(
     alloc: Global,
-    record: &ByteRecord,
+    csv_record: &ByteRecord,
 ) -> Result<Option<Opening>, AllocError>
-    ensures { IfOk result (λ opening. option_map opening_view opening ≡ opening_in (fields_of record.now)) }
+    ensures { IfOk result (λ opening. option_map opening_view opening ≡ opening_in (fields_of csv_record.now)) }
 {
-    let fields = list_fields(alloc, record)?;
+    let fields = list_fields(alloc, csv_record)?;
     if let Some(segment) = new_world_of(&fields) {
         return Ok(Some(Opening::New(segment)));
     }
@@ -132,9 +132,9 @@ fn read_kind(
     alloc: Global,
     word: &[u8],
     behind: &[&[u8]],
-    record: &ByteRecord,
+    csv_record: &ByteRecord,
 ) -> Result<Option<OrderKind>, AllocError>
-    requires { texts behind.now ≡ drop 2 (fields_of record.now) }
+    requires { texts behind.now ≡ drop 2 (fields_of csv_record.now) }
     ensures { IfOk result (λ kind. option_map kind_view kind ≡ kind_in word.now (texts behind.now)) }
 {
     if word == b"step".as_slice() {
@@ -142,19 +142,25 @@ fn read_kind(
     } else if word == b"look".as_slice() {
         Ok(word_of(behind).map(OrderKind::Look))
     } else {
-        Ok(read_call(alloc, word, behind, record)?.map(OrderKind::Begin))
+        Ok(read_call(alloc, word, behind, csv_record)?.map(OrderKind::Begin))
     }
 }
 
 /// What a later record asks for, or nothing if it has no valid form.
-pub(crate) fn read_order(alloc: Global, record: &ByteRecord) -> Result<Option<Order>, AllocError>
-    ensures { IfOk result (λ order. option_map order_view order ≡ order_in (fields_of record.now)) }
+pub(crate) fn read_order(
+    alloc: Global,
+    csv_record: &ByteRecord,
+) -> Result<Option<Order>, AllocError>
+    ensures { IfOk result (λ order. option_map order_view order ≡ order_in (fields_of csv_record.now)) }
 {
-    let fields = list_fields(alloc, record)?;
+    let fields = list_fields(alloc, csv_record)?;
     let [word, actor, behind @ ..] = fields.as_slice() else {
         return Ok(None);
     };
-    match (long_number(actor), read_kind(alloc, word, behind, record)?) {
+    match (
+        long_number(actor),
+        read_kind(alloc, word, behind, csv_record)?,
+    ) {
         (Some(actor), Some(kind)) => Ok(Some(Order {
             actor: actor as usize,
             kind,

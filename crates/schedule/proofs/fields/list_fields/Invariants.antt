@@ -5,4 +5,4 @@ use Rattle.schedule.proofs.fields.list_fields.Given as goal
 
 -- the fields so far, and those that are left
 abbrev pub invariant-loop-i : goal.invariant-loop-i
-invariant-loop-i l = texts l.fields.items ++ drop l.i (fields_of l.record) ≡ fields_of l.record
+invariant-loop-i l = texts l.fields.items ++ drop l.i (fields_of l.csv_record) ≡ fields_of l.csv_record

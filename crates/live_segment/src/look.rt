@@ -10,7 +10,7 @@ use std::alloc::{AllocError, Global};
 
 impl Segment {
     // Loads each word once. No clause says which numbers were loaded.
-    fn load_words(&self, words: &mut [u64])
+    fn peek_words(&self, words: &mut [u64])
         requires { length words.old ≡ self.now.setting.shape.size }
         ensures { length words.new ≡ length words.old }
     {
@@ -24,7 +24,7 @@ impl Segment {
         ensures { IfOk result (λ words. length words.items ≡ self.now.setting.shape.size) }
     {
         let mut words = vec![in alloc; 0; self.size() as usize]?;
-        self.load_words(&mut words);
+        self.peek_words(&mut words);
         Ok(words)
     }
 

@@ -1,4 +1,5 @@
-// Povundiri for C++17 and later: segments, recorders and sums that end by themselves, over povundiri.h and povundiri_file.h.
+// Povundiri for C++17 and later: segments and recorders that end by themselves, over povundiri.h and povundiri_file.h. With it come looks,
+// texts of images and sums, which are in povundiri_images.hpp.
 //
 //     using namespace povundiri;
 //     Opened opened = Segment::open("latency.seg", shape(65'536, 4096), Policy::AdoptOrSetAside);
@@ -29,192 +30,29 @@
 
 #include <algorithm>
 #include <atomic>
-#include <chrono>
 #include <cstddef>
 #include <cstdint>
-#include <cstdlib>
-#include <initializer_list>
 #include <limits>
-#include <memory>
 #include <mutex>
 #include <new>
 #include <optional>
 #include <string>
 #include <string_view>
 #include <system_error>
-#include <type_traits>
 #include <utility>
 #include <vector>
 
 #include "povundiri.h"
 #include "povundiri_file.h"
+#include "povundiri_images.hpp"
 #include "povundiri_status.hpp"
+#include "povundiri_values.hpp"
 
 namespace povundiri {
-
-using Shape = povundiri_shape;
-using Room = povundiri_room;
-using Item = povundiri_item;
-using Count = povundiri_count;
-
-inline constexpr std::uint64_t kMovingVersion = 1, kFrozenVersion = 2;
-
-constexpr Shape shape(std::uint64_t size, std::uint64_t page, std::uint64_t id = 0, std::size_t cursors = 0,
-                      std::uint64_t version = kFrozenVersion) noexcept {
-    return {size, page, id, cursors, version};
-}
-
-// The shape of a segment in 'bytes' bytes, with a page and a version that are chosen here; the id is the caller's. It has as few pages as
-// hold these bytes if a page has at most 4,096 words, all of one size, which is a multiple of 16 words; so it has at most 'bytes', and less
-// than 16 words for each page are left over. The shape is valid from 512 bytes to 8,388,608 (8 MiB); 'create' and 'open' refuse others with
-// OpenBadShape. From 32,768 bytes on, a histogram of 1,000 buckets fits in a page; below that a page is the whole segment.
-constexpr Shape shape_for(std::uint64_t bytes, std::uint64_t id = 0, std::size_t cursors = 0) noexcept {
-    const std::uint64_t words = bytes / 8, pages = words / 4096 + (words % 4096 != 0);
-    const std::uint64_t page = pages == 0 ? 0 : words / pages / 16 * 16;
-    return shape(words > 1'048'576 ? words : pages * page, page, id, cursors);
-}
-
-// ---- Arguments and results ----
-
-// Contiguous elements, borrowed for a call: of a vector, an array, a list in braces.
-template <typename T>
-class Span {
-public:
-    constexpr Span() noexcept = default;
-    constexpr Span(T* data, std::size_t size) noexcept : data_(data), size_(size) {}
-    constexpr Span(std::initializer_list<std::remove_const_t<T>> list) noexcept : size_(list.size()) { data_ = list.begin(); }
-
-    template <typename From, typename = std::enable_if_t<std::is_convertible_v<decltype(std::declval<From&>().data()), T*>>>
-    constexpr Span(From&& from) noexcept : data_(from.data()), size_(from.size()) {}
-
-    template <std::size_t N>
-    constexpr Span(T (&array)[N]) noexcept : data_(array), size_(N) {}
-
-    constexpr T* data() const noexcept { return data_; }
-    constexpr std::size_t size() const noexcept { return size_; }
-    constexpr bool empty() const noexcept { return size_ == 0; }
-    constexpr T* begin() const noexcept { return data_; }
-    constexpr T* end() const noexcept { return data_ + size_; }
-    constexpr T& operator[](std::size_t place) const noexcept { return data_[place]; }
-
-private:
-    T* data_ = nullptr;
-    std::size_t size_ = 0;
-};
-
-// The value of a sample: any integer, or the ticks of a duration in its own unit. What 32 bits do not hold becomes the nearest that
-// they do, and a duration that is not a number 0.
-class Value {
-public:
-    template <typename Number, std::enable_if_t<std::is_integral_v<Number>, int> = 0>
-    constexpr Value(Number number) noexcept : value_(saturated(number)) {}
-    template <typename Ticks, typename Period>
-    constexpr Value(std::chrono::duration<Ticks, Period> time) noexcept : value_(saturated(time.count())) {}
-
-    constexpr std::int32_t get() const noexcept { return value_; }
-
-private:
-    static constexpr std::int32_t kLeast = std::numeric_limits<std::int32_t>::min(), kGreatest = std::numeric_limits<std::int32_t>::max();
-
-    template <typename Number>
-    static constexpr std::int32_t saturated(Number number) noexcept {
-        static_assert(std::is_floating_point_v<Number> || sizeof(Number) <= sizeof(std::intmax_t));
-        if constexpr (std::is_floating_point_v<Number>) {
-            if (number >= static_cast<Number>(kGreatest)) return kGreatest;
-            if (number <= static_cast<Number>(kLeast)) return kLeast;
-            return number < static_cast<Number>(kGreatest) ? static_cast<std::int32_t>(number) : 0;
-        } else if constexpr (std::is_signed_v<Number>) {
-            return static_cast<std::int32_t>(std::clamp<std::intmax_t>(number, kLeast, kGreatest));
-        } else {
-            return static_cast<std::int32_t>(std::min<std::uintmax_t>(number, static_cast<std::uintmax_t>(kGreatest)));
-        }
-    }
-
-    std::int32_t value_;
-};
-
-// A histogram, for the recorder that returned it: for all others it is Unknown. One that no recorder returned is Unknown for all.
-class Hist {
-public:
-    constexpr Hist() noexcept = default;
-
-private:
-    friend class Recorder;
-
-    std::size_t number_ = 0;
-    std::uint64_t tag_ = 0;
-};
-
-// What a delta or a snapshot fills: keys with their units, ascending; the sum; and of a snapshot the units, counted once more. It keeps its
-// room, so a caller that fills one again and again asks for memory once.
-class Counts {
-public:
-    Counts() noexcept = default;
-    Counts(Counts&& other) noexcept
-        : room_(std::move(other.room_)), size_(std::exchange(other.size_, 0)), totals_(std::exchange(other.totals_, povundiri_totals{})) {}
-    Counts& operator=(Counts&& other) noexcept {
-        room_ = std::move(other.room_);
-        size_ = std::exchange(other.size_, 0);
-        totals_ = std::exchange(other.totals_, povundiri_totals{});
-        return *this;
-    }
-
-    Span<const Count> units() const noexcept { return {room_.get(), totals_.length}; }
-    std::int64_t sum() const noexcept { return totals_.sum; }
-    std::uint64_t redundant() const noexcept { return totals_.redundant; }
-
-private:
-    friend class Recorder;
-
-    // If the call was not done, this is unchanged, but may have more room.
-    template <typename Call>
-    Status filled(const Call& call) noexcept {
-        while (true) {
-            povundiri_totals totals{};
-            const auto status = static_cast<Status>(call(room_.get(), size_, &totals));
-            if (status == Status::Done) totals_ = totals;
-            if (status != Status::Short) return status;
-            std::unique_ptr<Count[]> larger(new (std::nothrow) Count[totals.length]);
-            if (larger == nullptr) return Status::NoMemory;
-            std::copy_n(room_.get(), totals_.length, larger.get());
-            room_ = std::move(larger);
-            size_ = totals.length;
-        }
-    }
-
-    std::unique_ptr<Count[]> room_;
-    std::size_t size_ = 0;
-    povundiri_totals totals_{};
-};
 
 // ---- Details: no part of the interface ----
 
 namespace detail {
-
-inline void need(Status status, const char* call) {
-    if (status != Status::Done) raise(status, call);
-}
-
-inline void need(Status status, const char* call, std::string_view name) {
-    if (status != Status::Done) raise(status, std::string(call).append(" \"").append(name).append("\""));
-}
-
-// The argument is a number: 'recorder, lease 1000'.
-inline void need(Status status, const char* call, std::uint64_t number) {
-    if (status != Status::Done) raise(status, std::string(call).append(" ").append(std::to_string(number)));
-}
-
-// Calls with an array and the length that is needed until it is long enough: in between another thread may have put more there.
-template <typename Array, typename Call>
-Status filled(Array& array, const Call& call) {
-    while (true) {
-        std::size_t needed = 0;
-        const auto status = static_cast<Status>(call(array.data(), array.size(), &needed));
-        if (status != Status::Done && status != Status::Short) return status;
-        array.resize(needed);
-        if (status == Status::Done) return status;
-    }
-}
 
 // A number that no recorder of this process had before, and no histogram that is new has.
 inline std::uint64_t new_tag() noexcept {
@@ -786,204 +624,6 @@ inline Status Segment::try_close(std::vector<std::uint64_t>& image) {
     if (status == Status::Done) povundiri_file_close(&state_->file);
     return status;
 }
-
-// ---- Looks ----
-
-// An image of a segment of version 2 that others record into meanwhile: of its words, as in a mapping (povundiri_look), or in a file
-// (povundiri_file_look), whose fault may be the system's, in the generic category.
-[[nodiscard]] inline Status try_look(Span<const std::uint64_t> words, std::vector<std::uint64_t>& image) {
-    return detail::filled(image, [&](std::uint64_t* data, std::size_t size, std::size_t* needed) {
-        return povundiri_look(words.data(), words.size(), data, size, needed);
-    });
-}
-
-inline std::vector<std::uint64_t> look(Span<const std::uint64_t> words) {
-    std::vector<std::uint64_t> image;
-    detail::need(try_look(words, image), "look, words", words.size());
-    return image;
-}
-
-[[nodiscard]] inline std::error_code try_look_file(const char* path, std::vector<std::uint64_t>& image) {
-    std::uint64_t* words = nullptr;
-    std::size_t length = 0;
-    int fault = 0;
-    const std::uint32_t status = povundiri_file_look(path, &words, &length, &fault);
-    const std::unique_ptr<std::uint64_t, void (*)(void*)> owned(words, std::free);
-    if (status == POVUNDIRI_SYSTEM) return {fault, std::generic_category()};
-    image.assign(words, words + length);
-    return static_cast<Status>(status);
-}
-
-inline std::vector<std::uint64_t> look_file(const char* path) {
-    std::vector<std::uint64_t> image;
-    const std::error_code fault = try_look_file(path, image);
-    if (fault) raise(fault, std::string("look_file \"").append(path != nullptr ? path : "").append("\""));
-    return image;
-}
-
-// ---- Readers ----
-
-// The report of an image as CSV. It is made once if it is no longer than this, else twice.
-inline constexpr std::size_t kUsualReport = 16'384;
-
-[[nodiscard]] inline Status try_report(Span<const std::uint64_t> words, std::string& text) {
-    text.resize(kUsualReport);
-    return detail::filled(text, [&](char* data, std::size_t size, std::size_t* needed) {
-        return povundiri_report(words.data(), words.size(), data, size, needed);
-    });
-}
-
-inline std::string report(Span<const std::uint64_t> words) {
-    std::string text;
-    detail::need(try_report(words, text), "report, words", words.size());
-    return text;
-}
-
-// The same for an image with at most 'most_keys' keys; for one with more, TooManyKeys. For words that are not trusted: a report without a
-// bound may take gigabytes (povundiri_report_bounded).
-[[nodiscard]] inline Status try_report(Span<const std::uint64_t> words, std::string& text, std::uint64_t most_keys) {
-    text.resize(kUsualReport);
-    return detail::filled(text, [&](char* data, std::size_t size, std::size_t* needed) {
-        return povundiri_report_bounded(words.data(), words.size(), data, size, needed, most_keys);
-    });
-}
-
-inline std::string report(Span<const std::uint64_t> words, std::uint64_t most_keys) {
-    std::string text;
-    detail::need(try_report(words, text, most_keys), "report, most keys", most_keys);
-    return text;
-}
-
-// The metrics of an image in the Prometheus text format, whose names begin with 'prefix' (povundiri_export).
-[[nodiscard]] inline Status try_export_text(Span<const std::uint64_t> words, std::string& text, const char* prefix = nullptr) {
-    text.resize(kUsualReport);
-    return detail::filled(text, [&](char* data, std::size_t size, std::size_t* needed) {
-        return povundiri_export(words.data(), words.size(), prefix, data, size, needed);
-    });
-}
-
-inline std::string export_text(Span<const std::uint64_t> words, const char* prefix = nullptr) {
-    std::string text;
-    detail::need(try_export_text(words, text, prefix), "export_text, words", words.size());
-    return text;
-}
-
-// The text of an image for people, with 'width' cells in a line, 80 if it is 0 (povundiri_show).
-[[nodiscard]] inline Status try_show_text(Span<const std::uint64_t> words, std::string& text, std::uint16_t width = 0) {
-    text.resize(kUsualReport);
-    return detail::filled(text, [&](char* data, std::size_t size, std::size_t* needed) {
-        return povundiri_show(words.data(), words.size(), width, data, size, needed);
-    });
-}
-
-inline std::string show_text(Span<const std::uint64_t> words, std::uint16_t width = 0) {
-    std::string text;
-    detail::need(try_show_text(words, text, width), "show_text, words", words.size());
-    return text;
-}
-
-// ---- Sums ----
-
-// The sum of any number of images, each added under a number (povundiri_sums_new). It begins as the sum of no images, and one that was moved
-// from is that again. It is used by one thread at a time. A call that is not done leaves the sum as it was.
-class Sums {
-public:
-    Sums() noexcept = default;
-    Sums(Sums&& other) noexcept : handle_(std::exchange(other.handle_, povundiri_handle{})) {}
-    Sums& operator=(Sums&& other) noexcept {
-        if (this != &other) {
-            reset();
-            handle_ = std::exchange(other.handle_, povundiri_handle{});
-        }
-        return *this;
-    }
-    ~Sums() { reset(); }
-
-    // Begins again, with no images.
-    void reset() noexcept { povundiri_sums_drop(&handle_); }
-
-    // Adds an image (povundiri_sums_add): the words of one, or of a look.
-    void add(std::uint64_t number, Span<const std::uint64_t> words) { detail::need(try_add(number, words), "add, image", number); }
-    [[nodiscard]] Status try_add(std::uint64_t number, Span<const std::uint64_t> words) noexcept {
-        return with([&] { return povundiri_sums_add(&handle_, number, words.data(), words.size()); });
-    }
-
-    // Adds what 'totals' or 'persist_report report --totals' wrote (povundiri_sums_add_totals). 'line', if there is one, is the number of a
-    // line that is wrong, or 0.
-    void add_totals(std::string_view text) {
-        std::size_t line = 0;
-        const Status status = try_add_totals(text, &line);
-        detail::need(status, "add_totals, line", line);
-    }
-    [[nodiscard]] Status try_add_totals(std::string_view text, std::size_t* line = nullptr) noexcept {
-        return with([&] { return povundiri_sums_add_totals(&handle_, text.data(), text.size(), line); });
-    }
-
-    // Adds another sum, which stays as it is, and may be the same.
-    void append(Sums& other) { detail::need(try_append(other), "append"); }
-    [[nodiscard]] Status try_append(Sums& other) noexcept {
-        return with([&] { return other.with([&] { return povundiri_sums_append(&handle_, &other.handle_); }); });
-    }
-
-    // Its report as CSV (povundiri_sums_report), the whole of it as a text to add again (povundiri_sums_totals), its metrics in the
-    // Prometheus text format (povundiri_sums_export), and its text for people (povundiri_sums_show).
-    std::string report() {
-        std::string text;
-        detail::need(try_report(text), "report");
-        return text;
-    }
-    std::string totals() {
-        std::string text;
-        detail::need(try_totals(text), "totals");
-        return text;
-    }
-    std::string export_text(const char* prefix = nullptr) {
-        std::string text;
-        detail::need(try_export_text(text, prefix), "export_text");
-        return text;
-    }
-    std::string show_text(std::uint16_t width = 0) {
-        std::string text;
-        detail::need(try_show_text(text, width), "show_text, width", width);
-        return text;
-    }
-    [[nodiscard]] Status try_report(std::string& text) {
-        return filled(text, [&](char* data, std::size_t size, std::size_t* needed) { return povundiri_sums_report(&handle_, data, size, needed); });
-    }
-    [[nodiscard]] Status try_totals(std::string& text) {
-        return filled(text, [&](char* data, std::size_t size, std::size_t* needed) { return povundiri_sums_totals(&handle_, data, size, needed); });
-    }
-    [[nodiscard]] Status try_export_text(std::string& text, const char* prefix = nullptr) {
-        return filled(text, [&](char* data, std::size_t size, std::size_t* needed) {
-            return povundiri_sums_export(&handle_, prefix, data, size, needed);
-        });
-    }
-    [[nodiscard]] Status try_show_text(std::string& text, std::uint16_t width = 0) {
-        return filled(text, [&](char* data, std::size_t size, std::size_t* needed) {
-            return povundiri_sums_show(&handle_, width, data, size, needed);
-        });
-    }
-
-private:
-    // The sum of no images is made at the first call that needs it.
-    template <typename Call>
-    Status with(const Call& call) noexcept {
-        if (!handle_.full) {
-            const auto status = static_cast<Status>(povundiri_sums_new(&handle_));
-            if (status != Status::Done) return status;
-        }
-        return static_cast<Status>(call());
-    }
-
-    template <typename Call>
-    Status filled(std::string& text, const Call& call) {
-        text.resize(kUsualReport);
-        const Status made = with([] { return POVUNDIRI_DONE; });
-        return made != Status::Done ? made : detail::filled(text, call);
-    }
-
-    povundiri_handle handle_{};
-};
 
 }  // namespace povundiri
 

@@ -10,6 +10,8 @@
 #include <time.h>
 #include <unistd.h>
 
+#include "povundiri_recording_parts.h"
+
 /* How many threads have a recorder of their own in a segment; further ones share one. A segment has at most 256. */
 enum { MOST_RECORDERS = 250 };
 
@@ -44,15 +46,6 @@ struct table {
     size_t count;
 };
 
-struct metric {
-    char *name;
-    size_t length;
-    struct povundiri_spec spec;
-    uint32_t *values;
-    size_t count;
-    bool is_too_large; /* a segment of the present size without any other has no room for it: then none is begun for it */
-};
-
 enum state { RECORDS, HAS_ENDED, IS_FORKED };
 
 /* Whether all that is in use fits in a segment, as far as is known: it was full within a second; and the system refused a larger one. */
@@ -74,8 +67,7 @@ struct povundiri_recording {
     enum state state;
     struct povundiri_owned *current, *spare, *old;
     struct local *shared;
-    struct metric **metrics;
-    size_t count;
+    struct povundiri_metrics metrics;
     uint64_t bytes;               /* of the next segment, and of the spare */
     struct povundiri_shape shape; /* in so many bytes */
     uint64_t turns;               /* how many segments it had */
@@ -133,28 +125,6 @@ static struct povundiri_shape shape_for(uint64_t bytes) {
 
 static void miss(struct povundiri_recording *recording, enum povundiri_missed reason, uint32_t count) {
     __atomic_fetch_add(&recording->missed[reason], count, __ATOMIC_RELAXED);
-}
-
-/* Whether a name and a spec are such as a histogram may have, and whether it is too large for segments of this shape, with samples in two
- * buckets: one in the heap says so. Where it says nothing else is known than before. */
-static uint32_t judge(struct povundiri_shape shape, struct metric *metric) {
-    struct povundiri_handle segment = {false, NULL}, recorder = {false, NULL};
-    size_t hist = 0;
-    uint32_t status = povundiri_create(shape, &segment);
-    if (status == POVUNDIRI_DONE) status = povundiri_recorder(&segment, 2, &recorder);
-    if (status == POVUNDIRI_DONE) {
-        status = povundiri_hist(&recorder, metric->name, metric->length, metric->spec, metric->values, metric->count, &hist);
-    }
-    if (status == POVUNDIRI_DONE) status = povundiri_add(&recorder, hist, 0, 1);
-    if (status == POVUNDIRI_DONE) status = povundiri_add(&recorder, hist, INT32_MAX, 1);
-    if (recorder.full) povundiri_drop(&recorder);
-    if (segment.full) povundiri_drop(&segment);
-    if (status == POVUNDIRI_REFUSED_FULL || status == POVUNDIRI_REFUSED_TOO_LARGE) {
-        metric->is_too_large = true;
-        return POVUNDIRI_DONE;
-    }
-    if (status == POVUNDIRI_DONE) metric->is_too_large = false;
-    return status;
 }
 
 /* ---- Segments: the mutex is held ---- */
@@ -244,7 +214,6 @@ static int grow(struct povundiri_recording *recording) {
     const uint64_t bytes = recording->bytes < LARGEST / 2 ? 2 * recording->bytes : LARGEST;
     const struct povundiri_shape shape = shape_for(bytes);
     struct povundiri_owned *spare;
-    size_t i;
     int fault = 0;
     if (now() < recording->again_at) return EAGAIN;
     spare = new_spare(recording, shape, &fault);
@@ -256,9 +225,7 @@ static int grow(struct povundiri_recording *recording) {
     recording->spare = spare;
     recording->bytes = bytes;
     recording->shape = shape;
-    for (i = 0; i < recording->count; i += 1) {
-        if (recording->metrics[i]->is_too_large) (void)judge(shape, recording->metrics[i]);
-    }
+    povundiri_metrics_judge_again(&recording->metrics, shape);
     return 0;
 }
 
@@ -301,7 +268,7 @@ static struct local *new_local(struct povundiri_recording *recording, size_t met
 
 /* Moves what it has to where there is room for all metrics. False if there is no memory. */
 static bool enlarge(struct povundiri_recording *recording, struct local **local) {
-    struct local *const old = *local, *const larger = new_local(recording, recording->count);
+    struct local *const old = *local, *const larger = new_local(recording, recording->metrics.count);
     if (larger == NULL) return false;
     larger->turn = old->turn;
     larger->recorder = old->recorder;
@@ -340,7 +307,7 @@ static struct local *own_local(struct povundiri_recording *recording) {
     }
     local = own->locals[recording->place];
     if (local == NULL) {
-        local = new_local(recording, recording->count);
+        local = new_local(recording, recording->metrics.count);
         if (local == NULL) return NULL;
         own->locals[recording->place] = local;
     }
@@ -365,7 +332,7 @@ static uint32_t local_in(struct povundiri_recording *recording, uint32_t count, 
 
 /* Finds the histogram of a metric in the present segment, once for a recorder. */
 static uint32_t find(struct povundiri_recording *recording, struct local **local, size_t metric) {
-    const struct metric *const asked = recording->metrics[metric];
+    const struct povundiri_metric *const asked = recording->metrics.all[metric];
     size_t *hist;
     if (metric >= (*local)->known && !enlarge(recording, local)) return POVUNDIRI_NO_MEMORY;
     hist = &(*local)->hists[metric];
@@ -442,7 +409,7 @@ static bool count_or_miss(struct povundiri_recording *recording, size_t metric, 
             miss(recording, reason_of(status), count);
             return false;
         }
-        if (status == POVUNDIRI_REFUSED_FULL && recording->metrics[metric]->is_too_large) {
+        if (status == POVUNDIRI_REFUSED_FULL && recording->metrics.all[metric]->is_too_large) {
             miss(recording, POVUNDIRI_MISSED_TOO_LARGE, count);
             return false;
         }
@@ -558,7 +525,7 @@ static void leave(struct povundiri_recording *recording) {
 static bool add_slowly(struct povundiri_recording *recording, size_t metric, int32_t value, uint32_t count) {
     bool counted = false, wants_spare = false;
     pthread_mutex_lock(&recording->mutex);
-    if (recording->state == RECORDS && metric < recording->count) {
+    if (recording->state == RECORDS && metric < recording->metrics.count) {
         counted = count == 0 || count_or_miss(recording, metric, value, count);
         wants_spare = recording->spare == NULL;
     } else if (recording->state != RECORDS) {
@@ -617,56 +584,11 @@ uint64_t povundiri_recording_missed(const struct povundiri_recording *recording,
 
 /* ---- Metrics ---- */
 
-static bool is_same_spec(const struct metric *metric, struct povundiri_spec spec, const uint32_t *values, size_t count) {
-    const bool has_bounds = spec.kind == POVUNDIRI_LINEAR || spec.kind == POVUNDIRI_SCALE;
-    if (metric->spec.kind != spec.kind) return false;
-    if (spec.kind == POVUNDIRI_CUSTOM) {
-        return metric->count == count && (count == 0 || memcmp(metric->values, values, count * sizeof *values) == 0);
-    }
-    return !has_bounds ||
-           (metric->spec.minimum == spec.minimum && metric->spec.maximum == spec.maximum && metric->spec.buckets == spec.buckets);
-}
-
-/* Puts a metric after the others. */
-static uint32_t new_metric(struct povundiri_recording *recording, const char *name, size_t length, struct povundiri_spec spec,
-                           const uint32_t *values, size_t count) {
-    struct metric **const metrics = (struct metric **)realloc(recording->metrics, (recording->count + 1) * sizeof *metrics);
-    struct metric *const metric = (struct metric *)calloc(1, sizeof *metric);
-    if (metrics != NULL) recording->metrics = metrics;
-    if (metric != NULL) {
-        metric->name = (char *)malloc(length + 1);
-        metric->values = (uint32_t *)malloc((count + 1) * sizeof *values);
-    }
-    if (metrics == NULL || metric == NULL || metric->name == NULL || metric->values == NULL) {
-        if (metric != NULL) free(metric->name);
-        if (metric != NULL) free(metric->values);
-        free(metric);
-        return POVUNDIRI_NO_MEMORY;
-    }
-    if (length > 0) memcpy(metric->name, name, length);
-    if (count > 0) memcpy(metric->values, values, count * sizeof *values);
-    metric->length = length;
-    metric->spec = spec;
-    metric->count = count;
-    metrics[recording->count] = metric;
-    recording->count += 1;
-    return POVUNDIRI_DONE;
-}
-
-/* Takes back the last one, since no segment may have such a histogram. */
-static void forget_metric(struct povundiri_recording *recording) {
-    struct metric *const metric = recording->metrics[recording->count - 1];
-    recording->count -= 1;
-    free(metric->name);
-    free(metric->values);
-    free(metric);
-}
-
 /* What the present segment says of the metric, where there is one. One that is full may say nothing. */
 static uint32_t ask(struct povundiri_recording *recording, size_t metric) {
     struct local *local = NULL;
     uint32_t status;
-    if (recording->metrics[metric]->is_too_large) return POVUNDIRI_REFUSED_TOO_LARGE;
+    if (recording->metrics.all[metric]->is_too_large) return POVUNDIRI_REFUSED_TOO_LARGE;
     if (recording->state != RECORDS || recording->current == NULL) return POVUNDIRI_DONE;
     status = local_in(recording, 0, &local);
     if (status == POVUNDIRI_DONE) status = find(recording, &local, metric);
@@ -679,23 +601,16 @@ static bool is_told(uint32_t status) {
 
 static uint32_t hist_of(struct povundiri_recording *recording, const char *name, size_t length, struct povundiri_spec spec,
                         const uint32_t *values, size_t count, size_t *metric) {
+    struct povundiri_metrics *const metrics = &recording->metrics;
     uint32_t status;
-    size_t i;
-    for (i = 0; i < recording->count; i += 1) {
-        const struct metric *const other = recording->metrics[i];
-        if (other->length == length && memcmp(other->name, name, length) == 0 && is_same_spec(other, spec, values, count)) {
-            *metric = i;
-            return ask(recording, i);
-        }
-    }
-    status = new_metric(recording, name, length, spec, values, count);
+    if (povundiri_metrics_find(metrics, name, length, spec, values, count, metric)) return ask(recording, *metric);
+    status = povundiri_metrics_add(metrics, recording->shape, name, length, spec, values, count);
     if (status != POVUNDIRI_DONE) return status;
-    status = judge(recording->shape, recording->metrics[recording->count - 1]);
-    if (status == POVUNDIRI_DONE) status = ask(recording, recording->count - 1);
+    status = ask(recording, metrics->count - 1);
     if (is_told(status)) {
-        *metric = recording->count - 1;
+        *metric = metrics->count - 1;
     } else {
-        forget_metric(recording);
+        povundiri_metrics_forget_last(metrics);
     }
     return status;
 }

@@ -28,6 +28,7 @@ Test = Callable[[], Optional[str]]
 # A source, more flags, and whether it is given a folder to work in.
 CHECKS: tuple[tuple[str, list[str], bool], ...] = (
     ("every_call.c", [], False),
+    ("every_call_images.c", [], False),
     ("every_call.cpp", [], False),
     ("every_call.cpp", [NO_EXCEPTIONS], False),
     ("refused_memory.c", [], False),

@@ -18,7 +18,10 @@ WARNINGS = [
 ]
 CPP_WARNINGS = ["-Wold-style-cast", "-Wzero-as-null-pointer-constant"]
 C_HEADERS = ("povundiri.h", "povundiri_file.h", "povundiri_folder.h", "povundiri_recording.h")
-CPP_HEADERS = (*C_HEADERS, "povundiri_status.hpp", "povundiri.hpp", "povundiri_recording.hpp")
+CPP_HEADERS = (
+    *C_HEADERS, "povundiri_status.hpp", "povundiri_values.hpp", "povundiri_images.hpp", "povundiri.hpp",
+    "povundiri_recording.hpp",
+)
 MOST_SECONDS = 300
 
 

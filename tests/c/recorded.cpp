@@ -2,6 +2,7 @@
 // 'threads' only those are run that have threads and no children: for the thread sanitizer. It is linked with -Wl,--wrap=clock_gettime and
 // -Wl,--wrap=posix_fallocate.
 #include <pthread.h>
+#include <sys/mman.h>
 #include <sys/resource.h>
 
 #include <atomic>
@@ -432,7 +433,7 @@ void beside() {
     HOLDS(opens(folder("beside"), recording, small()));
     const Metric sparse = metric_of(recording, "s", {POVUNDIRI_SPARSE, 0, 0, 0});
     std::atomic<long long> counted{0};
-    std::atomic<int> folded{0}, fallen{0}, missing{0};
+    std::atomic<int> folded{0}, fallen{0}, missing{0}, read{0};
     std::atomic<bool> ends{false};
     std::vector<std::thread> threads, others;
     others.emplace_back([&] {
@@ -442,6 +443,7 @@ void beside() {
             if (units == -2) continue;
             fallen += units < last ? 1 : 0;
             missing += units < ended ? 1 : 0;
+            read += units > 0 ? 1 : 0;
             last = units == -1 ? 0 : units;
         } while (!ends);
     });
@@ -470,7 +472,7 @@ void beside() {
     for (std::thread& thread : others) thread.join();
     HOLDS(counted == kThreads * kLives * kSamples / 10 * (kMany + 9) && recording.missed() == 0);
     folded += static_cast<int>(recording.fold());
-    HOLDS(fallen == 0 && missing == 0 && folded > 100);
+    HOLDS(fallen == 0 && missing == 0 && folded > 100 && read > 0);
     HOLDS(units_in(recording.report(), "s") == counted);
 }
 
@@ -659,16 +661,20 @@ void unwritable() {
     HOLDS(chmod(path.c_str(), 0755) == 0);
 }
 
-// A program that ends while threads record, with a recording that is never destroyed, loses nothing.
+// A program that ends while threads record, with a recording that is never destroyed, loses nothing: there is all that was counted, and
+// of each thread at most one sample more, after which it was stopped.
 void exits() {
-    HOLDS(in_child([] {
+    constexpr int kThreads = 4;
+    void* const shared = mmap(nullptr, sizeof(std::atomic<long long>), PROT_READ | PROT_WRITE, MAP_SHARED | MAP_ANONYMOUS, -1, 0);
+    static std::atomic<long long>* const counted = static_cast<std::atomic<long long>*>(shared);
+    HOLDS(shared != MAP_FAILED && in_child([] {
         static Recording recording;
         if (!opens(folder("exits"), recording, small())) return false;
         static Metric metric;
         if (recording.try_hist("s", {POVUNDIRI_SPARSE, 0, 0, 0}, {}, metric) != Status::Done) return false;
-        for (int i = 0; i < 4; ++i) {
+        for (int i = 0; i < kThreads; ++i) {
             std::thread([] {
-                for (int value = 0;; ++value) metric.add(value % 1000);
+                for (int value = 0;; ++value) *counted += metric.add(value % 1000) ? 1 : 0;
             }).detach();
         }
         std::this_thread::sleep_for(std::chrono::milliseconds(100));
@@ -676,7 +682,9 @@ void exits() {
     }));
     Recording recording;
     HOLDS(opens(folder("exits"), recording, small()));
-    HOLDS(units_in(recording.report(), "s") > 0 && recording.report().find("!bad") == std::string::npos);
+    const long long units = units_in(recording.report(), "s");
+    HOLDS(*counted > 0 && units >= *counted && units <= *counted + kThreads);
+    HOLDS(recording.report().find("!bad") == std::string::npos);
 }
 
 int run(bool only_threads) {

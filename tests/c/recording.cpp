@@ -60,6 +60,9 @@ Tally& tally_of(const std::string& path) {
 
 std::atomic<bool> ends{false};
 
+// How many reports were read.
+std::atomic<unsigned long long> readings{0};
+
 // One life of a thread: some thousand samples; those of the sparse histogram have `values` different values.
 void live(const std::vector<povundiri::Metric>& metrics, Cell (&cells)[kMetrics], std::uint32_t seed, std::uint32_t values) {
     std::mt19937 chance(seed);
@@ -128,6 +131,7 @@ void read(povundiri::Recording& recording, const Tally& tally) {
             if (now > begun[i]) stop(std::string("too many: ") + kNames[i]);
             last[i] = now;
         }
+        readings += 1;
     }
 }
 
@@ -186,7 +190,7 @@ void run(const Words& words) {
     std::this_thread::sleep_for(std::chrono::milliseconds(1000 * words.seconds));
     ends = true;
     for (std::thread& thread : threads) thread.join();
-    std::printf("segment %llu, missed", static_cast<unsigned long long>(recording.began().number));
+    std::printf("segment %llu, read %llu, missed", static_cast<unsigned long long>(recording.began().number), readings.load());
     for (int reason = 0; reason < POVUNDIRI_MISSED_REASONS; ++reason) {
         std::printf(" %llu", static_cast<unsigned long long>(recording.missed(static_cast<povundiri::Missed>(reason))));
     }

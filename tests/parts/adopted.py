@@ -39,6 +39,8 @@ TOGETHER = 100
 # each fault and each reason has to come into play.
 ENOUGH_IMAGES = 1000
 FAULTS = ("OldVersion", "Corrupt", "Damaged", "NoUnits", "Image Deleted", None)
+# What is done with segments that were adopted; each of these has to come, and each new histogram be made.
+DONE = ("delta", "sample", "batch", "refused", *(f"hist,{name}" for name in NEW))
 FULL = 2
 
 Seen = collections.Counter[Optional[str]]
@@ -183,6 +185,7 @@ def wrong_image(data: bytes, lines: Sequence[str], seen: Seen) -> str | None:
     fault = plain_adoption.fault_of(words, 0, seen)
     if fault is not None:
         return None if lines == [f"fault,{fault}"] else f"wanted {fault}, came {lines}"
+    seen.update(line if line in DONE else line.split(",")[0] for line in lines)
     return wrong_going(words, lines)
 
 
@@ -236,7 +239,7 @@ def worked_stops(
     """The images of a worked example at every event."""
     path = folder / f"worked-{number}.csv"
     came = replayed(stepped, path, schedule.text())
-    return stops(stepped, path, name, range(came.output.count(b",step,") + 1))
+    return stops(stepped, path, name, range(came.output.count(b",step") + 1))
 
 
 def seeded_stops(stepped: pathlib.Path, folder: pathlib.Path, seed: str, number_of_stops: int) -> list[Image]:
@@ -244,7 +247,7 @@ def seeded_stops(stepped: pathlib.Path, folder: pathlib.Path, seed: str, number_
     chance = random.Random(f"{seed} adopted")
     path = folder / f"{seed}.csv"
     _, came = seeded_schedules.schedule_of(chance, lambda text: replayed(stepped, path, text), [VERSION])
-    last = came.output.count(b",step,")
+    last = came.output.count(b",step")
     events = (
         range(last + 1) if number_of_stops == 0 else [last, *chance.choices(range(last + 1), k=number_of_stops - 1)]
     )
@@ -301,10 +304,8 @@ def adoptable_images(seed: str, count: int) -> list[Image]:
 
 
 def never_seen(seen: Seen) -> str | None:
-    never = [str(fault) for fault in FAULTS if not seen[fault]] + [
-        damage for damage in plain_adoption.DAMAGES if not seen[damage]
-    ]
-    return f"wanted each fault and each reason, came none of: {'; '.join(never)}" if never else None
+    never = [str(one) for one in (*FAULTS, *plain_adoption.DAMAGES, *DONE) if not seen[one]]
+    return f"wanted each fault, each reason and each call, came none of: {'; '.join(never)}" if never else None
 
 
 def cases(program: pathlib.Path, options: argparse.Namespace) -> Iterator[Case]:

@@ -97,7 +97,7 @@ def within(program: pathlib.Path, path: pathlib.Path, wanted: list[str]) -> str 
         return f"wanted {wanted}, came {came}"
     allowed = MOST_TIMES * path.stat().st_size
     taken = max(int(most) for _, most in came)
-    return None if taken <= allowed else f"wanted at most {allowed:,} bytes of memory, came {taken:,}"
+    return None if 0 < taken <= allowed else f"wanted some memory, at most {allowed:,} bytes, came {taken:,}"
 
 
 def calls(program: pathlib.Path, folder: pathlib.Path) -> Iterator[Case]:

@@ -222,6 +222,8 @@ def examples(installed: native.Installed, program: pathlib.Path, folder: pathlib
     record = EXAMPLES / "c" / "record.c"
     yield "record.c", lambda: recorded_twice(installed, program, record, folder / "record")
     shown = dict(shown_programs(folder))
+    without = [page for page in PAGES if not any(name.endswith(f" of {page}") for name in shown)]
+    yield "programs of pages", lambda: f"there is none on {without}" if without else None
     same = any(record.read_text().endswith(source.read_text()) for source in shown.values())
     yield "record.c is shown", lambda: None if same else "no page shows it as it stands"
     for name, source in shown.items():

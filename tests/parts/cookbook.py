@@ -63,12 +63,16 @@ def pattern(lines: Iterable[str]) -> str:
 
 
 def wrong_command(command: str, wanted: Sequence[str], folder: pathlib.Path, setting: Mapping[str, str]) -> str | None:
-    """What is wrong with what a command prints, or None."""
+    """What is wrong with what a command prints, or with its status; or None."""
     came = subprocess.run(
         ["bash", "-c", command], cwd=folder, env=setting, stdout=subprocess.PIPE, stderr=subprocess.STDOUT,
         timeout=SECONDS,
     )
     text = came.stdout.decode()
+    # One that shows a fault has failed, unless it says what comes then.
+    fails = "||" not in command and any(line.startswith(f"{PROGRAM}: ") for line in wanted)
+    if (came.returncode != 0) != fails:
+        return f"status {came.returncode}: {text[:1000]!r}"
     return None if re.fullmatch(pattern(wanted), text) else f"wanted {wanted}, came {text[:1000]!r}"
 
 

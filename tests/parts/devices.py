@@ -3,6 +3,7 @@
 from __future__ import annotations
 
 import argparse
+import fcntl
 import itertools
 import os
 import pathlib
@@ -13,11 +14,15 @@ import stat
 import struct
 import subprocess
 import tempfile
+import termios
+import time
 from collections.abc import Iterator, Sequence
 from typing import Any
 
 from parts import explained
-from support.program import EXAMPLE, SCRIPT, Answer, Case, Path, Word, answer, content, difference, fault
+from support.program import (
+    EXAMPLE, MOST_SECONDS, SCRIPT, Answer, Case, Path, Word, answer, content, difference, fault,
+)
 
 PROGRAM = "persist_report"
 REPORT = Answer(b"A,boolean,0,1,1\nA,boolean,1,2,2\nA,total,3,2\n")
@@ -118,15 +123,25 @@ def files(program: pathlib.Path, folder: pathlib.Path) -> Iterator[Case]:
 
 
 def answer_to_pieces(program: pathlib.Path, data: bytes) -> Answer:
-    """The answer to an image that comes through a pipe in two pieces, of which the first ends within a word."""
+    """The answer to an image that comes through a pipe in two pieces, of which the first ends within a word. The second
+    comes when the first was read."""
     running = subprocess.Popen(
         [program, "report"], stdin=subprocess.PIPE, stdout=subprocess.PIPE, stderr=subprocess.PIPE
     )
     assert running.stdin is not None
     running.stdin.write(data[:7])
     running.stdin.flush()
+    end = time.monotonic() + MOST_SECONDS
+    while unread_in(running.stdin.fileno()) and running.poll() is None and time.monotonic() < end:
+        time.sleep(0.001)
     output, error = running.communicate(data[7:])
     return Answer(output, error, running.returncode)
+
+
+def unread_in(pipe: int) -> int:
+    """How many bytes nobody has read yet that were written into a pipe."""
+    (unread,) = struct.unpack("i", fcntl.ioctl(pipe, termios.FIONREAD, bytes(4)))
+    return int(unread)
 
 
 def inputs(program: pathlib.Path, folder: pathlib.Path) -> Iterator[Case]:

@@ -20,13 +20,15 @@ from collections.abc import Iterator
 from typing import Optional
 
 from support import bounds, memory_dump, native
-from support.program import Case, answer, untried
+from support.program import Case, answer, fault, untried
 
 PROGRAM = "persist_report"
 CHAINS = 8
 RUNS = 5
 STOPS = 2
 MOST_SECONDS = 60
+# What `extract` answers behind the last segment.
+NO_SEGMENT = fault("NoSegment", 3)
 
 # What is wrong with what a memory has, and nothing more; or None, and the units and the image of what was found there.
 Left = tuple[Optional[str], Optional[bounds.Units], Optional[bytes]]
@@ -46,8 +48,11 @@ class Chain(bounds.Runs):
         """What is read of each segment that is found in the memory, and its image."""
         nth = 1
         while True:
-            if answer(self.program, ["extract", self.dump, self.found, "--nth", str(nth)]).status != 0:
+            found = answer(self.program, ["extract", self.dump, self.found, "--nth", str(nth)])
+            if found == NO_SEGMENT:
                 return
+            if found.status != 0:
+                raise ChildProcessError(f"extract: {found}")
             report = answer(self.program, ["report", self.found])
             if report.status == 0:
                 yield *bounds.units_of(report.output), self.found.read_bytes()

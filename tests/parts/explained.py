@@ -108,7 +108,9 @@ DAMAGES = [
     ({42: 1}, "Damaged", ", all records are read; other words are none that a segment can have"),
     ({36: 2**32 - 1, 38: 2**32 - 1}, "NoUnits", ""),
 ]
-# Records of a script after the one of BASE's segment, why they are refused, and what is said of BASE.
+# Records of a script after the one of BASE's segment, why the last of them is refused, and what is said of BASE. It has
+# used 42 of its 128 words, in pages of 64: there is room for one record of 16 words in the first page, and for four in
+# the other.
 REFUSED_ON = [
     (["hist,A,linear,1,2,3"], "OtherSpec", " has `A` as boolean"),
     (["hist,B,boolean", "hist,B,sparse"], "OtherSpec", None),
@@ -296,7 +298,7 @@ def scripts_on(program: pathlib.Path, folder: pathlib.Path) -> Iterator[Case]:
     words: list[Word] = ["resume", base, script, out]
     for records, why, said in REFUSED_ON:
         script.write_bytes("\n".join(["segment,128,64,7", *records]).encode())
-        last = 1 + len(records) if why != "Full" else refused_at(answer(program, words))
+        last = 1 + len(records)
         lines = [f'"{script}", line {last}', *([] if said is None else [f'BASE "{base}"{said}'])]
         yield f"{records} on an image", both(program, words, f"Refused {last} {why}", 3, lines)
     for start, (line, said) in BAD_STARTS_ON.items():
@@ -312,11 +314,6 @@ def scripts_on(program: pathlib.Path, folder: pathlib.Path) -> Iterator[Case]:
     )
     words[2] = SCRIPT
     yield "a script on an image", difference(answer(program, words), answer(program, [*words, "--explain"]))
-
-
-def refused_at(came: Answer) -> int:
-    """The number of the record that was refused."""
-    return int(came.error.split()[2])
 
 
 def devices(program: pathlib.Path, folder: pathlib.Path) -> Iterator[Case]:

@@ -124,6 +124,8 @@ class Command:
 
 # Says what is wrong with a command, or None.
 Check = Callable[[Command], Optional[str]]
+# The command that prints no report.
+MERGE = "merge"
 
 
 def folder_of(stood: bytes | None) -> Files:
@@ -166,6 +168,13 @@ def wrong_where_some(command: Command, faults: Sequence[Answer], what: str, **fa
         if not tried:
             return f"the fault of no {what} came"
     return None
+
+
+def wrong_alone(command: Command) -> str | None:
+    """If nothing fails it succeeds, with a report, and it makes an image, or what of these it is to make."""
+    came, is_made = command.right, "out" in command.made
+    is_right = (came.error, came.status) == (b"", 0) and is_made == (command.out is not None)
+    return None if is_right and bool(came.output) == (command.words[0] != MERGE) else f"{came}, {told(command.made)}"
 
 
 def wrong_reads(command: Command) -> str | None:
@@ -328,18 +337,19 @@ def commands(program: pathlib.Path, folder: pathlib.Path) -> Iterator[Command]:
         yield Command(
             program, f"resume by {workers}", ["resume", base, more, out, "--workers", workers], [base, more], out
         )
-    yield Command(program, "merge", ["merge", EXAMPLE, dead, out], [EXAMPLE, dead], out)
+    yield Command(program, MERGE, [MERGE, EXAMPLE, dead, out], [EXAMPLE, dead], out)
 
 
 def checks(command: Command) -> Iterator[Check]:
     """The checks of a command."""
+    yield wrong_alone
     yield wrong_reads
     yield wrong_growths
     yield wrong_pieces
     if command.out:
         yield from (wrong_locks, wrong_image_writes, wrong_syncs, wrong_modes, wrong_renames)
         yield from (wrong_openings, wrong_random_bytes, wrong_clashes, wrong_kills)
-    if command.right.output:
+    if command.words[0] != MERGE:
         yield wrong_report_writes
     if command.words[0] in ("run", "resume"):
         yield wrong_threads

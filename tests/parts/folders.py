@@ -184,15 +184,23 @@ def wrong_files(path: pathlib.Path, wanted: Folder) -> str | None:
     return None
 
 
+def others_in(path: pathlib.Path) -> set[str]:
+    """The names in a folder that are none of its segments', its totals' or its lock's."""
+    own = {TOTALS, NEW_TOTALS, LOCK, *map(name_of, Folder.at(path).segments)}
+    return {file.name for file in path.iterdir()} - own
+
+
 def folded(program: pathlib.Path, path: pathlib.Path, locked: Collection[int], title: str) -> Iterator[Case]:
-    """A fold while some segments are locked, and the texts after it."""
-    before = Folder.at(path)
+    """A fold while some segments are locked, and the texts after it. Other files stay."""
+    before, others = Folder.at(path), others_in(path)
     wanted, left = before.folded(locked)
     with all_locked(path, locked):
         came = answer(program, ["fold", path])
     yield f"{title}, a fold", difference(sums.wanted_of(b"", left), came)
     is_left = wanted.totals != before.totals and (path / NEW_TOTALS).exists()
     yield f"{title}, what is there then", f"{NEW_TOTALS} is left" if is_left else wrong_files(path, wanted)
+    changed = sorted(others ^ others_in(path))
+    yield f"{title}, what else is there then", f"made or removed were {changed}" if changed else None
     yield from texts(program, wanted, f"{title}, folded")
 
 
@@ -213,8 +221,9 @@ def generated(program: pathlib.Path, top: pathlib.Path, seed: int | str) -> Iter
             after = answer(program, ["report", "--totals", path])
             yield f"{title}, the sum before and after", difference(before, after)
         at_rest = Folder.at(path)
-        answer(program, ["fold", path])
-        yield f"{title}, a fold of nothing", wrong_files(path, at_rest)
+        came = answer(program, ["fold", path])
+        wrong = difference(sums.wanted_of(b"", at_rest.folded()[1]), came)
+        yield f"{title}, a fold of nothing", wrong or wrong_files(path, at_rest)
 
 
 def many(program: pathlib.Path, top: pathlib.Path) -> Iterator[Case]:

@@ -97,6 +97,8 @@ def kept(program: pathlib.Path, folder: pathlib.Path) -> Iterator[Case]:
         os.chown(room / LEFT, 65534, 65534)
         came = answer(program, merge_into(room / "out"))
         yield "a file of another user", None if came.status == 0 and (room / LEFT).exists() else f"{came}"
+    else:
+        print("left out: leftovers, a file of another user: only root can give a file away", flush=True)
 
 
 def untidied(program: pathlib.Path, folder: pathlib.Path) -> Iterator[Case]:

@@ -149,7 +149,8 @@ def killed(runs: Folder, kills: int, mode: str) -> str | None:
     amid = f"{kills} kills, of which {met['amid a call']} amid a call"
     print(f"mode {mode}: {amid}; {met['units']} units, {met['segments']} segments", flush=True)
     # A program that starts in another size of segments begins one: so do two of three.
-    return None if met["segments"] > kills // 3 and met["units"] > 0 else f"only {met}"
+    has_enough = met["segments"] > kills // 3 and met["units"] > 0 and (met["amid a call"] > 0 or kills < 30)
+    return None if has_enough else f"only {met}"
 
 
 def seen(runs: Folder, before: Counts) -> Counts | str:
@@ -211,8 +212,10 @@ def to_its_end(runs: Folder, mode: str) -> str | None:
     wrong = {reason: units for reason, units in missed.items() if units and reason not in MAY_MISS}
     if wrong or (missed["too_large"] > 0) != ("o" in mode):
         return f"missed are {missed}"
+    if "r" in mode and b", read 0, " in came.output:
+        return "no report was read meanwhile"
     begun, ended = runs.counts()
-    return runs.wrong() if begun == ended else f"begun are {begun}, and ended {ended}"
+    return runs.wrong() if begun == ended and +ended else f"begun are {begun}, and ended {ended}"
 
 
 def stopped(words: Sequence[Path], at: int) -> int:

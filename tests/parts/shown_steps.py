@@ -124,6 +124,8 @@ def wrong_stop(program: pathlib.Path, schedule: pathlib.Path, lines: str, events
 
 def wrong_stored(program: pathlib.Path, pool: concurrent.futures.Executor, schedule: pathlib.Path) -> str | None:
     lines = answer(program, [schedule]).output.decode()
+    if not lines:
+        return "it has no lines"
     events = range(lines.count(",step") + 1)
     return next(filter(None, pool.map(lambda event: wrong_stop(program, schedule, lines, event), events)), None)
 
@@ -159,14 +161,15 @@ def wrong_loads(program: pathlib.Path, path: pathlib.Path, text: str, said: Sequ
 
 def wrong_readme(program: pathlib.Path) -> str | None:
     """What of the picture in README.md is not in the picture of the race, or None."""
-    shown = README.read_text().split("stepped examples/race_for_a_name.csv --show ")[1].split("\n\n")[0]
+    block = README.read_text().split("stepped examples/race_for_a_name.csv --show ")[1].split("\n\n")[0]
+    shown = [line[6:] for line in block.splitlines()[1:]]
     rows = answer(program, [RACE, "--show"]).output.decode().expandtabs(8).splitlines()
     at = 0
-    for line in (line[6:] for line in shown.splitlines()[1:]):
+    for line in shown:
         if line not in rows[at:]:
             return f"no row, or not behind the one before: {line}"
         at = rows.index(line, at) + 1
-    return None
+    return None if shown else "it has no row below the command"
 
 
 def wrong_device(program: pathlib.Path) -> str | None:

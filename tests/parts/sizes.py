@@ -21,7 +21,7 @@ PROGRAM = "persist_report"
 SETS = 300
 ORDERS = 4
 MOST_TRIED = 7
-# At least this many of a hundred sets have an order that needs as many pages as are printed.
+# At least this many of a hundred sets of which all orders are tried have one that needs as many pages as are printed.
 LEAST_TIGHT = 80
 RACES = (
     "First uses at the same moment may take more: for each further thread a record of the histogram or of the value,"
@@ -145,9 +145,9 @@ def wrong_run(
     return None if came.status == 0 else f"run of {path.read_text()} returned {came}"
 
 
-def wrong_set(program: pathlib.Path, folder: pathlib.Path, chance: random.Random) -> tuple[str | None, bool]:
-    """What is wrong with the size of a set of histograms, or None; and whether an order needs that many pages, if all
-    are tried."""
+def wrong_set(program: pathlib.Path, folder: pathlib.Path, chance: random.Random) -> tuple[str | None, bool | None]:
+    """What is wrong with the size of a set of histograms, or None; and whether an order needs that many pages, or None
+    if not all are tried."""
     page = chance.choice([64, 64, 80, 128, 256, 1024])
     hists, values = some_hists(chance, page), chance.randint(0, 3)
     blocks = blocks_of(hists, values)
@@ -157,16 +157,16 @@ def wrong_set(program: pathlib.Path, folder: pathlib.Path, chance: random.Random
     found = re.search(rb"^Smallest size: (\d+) words \(\d+ bytes\), (\d+) x (\d+)$", came.output, re.MULTILINE)
     pages = plain_sizes.bound(blocks, page)
     if came.status or found is None or pages is None:
-        return f"{hists} in {page}: came {came}", True
+        return f"{hists} in {page}: came {came}", None
     size = int(found[1])
     if (size, int(found[2]), int(found[3])) != (pages * page, pages, page):
-        return f"{blocks} in {page}: wanted {pages} pages, came {came.output!r}", True
+        return f"{blocks} in {page}: wanted {pages} pages, came {came.output!r}", None
     for _ in range(ORDERS):
         wrong = wrong_run(program, folder, chance, (size, page), hists, values)
         if wrong:
-            return wrong, True
+            return wrong, None
     if len(blocks) > MOST_TRIED:
-        return None, True
+        return None, None
     worst = plain_sizes.worst_pages(blocks, page)
     wrong = f"{blocks} in {page}: an order needs {worst} pages, not {pages}" if worst > pages else None
     return wrong, worst == pages
@@ -185,9 +185,10 @@ def cases(program: pathlib.Path, options: argparse.Namespace) -> Iterator[Case]:
         for mistake in MISTAKES:
             came = answer(program, ["size", *mistake])
             yield f"mistake {mistake}", None if came.status == 2 and came.error and not came.output else f"came {came}"
-        tight = 0
+        tried: list[bool] = []
         for number in range(SETS):
             wrong, is_tight = wrong_set(program, folder, chance)
-            tight += is_tight
+            tried += [] if is_tight is None else [is_tight]
             yield f"set {number}", wrong
-        yield "tight", None if 100 * tight >= LEAST_TIGHT * SETS else f"only {tight} of {SETS} sets need as many pages"
+        is_right = tried and 100 * sum(tried) >= LEAST_TIGHT * len(tried)
+        yield "tight", None if is_right else f"only {sum(tried)} of {len(tried)} sets need as many pages"

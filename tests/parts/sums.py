@@ -11,10 +11,12 @@ import pathlib
 import random
 import re
 import resource
+import shutil
 import tempfile
 import threading
 import time
 from collections.abc import Iterator, Sequence
+from typing import Any
 
 from parts import explained as explaining
 from support import forge, layout, plain_damage, plain_export, plain_reader, plain_show, plain_sums
@@ -561,18 +563,21 @@ def fronts(program: pathlib.Path, top: pathlib.Path) -> Iterator[Case]:
 
 
 def unreadable(program: pathlib.Path, top: pathlib.Path) -> Iterator[Case]:
-    """What may not be read; a folder in a list; names with bytes that are no text."""
+    """What may not be read, where a user who may read anything becomes another first; and folders in a list."""
     crash = CRASH.read_bytes()
     one, _ = plain_sums.sum_of([(1, crash)])
-    folder = top / "with unreadable"
+    folder, own = top / "with unreadable", top / "program"
     folder.mkdir()
-    (folder / "a.img").write_bytes(crash)
+    shutil.copy(program, own)
+    for path, mode in ((top, 0o755), (folder, 0o755), (folder / "a.img", 0o644), (folder / "b.img", 0)):
+        if not path.exists():
+            path.write_bytes(crash)
+        path.chmod(mode)
     closed = folder / "b.img"
-    closed.write_bytes(crash)
-    closed.chmod(0)
-    if os.geteuid() != 0:
-        wanted = Answer(plain_sums.report_of(one, 1), told([(closed, UNREAD)]), 3)
-        yield "a file that may not be read", difference(wanted, answer(program, ["report", folder]))
+    wanted = Answer(plain_sums.report_of(one, 1), told([(closed, UNREAD)]), 3)
+    another: dict[str, Any] = {"preexec_fn": lambda: os.setuid(65534)} if os.geteuid() == 0 else {}
+    came = answer(own, ["report", folder], cwd="/", **another)
+    yield "a file that may not be read", difference(wanted, came)
     closed.unlink()
     came = answer(program, ["report", "--files-from", "-"], f"{folder}\n\n{folder}\n".encode())
     two, _ = plain_sums.sum_of([(1, crash), (2, crash)])

@@ -19,6 +19,8 @@ PROGRAM = "trials"
 THREADS = (2, 3, 4, 8, 16)
 ROUNDS = 200
 RECORDS = 100
+# The lines of a run, each of which has to come in some round.
+LINES = {"thread", "sample", "batch", "delta", "snapshot", "read", "look", "histogram", "report"}
 # Keys or values with their units; a name, a value and its count; a name, what is added to the sum, and items.
 Pairs = list[tuple[int, int]]
 Sample = tuple[str, int, int]
@@ -189,9 +191,12 @@ def wrong_thread(thread: Thread, histograms: dict[str, plain_tally.Histogram], v
     return wrong or wrong_looks(thread, histograms, version)
 
 
-def wrong_round(lines: Sequence[str], version: int) -> str | None:
-    """What is wrong with a round in a segment of a version, or None."""
+def wrong_round(lines: Sequence[str], version: int, threads: int) -> str | None:
+    """What is wrong with a round of threads in a segment of a version, or None. Each of them has recorded something."""
     done = Round(lines)
+    busy = sum(bool(thread.samples and thread.batches) for thread in done.threads)
+    if len(done.threads) != threads or busy != threads:
+        return f"of {threads} threads came {len(done.threads)}, and {busy} had samples and batches accepted"
     histograms = tally(done.samples, done.batches)
     wanted = plain_tally.report(histograms).decode().splitlines()
     if done.report != wanted:
@@ -225,8 +230,11 @@ def recorded(
         return wrong
     if len(every) != number:
         return f"{len(every)} rounds"
+    never = LINES - {line.split(",")[0] for lines in every for line in lines}
+    if never:
+        return f"no round has the lines {sorted(never)}"
     # The version follows the number of the round.
-    return next(filter(None, (wrong_round(lines, 1 + place % 2) for place, lines in enumerate(every))), None)
+    return next(filter(None, (wrong_round(lines, 1 + place % 2, threads) for place, lines in enumerate(every))), None)
 
 
 def shared(program: pathlib.Path) -> str | None:

@@ -37,7 +37,7 @@ def languages() -> Iterator[tuple[str, list[str], str]]:
 
 
 def warnings(folder: pathlib.Path) -> Iterator[Case]:
-    """Each header alone, and the sources."""
+    """The headers, and the sources."""
     seen = set()
     for compiler, words, suffix in languages():
         source = folder / f"headers{suffix}"
@@ -51,6 +51,16 @@ def warnings(folder: pathlib.Path) -> Iterator[Case]:
         except native.Failed as why:
             yield title, str(why)
     yield "a compiler for each language", None if seen == {".c", ".cpp"} else f"only for {seen}"
+
+
+def alone(folder: pathlib.Path) -> Iterator[Case]:
+    """Each header, with no other before it."""
+    for suffix, headers in ((".c", C_HEADERS), (".cpp", CPP_HEADERS)):
+        source = folder / f"alone{suffix}"
+        for name in headers:
+            source.write_text(f"#include <{name}>\n")
+            native.run([*native.compiler(suffix), *WARNINGS, source])
+            yield f"{name} alone, in a {suffix}", None
 
 
 # What a compiler refuses, by the warning or the words with which it does.
@@ -141,8 +151,8 @@ def mixed(installed: native.Installed, folder: pathlib.Path) -> Iterator[Case]:
     povundiri_raise.cpp is built without exceptions."""
     plain = compiled(folder, native.PROGRAMS / "mixed_plain.cpp", "-fno-exceptions")
     status, said = said_by(installed.program(native.PROGRAMS / "mixed.cpp", plain))
-    wrong = None if status == 0 and "failed" not in said else f"status {status}: {said}"
-    yield "files with exceptions and without", wrong
+    passed = [how for _, how in native.groups(said)] == [None, None]
+    yield "files with exceptions and without", None if status == 0 and passed else f"status {status}: {said}"
     raising = compiled(folder, native.LIBRARY / "povundiri_raise.cpp", "-fno-exceptions")
     status, said = said_by(installed.program(native.PROGRAMS / "mixed.cpp", plain, raising), "aborts")
     wanted = (-6, "povundiri: recorder, lease 1048576: EmptyHandle\n")
@@ -161,7 +171,7 @@ def thread_sanitized(folder: pathlib.Path) -> Iterator[Case]:
             own = compiled(folder, native.PROGRAMS / name, *flags)
             native.run([*native.compiler(".cpp"), *flags, "-pthread", "-o", program, *objects, own])
         status, said = said_by(program, *words, folder)
-        is_right = status != 0 and "data race" in said if is_race else status == 0
+        is_right = status != 0 and "data race" in said if is_race else status == 0 and ": passed\n" in said
         title = " ".join([name, *words, "under the thread sanitizer"])
         yield title, None if is_right else f"status {status}: {said[-3000:]}"
 
@@ -169,7 +179,11 @@ def thread_sanitized(folder: pathlib.Path) -> Iterator[Case]:
 def cases(installed: native.Installed, folder: pathlib.Path) -> Iterator[Case]:
     yield from warnings(folder)
     yield from mistakes(folder)
-    for test in (lambda: one_definition(folder), lambda: mixed(installed, folder), lambda: thread_sanitized(folder)):
+    tests = (
+        lambda: alone(folder), lambda: one_definition(folder), lambda: mixed(installed, folder),
+        lambda: thread_sanitized(folder),
+    )
+    for test in tests:
         try:
             yield from test()
         except native.Failed as why:

@@ -61,12 +61,14 @@ IN_C = re.compile(r"^    POVUNDIRI_(\w+) = \d+,?(.*)$", re.MULTILINE)
 IN_NAMES = re.compile(r'^    \{POVUNDIRI_(\w+), "([\w ]+)"\},$', re.MULTILINE)
 IN_CLASSES = re.compile(r"^    (\w+) = \d+,", re.MULTILINE)
 # The line with which a fault of a crate is shown; its first word is the name.
-SHOWN = re.compile(r'#\[error\("(\w+)')
+SHOWN = re.compile(r'#\[error\(\s*"(\w+)')
 # The first word of that line, and the variant or the type that is shown so.
-NAMED = re.compile(r'#\[error\("(\w+)[^"]*"[^\]]*\)\]\s+(?:pub struct )?(\w+)')
+NAMED = re.compile(r'#\[error\(\s*"(\w+)[^"]*"[^\]]*\)\]\s+(?:pub struct )?(\w+)')
 NEVER = "never returned"
 # What programs never print: they print `Read` or `Write` for it.
 INNER = {"Device"}
+# What is shown without such a line.
+OTHERS = {"Clash", "NotWhole", "NoSuchStatus"}
 # What a fault means begins so if it is a line of a report, and has the other one if only a program of one's own can see
 # it.
 OF_REPORTS = "In a report: "
@@ -163,10 +165,14 @@ def misnamed() -> str | None:
 
 
 def unexplained() -> str | None:
-    """The faults of the crates and the statuses of the header that no table explains; or None."""
+    """The faults of the crates and the statuses of the header that no table explains, and what a table explains that
+    nothing shows; or None."""
     explained = {name for name, _, _ in all_texts()}
     unnamed = [f"POVUNDIRI_{name} of c/{HEADER.name}" for name in constants() if name not in fault_names()]
     missing = [f"{name} of {place}" for name, place in printed().items() if name not in explained]
+    stale = sorted(explained - OTHERS - set(printed()))
+    if stale:
+        return f"nothing shows {', '.join(stale)}"
     return f"without an entry are {', '.join([*unnamed, *missing])}" if unnamed or missing else None
 
 

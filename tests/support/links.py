@@ -20,10 +20,11 @@ def documents() -> list[pathlib.Path]:
 
 def broken() -> str | None:
     """The links that lead to a file that is not there, or that is made and not kept; or None."""
-    found = []
+    found, links = [], 0
     for file in documents():
         for target in LINK.findall(file.read_text()):
+            links += 1
             path = (file.parent / target).resolve()
             if ":" not in target and (not path.exists() or definitions.PAGES in (path, *path.parents)):
                 found.append(f"{file.relative_to(ROOT)} leads to {target}")
-    return "\n".join(found) or None
+    return "\n".join(found) or (None if links else "there are no links")

@@ -15,7 +15,9 @@ SETTINGS = (ROOT / "pyproject.toml").read_text()
 LIMIT = int(re.findall(r"^line-length = (\d+)$", SETTINGS, re.MULTILINE)[0])
 IGNORED = re.findall(r"\w+", re.findall(r"^ignore = \[(.*)\]$", SETTINGS, re.MULTILINE)[0])
 
-SCRIPTS = [f"bench/{name}" for name in ("c_recorders", "commands", "recorders", "run", "steps", "texts")]
+FIRST_LINE = "#!/usr/bin/env python3\n"
+PROGRAMS = [path for path in sorted((ROOT / "bench").iterdir()) if path.suffix == "" and path.is_file()]
+SCRIPTS = [f"bench/{path.name}" for path in PROGRAMS if path.read_text().startswith(FIRST_LINE)]
 RUN_BY_HAND = ["tests/run", "tests/quick", *SCRIPTS]
 MODULES = [str(path.relative_to(ROOT)) for path in sorted((ROOT / "bench").glob("*.py"))]
 MYPY = ["mypy", "--no-incremental", "--cache-dir", "/dev/null"]

@@ -38,7 +38,7 @@ PROGRAMS_OF_TESTS = ("trials", "worked_lists", "worked_looks", "worked_rows", "w
 
 FUNCTION = re.compile(r"^\s*(pub )?(?:const )?(?:unsafe )?(?:extern \"C\" )?fn (\w+)")
 ITEM = re.compile(r"^(?:unsafe )?(?:impl|pub trait)\b(?:<.*?>)? ?(?:(.*?) for )?(.*?)(?:<.*)? \{$")
-CLAUSE = re.compile(r"^\s*(ensures|requires) (?:(\w+) )?(\{.*)$")
+CLAUSE = re.compile(r"^\s*(ensures|requires)\*? (?:(\w+) )?(\{.*)$")
 # What a comment has in brackets: names of clauses. A name in signs of code is a link to an item.
 BRACKET = re.compile(r"\[(\w+(?:, \w+)*)\]")
 LINK = re.compile(r"\[(`[^`]*`)\](?:\([^)]*\))?")

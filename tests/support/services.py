@@ -230,7 +230,7 @@ def has_a_full_disk(service: Service) -> str | None:
     # With room again, it begins.
     said, errors = service.ended(folder)
     served, missed = counts(said) or (0, -1)
-    is_right = not errors and missed == 0 and service.recorded(folder) == served
+    is_right = not errors and served >= ENOUGH and missed == 0 and service.recorded(folder) == served
     return None if is_right else f"behind the full disk: {said} {errors}"
 
 

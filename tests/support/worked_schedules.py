@@ -69,10 +69,10 @@ EXAMPLES = {
         ("hist", 0, "S", "sparse"), ("step", 0, ALL),
         *ended(("add", 0, "S", -5, 2), ("add", 0, "S", 7, 1), ("delta", 0, "S"), ("delta", 0, "S")),
     ],
-    # Both have loaded the count of bucket 0 when one of them takes it.
+    # Both have loaded the count of bucket 0 when one of them takes it, and then that of the packed bucket.
     "two takers of a count of 1": [
-        *TWO_SAMPLES, *KNOWN, *ended(("add", 0, "A", 0, 1)), ("delta", 0, "A"), ("step", 0, 5), ("delta", 1, "A"),
-        ("step", 1, 5), ("step", 0, ALL), ("step", 1, ALL),
+        *TWO_SAMPLES, *KNOWN, *ended(("add", 0, "A", 0, 1)), ("delta", 0, "A"), ("step", 0, 3), ("delta", 1, "A"),
+        ("step", 1, 3), ("step", 0, 2), ("step", 1, 2), ("step", 0, ALL), ("step", 1, ALL),
     ],
     # Both have loaded the count of 2 of bucket 1, and raised the mark of the packed bucket, when one of them takes it.
     "two takers of one count": [
@@ -123,6 +123,7 @@ WORDS = {
     "sparse marks": {
         7: 48, 27: MINUS_3, 28: MINUS_3, 36: 16, 37: MINUS_5, 38: 2, 39: 2, 44: 16, 45: 7, 46: 1, 47: 1,
     },
+    "two takers of a count of 1": {26: 2, 27: 2, 28: 2, 29: 3, 36: 1, 39: 1, 40: 0, 41: 0},
     "two takers of one count": {26: 1, 27: 2, 28: 2, 37: 2, 39: 0, 40: 2, 41: 0},
     "the corrupt flag": {6: 1, 7: 32, 24: 0, 25: packed(1, 1)},
     "a full segment": {6: 2, 7: 64, 8: 48, 24: 0, 25: packed(1, 2), 27: 2, 29: 2},
@@ -135,6 +136,7 @@ WORDS_OF_VERSION: dict[int, dict[str, Mapping[int, int]]] = {
         "more than is packed": {25: TOP + 65_535},
         "deltas and marks": {25: TOP + 1, 37: 2},
         "two takers of a packed word": {37: 3},
+        "two takers of a count of 1": {25: TOP + 1, 37: 2},
         "two takers of one count": {36: 1},
     },
     2: {
@@ -143,6 +145,7 @@ WORDS_OF_VERSION: dict[int, dict[str, Mapping[int, int]]] = {
         "more than is packed": {25: FROZEN},
         "deltas and marks": {25: FROZEN + packed(1, 2), 37: 0},
         "two takers of a packed word": {37: 1},
+        "two takers of a count of 1": {25: FROZEN + packed(1, 2), 37: 0},
         "two takers of one count": {36: 0},
     },
 }
@@ -155,6 +158,7 @@ ANSWERS = {
     "race for a name": ["1,hist,32", "0,hist,32", "0,hist,32", "1,hist,32"],
     "race for a value": ["1,added", "0,added"],
     "sparse marks": ["0,delta,-3,-5,2,7,1", "0,delta,0"],
+    "two takers of a count of 1": ["0,delta,2,0,1,1,2", "1,delta,0"],
     "two takers of one count": ["0,delta,2,0,1,1,2", "1,delta,0"],
     "the corrupt flag": [
         "0,flagged", "1,hist,16", "1,refused,Corrupt", "1,added", "1,refused,Corrupt", "1,refused,OtherSpec",

@@ -65,7 +65,8 @@ impl OpaqueBox {
         self.into_parts().into_box()
     }
 
-    // A borrow of what it holds.
+    /// Returns a borrow of the value that it holds [value]. When the borrow ends, it holds what that has become
+    /// [writes_back].
     pub fn get_mut(&mut self) -> &mut Contents
         requires { (x : Contents) × (self.old.held ≡ Some x) }
         ensures* writes_back { sem 𝓛 (LendsContents self.entry result) }

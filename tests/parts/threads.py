@@ -242,8 +242,10 @@ def shared(program: pathlib.Path) -> str | None:
     every, wrong = rounds(program, ["walk", "2", str(RECORDS), str(ROUNDS)])
     if wrong is not None:
         return wrong
+    by_both = 0
     for lines in every:
         given = [tuple(map(int, line.split(",")[1:])) for line in lines]
+        by_both += {thread for thread, _ in given} == {0, 1}
         for thread in (0, 1):
             own = [reference for one, reference in given if one == thread]
             if own != sorted(own):
@@ -251,6 +253,8 @@ def shared(program: pathlib.Path) -> str | None:
         # Boolean histograms with names of up to eight bytes take 16 words each.
         if sorted(reference for _, reference in given) != [16 + 16 * i for i in range(RECORDS)]:
             return f"given were {given}"
+    if by_both == 0:
+        return "in no round both threads were given records"
     return None if len(every) == ROUNDS else f"{len(every)} rounds"
 
 

@@ -18,7 +18,7 @@ from support.program import Case, Word, answer
 PROGRAM = "trials"
 THREADS = (2, 3, 4, 8, 16)
 ROUNDS = 200
-RECORDS = 100
+RECORDS = 1_000
 # The lines of a run, each of which has to come in some round.
 LINES = {"thread", "sample", "batch", "delta", "snapshot", "read", "look", "histogram", "report"}
 # Keys or values with their units; a name, a value and its count; a name, what is added to the sum, and items.

@@ -6,9 +6,10 @@ from __future__ import annotations
 import argparse
 import os
 import pathlib
+import statistics
 import subprocess
 from collections.abc import Sequence
-from typing import Union
+from typing import NamedTuple, Union
 
 HERE = pathlib.Path(__file__).resolve().parent
 RUNS = [(form, sharing, threads) for form in ("packed", "mounted")
@@ -34,14 +35,31 @@ def nanoseconds(program: Words, run: Sequence[object], bursts: int, processor: i
     return int(subprocess.run(words, check=True, capture_output=True, text=True).stdout.splitlines()[-1]) / 1000
 
 
-def least_by_turns(
-    programs: Sequence[Words], run: Sequence[object], options: argparse.Namespace, threads: int
-) -> list[float]:
-    """The least nanoseconds per sample of each program. A single thread has `turns` turns on each processor: if others
-    use the machine too, one processor can be a third slower than the next, for seconds."""
-    processors: list[int | None] = [None] if threads > 1 else [*sorted(os.sched_getaffinity(0))]
-    least = [float("inf")] * len(programs)
-    for processor in processors * options.turns:
-        found = [nanoseconds(program, run, options.bursts, processor) for program in programs]
-        least = [min(before, now) for before, now in zip(least, found)]
-    return least
+class Figures(NamedTuple):
+    """What programs took: the nanoseconds per sample of each, turn by turn."""
+
+    turns: list[list[float]]
+
+    def least(self) -> list[float]:
+        """The least of each program."""
+        return [min(times) for times in zip(*self.turns)]
+
+    def ratio(self, one: int, other: int) -> float:
+        """How many times as long as the other program the first takes: the middle of the ratios of all turns."""
+        return statistics.median(turn[one] / turn[other] for turn in self.turns)
+
+    def difference(self, one: int, other: int) -> float:
+        """How many nanoseconds longer than the other program the first takes: the middle of the differences."""
+        return statistics.median(turn[one] - turn[other] for turn in self.turns)
+
+
+def by_turns(programs: Sequence[Words], run: Sequence[object], options: argparse.Namespace, threads: int) -> Figures:
+    """What the programs take, each once a turn. If others use the machine too, a processor can be a third slower than
+    the next, for seconds: so programs are compared within a turn, which takes less. A single thread has `turns` turns
+    on each processor, and several threads have four times `turns`."""
+    own: list[int | None] = [*sorted(os.sched_getaffinity(0))]
+    processors = own if threads == 1 else [None] * 4
+    return Figures([
+        [nanoseconds(program, run, options.bursts, processor) for program in programs]
+        for processor in processors * options.turns
+    ])

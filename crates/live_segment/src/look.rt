@@ -1,12 +1,12 @@
 //! A look at a segment, while others record in it.
 
-ghost use Rattle.std.specs.Prelude.{◌≡◌, length, IfOk};
+ghost use Rattle.std.specs.Prelude.{◌≡◌, length};
 ghost use Rattle.live_segment.specs.Look.{IsLookTaken};
 
 use crate::segment::Segment;
 use segment_image::Image;
 use segment_looks::{LookFault, compose};
-use std::alloc::{AllocError, Global};
+use std::alloc::Global;
 
 impl Segment {
     // Loads each word once. No clause says which numbers were loaded.
@@ -19,15 +19,6 @@ impl Segment {
         }
     }
 
-    // A copy of the words, each loaded once.
-    fn copy_words(&self, alloc: Global) -> Result<Vec<u64>, AllocError>
-        ensures { IfOk result (λ words. length words.items ≡ self.now.setting.shape.size) }
-    {
-        let mut words = vec![in alloc; 0; self.size() as usize]?;
-        self.peek_words(&mut words);
-        Ok(words)
-    }
-
     /// Returns a look at the segment: the image that three copies of its words give, taken one after the other while
     /// other threads record. It takes no recorder and no units, and disturbs none.
     ///
@@ -36,9 +27,13 @@ impl Segment {
     pub fn look(&self, alloc: Global) -> Result<Image, LookFault>
         ensures { IsLookTaken self.now.setting.shape.size result }
     {
-        let one = self.copy_words(alloc)?;
-        let two = self.copy_words(alloc)?;
-        let three = self.copy_words(alloc)?;
-        compose(alloc, &one, &two, &three)
+        let size = self.size() as usize;
+        let mut words = vec![in alloc; 0; 3 * size]?;
+        let (one, rest) = words.split_at_mut(size);
+        let (two, three) = rest.split_at_mut(size);
+        self.peek_words(one);
+        self.peek_words(two);
+        self.peek_words(three);
+        compose(alloc, one, two, three)
     }
 }

@@ -15,14 +15,16 @@
 #include <time.h>
 #include <unistd.h>
 
-/* Words have 64 bits. A file begins with a word of zeros, and then the image. */
-enum { WORD = 8, UNIT = 16, HEADER_WORDS = 16, MOST_WORDS = 1048576, MOST_CURSORS = 8 };
+#include "povundiri_layout.h"
+
+/* A segment's file has whole units of 16 bytes. */
+enum { UNIT = 16, MOST_CURSORS = 8 };
 
 /* How often a file in use is read for a look. */
 enum { COPIES = 3 };
 
-/* The words of an image's header that are looked at here. */
-enum { COOKIE_AT = 0, VERSION_AT = 1, SIZE_AT = 2, PAGE_AT = 3, ID_AT = 4, FLAGS_AT = 6, FULL = 2 };
+/* The flag of a full segment. */
+enum { FULL = 2 };
 
 /* For how long a lock is tried, and how often; how many bytes are reserved or read by one call; how many names are tried. */
 enum { MOST_MILLISECONDS = 100, NAP_NANOSECONDS = 2000000, PIECE = 1 << 18, BLOCK = 4096, MOST_NAMES = 100000 };

@@ -5,12 +5,10 @@
 #include <sys/stat.h>
 
 #include "povundiri_folder.h"
+#include "povundiri_layout.h"
 
-/* Words have 64 bits. A file begins with a word of zeros, and then the image. */
-enum { WORD = 8, HEADER_WORDS = 16, MOST_BYTES = 8 * 1048576 + 80, LONGEST_NAME = 64 };
-
-/* The words of an image's header that are looked at here. */
-enum { VERSION_AT = 1, SIZE_AT = 2, PAGE_AT = 3, ID_AT = 4 };
+/* The most bytes of a segment's file: its words, the one before them and those of eight cursors, in whole units of 16 bytes. */
+enum { MOST_BYTES = WORD * MOST_WORDS + 80, LONGEST_NAME = 64 };
 
 /* A descriptor, which a child of fork does not keep: with it, it would keep a lock. */
 struct povundiri_held {

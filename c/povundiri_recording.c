@@ -10,6 +10,7 @@
 #include <time.h>
 #include <unistd.h>
 
+#include "povundiri_layout.h"
 #include "povundiri_recording_parts.h"
 
 /* How many threads have a recorder of their own in a segment; further ones share one. A segment has at most 256. */
@@ -119,7 +120,7 @@ static uint64_t random_of(const struct povundiri_recording *recording) {
 /* The shape of segments in `bytes` bytes, as povundiri::shape_for has it. */
 static struct povundiri_shape shape_for(uint64_t bytes) {
     const uint64_t words = bytes / 8, pages = words / 4096 + (words % 4096 != 0), page = pages == 0 ? 0 : words / pages / 16 * 16;
-    const struct povundiri_shape shape = {words > 1048576 ? words : pages * page, page, 0, 0, 2};
+    const struct povundiri_shape shape = {words > MOST_WORDS ? words : pages * page, page, 0, 0, 2};
     return shape;
 }
 

@@ -3,6 +3,7 @@
 from __future__ import annotations
 
 import argparse
+import collections
 import concurrent.futures
 import fcntl
 import os
@@ -171,8 +172,10 @@ def killed(program: pathlib.Path, folder: pathlib.Path) -> Iterator[Case]:
 
 def loop(program: pathlib.Path, folder: pathlib.Path, chance: random.Random, number: int) -> str | None:
     """What is wrong with one of the runs that write into a folder, one after the other, or None. In every second loop
-    each run is killed at a random moment, sooner after runs that were done by then, and later after others."""
+    each run is killed at a random moment, sooner after runs that were done by then, and later after others; of these
+    some have to be killed, and some done."""
     longest = 0.02
+    ends: collections.Counter[int] = collections.Counter()
     for turn in range(RUNS):
         words = merge_into(folder / f"out {number} {turn % 3}")
         running = subprocess.Popen([program, *words], stdout=subprocess.PIPE, stderr=subprocess.PIPE)
@@ -181,9 +184,12 @@ def loop(program: pathlib.Path, folder: pathlib.Path, chance: random.Random, num
             running.kill()
         output, error = running.communicate()
         came = Answer(output, error, running.returncode)
+        ends[came.status] += 1
         longest *= 0.9 if came.status == 0 else 1.1
         if number % 2 == 0 and came != Answer():
             return f"run {turn} of loop {number}: {came}"
+    if number % 2 and (set(ends) != {0, -signal.SIGKILL} or min(ends.values()) < RUNS // 10):
+        return f"runs by their status: {dict(ends)}"
     return None
 
 

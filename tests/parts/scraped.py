@@ -19,7 +19,7 @@ import tempfile
 from collections.abc import Iterator, Sequence
 
 from parts import known
-from support import monitoring
+from support import monitoring, plain_export
 from support.program import ROOT, Case, Word, answer, untried
 
 PROGRAM = "persist_report"
@@ -66,12 +66,16 @@ def series_of(text: str) -> Series:
 
 
 def lint(program: pathlib.Path, tools: monitoring.Tools, image: pathlib.Path, has_families: bool) -> str | None:
-    """What `promtool check metrics` says of the export of an image; of a fault there is no export.
+    """What `promtool check metrics` says of the export of an image; an image has none exactly if the plain renderer has
+    none of it.
 
     With a family for each histogram, status 3 is about names, which are the histograms' own, such as one with `_ms`.
     """
     words: list[Word] = ["--families", image] if has_families else [image]
     came = answer(program, ["export", *words])
+    plain = plain_export.named_answer if has_families else plain_export.answer
+    if came.status != plain(image.read_bytes())[2]:
+        return f"the status is {came.status}"
     if came.status == 3:
         return None
     said = subprocess.run([tools["promtool"], "check", "metrics"], input=came.output, capture_output=True, timeout=60)

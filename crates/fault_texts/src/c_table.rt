@@ -74,12 +74,12 @@ pub const C_TEXTS: [(&str, &str, &str); 20] = [
     ),
     (
         "Busy",
-        "In C: another thread passes a recorder of the same segment at this moment. Nothing has happened.",
-        "Try again, and pass each recorder with the segment that made it: then this should not come.",
+        "In C: another thread passes a recorder of the same segment at this moment, or somebody else folds the same folder, or folds ended all the time while it was read. Nothing has happened.",
+        "Try again. Pass each recorder with the segment that made it, and let one process at a time fold a folder.",
     ),
     (
         "System",
-        "In C: a call of the system failed for a segment in a file. Its number (`errno.h`) is returned beside this status.",
+        "In C: a call of the system failed for a segment in a file, or for a folder of recordings. Its number (`errno.h`) is returned beside this status.",
         "Print that number by `strerror`.",
     ),
     (

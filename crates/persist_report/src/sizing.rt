@@ -9,6 +9,7 @@ use crate::explaining::{FaultContext, failure_of};
 use crate::failure::Failure;
 use crate::files::open;
 use crate::noted::Stream;
+use bucket_ranges::limits::MAX_UNITS;
 use fault_texts::{Origin, Source};
 use persist_report_core::{CliFault, Script, ScriptFault, read_script, write_and_flush};
 use report_requests::{SizeTask, no_hist, no_page};
@@ -21,9 +22,6 @@ use std::rt::Files;
 
 // The words of a page if neither an option nor a script says how many.
 const USUAL_PAGE: u64 = 4096;
-
-// The units that the `add` records of a script may have: all of a segment.
-const ALL_UNITS: u64 = 4_294_967_295;
 
 // The fault of the program for a fault of a script.
 fn fault_of(fault: ScriptFault) -> CliFault {
@@ -118,7 +116,7 @@ fn size_from<R: Print + AllocGlobal, I: Read + Drop>(
 {
     let mut output = context.output();
     let alloc = context.alloc();
-    let outcome = match read_script(alloc, &mut reader, ALL_UNITS) {
+    let outcome = match read_script(alloc, &mut reader, MAX_UNITS) {
         Ok(script) => write_sizes(alloc, &script, task, &mut output),
         Err(fault) => Err(fault_of(fault)),
     };
@@ -148,7 +146,7 @@ fn size_hists<R: Print + AllocGlobal>(
 {
     let alloc = context.alloc();
     let text = script_text(alloc, &task.hists, task.page.unwrap_or(USUAL_PAGE))?;
-    match read_script(alloc, &mut Watched::new(text.as_bytes()), ALL_UNITS) {
+    match read_script(alloc, &mut Watched::new(text.as_bytes()), MAX_UNITS) {
         Ok(script) => {
             let mut output = context.output();
             Ok(write_sizes(alloc, &script, task, &mut output)?)

@@ -6,6 +6,7 @@ ghost use Rattle.size_texts.specs.Sizes.{IsNeededBy};
 use crate::blocks::{Blocks, SAMPLE_WORDS};
 use persist_report_core::{CliFault, Script, ScriptHist};
 use segment_calls::Refusal;
+use segment_image::layout::MAX_SIZE;
 use segment_sizes::{SizeFault, needed_size};
 use std::alloc::{AllocError, Global};
 use std::collections::BTreeSet;
@@ -73,7 +74,7 @@ fn push_blocks(blocks: &mut Vec<u64>, hist: &HistSize<'_>) -> Result<(), AllocEr
         blocks.push(counts)?;
     }
     // More than a segment has room for are too many in any case.
-    for _ in 0..hist.values.min(1_048_576) {
+    for _ in 0..hist.values.min(MAX_SIZE) {
         blocks.push(SAMPLE_WORDS)?;
     }
     Ok(())

@@ -1,13 +1,19 @@
-use Rattle.std.proofs.Common.{length, ℕ, List, inl, ap, ◌∙◌}
+use Rattle.std.proofs.Common.{◌∙◌, inl, arith}
 use Rattle.live_segment.proofs.segment.Segment.look.Goals as goal
 
 pub returns : goal.returns
-returns c = inl (
-  c.deref.result.now,
-  c.deref-2.result.now,
-  c.deref-3.result.now,
-  ap (λ (words : List ℕ). length words) c.deref.ensures.value ∙ c.in_ok-one.ensures,
-  ap (λ (words : List ℕ). length words) c.deref-2.ensures.value ∙ c.in_ok-two.ensures,
-  ap (λ (words : List ℕ). length words) c.deref-3.ensures.value ∙ c.in_ok-three.ensures,
-  c.compose.ensures,
-)
+returns c =
+    let size = c.size-size.ensures in
+    let whole = c.in_ok-words.ensures.len in
+    let lent = c.deref_mut.ensures.len in
+    let rest = c.split_at_mut-one.ensures.back_len in
+    let last = c.split_at_mut-two.ensures.back_len in
+    inl (
+        c.peek_words.new.words,
+        c.peek_words-2.new.words,
+        c.peek_words-3.new.words,
+        c.peek_words.ensures ∙ c.split_at_mut-one.ensures.front_len ∙ size,
+        c.peek_words-2.ensures ∙ c.split_at_mut-two.ensures.front_len ∙ size,
+        c.peek_words-3.ensures ∙ omega (arith, whole, lent, rest, last, size),
+        c.compose.ensures,
+    )

@@ -1,0 +1,11 @@
+/* The words of an image, as docs/FORMAT.md has them, for the files that look at a header themselves. It is not installed. */
+#ifndef POVUNDIRI_LAYOUT_H
+#define POVUNDIRI_LAYOUT_H
+
+/* Words have 64 bits. A file begins with a word of zeros, and then the image. */
+enum { WORD = 8, HEADER_WORDS = 16, MOST_WORDS = 1048576 };
+
+/* The words of a header. */
+enum { COOKIE_AT = 0, VERSION_AT = 1, SIZE_AT = 2, PAGE_AT = 3, ID_AT = 4, FLAGS_AT = 6 };
+
+#endif

@@ -9,11 +9,11 @@ returns c =
     let rest = c.split_at_mut-one.ensures.back_len in
     let last = c.split_at_mut-two.ensures.back_len in
     inl (
-        c.peek_words.new.words,
-        c.peek_words-2.new.words,
-        c.peek_words-3.new.words,
-        c.peek_words.ensures ∙ c.split_at_mut-one.ensures.front_len ∙ size,
-        c.peek_words-2.ensures ∙ c.split_at_mut-two.ensures.front_len ∙ size,
-        c.peek_words-3.ensures ∙ omega (arith, whole, lent, rest, last, size),
-        c.compose.ensures,
+      c.peek_words.new.words,
+      c.peek_words-2.new.words,
+      c.peek_words-3.new.words,
+      c.peek_words.ensures ∙ c.split_at_mut-one.ensures.front_len ∙ size,
+      c.peek_words-2.ensures ∙ c.split_at_mut-two.ensures.front_len ∙ size,
+      c.peek_words-3.ensures ∙ omega (arith, whole, lent, rest, last, size),
+      c.compose.ensures,
     )

@@ -1,6 +1,7 @@
 // Looks at a running segment, and what they cost those who record in it.
 //
-//     look samples THREADS WITH       picoseconds for each sample of a thread; WITH is 1 if a further thread looks without pause
+//     look samples THREADS [PAUSE]    picoseconds for each sample of a thread; with PAUSE a further thread looks, and waits for so many
+//                                     microseconds after each look
 //     look segment|file|words FILE    nanoseconds for a look at a segment of 64 KiB in FILE, which four histograms were recorded in
 //
 // Each is the best of some turns. The samples are those of c_record.cpp: each thread has a linear histogram with counts of its own.
@@ -11,6 +12,7 @@
 #include <cstdio>
 #include <cstdlib>
 #include <limits>
+#include <optional>
 #include <string>
 #include <string_view>
 #include <thread>
@@ -45,8 +47,8 @@ povundiri::Hist histogram(povundiri::Recorder& recorder, std::size_t number) {
     return hist;
 }
 
-// Picoseconds per sample of a thread, with or without another thread that looks.
-double samples(std::size_t threads, bool looks) {
+// Picoseconds per sample of a thread. With a pause another thread looks, and waits for that long after each look.
+double samples(std::size_t threads, std::optional<std::chrono::microseconds> pause) {
     static const std::vector<std::int32_t> kinds = values();
     povundiri::Segment segment(povundiri::shape_for(64 << 10));
     std::atomic<bool> done{false};
@@ -57,9 +59,12 @@ double samples(std::size_t threads, bool looks) {
         const povundiri::Hist hist = histogram(recorder, i);
         workers.emplace_back(std::move(recorder), hist);
     }
-    if (looks) looking = std::thread([&] {
+    if (pause) looking = std::thread([&] {
         std::vector<std::uint64_t> image;
-        while (!done) if (segment.try_look(image) != povundiri::Status::Done) std::abort();
+        while (!done) {
+            if (segment.try_look(image) != povundiri::Status::Done) std::abort();
+            if (pause->count() > 0) std::this_thread::sleep_for(*pause);
+        }
     });
     const auto start = Clock::now();
     std::vector<std::thread> running;
@@ -94,15 +99,17 @@ double look_by(std::string_view way, const char* path) {
 }
 
 double measured(const std::string_view what, char** words) {
-    if (what == "samples") return samples(static_cast<std::size_t>(std::atoi(words[2])), std::string_view(words[3]) == "1");
-    return look_by(what, words[2]);
+    if (what != "samples") return look_by(what, words[2]);
+    std::optional<std::chrono::microseconds> pause;
+    if (words[3] != nullptr) pause = std::chrono::microseconds(std::atoi(words[3]));
+    return samples(static_cast<std::size_t>(std::atoi(words[2])), pause);
 }
 
 }  // namespace
 
 int main(int count, char** words) {
     if (count < 3) {
-        std::fputs("usage: look samples THREADS WITH | look segment|file|words FILE\n", stderr);
+        std::fputs("usage: look samples THREADS [PAUSE] | look segment|file|words FILE\n", stderr);
         return 2;
     }
     double best = std::numeric_limits<double>::max();

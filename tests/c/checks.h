@@ -2,6 +2,7 @@
 #ifndef CHECKS_H
 #define CHECKS_H
 
+#include <inttypes.h>
 #include <stdio.h>
 #include <string.h>
 
@@ -17,7 +18,7 @@ static void check(int line, const char *what, int holds) {
 
 static void check_status(int line, const char *call, uint32_t wanted, uint32_t came) {
     if (wanted == came) return;
-    printf("line %d: %s: wanted %u (%s), came %u (%s)\n", line, call, (unsigned)wanted, povundiri_status_text(wanted), (unsigned)came,
+    printf("line %d: %s: wanted %" PRIu32 " (%s), came %" PRIu32 " (%s)\n", line, call, wanted, povundiri_status_text(wanted), came,
            povundiri_status_text(came));
     failed_here += 1;
 }

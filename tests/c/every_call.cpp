@@ -38,55 +38,71 @@ private:
 
 constexpr std::size_t kBytes = (kWords + 2) * 8;
 
-void statuses() {
-    Segment segment, none;
+// A segment, two recorders of it, and a histogram of each kind by the first of them.
+struct Made {
+    Segment segment;
     Recorder recorder, other;
     Hist linear, boolean, custom, sparse;
-    Counts counts;
-    std::vector<std::uint64_t> records, image;
-    std::uint32_t number = 0;
-    std::uint64_t record = 0;
-    std::size_t added = 0;
-    std::string text;
-    DONE(Segment::try_create(kShape, segment));
-    RETURNS(NotEmpty, Segment::try_create(kShape, segment));
+};
+
+void statuses_of_making(Made& made) {
+    Segment none;
+    Recorder& recorder = made.recorder;
+    DONE(Segment::try_create(kShape, made.segment));
+    RETURNS(NotEmpty, Segment::try_create(kShape, made.segment));
     RETURNS(Empty, none.try_recorder(recorder));
-    HOLDS(segment.shape().size == kWords && segment.id() == 7 && segment.version() == 2 && none.shape().size == 0);
-    DONE(segment.try_recorder(recorder, 100));
+    HOLDS(made.segment.shape().size == kWords && made.segment.id() == 7 && made.segment.version() == 2 && none.shape().size == 0);
+    DONE(made.segment.try_recorder(recorder, 100));
     DONE(recorder.try_limit_indexes(1));
-    DONE(segment.try_recorder(other, 1));
-    DONE(recorder.try_linear(std::string_view("latency", 1), 1, 1000, 10, linear));
-    DONE(recorder.try_boolean(std::string("b"), boolean));
-    DONE(recorder.try_custom("c", {10, 100, 1000}, custom));
-    DONE(recorder.try_sparse("s", sparse));
-    RETURNS(RefusedOtherSpec, recorder.try_sparse("c", sparse));
-    DONE(recorder.try_add(linear, 17, 3));
-    DONE(recorder.try_add(boolean, true));
-    HOLDS(recorder.add(sparse, std::int64_t{-3}));
-    DONE(recorder.try_batch(custom, {{10, 2}, {20, 3}}, 60, added));
+    DONE(made.segment.try_recorder(made.other, 1));
+    DONE(recorder.try_linear(std::string_view("latency", 1), 1, 1000, 10, made.linear));
+    DONE(recorder.try_boolean(std::string("b"), made.boolean));
+    DONE(recorder.try_custom("c", {10, 100, 1000}, made.custom));
+    DONE(recorder.try_sparse("s", made.sparse));
+    RETURNS(RefusedOtherSpec, recorder.try_sparse("c", made.sparse));
+}
+
+void statuses_of_recording(Made& made) {
+    Recorder& recorder = made.recorder;
+    Counts counts;
+    std::size_t added = 0;
+    DONE(recorder.try_add(made.linear, 17, 3));
+    DONE(recorder.try_add(made.boolean, true));
+    HOLDS(recorder.add(made.sparse, std::int64_t{-3}));
+    DONE(recorder.try_batch(made.custom, {{10, 2}, {20, 3}}, 60, added));
     HOLDS(added == 2);
-    RETURNS(Unknown, other.try_add(linear, 1));
-    RETURNS(Unknown, other.try_delta(linear, counts));
-    DONE(recorder.try_snapshot(custom, counts));
+    RETURNS(Unknown, made.other.try_add(made.linear, 1));
+    RETURNS(Unknown, made.other.try_delta(made.linear, counts));
+    DONE(recorder.try_snapshot(made.custom, counts));
     HOLDS(counts.units().size() == 4 && counts.units()[1].key == 10 && counts.units()[1].count == 5 && counts.sum() == 60);
     HOLDS(counts.redundant() == 5);
-    DONE(recorder.try_delta(sparse, counts));
+    DONE(recorder.try_delta(made.sparse, counts));
     HOLDS(counts.units().size() == 1 && counts.units()[0].key == -3 && counts.sum() == -3);
-    DONE(recorder.try_records(records));
-    DONE(recorder.try_next_shared(0, record));
+}
+
+void statuses_of_ending(Made& made, std::vector<std::uint64_t>& image) {
+    std::vector<std::uint64_t> records;
+    std::uint32_t number = 0;
+    std::uint64_t record = 0;
+    DONE(made.recorder.try_records(records));
+    DONE(made.recorder.try_next_shared(0, record));
     HOLDS(records.size() == 5 && record == records[0]);
-    RETURNS(NoCursor, recorder.try_next_shared(1, record));
-    DONE(recorder.try_units(number));
+    RETURNS(NoCursor, made.recorder.try_next_shared(1, record));
+    DONE(made.recorder.try_units(number));
     HOLDS(number == 90);
-    DONE(segment.try_outstanding(number));
+    DONE(made.segment.try_outstanding(number));
     HOLDS(number == 2);
-    RETURNS(InUse, segment.try_close(image));
-    DONE(segment.try_join(recorder));
-    DONE(segment.try_join(other));
-    HOLDS(!recorder && !other && segment);
-    DONE(segment.try_units(number));
+    RETURNS(InUse, made.segment.try_close(image));
+    DONE(made.segment.try_join(made.recorder));
+    DONE(made.segment.try_join(made.other));
+    HOLDS(!made.recorder && !made.other && made.segment);
+    DONE(made.segment.try_units(number));
     HOLDS(number == UINT32_MAX - 10);
-    DONE(segment.try_close(image));
+    DONE(made.segment.try_close(image));
+}
+
+void statuses_of_texts(const std::vector<std::uint64_t>& image) {
+    std::string text;
     DONE(povundiri::try_report(image, text));
     HOLDS(image.size() == kWords && text == kReport);
     // Three buckets of the boolean histogram, four of the custom one, ten of the linear one, and one value.
@@ -106,11 +122,20 @@ void statuses() {
     DONE(povundiri::try_show_text(image, text, 40));
     HOLDS(text.find("b\n  boolean, units 1, sum 1, mean 1.00\n  values  " + std::string(9, ' ') + "units percent   up to\n") == 0);
     RETURNS(ImageTooShort, povundiri::try_show_text({image.data(), 15}, text));
-    RETURNS(Empty, segment.try_close(image));
 }
 
-// The sum of an image has its report; one that was moved from, or never used, is that of no images.
-void sums() {
+void statuses() {
+    Made made;
+    std::vector<std::uint64_t> image;
+    statuses_of_making(made);
+    statuses_of_recording(made);
+    statuses_of_ending(made, image);
+    statuses_of_texts(image);
+    RETURNS(Empty, made.segment.try_close(image));
+}
+
+// An image with a boolean and a sparse histogram.
+std::vector<std::uint64_t> image_to_add() {
     Segment segment;
     Recorder recorder;
     Hist boolean, sparse;
@@ -123,9 +148,12 @@ void sums() {
     DONE(recorder.try_add(sparse, -3, 2));
     DONE(segment.try_join(recorder));
     DONE(segment.try_close(image));
-    povundiri::Sums sums, other;
-    std::string text, totals, own;
-    std::size_t line = 9;
+    return image;
+}
+
+// The sum of an image has its texts; and its totals, which it leaves.
+void sum_of_one(povundiri::Sums& sums, const std::vector<std::uint64_t>& image, std::string& totals) {
+    std::string text, own;
     DONE(povundiri::try_report(image, own));
     DONE(sums.try_add(4, image));
     RETURNS(ImageTooShort, sums.try_add(5, {image.data(), 15}));
@@ -140,6 +168,13 @@ void sums() {
     DONE(povundiri::try_show_text(image, own, 40));
     DONE(sums.try_show_text(text, 40));
     HOLDS(text == own);
+}
+
+// Totals and sums are added to a sum, also the sum itself.
+void sum_of_sums(povundiri::Sums& sums, const std::string& totals) {
+    povundiri::Sums other;
+    std::string text;
+    std::size_t line = 9;
     RETURNS(BadTotals, other.try_add_totals("totals,2\n", &line));
     HOLDS(line == 1);
     DONE(other.try_add_totals(totals, &line));
@@ -148,6 +183,11 @@ void sums() {
     DONE(other.try_append(other));
     DONE(other.try_report(text));
     HOLDS(text == "b,boolean,1,2,20\nb,total,20,20\ns,sparse,-3,-2,8\ns,total,8,-24\n!images,4\n");
+}
+
+// A sum that was moved from, or never used, is that of no images.
+void moved_sums(povundiri::Sums& sums, const std::vector<std::uint64_t>& image, const std::string& totals) {
+    std::string text;
     povundiri::Sums moved(std::move(sums));
     DONE(moved.try_totals(text));
     HOLDS(text == totals);
@@ -162,6 +202,15 @@ void sums() {
     HOLDS(text == "totals,1\nimages,0,0,0,0,0\nend,0\n");
     DONE(moved.try_add_totals("totals,1\nimages,18446744073709551615,0,0,0,0\nend,0\n"));
     RETURNS(TooMany, moved.try_add(0, image));
+}
+
+void sums() {
+    const std::vector<std::uint64_t> image = image_to_add();
+    povundiri::Sums sums;
+    std::string totals;
+    sum_of_one(sums, image, totals);
+    sum_of_sums(sums, totals);
+    moved_sums(sums, image, totals);
 }
 
 void corrupt() {
@@ -317,10 +366,8 @@ void exceptions_of_sums(const std::vector<std::uint64_t>& image) {
     THROWS(TooMany, "append: Sums TooMany", other.append(sums));
 }
 
-void exceptions() {
-    Memory memory(kBytes);
-    Segment segment(kShape, memory.room());
-    Recorder recorder = segment.recorder(100);
+// What recorders return and throw.
+void exceptions_of_recorders(const Segment& segment, Recorder& recorder) {
     const Hist linear = recorder.linear("l", 1, 1000, 10), boolean = recorder.boolean("b"), sparse = recorder.sparse("s");
     const std::array<std::uint32_t, 3> values = {1000, 10, 100};
     const Hist custom = recorder.custom("c", values);
@@ -341,13 +388,9 @@ void exceptions() {
     THROWS(RefusedOtherSpec, "hist \"l\": OtherSpec", recorder.sparse("l"));
     THROWS(RefusedBadName, "hist \"a b\": BadName", recorder.boolean("a b"));
     THROWS(NoCursor, "next_shared, cursor 3: NoCursor", recorder.next_shared(3));
-    THROWS(InUse, "close: InUse", segment.close());
-    THROWS(RefusedNoUnits, "lend, units 4294967295: NoUnits", segment.lend(recorder, UINT32_MAX));
-    THROWS(OpenBadShape, "create, words 1: BadShape", Segment(povundiri::shape(1, 1)));
-    THROWS(Empty, "recorder, lease 1048576: EmptyHandle", Segment().recorder());
-    segment.join(std::move(recorder));
-    THROWS(Empty, "join: EmptyHandle", segment.join(recorder));
-    const std::vector<std::uint64_t> image = segment.close();
+}
+
+void exceptions_of_texts(const std::vector<std::uint64_t>& image) {
     HOLDS(povundiri::report(image) == kReport);
     THROWS(ImageTooShort, "report, words 0: TooShort", povundiri::report({}));
     THROWS(TooManyKeys, "report, most keys 3: TooManyKeys", povundiri::report(image, 3));
@@ -356,8 +399,11 @@ void exceptions() {
     THROWS(ImageTooShort, "export_text, words 0: TooShort", povundiri::export_text({}));
     HOLDS(povundiri::show_text(image) == povundiri::show_text(image, 80));
     THROWS(ImageTooShort, "show_text, words 0: TooShort", povundiri::show_text({}));
+}
+
+void exceptions_of_adopted(const std::vector<std::uint64_t>& image, povundiri::Room room) {
     THROWS(ImageTooShort, "adopt, words 0: TooShort", Segment::adopt({}));
-    Segment again = Segment::adopt(image, memory.room(), 1), heap = Segment::adopt(image);
+    Segment again = Segment::adopt(image, room, 1), heap = Segment::adopt(image);
     HOLDS(again.units() == heap.units() && heap.units() == UINT32_MAX - 10);
     Recorder one = heap.recorder();
     one.limit_indexes(1);
@@ -365,14 +411,34 @@ void exceptions() {
     heap.join(one);
     THROWS(Empty, "limit_indexes, entries 1: EmptyHandle", one.limit_indexes(1));
     HOLDS(povundiri::report(heap.close()) == std::string(kReport) + "!flag,corrupt\n");
-    exceptions_of_sums(image);
-    // The system's faults are its own.
+}
+
+// The system's faults are its own.
+void exceptions_of_the_system() {
     try {
         const povundiri::Opened opened = Segment::open("/nowhere/file", kShape, povundiri::Policy::AdoptOrFail);
         HOLDS(false);
     } catch (const std::system_error& fault) {
         HOLDS(fault.code() == std::errc::no_such_file_or_directory && std::string(fault.what()).find("open \"/nowhere/file\": ") == 0);
     }
+}
+
+void exceptions() {
+    Memory memory(kBytes);
+    Segment segment(kShape, memory.room());
+    Recorder recorder = segment.recorder(100);
+    exceptions_of_recorders(segment, recorder);
+    THROWS(InUse, "close: InUse", segment.close());
+    THROWS(RefusedNoUnits, "lend, units 4294967295: NoUnits", segment.lend(recorder, UINT32_MAX));
+    THROWS(OpenBadShape, "create, words 1: BadShape", Segment(povundiri::shape(1, 1)));
+    THROWS(Empty, "recorder, lease 1048576: EmptyHandle", Segment().recorder());
+    segment.join(std::move(recorder));
+    THROWS(Empty, "join: EmptyHandle", segment.join(recorder));
+    const std::vector<std::uint64_t> image = segment.close();
+    exceptions_of_texts(image);
+    exceptions_of_adopted(image, memory.room());
+    exceptions_of_sums(image);
+    exceptions_of_the_system();
 }
 
 #endif

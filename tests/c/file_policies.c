@@ -349,19 +349,15 @@ static void behind_a_link(void) {
 
 /* ---- What is not refused for good ---- */
 
-static void other_faults(void) {
+/* Calls that cannot be: no pointer, no policy, no lawful shape, options that are none, or handles that are full. */
+static void wrong_calls(const char *path, struct povundiri_shape unlawful) {
     const struct povundiri_file_options wrong = {1 << 20, 0};
     const struct povundiri_shape shape = shape_of(WORDS);
-    struct povundiri_shape unlawful = shape, many = shape;
+    struct povundiri_shape many = shape;
     struct povundiri_file file = {0}, other = {0};
     struct povundiri_handle segment = {0}, heap = {0};
     struct povundiri_opened opened;
-    const char *path = path_of("faults");
-    unsigned char *before;
-    size_t length;
-    unlawful.page = 65;
     many.cursors = 9;
-    before = damaged_file("faults", &DAMAGES[2], &length);
     ANSWERS(NULL, povundiri_open(NULL, shape, POVUNDIRI_ADOPT_OR_SET_ASIDE, NULL, &file, &segment, &opened));
     ANSWERS(NULL, povundiri_open(path, shape, POVUNDIRI_ADOPT_OR_SET_ASIDE, NULL, NULL, &segment, &opened));
     ANSWERS(NULL, povundiri_open(path, shape, POVUNDIRI_ADOPT_OR_SET_ASIDE, NULL, &file, NULL, &opened));
@@ -377,6 +373,20 @@ static void other_faults(void) {
     HOLDS(open_file(&other, "other") == 0);
     ANSWERS(NOT_EMPTY, povundiri_open(path, shape, POVUNDIRI_ADOPT_OR_SET_ASIDE, NULL, &other, &segment, &opened));
     povundiri_file_close(&other);
+}
+
+static void other_faults(void) {
+    const struct povundiri_shape shape = shape_of(WORDS);
+    struct povundiri_shape unlawful = shape;
+    struct povundiri_file file = {0}, other = {0};
+    struct povundiri_handle segment = {0};
+    struct povundiri_opened opened;
+    const char *path;
+    unsigned char *before;
+    size_t length;
+    unlawful.page = 65;
+    before = damaged_file("faults", &DAMAGES[2], &length);
+    wrong_calls(path_of("faults"), unlawful);
     HOLDS(open_file(&other, "faults") == 0);
     ANSWERS(SYSTEM, povundiri_open(path_of("faults"), shape, POVUNDIRI_ADOPT_OR_SET_ASIDE, NULL, &file, &segment, &opened));
     HOLDS(opened.fault == EBUSY);

@@ -147,7 +147,7 @@ void too_large() {
     HOLDS(opens(folder("large"), recording, options));
     const Metric boolean = metric_of(recording, "b");
     std::uint64_t counted = 0, missed = 0;
-    for (const std::uint32_t buckets : {900, 500}) {
+    for (const std::uint32_t buckets : {900u, 500u}) {
         Metric metric;
         RETURNS(RefusedTooLarge, recording.try_hist(std::to_string(buckets), {POVUNDIRI_LINEAR, 1, 100'000, buckets}, {}, metric));
         for (int i = 0; i < 50; ++i) {
@@ -183,7 +183,7 @@ void growth_of_segments() {
     for (int thread = 0; thread < kThreads; ++thread) {
         threads.emplace_back([&] {
             for (std::int32_t value = 0; value < kSamples; ++value) {
-                for (int i = 0; i < kMetrics; ++i) (metrics[i].add(value % 1000) ? counted[i] : missed) += 1;
+                for (std::size_t i = 0; i < kMetrics; ++i) (metrics[i].add(value % 1000) ? counted[i] : missed) += 1;
             }
         });
     }
@@ -313,7 +313,7 @@ void many_threads() {
     std::atomic<int> counted{0};
     Gate gate;
     std::vector<std::thread> threads;
-    for (int i = 0; i < kThreads; ++i) {
+    for (std::size_t i = 0; i < kThreads; ++i) {
         threads.emplace_back([&, i] {
             counted += metric.add(1);
             gate.wait();
@@ -333,42 +333,27 @@ void many_threads() {
     HOLDS(units_in(recording.report(), "b") == kThreads * kSamples + 2LL * kMost);
 }
 
-// Threads count by turns in two recordings that roll, with ever more metrics: no sample goes to the wrong recording, even if one of them
-// was left or has ended.
-void by_turns() {
-    constexpr int kThreads = 4, kMetrics = 60, kRounds = 200;
-    constexpr std::uint32_t kMany = 40'000'000;
-    RecordingOptions options = small();
-    options.bytes = 65'536;
-    Recording one, other;
-    HOLDS(opens(folder("turns-one"), one, options) && opens(folder("turns-other"), other, options));
-    std::vector<std::thread> threads;
-    for (int i = 0; i < kThreads; ++i) {
-        threads.emplace_back([&] {
-            std::vector<Metric> ones, others;
-            for (int round = 0; round < kRounds; ++round) {
-                if (round < kMetrics) {
-                    const std::string name = "m" + std::to_string(round);
-                    ones.push_back(metric_of(one, name.c_str()));
-                    if (round % 2 == 0) others.push_back(metric_of(other, name.c_str()));
-                }
-                HOLDS(ones[round % ones.size()].add(1) && others[round % others.size()].add(1, 2));
-                HOLDS(ones[0].add(0, kMany) && others[0].add(0, kMany));
-                if (round % 50 == 49) one.leave();
-            }
-        });
+// What each of the threads does that count by turns in two recordings: so many rounds, with one metric more in each of the first ones. The
+// many units let both recordings roll.
+constexpr int kTurners = 4, kTurnMetrics = 60, kRounds = 200;
+constexpr std::uint32_t kManyByTurns = 40'000'000;
+
+void count_by_turns(Recording& one, Recording& other) {
+    std::vector<Metric> ones, others;
+    for (std::size_t round = 0; round < kRounds; ++round) {
+        if (round < kTurnMetrics) {
+            const std::string name = "m" + std::to_string(round);
+            ones.push_back(metric_of(one, name.c_str()));
+            if (round % 2 == 0) others.push_back(metric_of(other, name.c_str()));
+        }
+        HOLDS(ones[round % ones.size()].add(1) && others[round % others.size()].add(1, 2));
+        HOLDS(ones[0].add(0, kManyByTurns) && others[0].add(0, kManyByTurns));
+        if (round % 50 == 49) one.leave();
     }
-    for (std::thread& thread : threads) thread.join();
-    HOLDS(one.missed() == 0 && other.missed() == 0);
-    for (const bool is_one : {true, false}) {
-        const std::string report = (is_one ? one : other).report();
-        const int metrics = is_one ? kMetrics : kMetrics / 2;
-        long long units = 0;
-        for (int i = 0; i < metrics; ++i) units += units_in(report, "m" + std::to_string(is_one ? i : 2 * i));
-        HOLDS(units == kThreads * kRounds * (kMany + (is_one ? 1LL : 2LL)));
-        HOLDS(units_in(report, "m1") == (is_one ? units_in(report, "m3") : -1));
-    }
-    // Numbers of metrics that only the other one has; and one that has ended.
+}
+
+// Numbers of metrics that only another recording has; and one that has ended.
+void numbers_of_another() {
     Recording third;
     povundiri_recording* own = nullptr;
     povundiri_began began;
@@ -385,6 +370,28 @@ void by_turns() {
     HOLDS(units_in(third.report(), "m19") == 62 && third.fold() == 0);
     third.end();
     HOLDS(!last.add(1));
+}
+
+// Threads count by turns in two recordings that roll, with ever more metrics: no sample goes to the wrong recording, even if one of them
+// was left or has ended.
+void by_turns() {
+    RecordingOptions options = small();
+    options.bytes = 65'536;
+    Recording one, other;
+    HOLDS(opens(folder("turns-one"), one, options) && opens(folder("turns-other"), other, options));
+    std::vector<std::thread> threads;
+    for (int i = 0; i < kTurners; ++i) threads.emplace_back([&] { count_by_turns(one, other); });
+    for (std::thread& thread : threads) thread.join();
+    HOLDS(one.missed() == 0 && other.missed() == 0);
+    for (const bool is_one : {true, false}) {
+        const std::string report = (is_one ? one : other).report();
+        const int metrics = is_one ? kTurnMetrics : kTurnMetrics / 2;
+        long long units = 0;
+        for (int i = 0; i < metrics; ++i) units += units_in(report, "m" + std::to_string(is_one ? i : 2 * i));
+        HOLDS(units == kTurners * kRounds * (kManyByTurns + (is_one ? 1LL : 2LL)));
+        HOLDS(units_in(report, "m1") == (is_one ? units_in(report, "m3") : -1));
+    }
+    numbers_of_another();
 }
 
 // A thread's key whose destructor counts a sample, as often as its value says. Destructors are called in the order of the keys, several
@@ -425,54 +432,67 @@ void ending_threads() {
     HOLDS(counted_at_end.add(1, kMost) && counted_at_end.add(1, kMost) && recording.fold() == 1);
 }
 
+// What readers found beside threads that count: how often a number had fallen, how often a sample was missing, and how often there was one.
+struct Found {
+    std::atomic<int> fallen{0}, missing{0}, read{0};
+};
+
+void read_beside(const std::atomic<long long>& counted, const std::atomic<bool>& ends, Found& found) {
+    long long last = 0;
+    do {
+        const long long ended = counted, units = units_beside(folder("beside"), "s");
+        if (units == -2) continue;
+        found.fallen += units < last ? 1 : 0;
+        found.missing += units < ended ? 1 : 0;
+        found.read += units > 0 ? 1 : 0;
+        last = units == -1 ? 0 : units;
+    } while (!ends);
+}
+
+void fold_beside(Recording& recording, const std::atomic<bool>& ends, std::atomic<int>& folded) {
+    do {
+        std::uint64_t more = 0;
+        HOLDS(!recording.try_fold(more));
+        folded += static_cast<int>(more);
+        std::this_thread::sleep_for(std::chrono::milliseconds(2));
+    } while (!ends);
+}
+
+// How many threads come one after the other, how many samples each counts, and the units of every tenth of them.
+constexpr long long kLives = 20, kSamplesOfLife = 300, kManyOfLife = 200'000'000;
+
+void count_in_lives(int number, const Metric& sparse, std::atomic<long long>& counted) {
+    for (int life = 0; life < kLives; ++life) {
+        std::thread([&, number, life] {
+            for (int sample = 0; sample < kSamplesOfLife; ++sample) {
+                const std::uint32_t count = sample % 10 == 0 ? kManyOfLife : 1;
+                counted += sparse.add(number + 7 * life + sample, count) ? count : 0;
+            }
+        }).join();
+    }
+}
+
 // Threads that come and go beside rolls, folds and readers: nothing is missed, no reader sees a number fall. A segment has units for 21
 // samples of the many.
 void beside() {
-    constexpr long long kThreads = 4, kLives = 20, kSamples = 300, kMany = 200'000'000;
+    constexpr int kThreads = 4;
     Recording recording;
     HOLDS(opens(folder("beside"), recording, small()));
     const Metric sparse = metric_of(recording, "s", {POVUNDIRI_SPARSE, 0, 0, 0});
     std::atomic<long long> counted{0};
-    std::atomic<int> folded{0}, fallen{0}, missing{0}, read{0};
+    std::atomic<int> folded{0};
     std::atomic<bool> ends{false};
+    Found found;
     std::vector<std::thread> threads, others;
-    others.emplace_back([&] {
-        long long last = 0;
-        do {
-            const long long ended = counted, units = units_beside(folder("beside"), "s");
-            if (units == -2) continue;
-            fallen += units < last ? 1 : 0;
-            missing += units < ended ? 1 : 0;
-            read += units > 0 ? 1 : 0;
-            last = units == -1 ? 0 : units;
-        } while (!ends);
-    });
-    others.emplace_back([&] {
-        do {
-            std::uint64_t more = 0;
-            HOLDS(!recording.try_fold(more));
-            folded += static_cast<int>(more);
-            std::this_thread::sleep_for(std::chrono::milliseconds(2));
-        } while (!ends);
-    });
-    for (int i = 0; i < kThreads; ++i) {
-        threads.emplace_back([&, i] {
-            for (int life = 0; life < kLives; ++life) {
-                std::thread([&, i, life] {
-                    for (int sample = 0; sample < kSamples; ++sample) {
-                        const std::uint32_t count = sample % 10 == 0 ? kMany : 1;
-                        counted += sparse.add(i + 7 * life + sample, count) ? count : 0;
-                    }
-                }).join();
-            }
-        });
-    }
+    others.emplace_back([&] { read_beside(counted, ends, found); });
+    others.emplace_back([&] { fold_beside(recording, ends, folded); });
+    for (int i = 0; i < kThreads; ++i) threads.emplace_back([&, i] { count_in_lives(i, sparse, counted); });
     for (std::thread& thread : threads) thread.join();
     ends = true;
     for (std::thread& thread : others) thread.join();
-    HOLDS(counted == kThreads * kLives * kSamples / 10 * (kMany + 9) && recording.missed() == 0);
+    HOLDS(counted == kThreads * kLives * kSamplesOfLife / 10 * (kManyOfLife + 9) && recording.missed() == 0);
     folded += static_cast<int>(recording.fold());
-    HOLDS(fallen == 0 && missing == 0 && folded > 100 && read > 0);
+    HOLDS(found.fallen == 0 && found.missing == 0 && folded > 100 && found.read > 0);
     HOLDS(units_in(recording.report(), "s") == counted);
 }
 

@@ -27,7 +27,8 @@ from parts.schedules import FOLDER, replayed
 from parts.threads import SPECS as NEW
 from parts.threads import Pairs, pairs
 from support import forge, forge_adoption, plain_adoption, plain_tally, seeded_schedules, worked_schedules
-from support.plain_reader import KINDS, MOST_BYTES, MOST_UNITS, ReadHistogram, Words, words_of
+from support.layout import FULL, MOST_BYTES, MOST_UNITS
+from support.plain_reader import KINDS, ReadHistogram, Words, words_of
 from support.program import Case, answer, built
 
 PROGRAM = "trials"
@@ -41,7 +42,6 @@ ENOUGH_IMAGES = 1000
 FAULTS = ("OldVersion", "Corrupt", "Damaged", "NoUnits", "Image Deleted", None)
 # What is done with segments that were adopted; each of these has to come, and each new histogram be made.
 DONE = ("delta", "sample", "batch", "refused", *(f"hist,{name}" for name in NEW))
-FULL = 2
 
 Seen = collections.Counter[Optional[str]]
 # The name of an image, and its bytes.

@@ -20,6 +20,7 @@ from collections.abc import Iterator, Sequence
 from typing import Any
 
 from parts import explained
+from support.layout import MOST_BYTES
 from support.program import (
     EXAMPLE, MOST_SECONDS, SCRIPT, Answer, Case, Path, Word, answer, content, difference, fault,
 )
@@ -29,9 +30,10 @@ REPORT = Answer(b"A,boolean,0,1,1\nA,boolean,1,2,2\nA,total,3,2\n")
 # What comes if the script is run once more on its own image.
 RESUMED = Answer(b"A,boolean,0,1,2\nA,boolean,1,2,4\nA,total,6,4\n")
 READ_FAULT, WRITE_FAULT = fault("Read", 4), fault("Write", 4)
-MOST_BYTES = 8_388_608
 # What is in OUT before a command.
 STOOD = b"what stood there before"
+# The words of commands, and the answer to each, by the name of the case.
+Asked = dict[str, tuple[list[Word], Answer]]
 
 # What is stored at a word of a valid header, and the fault that the image then has.
 HEADER_FAULTS = [
@@ -107,7 +109,7 @@ def images(program: pathlib.Path) -> Iterator[Case]:
 def files(program: pathlib.Path, folder: pathlib.Path) -> Iterator[Case]:
     """Files that can be read, and others."""
     (folder / "-image").write_bytes(EXAMPLE.read_bytes())
-    wanted: dict[str, tuple[list[Word], Answer]] = {
+    wanted: Asked = {
         "an image": ([EXAMPLE], REPORT),
         "a name with a hyphen": (["--", "-image"], REPORT),
         "a file without bytes": (["/dev/null"], fault("Image TooShort", 3)),
@@ -201,13 +203,9 @@ def outputs(program: pathlib.Path, folder: pathlib.Path) -> Iterator[Case]:
             )
 
 
-def inputs_of_commands(program: pathlib.Path, folder: pathlib.Path) -> Iterator[Case]:
-    """Inputs of `run`, `merge` and `resume`: all files are opened in the order of the arguments, and last OUT, which
-    stays unchanged."""
-    out, base = folder / "out", base_of(program, folder)
-    no_words = folder / "no-words"
-    no_words.write_bytes(b"1234567")
-    cases_of: dict[str, tuple[list[Word], Answer]] = {
+def inputs_of_run(folder: pathlib.Path, out: pathlib.Path, no_words: pathlib.Path) -> Asked:
+    """Inputs of `run`, and names of OUT."""
+    return {
         "no script": (["run", "missing", out], READ_FAULT),
         "no script and no folder": (["run", "missing", folder / "missing" / "out"], READ_FAULT),
         "no folder": (["run", SCRIPT, folder / "missing" / "out"], WRITE_FAULT),
@@ -221,6 +219,11 @@ def inputs_of_commands(program: pathlib.Path, folder: pathlib.Path) -> Iterator[
         "a folder as a script": (["run", folder, out], READ_FAULT),
         "a script without an end": (["run", "/dev/zero", out], fault("TooLong", 3)),
         "a script that is no script": (["run", no_words, out], fault("BadLine 1", 3)),
+    }
+
+
+def inputs_of_merge(folder: pathlib.Path, out: pathlib.Path, no_words: pathlib.Path) -> Asked:
+    return {
         "no base": (["merge", "missing", EXAMPLE, out], READ_FAULT),
         "no dead": (["merge", no_words, "missing", out], READ_FAULT),
         "no folder for the merge": (["merge", no_words, EXAMPLE, folder / "missing" / "out"], WRITE_FAULT),
@@ -229,6 +232,11 @@ def inputs_of_commands(program: pathlib.Path, folder: pathlib.Path) -> Iterator[
         "a dead that cannot be read": (["merge", EXAMPLE, "/proc/self/mem", out], READ_FAULT),
         "a dead without an end": (["merge", EXAMPLE, "/dev/zero", out], fault("TooLong", 3)),
         "a base without an end": (["merge", "/dev/zero", no_words, out], fault("TooLong", 3)),
+    }
+
+
+def inputs_of_resume(folder: pathlib.Path, out: pathlib.Path, no_words: pathlib.Path, base: pathlib.Path) -> Asked:
+    return {
         "no base to go on with": (["resume", "missing", SCRIPT, out], READ_FAULT),
         "no script to go on with": (["resume", no_words, "missing", out], READ_FAULT),
         "no folder to go on": (["resume", no_words, SCRIPT, folder / "missing" / "out"], WRITE_FAULT),
@@ -242,6 +250,19 @@ def inputs_of_commands(program: pathlib.Path, folder: pathlib.Path) -> Iterator[
         "a script to go on with that cannot be read": (["resume", base, "/proc/self/mem", out], READ_FAULT),
         "a script to go on with without an end": (["resume", base, "/dev/zero", out], fault("TooLong", 3)),
         "a script to go on with that is no script": (["resume", base, no_words, out], fault("BadLine 1", 3)),
+    }
+
+
+def inputs_of_commands(program: pathlib.Path, folder: pathlib.Path) -> Iterator[Case]:
+    """Inputs of `run`, `merge` and `resume`: all files are opened in the order of the arguments, and last OUT, which
+    stays unchanged."""
+    out, base = folder / "out", base_of(program, folder)
+    no_words = folder / "no-words"
+    no_words.write_bytes(b"1234567")
+    cases_of = {
+        **inputs_of_run(folder, out, no_words),
+        **inputs_of_merge(folder, out, no_words),
+        **inputs_of_resume(folder, out, no_words, base),
     }
     for name, (words, wanted) in cases_of.items():
         out.write_bytes(STOOD)

@@ -18,6 +18,10 @@ from support import faults, tracer
 from support.program import EXAMPLE, SCRIPT, Answer, Case, Word, answer, difference, explained, fault, untried
 
 SEGMENT = "segment,256,64,7\n"
+# How the system names its errors.
+MISSING = "No such file or directory (os error 2)"
+IS_FOLDER = "Is a directory (os error 21)"
+NO_SPACE = "No space left on device (os error 28)"
 # A record after a segment and a histogram, and what is said of it.
 BAD_RECORDS = {
     "hist,B,liner": "field 2 after `hist` is `liner`; kinds are boolean, linear, custom, sparse",
@@ -316,48 +320,47 @@ def scripts_on(program: pathlib.Path, folder: pathlib.Path) -> Iterator[Case]:
     yield "a script on an image", difference(answer(program, words), answer(program, [*words, "--explain"]))
 
 
-def devices(program: pathlib.Path, folder: pathlib.Path) -> Iterator[Case]:
-    out, base, missing = folder / "out", folder / "base.img", "No such file or directory (os error 2)"
+def unreadable(program: pathlib.Path, folder: pathlib.Path) -> Iterator[Case]:
+    """Inputs that are missing, and folders in place of inputs."""
+    out, base = folder / "out", folder / "base.img"
     answer(program, ["run", SCRIPT, base])
+    missing, is_folder = f'"missing": {MISSING}', f'"{folder}": {IS_FOLDER}'
     reads: dict[str, tuple[list[Word], str]] = {
-        "a missing image": (["report", "no\nfile"], f'"no\\nfile": {missing}'),
-        "a folder as an image": (["info", folder], f'"{folder}": Is a directory (os error 21)'),
-        "a missing script": (["run", "missing", out], f'"missing": {missing}'),
-        "a missing base": (["merge", "missing", EXAMPLE, out], f'"missing": {missing}'),
-        "a missing dead": (["merge", EXAMPLE, "missing", out], f'"missing": {missing}'),
-        "a base that cannot be read": (["merge", folder, EXAMPLE, out], f'"{folder}": Is a directory (os error 21)'),
-        "a dead that cannot be read": (["merge", EXAMPLE, folder, out], f'"{folder}": Is a directory (os error 21)'),
-        "a missing base to go on with": (["resume", "missing", SCRIPT, out], f'"missing": {missing}'),
-        "a missing script to go on with": (["resume", EXAMPLE, "missing", out], f'"missing": {missing}'),
-        "a base to go on with that cannot be read": (
-            ["resume", folder, SCRIPT, out],
-            f'"{folder}": Is a directory (os error 21)',
-        ),
-        "a script to go on with that cannot be read": (
-            ["resume", base, folder, out],
-            f'"{folder}": Is a directory (os error 21)',
-        ),
+        "a missing image": (["report", "no\nfile"], f'"no\\nfile": {MISSING}'),
+        "a folder as an image": (["info", folder], is_folder),
+        "a missing script": (["run", "missing", out], missing),
+        "a missing base": (["merge", "missing", EXAMPLE, out], missing),
+        "a missing dead": (["merge", EXAMPLE, "missing", out], missing),
+        "a base that cannot be read": (["merge", folder, EXAMPLE, out], is_folder),
+        "a dead that cannot be read": (["merge", EXAMPLE, folder, out], is_folder),
+        "a missing base to go on with": (["resume", "missing", SCRIPT, out], missing),
+        "a missing script to go on with": (["resume", EXAMPLE, "missing", out], missing),
+        "a base to go on with that cannot be read": (["resume", folder, SCRIPT, out], is_folder),
+        "a script to go on with that cannot be read": (["resume", base, folder, out], is_folder),
     }
     for name, (words, said) in reads.items():
         yield name, both(program, words, "Read", 4, [said], cwd=folder)
-    nowhere = folder / "missing" / "out"
+
+
+def unwritable(program: pathlib.Path, folder: pathlib.Path) -> Iterator[Case]:
+    """OUT that cannot be written, and reports on a full device."""
+    out, base, nowhere = folder / "out", folder / "base.img", folder / "missing" / "out"
+    answer(program, ["run", SCRIPT, base])
     writes: dict[str, list[Word]] = {
         "run": ["run", SCRIPT], "merge": ["merge", EXAMPLE, EXAMPLE], "resume": ["resume", base, SCRIPT],
     }
     for name, words in writes.items():
-        yield f"{name} into no folder", both(program, [*words, nowhere], "Write", 4, [f'"{nowhere}": {missing}'])
-        yield f"{name} into a folder", both(
-            program, [*words, folder], "Write", 4, [f'"{folder}": Is a directory (os error 21)']
-        )
+        yield f"{name} into no folder", both(program, [*words, nowhere], "Write", 4, [f'"{nowhere}": {MISSING}'])
+        yield f"{name} into a folder", both(program, [*words, folder], "Write", 4, [f'"{folder}": {IS_FOLDER}'])
         yield f"{name} into a full device", both(
-            program, [*words, "/dev/full"], "Write", 4, ['"/dev/full": No space left on device (os error 28)']
+            program, [*words, "/dev/full"], "Write", 4, [f'"/dev/full": {NO_SPACE}']
         )
     full = os.open("/dev/full", os.O_WRONLY)
     reports: dict[str, list[Word]] = {
         "report": ["report", EXAMPLE], "run": ["run", SCRIPT, out], "resume": ["resume", base, SCRIPT, out],
     }
     for name, words in reports.items():
-        lines = ["standard output: No space left on device (os error 28)"]
+        lines = [f"standard output: {NO_SPACE}"]
         yield f"the report of {name} on a full device", both(program, words, "Write", 4, lines, stdout=full)
     os.close(full)
 
@@ -401,7 +404,7 @@ def on_terminal(program: pathlib.Path, words: Sequence[Word], **settings: Any) -
 
 def told(program: pathlib.Path, folder: pathlib.Path) -> Iterator[Case]:
     """A terminal, and the command `explain`."""
-    wanted = explained("Read", 4, ['"/missing": No such file or directory (os error 2)'])
+    wanted = explained("Read", 4, [f'"/missing": {MISSING}'])
     yield "a terminal", difference(wanted, on_terminal(program, ["report", "/missing"]))
     yield "a terminal that has nothing to tell", difference(
         answer(program, ["report", EXAMPLE]), on_terminal(program, ["report", EXAMPLE])
@@ -429,6 +432,6 @@ def told(program: pathlib.Path, folder: pathlib.Path) -> Iterator[Case]:
 
 
 def cases(program: pathlib.Path, folder: pathlib.Path, options: argparse.Namespace) -> Iterator[Case]:
-    for part in (scripts, lines_of_random_scripts, images, merges, bases, scripts_on, devices, told):
+    for part in (scripts, lines_of_random_scripts, images, merges, bases, scripts_on, unreadable, unwritable, told):
         yield from part(program, folder)
     yield from wants(program, folder, options)

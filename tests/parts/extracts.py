@@ -15,14 +15,14 @@ from collections.abc import Iterator
 
 from parts import refused
 from support import forge
+from support.layout import (
+    BLOCK_HEADER, COOKIE_BYTES, FIRST, FREE, MOST_WORDS, PAGE, PAGES, QUEUE, SEGMENT_COOKIE, STATE, Words, data_of,
+)
 from support.program import EXAMPLE, Answer, Case, Word, answer, content, difference, fault
 
 PROGRAM = "persist_report"
 NO_SEGMENT = fault("NoSegment", 3)
 READ_FAULT, WRITE_FAULT = fault("Read", 4), fault("Write", 4)
-COOKIE = struct.pack("<Q", 0x408305DC)
-HEADER = 16
-MOST_WORDS = 1_048_576
 MIB = 2**20
 BLOCK = 65_536
 STOOD = b"what stood there before"
@@ -37,19 +37,19 @@ FAULTS = [
 
 def size_at(data: bytes, at: int) -> int | None:
     """How many words the segment at a place has, or None if there is none."""
-    if len(data) < at + 8 * HEADER:
+    if len(data) < at + 8 * FIRST:
         return None
-    words = struct.unpack_from(f"<{HEADER}Q", data, at)
-    version, size, page, state, free = words[1], words[2], words[3], words[5], words[7]
+    words = struct.unpack_from(f"<{FIRST}Q", data, at)
+    cookie, version, size, page = words[:4]
     lawful = (
-        words[0] == 0x408305DC
+        cookie == SEGMENT_COOKIE
         and version in (1, 2)
-        and page in range(64, 65_537, 16)
+        and page in PAGES
         and page <= size <= MOST_WORDS
         and size % page == 0
-        and state == 1
-        and 16 <= free <= size
-        and words[12:15] == (4, 1, 0)
+        and words[STATE] == 1
+        and FIRST <= words[FREE] <= size
+        and words[QUEUE : QUEUE + 3] == (BLOCK_HEADER, 1, 0)
     )
     return size if lawful and at + 8 * size <= len(data) else None
 
@@ -57,12 +57,12 @@ def size_at(data: bytes, at: int) -> int | None:
 def segments(data: bytes) -> list[tuple[int, bytes]]:
     """The place of each segment in a file and the bytes of its words, in the order of the places."""
     found: list[tuple[int, bytes]] = []
-    at = data.find(COOKIE)
+    at = data.find(COOKIE_BYTES)
     while at >= 0:
         size = size_at(data, at) if at % 8 == 0 else None
         if size:
             found.append((at, data[at : at + 8 * size]))
-        at = data.find(COOKIE, at + 1)
+        at = data.find(COOKIE_BYTES, at + 1)
     return found
 
 
@@ -89,8 +89,8 @@ def noise(chance: random.Random, size: int) -> bytes:
         parts.append(
             chance.choice(
                 [
-                    chance.randbytes(chance.randrange(1, 300_000)), bytes(8 * chance.randrange(1, 20_000)), COOKIE,
-                    COOKIE + chance.randbytes(120),
+                    chance.randbytes(chance.randrange(1, 300_000)), bytes(8 * chance.randrange(1, 20_000)),
+                    COOKIE_BYTES, COOKIE_BYTES + chance.randbytes(120),
                 ]
             )
         )
@@ -99,20 +99,22 @@ def noise(chance: random.Random, size: int) -> bytes:
 
 def blank(size: int, page: int = 64, fault_at: tuple[int, int] | None = None) -> bytes:
     """The bytes of a segment without blocks, with one word of its header changed if this is asked for."""
-    words = [0x408305DC, 2, size, page, 7, 1, 0, 16, 12, 0, 0, 0, 4, 1, 0, 12] + [0] * (size - HEADER)
+    image = Words(size, page, 2)
     if fault_at is not None:
-        words[fault_at[0]] = fault_at[1]
-    return struct.pack(f"<{size}Q", *words)
+        image.store(*fault_at)
+    return data_of(image.words)
 
 
 def nested(sizes: tuple[int, int, int]) -> bytes:
     """Three segments, of which each begins four words after the one before, inside its header."""
-    first, second, third = sizes
-    words = [0] * (max(first, second + 4, third + 8))
-    words[0:8] = [0x408305DC, 1, first, 64, 0x408305DC, 1, second, 64]
-    words[8:20] = [0x408305DC, 1, third, 64, 4, 1, 0, 16, 4, 1, 0, 12]
-    words[20:23] = [4, 1, 0]
-    return struct.pack(f"<{len(words)}Q", *words)
+    places = (0, 4, 8)
+    image = Words(max(at + size for at, size in zip(places, sizes)), 64)
+    for at, size in zip(places, sizes):
+        image.store(at, SEGMENT_COOKIE, 1, size, 64)
+        image.store(at + QUEUE, BLOCK_HEADER, 1, 0, QUEUE)
+    # For the two before it, the page of the next one is the free pointer.
+    image.store(places[-1] + FREE, FIRST)
+    return data_of(image.words)
 
 
 def made(chance: random.Random) -> bytes:
@@ -150,7 +152,7 @@ def at_blocks(chance: random.Random) -> Iterator[Image]:
     """Images about the ends of the blocks in which a file may be read, and of the greatest size."""
     for before in (BLOCK - 128, BLOCK - 64, BLOCK - 8, BLOCK, 8_192 - 8):
         yield f"a segment behind {before} bytes", chance.randbytes(before) + blank(64)
-    whole = blank(MOST_WORDS, 65_536)
+    whole = blank(MOST_WORDS, PAGE)
     for before, less in ((0, 0), (BLOCK - 8, 0), (8, 8), (3 * MIB, 1)):
         yield f"the greatest without {less} bytes, behind {before}", chance.randbytes(before) + whole[
             : len(whole) - less
@@ -195,7 +197,7 @@ def memory(program: pathlib.Path, folder: pathlib.Path) -> Iterator[Case]:
     file, out = folder / "file", folder / "out"
     for name, before, image, pages in (
         ("a short image", 128 * MIB, blank(64), 256),
-        ("the greatest", 32 * MIB, blank(MOST_WORDS, 65_536), 2_048 + 512),
+        ("the greatest", 32 * MIB, blank(MOST_WORDS, PAGE), 2_048 + 512),
     ):
         with open(file, "wb") as long:
             long.seek(before)
@@ -207,7 +209,7 @@ def memory(program: pathlib.Path, folder: pathlib.Path) -> Iterator[Case]:
     yield "memory that is refused", refused.wrong_of(
         program, ["extract", file, out], b"", least, 1, refused.EACH_BY_ITSELF, out
     )
-    file.write_bytes(bytes(8) + blank(MOST_WORDS, 65_536))
+    file.write_bytes(bytes(8) + blank(MOST_WORDS, PAGE))
     yield "memory that is refused for the greatest", refused.wrong_of(
         program, ["extract", file, out], b"", least, refused.STEP, {}, out
     )

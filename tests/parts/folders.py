@@ -326,9 +326,9 @@ def among_others(program: pathlib.Path, top: pathlib.Path) -> Iterator[Case]:
 
 
 def refusals(program: pathlib.Path, top: pathlib.Path) -> Iterator[Case]:
-    """Folders that are not folded or read: none of a recording, one that is folded now, damaged totals."""
-    crash, path = CRASH.read_bytes(), made(top / "refused")
-    put(path, 1, mapped(crash))
+    """Folders that are not folded: none of a recording, and one that is folded now."""
+    path = made(top / "refused")
+    put(path, 1, mapped(CRASH.read_bytes()))
     before = Folder.at(path)
     for other in (top, top / "missing", path / name_of(1)):
         mark = f'"{other / MARK}": '
@@ -343,6 +343,13 @@ def refusals(program: pathlib.Path, top: pathlib.Path) -> Iterator[Case]:
         yield "beside another fold, explained", difference(explained("Busy", 4, [f'"{path / LOCK}"']), came)
         yield from texts(program, before, "beside another fold")
     yield "beside another fold, what is there then", wrong_files(path, before)
+
+
+def damaged_totals(program: pathlib.Path, top: pathlib.Path) -> Iterator[Case]:
+    """Folders that are not folded or read: a line of their totals is another one, or there is none."""
+    path = made(top / "refused")
+    put(path, 1, mapped(CRASH.read_bytes()))
+    before = Folder.at(path)
     totals = before.folded()[0].totals
     assert totals is not None
     for line, text in enumerate(totals.splitlines(True), 1):
@@ -362,6 +369,10 @@ def refusals(program: pathlib.Path, top: pathlib.Path) -> Iterator[Case]:
     yield "a fold of totals without bytes", difference(wanted, answer(program, ["fold", path]))
     (path / TOTALS).unlink()
     yield "no totals again", difference(Answer(), answer(program, ["fold", path]))
+
+
+def nothing(program: pathlib.Path, top: pathlib.Path) -> Iterator[Case]:
+    """A folder of a recording in which nothing is yet."""
     none = made(top / "nothing")
     yield "nothing in it", difference(Answer(), answer(program, ["report", none]))
     yield "a fold of nothing in it", difference(Answer(), answer(program, ["fold", none]))
@@ -508,6 +519,29 @@ def at_work(*works: Callable[[], None]) -> Iterator[None]:
             thread.join()
 
 
+@dataclasses.dataclass
+class Readings:
+    """What a reader found beside others: how often it read, how often it was Busy, how many images there were last, and
+    what was wrong or None."""
+
+    read: int = 0
+    busy: int = 0
+    images: int = 0
+    wrong: str | None = None
+
+    def read_again(self, program: pathlib.Path, beginner: Beginner) -> None:
+        """Reads once more: each image that was begun has to be there, none twice, and the number may not fall."""
+        least = max(self.images, beginner.ended)
+        came = answer(program, ["report", beginner.folder])
+        if came == BUSY:
+            self.busy += 1
+            return
+        found, most = images_in(came.output), beginner.begun
+        if came.status != 0 or not least <= found <= most:
+            self.wrong = f"between {least} and {most} images were wanted, came {found}: {came.error!r}"
+        self.images, self.read = found, self.read + 1
+
+
 def beside(program: pathlib.Path, top: pathlib.Path) -> Iterator[Case]:
     """A reader while segments are begun and folded all the time: each is counted once, and no number falls."""
     beginner, wrong_folds = Beginner(made(top / "beside")), []
@@ -523,26 +557,21 @@ def beside(program: pathlib.Path, top: pathlib.Path) -> Iterator[Case]:
         if came != Answer():
             wrong_folds.append(str(came))
 
-    wrong, busy, read, before = None, 0, 0, 0
-    end = time.monotonic() + MOST_SECONDS
+    readings, end = Readings(), time.monotonic() + MOST_SECONDS
     with at_work(begin, fold):
-        while wrong is None and min(read, serial_of(folder)) < LEAST_READINGS and time.monotonic() < end:
-            least = beginner.ended
-            came = answer(program, ["report", folder])
-            if came == BUSY:
-                busy += 1
-                continue
-            found, most = images_in(came.output), beginner.begun
-            if came.status != 0 or not max(before, least) <= found <= most:
-                wrong = f"between {max(before, least)} and {most} images were wanted, came {found}: {came.error!r}"
-            before, read = found, read + 1
+        while (
+            readings.wrong is None
+            and min(readings.read, serial_of(folder)) < LEAST_READINGS
+            and time.monotonic() < end
+        ):
+            readings.read_again(program, beginner)
     beginner.end()
     serial = serial_of(folder)
-    print(f"beside {serial} folds: {read} readings, {busy} of them Busy", flush=True)
-    yield "a reader beside folds", wrong
+    print(f"beside {serial} folds: {readings.read} readings, {readings.busy} of them Busy", flush=True)
+    yield "a reader beside folds", readings.wrong
     yield "folds beside a reader", wrong_folds[0] if wrong_folds else None
-    enough = min(read, serial) >= LEAST_READINGS and busy <= read // 10
-    yield "enough of both", None if enough else f"{read} readings, {busy} Busy, beside {serial} folds"
+    enough = min(readings.read, serial) >= LEAST_READINGS and readings.busy <= readings.read // 10
+    yield "enough of both", None if enough else f"{readings} beside {serial} folds"
     yield "a last fold", difference(Answer(), answer(program, ["fold", folder]))
     wanted = plain_sums.report_of(Folder.at(folder).reading()[0], 0)
     came = answer(program, ["report", folder])
@@ -663,7 +692,7 @@ def wrong_beside(runs: recordings.Folder) -> str | None:
 
 def cases(program: pathlib.Path, options: argparse.Namespace) -> Iterator[Case]:
     Part = Callable[[pathlib.Path, pathlib.Path], Iterator[Case]]
-    parts: Sequence[Part] = (many, great_numbers, example, among_others, refusals, beside)
+    parts: Sequence[Part] = (many, great_numbers, example, among_others, refusals, damaged_totals, nothing, beside)
     traced: Sequence[Part] = (amid_readings, kills, failures)
     if not tracer.can_trace():
         yield untried(tracer.NOT_ALLOWED, options)

@@ -21,6 +21,7 @@ from typing import Any, Optional
 
 from parts import failing
 from support import allocations, native, tracer
+from support.layout import MOST_UNITS
 from support.program import ROOT, Answer, Case, answer, built, difference, untried
 
 PROGRAM = "trials"
@@ -57,9 +58,6 @@ INDEXED = ("hist", "add", "batch", "merge")
 # How each says that memory was refused.
 NO_MEMORY = "NoMemory"
 OTHER_WORDS = {"tally": "memory allocation failed"}
-
-# The units of a segment.
-UNITS = 2**32 - 1
 
 # What calls ask for (docs/PERFORMANCE.md): `delta` and `snapshot` 16 bytes for each key, of the sparse histogram for
 # each of its samples, which the calls before have made, and `records` and `fresh_records` 8 for each record that fits
@@ -185,14 +183,14 @@ def stopped_merge(whole: Sequence[str], reached: int) -> list[str]:
     merge that was done: what it added before stays, and nothing is added of the histogram where it stopped."""
     added = [added_by(line) for line in whole if line.startswith("added ")]
     if not reached:
-        return [refused_line("merge"), f"{UNITS} units"]
+        return [refused_line("merge"), f"{MOST_UNITS} units"]
     before, (name, _) = added[:reached - 1], added[reached - 1]
     stayed = {bytes(map(int, one[1:-1].split(", "))).decode() for one, _ in before}
     return [
         *(f"added {one} {units}" for one, units in before),
         f"added {name} 0",
         f"MergeStop {{ name: {name}, items: 0, why: {NO_MEMORY} }}",
-        f"{UNITS - sum(int(units) for _, units in before)} units",
+        f"{MOST_UNITS - sum(int(units) for _, units in before)} units",
         *(line for line in whole if line.split(",")[0] in stayed),
     ]
 

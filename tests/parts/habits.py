@@ -80,8 +80,8 @@ def closed_pipes(program: pathlib.Path, folder: pathlib.Path) -> Iterator[Case]:
             yield f"{name} into a full device", difference(lines, came)
 
 
-def named_by_dash(program: pathlib.Path, folder: pathlib.Path) -> Iterator[Case]:
-    """`-` is standard input as one input, and standard output as OUT; `./-` is the file of that name."""
+def inputs_by_dash(program: pathlib.Path, folder: pathlib.Path) -> Iterator[Case]:
+    """`-` is standard input as one input."""
     base, out = folder / "base", folder / "out"
     answer(program, ["run", SCRIPT, base])
     script, image, example = SCRIPT.read_bytes(), base.read_bytes(), EXAMPLE.read_bytes()
@@ -104,6 +104,11 @@ def named_by_dash(program: pathlib.Path, folder: pathlib.Path) -> Iterator[Case]
         came = answer(program, [*words, "--explain"], short, cwd=folder)
         is_told = came.status == 3 and (b"standard input" in came.error or words[0] == "extract")
         yield f"{name} of bytes that are none", None if is_told else f"came {came}"
+
+
+def outputs_by_dash(program: pathlib.Path, folder: pathlib.Path) -> Iterator[Case]:
+    """`-` is standard output as OUT."""
+    out, example = folder / "out", EXAMPLE.read_bytes()
     answer(program, ["merge", EXAMPLE, EXAMPLE, out])
     outputs: dict[str, tuple[list[Word], Answer]] = {
         "merge BASE DEAD -": (["merge", EXAMPLE, EXAMPLE, "-"], Answer(out.read_bytes())),
@@ -123,8 +128,6 @@ def named_by_dash(program: pathlib.Path, folder: pathlib.Path) -> Iterator[Case]
     yield "merge into the end of a file", wrong or (
         None if content(appended) == STOOD + out.read_bytes() else "it was not written where standard output stood"
     )
-    yield from named_dash(program, folder)
-    yield from twice(program, folder)
 
 
 def named_dash(program: pathlib.Path, folder: pathlib.Path) -> Iterator[Case]:
@@ -227,7 +230,7 @@ def cases(program: pathlib.Path, _options: argparse.Namespace) -> Iterator[Case]
     with tempfile.TemporaryDirectory() as scratch:
         folder = pathlib.Path(scratch).resolve()
         yield from asked_to_explain(program)
-        yield from closed_pipes(program, folder)
-        yield from named_by_dash(program, folder)
+        for part in (closed_pipes, inputs_by_dash, outputs_by_dash, named_dash, twice):
+            yield from part(program, folder)
         yield from without_file(program)
         yield from stepped_faults(folder)

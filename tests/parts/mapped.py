@@ -23,7 +23,6 @@ COMMANDS: dict[str, Callable[[bytes], tuple[bytes, bytes, int]]] = {
     "show": plain_show.answer,
     "export": plain_export.answer,
 }
-MOST_BYTES = 8 * layout.MOST_WORDS
 MOST_CURSORS = 8
 MOST_IMAGES = 200
 SCRIPT = "segment,{},{},{}\nhist,mapped.only,boolean\nadd,mapped.only,1,5\n"
@@ -67,13 +66,13 @@ def limits(program: pathlib.Path) -> Iterator[Case]:
     """The longest files, and such as are too long."""
     image = layout.image_of(layout.MOST_WORDS, 1, [])
     whole = mapped(image, MOST_CURSORS, random.Random("cursors"))
-    assert len(whole) == MOST_BYTES + 80
+    assert len(whole) == layout.MOST_BYTES + 80
     long: list[tuple[str, bytes, Answer]] = [
         ("the longest mapped file", whole, Answer()),
         ("eight bytes more", whole + bytes(8), fault("TooLong", 3)),
         ("a byte more", whole + bytes(1), fault("TooLong", 3)),
         ("four bytes less", whole[:-4], fault("NotWords", 3)),
-        ("without its last words", whole[: MOST_BYTES], fault("Image BadSize", 3)),
+        ("without its last words", whole[: layout.MOST_BYTES], fault("Image BadSize", 3)),
         ("the longest image", image, Answer()),
         ("an image and eight bytes", image + bytes(8), fault("TooLong", 3)),
         ("an image and four bytes", image + bytes(4), fault("TooLong", 3)),

@@ -14,7 +14,7 @@ from collections.abc import Iterator
 from typing import Any
 
 from parts import scripts
-from support import plain_reader, plain_tally, seeded
+from support import layout, plain_reader, plain_tally, seeded
 from support.program import Answer, Case, answer, content, difference, fault
 
 PROGRAM = "persist_report"
@@ -71,7 +71,7 @@ def wanted_of(base: bytes, dead: bytes) -> tuple[Answer, bytes | None]:
 
 def pair_of(chance: random.Random) -> tuple[seeded.Script, seeded.Script]:
     """Two scripts of one shape with room to spare; mostly names that both have are of one spec."""
-    base, dead = (seeded.script_of(chance, seeded.MOST_UNITS // 2) for _ in range(2))
+    base, dead = (seeded.script_of(chance, layout.MOST_UNITS // 2) for _ in range(2))
     if chance.random() < 0.7:
         specs = dict(reversed(base.hists))
         dead.hists = [(name, specs.get(name, spec)) for name, spec in dead.hists]

@@ -15,7 +15,7 @@ import random
 from collections.abc import Iterable, Iterator, Sequence
 
 from parts import merges, scripts
-from support import plain_tally, seeded
+from support import layout, plain_tally, seeded
 from support.program import Answer, Case, Word, answer, difference, fault
 
 PROGRAM = "persist_report"
@@ -29,9 +29,9 @@ def units_of(calls: Iterable[seeded.ScriptCall]) -> int:
 
 def with_too_much(chance: random.Random, script: seeded.Script, before: seeded.Script) -> None:
     """Has a script take one more unit than its segment has left by then, in its last record."""
-    left = seeded.MOST_UNITS - units_of(before.calls) - units_of(script.calls)
+    left = layout.MOST_UNITS - units_of(before.calls) - units_of(script.calls)
     name = chance.choice(script.hists)[0]
-    if left == seeded.MOST_UNITS:
+    if left == layout.MOST_UNITS:
         # (one record cannot say more units than a segment has)
         script.calls.append((name, 1, 1))
         left -= 1
@@ -45,7 +45,7 @@ def chain_of(chance: random.Random) -> list[seeded.Script]:
     histograms: dict[str, plain_tally.Histogram] = {}
     calls: list[seeded.ScriptCall] = []
     for number in range(LENGTH):
-        script = seeded.script_of(chance, seeded.MOST_UNITS // LENGTH)
+        script = seeded.script_of(chance, layout.MOST_UNITS // LENGTH)
         if chance.random() < 0.9:
             script.hists = [(name, specs.get(name, spec)) for name, spec in script.hists]
         for name, spec in script.hists:
@@ -64,7 +64,7 @@ def refusal_of(script: seeded.Script, before: seeded.Script) -> str | None:
     taken = units_of(before.calls)
     for number, (_, *sample) in enumerate(script.calls, 2 + len(script.hists)):
         taken += sample[1] if sample else 0
-        if taken > seeded.MOST_UNITS:
+        if taken > layout.MOST_UNITS:
             return f"Refused {number} NoUnits"
     specs = {name: (spec[0], plain_tally.boundaries_of(spec)) for name, spec in reversed(before.hists)}
     for number, (name, spec) in enumerate(script.hists, 2):

@@ -6,6 +6,7 @@ from __future__ import annotations
 
 import argparse
 import collections
+import itertools
 import os
 import pathlib
 import random
@@ -38,13 +39,13 @@ UNREAD = "Read"
 # How files begin, and whether they are then inputs of a folder: the cookie, maybe after a word of zeros, or the first
 # line of totals, each whole.
 FRONTS = [
-    (plain_sums.COOKIE, True),
-    (bytes(8) + plain_sums.COOKIE, True),
+    (layout.COOKIE_BYTES, True),
+    (bytes(8) + layout.COOKIE_BYTES, True),
     (plain_sums.TOTALS, True),
-    (plain_sums.COOKIE[:7], False),
-    (bytes(8) + plain_sums.COOKIE[:7], False),
-    (bytes(7) + plain_sums.COOKIE, False),
-    (bytes(9) + plain_sums.COOKIE, False),
+    (layout.COOKIE_BYTES[:7], False),
+    (bytes(8) + layout.COOKIE_BYTES[:7], False),
+    (bytes(7) + layout.COOKIE_BYTES, False),
+    (bytes(9) + layout.COOKIE_BYTES, False),
     (plain_sums.TOTALS[:-1], False),
     (b"totals,2\n", False),
     (b"", False),
@@ -133,7 +134,7 @@ def wanted_of(output: bytes, left: Sequence[tuple[object, str]]) -> Answer:
 def image_of(chance: random.Random) -> bytes:
     """A forged image, or a mapped file of one."""
     data = forge.image_of(chance)
-    return bytes(8) + data if chance.random() < MAPPED and data[:8] == plain_sums.COOKIE else data
+    return bytes(8) + data if chance.random() < MAPPED and data[:8] == layout.COOKIE_BYTES else data
 
 
 def filled(folder: pathlib.Path, chance: random.Random) -> list[tuple[pathlib.Path, bytes]]:
@@ -362,7 +363,7 @@ def near_limits(chance: random.Random, is_small: bool) -> plain_sums.Sum:
         images = chance.choice([1, 1, 2, 2**62 - 1, 2**62, 2**64 - 2])
     notes = (images, *(chance.choice([0, 1, 2**63]) for _ in range(4)))
     name = chance.choice([b"a", b"b", b"c", b"d"])
-    return plain_sums.Sum({(name, (plain_sums.SPARSE,)): part}, *notes)
+    return plain_sums.Sum({(name, (layout.SPARSE,)): part}, *notes)
 
 
 def limits(program: pathlib.Path, top: pathlib.Path, seed: int | str) -> Iterator[Case]:
@@ -398,8 +399,8 @@ def has_far_number(data: bytes) -> bool:
     return any(part.least >= plain_sums.NUMBER_LIMIT for part in plain_sums.of_input(data).parts.values())
 
 
-def files(program: pathlib.Path, top: pathlib.Path) -> Iterator[Case]:
-    """Files that are named twice, that are missing, on standard input; an empty folder; one image, as without a sum."""
+def several(program: pathlib.Path, _top: pathlib.Path) -> Iterator[Case]:
+    """A file that is named twice, and standard input as one of two."""
     crash, example = CRASH.read_bytes(), EXAMPLE.read_bytes()
     twice, _ = plain_sums.sum_of([(CRASH, crash), (CRASH, crash)])
     yield "a file twice", difference(Answer(plain_sums.report_of(twice, 0)), answer(program, ["report", CRASH, CRASH]))
@@ -410,16 +411,29 @@ def files(program: pathlib.Path, top: pathlib.Path) -> Iterator[Case]:
     for workers in WORKERS:
         came = answer(program, ["report", "-", EXAMPLE, "--workers", str(workers)], crash)
         yield f"standard input first, {workers} workers", difference(wanted, came)
-        for command in ("report", "show", "export"):
-            came = answer(program, [command, CRASH, "--workers", str(workers)])
-            yield f"{command} of one image, {workers} workers", difference(answer(program, [command, CRASH]), came)
-    empty = top / "empty"
-    empty.mkdir()
-    none = plain_sums.Sum()
-    for words, text in texts_of(none, 0):
-        yield f"an empty folder, {words}", difference(Answer(text), answer(program, [words[0], empty, *words[1:]]))
+
+
+def one_image(program: pathlib.Path, top: pathlib.Path) -> Iterator[Case]:
+    """One image, by any number of workers or alone in a folder: all is as without a sum."""
+    for workers, command in itertools.product(WORKERS, ("report", "show", "export")):
+        came = answer(program, [command, CRASH, "--workers", str(workers)])
+        yield f"{command} of one image, {workers} workers", difference(answer(program, [command, CRASH]), came)
+    (top / "crash.img").write_bytes(CRASH.read_bytes())
+    for words in (["report"], ["show"], ["export"], ["report", "--rows"]):
+        alone = answer(program, [*words, CRASH])
+        yield f"a folder of one image, {words}", difference(alone, answer(program, [words[0], top, *words[1:]]))
+
+
+def nothing(program: pathlib.Path, top: pathlib.Path) -> Iterator[Case]:
+    """An empty folder."""
+    for words, text in texts_of(plain_sums.Sum(), 0):
+        yield f"an empty folder, {words}", difference(Answer(text), answer(program, [words[0], top, *words[1:]]))
+
+
+def missing(program: pathlib.Path, top: pathlib.Path) -> Iterator[Case]:
+    """A file that is missing, beside another one and alone, and a list."""
     gone = top / "none"
-    one, _ = plain_sums.sum_of([(CRASH, crash)])
+    one, _ = plain_sums.sum_of([(CRASH, CRASH.read_bytes())])
     wanted = Answer(plain_sums.report_of(one, 1), told([(gone, UNREAD)]), 3)
     yield "a missing file", difference(wanted, answer(program, ["report", CRASH, gone]))
     yield "a missing file, --strict", difference(
@@ -427,34 +441,28 @@ def files(program: pathlib.Path, top: pathlib.Path) -> Iterator[Case]:
     )
     yield "a missing file alone", difference(fault("Read", 4), answer(program, ["report", gone]))
     yield "a missing list", difference(fault("Read", 4), answer(program, ["report", "--files-from", gone]))
-    wanted = Answer(plain_sums.totals_text(none), told([(gone, UNREAD)]), 3)
+    wanted = Answer(plain_sums.totals_text(plain_sums.Sum()), told([(gone, UNREAD)]), 3)
     yield "a missing file alone, of a sum", difference(wanted, answer(program, ["report", gone, "--totals"]))
-    for words in (["report"], ["show"], ["export"], ["report", "--rows"]):
-        alone = answer(program, [*words, CRASH])
-        folder = top / "one"
-        folder.mkdir(exist_ok=True)
-        (folder / "crash.img").write_bytes(crash)
-        yield f"a folder of one image, {words}", difference(alone, answer(program, [words[0], folder, *words[1:]]))
-    out = top / "out"
+
+
+def outputs(program: pathlib.Path, top: pathlib.Path) -> Iterator[Case]:
+    """OUT of a sum, and of one that is refused."""
+    gone, out = top / "none", top / "out"
     out.write_bytes(STOOD)
     came = answer(program, ["report", CRASH, gone, "--strict", "--to", out])
     yield "OUT of --strict", difference(fault(f'{UNREAD}: "{gone}"', 4), came) or (
         None if content(out) == STOOD else "OUT is another"
     )
+    two, _ = plain_sums.sum_of((path, path.read_bytes()) for path in (CRASH, EXAMPLE))
     came = answer(program, ["report", CRASH, EXAMPLE, "--to", out])
     yield "OUT", difference(Answer(), came) or (
         None if content(out) == plain_sums.report_of(two, 0) else "OUT has another text"
     )
-    yield from looked(program, top, crash)
-    yield from damaged(program, top)
-    yield from totals(program, top, crash)
-    yield from by_hand(program, top)
-    yield from since_by_hand(program, top)
-    yield from fronts(program, top)
 
 
-def looked(program: pathlib.Path, top: pathlib.Path, crash: bytes) -> Iterator[Case]:
+def looked(program: pathlib.Path, top: pathlib.Path) -> Iterator[Case]:
     """With `--live` each image is looked at, and totals are read as always."""
+    crash = CRASH.read_bytes()
     two, _ = plain_sums.sum_of([(1, crash), (2, crash)])
     written = top / "crash.tot"
     written.write_bytes(plain_sums.totals_text(plain_sums.sum_of([(1, crash)])[0]))
@@ -488,8 +496,9 @@ def damaged(program: pathlib.Path, top: pathlib.Path) -> Iterator[Case]:
     yield "a name that is missing", difference(Answer(shown, fault("NoHistogram B", 3).error, 3), came)
 
 
-def totals(program: pathlib.Path, top: pathlib.Path, crash: bytes) -> Iterator[Case]:
+def totals(program: pathlib.Path, top: pathlib.Path) -> Iterator[Case]:
     """Totals that are none: each fault with its line."""
+    crash = CRASH.read_bytes()
     lines = plain_sums.totals_text(plain_sums.sum_of([(1, crash)])[0]).splitlines(True)
     wrong = top / "wrong.tot"
     for number in range(1, len(lines) + 1):
@@ -661,6 +670,9 @@ def cases(program: pathlib.Path, options: argparse.Namespace) -> Iterator[Case]:
     for part in (folders, trees, earlier, many, limits):
         with tempfile.TemporaryDirectory() as name:
             yield from part(program, pathlib.Path(name).resolve(), options.seed)
-    for more in (files, unreadable, told_meanwhile, usage):
+    for more in (
+        several, one_image, nothing, missing, outputs, looked, damaged, totals, by_hand, since_by_hand, fronts,
+        unreadable, told_meanwhile, usage,
+    ):
         with tempfile.TemporaryDirectory() as name:
             yield from more(program, pathlib.Path(name).resolve())

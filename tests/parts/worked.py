@@ -5,24 +5,23 @@ from __future__ import annotations
 
 import argparse
 import pathlib
-import struct
 from collections.abc import Iterable, Iterator, Mapping
 
+from support.layout import (
+    BLOCK_COOKIE, FLAGS, FREE, FROZEN, NOTHING_PACKED, STATE, TAIL, TOP, VERSION, WORD, Words, data_of, words_of,
+)
 from support.program import EXAMPLE, Answer, Case, answer, difference, fault
 
 PROGRAM = "persist_report"
-COOKIE, VERSION, SIZE, PAGE, STATE, FLAGS, FREE, TAIL = 0, 1, 2, 3, 5, 6, 7, 8
-QUEUE_COOKIE, QUEUE_NEXT = 13, 15
-KIND, BUCKETS, COUNTS_REFERENCE, SINGLE, SINGLE_MARK, SUM, REDUNDANT, NAME_LENGTH, NAME = (
-    20, 23, 24, 25, 26, 27, 29, 30, 31,
+# More words of the header; and those of a record at 16, with its counts at 32.
+COOKIE, SIZE, PAGE, QUEUE_COOKIE, QUEUE_NEXT = 0, 2, 3, 13, 15
+KIND, BUCKETS, COUNTS_REFERENCE, SINGLE, SINGLE_MARK, SUM, SUM_MARK, REDUNDANT, NAME_LENGTH, NAME = (
+    20, 23, 24, 25, 26, 27, 28, 29, 30, 31,
 )
 COUNTS = 36
-BLOCK_COOKIE = 0xC8799269
-FROZEN = DISABLED = 2**63
-NOTHING_PACKED = DISABLED + 65_535
 
 # A new segment.
-BLANK = [0x408305DC, 1, 128, 64, 7, 1, 0, 16, 12, 0, 0, 0, 4, 1, 0, 12, *112 * [0]]
+BLANK = list(Words(128, 64).words)
 # It has the boolean histogram A without samples.
 FRESH = {
     FREE: 32, TAIL: 16, QUEUE_NEXT: 16, 16: 16, 17: BLOCK_COOKIE, 18: 1, 19: 12, KIND: 2, 21: 1, 22: 2, BUCKETS: 3,
@@ -70,7 +69,7 @@ VERSION_2 = {
 }
 
 # Two units were taken off the single word, and not added to the counts yet.
-IN_TRANSIT = {SINGLE: DISABLED + 1, COUNTS: 0, COUNTS + 1: 0, SUM: 2, REDUNDANT: 2}
+IN_TRANSIT = {SINGLE: TOP + 1, COUNTS: 0, COUNTS + 1: 0, SUM: 2, REDUNDANT: 2}
 
 # What is stored in the words of the example, each alone, and the fault of its record.
 BAD_RECORDS = [
@@ -83,7 +82,7 @@ BAD_RECORDS = [
     ({COUNTS_REFERENCE: 13}, "BadCounts"),
     ({COUNTS_REFERENCE: 16}, "BadCounts"),
     ({COUNTS: 2**32}, "BadCounts"),
-    ({SINGLE: DISABLED + 3}, "BadSingle"),
+    ({SINGLE: TOP + 3}, "BadSingle"),
     ({SINGLE: 65_536}, "BadSingle"),
     ({SINGLE: NOTHING_PACKED, SINGLE_MARK: 1}, "BadMark"),
     ({SINGLE_MARK: 65_536}, "BadMark"),
@@ -124,12 +123,12 @@ def stored_in(words: Iterable[int], *changes: Mapping[int, int]) -> bytes:
     words = list(words)
     for stored in changes:
         for at, word in stored.items():
-            words[at] = word % 2**64
-    return struct.pack(f"<{len(words)}Q", *words)
+            words[at] = word % WORD
+    return data_of(words)
 
 
-def example() -> tuple[int, ...]:
-    return struct.unpack("<128Q", EXAMPLE.read_bytes())
+def example() -> Iterable[int]:
+    return words_of(EXAMPLE.read_bytes())
 
 
 def told(stored: Mapping[int, int]) -> str:

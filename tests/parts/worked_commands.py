@@ -10,18 +10,15 @@ import tempfile
 from collections.abc import Iterator, Mapping, Sequence
 
 from parts import worked
+from parts.worked import COUNTS_REFERENCE, REDUNDANT, SINGLE, SINGLE_MARK, SUM, SUM_MARK
+from support.layout import BLOCK_COOKIE, FREE, FROZEN, MOST_SUM, MOST_UNITS, TAIL, TOP, VERSION, WORD, Words
 from support.program import EXAMPLE, Answer, Case, Word, answer, difference, fault
 
 PROGRAM = "persist_report"
 # Words of an image, by their indices.
 Stored = Mapping[int, int]
 
-VERSION, FREE, SECOND_COUNT = 1, 7, 37
-COUNTS_REFERENCE, SINGLE, SINGLE_MARK, SUM, SUM_MARK, REDUNDANT = 24, 25, 26, 27, 28, 29
-FIRST_COUNT = 36
-TOP = 2**63
-MOST_UNITS = 2**32 - 1
-MOST_SUM = 2**31 * MOST_UNITS
+FIRST_COUNT, SECOND_COUNT = 36, 37
 
 SEGMENT = b"segment,128,64,7\n"
 THREE_SAMPLES = SEGMENT + b"hist,A,boolean\nadd,A,1,1\nadd,A,1,1\nadd,A,0,1\n"
@@ -88,7 +85,7 @@ def with_words(data: bytes, stored: Stored) -> bytes:
     """An image with these words in it."""
     data = bytearray(data)
     for at, word in stored.items():
-        data[8 * at : 8 * at + 8] = struct.pack("<Q", word % 2**64)
+        data[8 * at : 8 * at + 8] = struct.pack("<Q", word % WORD)
     return bytes(data)
 
 
@@ -99,8 +96,7 @@ def image(stored: Stored) -> bytes:
 
 def blank(version: int = 1) -> bytes:
     """An image without histograms."""
-    words = [0x408305DC, version, 128, 64, 7, 1, 0, 16, 12, 0, 0, 0, 4, 1, 0, 12]
-    return struct.pack("<16Q", *words) + bytes(8 * 112)
+    return Words(128, 64, version).bytes()
 
 
 def packed(stored: Stored) -> bytes:
@@ -110,7 +106,7 @@ def packed(stored: Stored) -> bytes:
 
 
 def frozen(bucket: int, units: int) -> int:
-    return TOP + bucket * 2**32 + units
+    return FROZEN + bucket * 2**32 + units
 
 
 # Of the image in version 2: bucket 1 is frozen with two units, and bucket 0 has one.
@@ -132,7 +128,7 @@ WRITTEN: dict[str, tuple[bytes, bytes]] = {
     ),
     "more than is packed": (
         SEGMENT + b"hist,A,boolean\nadd,A,1,70000\n",
-        image({VERSION: 2, SINGLE: TOP, FIRST_COUNT: 0, SECOND_COUNT: 70_000, SUM: 70_000, REDUNDANT: 70_000}),
+        image({VERSION: 2, SINGLE: FROZEN, FIRST_COUNT: 0, SECOND_COUNT: 70_000, SUM: 70_000, REDUNDANT: 70_000}),
     ),
     "sparse marks": (
         SEGMENT + b"hist,S,sparse\nadd,S,-5,2\nadd,S,7,1\ndelta,S\n",
@@ -231,7 +227,7 @@ def adding(count: int) -> bytes:
 # first on the list.
 RACED = worked.stored_in(
     worked.BLANK, worked.SPARSE,
-    {VERSION: 2, worked.TAIL: 32, 19: 40, 35: 12, 38: 0, 43: 32, 45: -5, 46: 3, SUM: -15, REDUNDANT: 3},
+    {VERSION: 2, TAIL: 32, 19: 40, 35: 12, 38: 0, 43: 32, 45: -5, 46: 3, SUM: -15, REDUNDANT: 3},
 )
 
 # BASE, the script, and what comes; and the words of the image that are others than those of BASE, if they are known.
@@ -287,9 +283,9 @@ RESUMES: dict[str, tuple[bytes, bytes, Answer, Stored | None]] = {
 
 def shared_counts() -> bytes:
     """Two histograms that name one block of counts."""
-    record = {0: 16, 1: 0xC8799269, 2: 1, 4: 2, 5: 1, 6: 2, 7: 3, 8: 48, 9: TOP, 14: 1}
+    record = {0: 16, 1: BLOCK_COOKIE, 2: 1, 4: 2, 5: 1, 6: 2, 7: 3, 8: 48, 9: FROZEN, 14: 1}
     records = {start + at: word for start in (16, 32) for at, word in record.items()}
-    counts = {48: 10, 49: 0xC8799269, 50: 2, 52: 1}
+    counts = {48: 10, 49: BLOCK_COOKIE, 50: 2, 52: 1}
     return with_words(
         blank(2), {**records, **counts, 15: 16, 19: 32, 35: 12, 31: ord("A"), 47: ord("B"), FREE: 58, 8: 32}
     )

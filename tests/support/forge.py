@@ -18,11 +18,13 @@ from support.layout import (
     HISTOGRAM,
     LEAST,
     LINEAR,
+    MOST_BYTES,
     MOST_SUM,
     MOST_UNITS,
     NOTHING_PACKED,
     QUEUE,
     SAMPLE,
+    SEGMENT_COOKIE,
     SPARSE,
     TOP,
     Words,
@@ -465,7 +467,7 @@ def break_header(forge: Forge) -> None:
         forge.free = chance.choice([0, 15, 17, size, size + 1, 2**64 - 1])
         return
     edges = {
-        0: [0, 0x408305DC + 2**32],
+        0: [0, SEGMENT_COOKIE + 2**32],
         1: [0, 1, 2, 3],
         2: [size + page, size - page, 0, 2**20 + 2**16, 2**32 + size],
         3: [0, 48, 60, 65, 65_552, 2**63 + 64],
@@ -485,7 +487,7 @@ def resize(data: bytes, chance: random.Random) -> bytes:
         data[: chance.randrange(16) * 8],
         data[: len(data) - 8],
         data + bytes(8),
-        data + bytes(8_388_609 - len(data)),
+        data + bytes(MOST_BYTES + 1 - len(data)),
         data[:16] + struct.pack("<Q", len(data) // 8 - 16) + data[24:-128],
     ]
     return chance.choice(ways)

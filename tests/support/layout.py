@@ -8,9 +8,15 @@ import sys
 from collections.abc import Collection, Iterable
 
 SEGMENT_COOKIE = 0x408305DC
+# Its bytes, with which an image begins.
+COOKIE_BYTES = SEGMENT_COOKIE.to_bytes(8, "little")
 MOST_WORDS = 1_048_576
+MOST_BYTES = 8 * MOST_WORDS
+# The largest page, and how large pages may be.
 PAGE = 65_536
-# The words of the header that recorders change, and where the first block may begin.
+PAGES = range(64, PAGE + 1, 16)
+# The words of the header that stay, those that recorders change, and where the first block may begin.
+VERSION, STATE = 1, 5
 FLAGS, FREE, TAIL, QUEUE, FIRST = 6, 7, 8, 12, 16
 CORRUPT, FULL = 1, 2
 
@@ -37,12 +43,12 @@ Listed = tuple[int, int, int, Iterable[int]]
 class Words:
     """The words of a segment, claimed from the front, and its list."""
 
-    def __init__(self, size: int, page: int, version: int = 1, flags: int = 0) -> None:
+    def __init__(self, size: int, page: int, version: int = 1, flags: int = 0, segment_id: int = 7) -> None:
         self.page = page
         self.words = array.array("Q", bytes(8 * size))
         self.free = FIRST
         self.tail = QUEUE
-        self.store(0, SEGMENT_COOKIE, version, size, page, 7, 1, flags)
+        self.store(0, SEGMENT_COOKIE, version, size, page, segment_id, 1, flags, FIRST, QUEUE)
         self.store(QUEUE, BLOCK_HEADER, 1, 0, QUEUE)
 
     def store(self, at: int, *words: int) -> None:

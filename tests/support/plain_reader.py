@@ -19,9 +19,10 @@ from collections.abc import Iterable, Sequence
 from typing import Any
 
 sys.path.insert(0, str(pathlib.Path(__file__).resolve().parents[1]))
-from support.layout import BLOCK_COOKIE, GREATEST, MOST_SUM, MOST_UNITS, MOST_WORDS, QUEUE, SEGMENT_COOKIE, TOP
+from support.layout import (
+    BLOCK_COOKIE, GREATEST, MOST_BYTES, MOST_SUM, MOST_UNITS, MOST_WORDS, QUEUE, SEGMENT_COOKIE, TOP,
+)
 
-MOST_BYTES = 8 * MOST_WORDS
 # A mapped file has a word before the image, and up to nine after it.
 MOST_MAPPED_BYTES = MOST_BYTES + 80
 MAPPED_FRONT = struct.pack("<2Q", 0, SEGMENT_COOKIE)

@@ -15,18 +15,16 @@ from typing import Any, TypeVar
 from unittest import mock
 
 from support import plain_reader
-from support.layout import GREATEST, SEGMENT_COOKIE
+from support.layout import BOOLEAN, COOKIE_BYTES, CUSTOM, GREATEST, LEAST, LINEAR, SPARSE
 
 T = TypeVar("T")
 
 TOTALS = b"totals,1\n"
-COOKIE = SEGMENT_COOKIE.to_bytes(8, "little")
 MOST = 2**64 - 1
 
 # An input that is added after others has only numbers of images below this.
 NUMBER_LIMIT = 2**62
-# The kinds by the numbers that records have.
-LINEAR, BOOLEAN, CUSTOM, SPARSE = 1, 2, 3, 4
+# The numbers that records have of the kinds.
 NUMBERS = {word: number for number, word in plain_reader.KINDS.items()}
 # The kind and the numbers after it, by which specs are ordered.
 Spec = tuple[int, ...]
@@ -109,53 +107,94 @@ def many(texts: Iterable[str]) -> list[int]:
     return [number(text, 0, MOST) for text in texts]
 
 
+class Lines:
+    """The lines of totals, each as its fields, and the place of the one that is read now."""
+
+    def __init__(self, data: bytes) -> None:
+        self.all = [line.split(",") for line in data.decode("latin-1").split("\n")]
+        self.at = 0
+
+    def begins(self, *words: str) -> bool:
+        """Whether this line begins with one of these words."""
+        return self.all[self.at][0] in words
+
+    def fields(self) -> list[str]:
+        """The fields of this line, without the word with which it begins."""
+        return self.all[self.at][1:]
+
+
+def read_counts(lines: Lines) -> list[int]:
+    """Reads the first two lines; the counts that these say of all images."""
+    assert lines.all[0] == ["totals", "1"]
+    lines.at = 1
+    counts = many(lines.fields())
+    if not lines.begins("images") or len(counts) != 5:
+        raise ValueError
+    lines.at = 2
+    return counts
+
+
+def part_of(fields: Sequence[str]) -> tuple[tuple[bytes, Spec], Part]:
+    """The name and the spec that the line of a histogram says, and what it has beside its keys."""
+    name, images, least, amounts, taken, redundant, kind, *behind = fields
+    spec = (NUMBERS[kind], *(number(text, 0, 2**32 - 1) for text in behind))
+    if len(behind) != {LINEAR: 3, BOOLEAN: 0, CUSTOM: len(behind), SPARSE: 0}[spec[0]]:
+        raise ValueError
+    sums = [number(text, -(2**127), 2**127 - 1) for text in (amounts, taken)]
+    return (name.encode("latin-1"), spec), Part({}, {}, *sums, *many([redundant, images, least]))
+
+
+def read_keys(lines: Lines, part: Part) -> list[int]:
+    """Reads the lines of keys into a part; the keys in the order of the lines."""
+    keys = []
+    while lines.begins("key"):
+        value, units, marks = lines.fields()
+        keys.append(number(value, LEAST, GREATEST))
+        part.units[keys[-1]], part.marks[keys[-1]] = many([units, marks])
+        lines.at += 1
+    return keys
+
+
+def read_histograms(lines: Lines, whole: Sum) -> tuple[int, int]:
+    """Reads the lines of histograms and keys into a sum: how many histograms there are, and the number of the line of
+    the first whose name is not above the one before, or whose keys or units cannot be; or 0."""
+    count, wrong = 0, 0
+    while lines.begins("hist"):
+        here, part = part_of(lines.fields())
+        lines.at += 1
+        line = lines.at
+        keys = read_keys(lines, part)
+        is_above = not whole.parts or here > max(whole.parts)
+        has_its = keys == sorted(set(keys)) and has_its_keys(here[1], keys)
+        if not is_above or not has_its or sum(part.units.values()) > MOST:
+            wrong = wrong or line
+        whole.parts[here] = part
+        count += 1
+    return count, wrong
+
+
+def read_end(lines: Lines, count: int) -> None:
+    """Reads what follows so many histograms: the lines of folds, and the end."""
+    while lines.begins("of", "fold"):
+        many(lines.fields())
+        lines.at += 1
+    if lines.all[lines.at] != ["end", str(count)]:
+        raise ValueError
+    lines.at += 1
+    if lines.all[lines.at :] != [[""]]:
+        raise ValueError
+
+
 def of_totals(data: bytes) -> Sum:
     """What the lines of totals say; raises the number of the line that is wrong, as a fault. If each line has the right
     form, that is the line of the first name that is not above the one before, or whose keys or units cannot be."""
-    at, names, wrong = 0, 0, 0
+    lines = Lines(data)
     try:
-        lines = [line.split(",") for line in data.decode("latin-1").split("\n")]
-        assert lines[0] == ["totals", "1"]
-        at = 1
-        word, *counts = lines[1]
-        if word != "images" or len(counts) != 5:
-            raise ValueError
-        whole = Sum(dict(), *many(counts))
-        at = 2
-        while lines[at][0] == "hist":
-            first = at + 1
-            _, name, images, least, amounts, taken, redundant, kind, *behind = lines[at]
-            spec = (NUMBERS[kind], *(number(text, 0, 2**32 - 1) for text in behind))
-            if len(behind) != {LINEAR: 3, BOOLEAN: 0, CUSTOM: len(behind), SPARSE: 0}[spec[0]]:
-                raise ValueError
-            part = Part(
-                {}, {}, number(amounts, -(2**127), 2**127 - 1), number(taken, -(2**127), 2**127 - 1),
-                *many([redundant, images, least]),
-            )
-            at += 1
-            keys = []
-            while lines[at][0] == "key":
-                _, value, units, marks = lines[at]
-                keys.append(number(value, -(2**31), 2**31 - 1))
-                part.units[keys[-1]], part.marks[keys[-1]] = many([units, marks])
-                at += 1
-            here = (name.encode("latin-1"), spec)
-            is_above = not whole.parts or here > max(whole.parts)
-            has_its = keys == sorted(set(keys)) and has_its_keys(spec, keys)
-            if not is_above or not has_its or sum(part.units.values()) > MOST:
-                wrong = wrong or first
-            whole.parts[here] = part
-            names += 1
-        while lines[at][0] in ("of", "fold"):
-            many(lines[at][1:])
-            at += 1
-        if lines[at] != ["end", str(names)]:
-            raise ValueError
-        at += 1
-        if lines[at:] != [[""]]:
-            raise ValueError
+        whole = Sum({}, *read_counts(lines))
+        count, wrong = read_histograms(lines, whole)
+        read_end(lines, count)
     except (ValueError, IndexError, KeyError):
-        raise Wrong(f"BadTotals {at + 1}") from None
+        raise Wrong(f"BadTotals {lines.at + 1}") from None
     if wrong:
         raise Wrong(f"BadTotals {wrong}")
     return whole
@@ -173,7 +212,7 @@ def of_input(data: bytes) -> Sum:
 
 def is_taken(data: bytes) -> bool:
     """Whether a file of a folder is an input."""
-    return data.startswith((TOTALS, COOKIE, bytes(8) + COOKIE))
+    return data.startswith((TOTALS, COOKIE_BYTES, bytes(8) + COOKIE_BYTES))
 
 
 # ---- sums
@@ -290,7 +329,7 @@ def reading_of(whole: Sum) -> tuple[dict[bytes, plain_reader.ReadHistogram], lis
         if spec[0] == SPARSE:
             highs = [low + 1 for low in lows]
         else:
-            highs = [*lows[1:], 2**31 - 1]
+            highs = [*lows[1:], GREATEST]
         by_name[name] = {
             "name": name,
             "kind": spec[0],

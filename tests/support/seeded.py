@@ -12,18 +12,15 @@ import tempfile
 from collections.abc import Callable, Collection, Iterable, Iterator
 from typing import Any
 
-from support.plain_reader import GREATEST
+from support.layout import GREATEST, LEAST, MOST_UNITS, PAGES
 from support.plain_tally import Histogram, Spec
 from support.program import Case
 
 MOST_WORKERS = 16
-MOST_UNITS = 2**32 - 1
-LEAST_VALUE = -(2**31)
-PAGES = range(64, 65_536 + 1, 16)
 SIGNS = "".join(sign for sign in map(chr, range(0x21, 0x7F)) if sign not in ',"')
 NAMES = ["A", "B", "AA", "a", "Z~", "12345678", "123456789", "total", "hist", "\\", "'", "#x", "-1", "a!"]
 COUNTS = [1, 1, 1, 2, 3, 65_534, 65_535, 65_536, 70_000]
-VALUES = [LEAST_VALUE, LEAST_VALUE + 1, -3, -1, 0, 1, 2, 3, 5, 10, GREATEST - 2, GREATEST - 1, GREATEST]
+VALUES = [LEAST, LEAST + 1, -3, -1, 0, 1, 2, 3, 5, 10, GREATEST - 2, GREATEST - 1, GREATEST]
 
 # A sample, (NAME, VALUE, COUNT), or a delta, (NAME,).
 ScriptCall = tuple[Any, ...]
@@ -104,7 +101,7 @@ def value_of(chance: random.Random, histogram: Histogram) -> int:
         return chance.choice(VALUES)
     if kind == 1:
         return min(chance.choice(histogram.boundaries) + chance.choice([-1, 0, 1]), GREATEST)
-    return chance.randrange(LEAST_VALUE, GREATEST + 1)
+    return chance.randrange(LEAST, GREATEST + 1)
 
 
 def calls_of(chance: random.Random, histograms: dict[str, Histogram], most: int) -> list[ScriptCall]:

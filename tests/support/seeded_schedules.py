@@ -11,18 +11,17 @@ import random
 from collections.abc import Callable, Collection, Iterable, Mapping, Sequence
 from typing import Any
 
-from support.plain_reader import GREATEST, SEGMENT_COOKIE, TOP
+from support.layout import GREATEST, LEAST, TOP, Words
 from support.plain_tally import Histogram, Spec
 from support.program import Answer
 
-LEAST_VALUE = -(2**31)
 SHAPES = [(64, 64), (128, 64), (128, 128), (192, 64), (256, 128), (512, 64)]
 SPECS: list[Spec] = [
     ("linear", 1, 10, 5), ("linear", 1, 4, 4), ("boolean",), ("custom", 7), ("custom", 3, 100), ("sparse",),
     ("sparse",),
 ]
 NAMES = ["A", "B", "S", "a-long-name"]
-VALUES = [LEAST_VALUE, -5, -1, 0, 1, 1, 2, 3, 5, 7, 10, 100, GREATEST]
+VALUES = [LEAST, -5, -1, 0, 1, 1, 2, 3, 5, 7, 10, 100, GREATEST]
 COUNTS = [0, 1, 1, 1, 1, 2, 3, 65_534, 65_535, 65_536, 2**31]
 SUMS = [0, 0, -7, 5, 2**31, -(2**63), 2**63 - 1]
 TIMES = [1, 1, 1, 2, 3, 5, 10]
@@ -52,8 +51,7 @@ class Schedule:
 
     def words(self) -> list[int]:
         """The words of a new segment."""
-        head = [SEGMENT_COOKIE, self.version, self.size, self.page, self.id, 1, 0, 16, 12, 0, 0, 0, 4, 1, 0, 12]
-        return head + [0] * (self.size - len(head))
+        return list(Words(self.size, self.page, self.version, segment_id=self.id).words)
 
 
 class Running:

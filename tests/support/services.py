@@ -15,6 +15,7 @@ from collections.abc import Iterator
 from typing import Any
 
 from support import native
+from support.layout import FREE, MOST_UNITS
 from support.program import ROOT, Answer, Case, Path, answer
 
 SOURCE = ROOT / "examples" / "cpp" / "service.cpp"
@@ -23,9 +24,8 @@ ENOUGH = 200
 LOOKS = 300
 # Different texts of its metrics that are waited for, with one before the first.
 TEXTS = 4
-# Of the image in a file, which begins at byte 8, the word after which nothing was claimed.
-FREE_AT = 8 * (1 + 7)
-ALL_UNITS = 4_294_967_295
+# Where the free pointer is in a file, whose image begins at byte 8.
+FREE_AT = 8 * (1 + FREE)
 FIRST = "0000000001.seg"
 
 
@@ -189,7 +189,7 @@ def has_another_spec(service: Service) -> str | None:
 def has_few_units(service: Service) -> str | None:
     """It records to the last unit, and then into the next segment."""
     left = 100
-    folder = service.made("units", f'recorder.add_or_throw(recorder.boolean("other"), 1, {ALL_UNITS - left}u);')
+    folder = service.made("units", f'recorder.add_or_throw(recorder.boolean("other"), 1, {MOST_UNITS - left}u);')
     said, errors = service.ended(folder)
     served, missed = counts(said) or (0, 0)
     segments = sorted(path.name for path in folder.glob("*.seg"))

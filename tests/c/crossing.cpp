@@ -62,9 +62,17 @@ void is_whole(Handle& segment) {
     HOLDS(units == UINT32_MAX && outstanding == 0);
 }
 
-// The first recorder is of the other segment; so is the second, if both cross.
+// Whether one of two joins met the other: alone, a join is done or returns that the recorder is of another segment.
+bool met(const Answers& answers) {
+    const auto by = [](std::uint32_t answer) { return answer == POVUNDIRI_ELSEWHERE || answer == POVUNDIRI_BUSY; };
+    return by(answers.first) || by(answers.second);
+}
+
+// The first recorder is of the other segment; so is the second, if both cross. Where one crosses, the two have to meet in some rounds: then
+// a join takes long enough. Both cross too quickly for that to be certain.
 void cross(bool both) {
     Handle here, there;
+    int meetings = 0;
     DONE(povundiri_create(kShape, &here.it));
     DONE(povundiri_create(kShape, &there.it));
     for (int round = 0; round < kRounds && failed_here == 0; ++round) {
@@ -73,12 +81,14 @@ void cross(bool both) {
         DONE(povundiri_recorder(&there.it, kShare, &one.it));
         DONE(povundiri_recorder(&home.it, kShare, &other.it));
         const Answers answers = joined_together(here, one, there, other);
+        meetings += met(answers) ? 1 : 0;
         HOLDS(both || answers.first != POVUNDIRI_DONE);
         comes_home(answers.first, one, there);
         comes_home(answers.second, other, home);
         is_whole(here);
         is_whole(there);
     }
+    HOLDS(both || meetings > 0);
 }
 
 void one_crosses() { cross(false); }

@@ -52,6 +52,11 @@ static void answered(const struct pass *pass) {
     HOLDS(pass->recorder->full != is_empty(pass));
 }
 
+/* Whether the call met the other one: alone, it is done or returns that the recorder is of another segment. */
+static bool met(const struct pass *pass) {
+    return pass->status == POVUNDIRI_ELSEWHERE || pass->status == POVUNDIRI_BUSY;
+}
+
 /* The recorder in a handle, if there is one, is joined to its own segment. */
 static void come_home(struct povundiri_handle *recorder, struct povundiri_handle *here, struct povundiri_handle *there) {
     uint32_t status;
@@ -69,11 +74,12 @@ static void is_whole(struct povundiri_handle *segment) {
 }
 
 /* The first thread lends a recorder of the other segment. The second lends or joins one to the other segment: a recorder of the first
- * segment if both cross, else one of the other segment itself, and then its call is done, or returns BUSY. */
+ * segment if both cross, else one of the other segment itself, and then its call is done, or returns BUSY. Then they have to meet
+ * in some rounds; where both cross, they do so too rarely for that. */
 static void cross(bool both, bool joins) {
     const struct povundiri_shape shape = {1024, 256, 7, 0, 2};
     struct povundiri_handle here = {0}, there = {0};
-    int round;
+    int round, meetings = 0;
     DONE(povundiri_create(shape, &here));
     DONE(povundiri_create(shape, &there));
     for (round = 0; round < ROUNDS && failed_here == 0; round += 1) {
@@ -85,6 +91,7 @@ static void cross(bool both, bool joins) {
         pass_together(&wrong, &beside);
         answered(&wrong);
         answered(&beside);
+        meetings += met(&wrong) || met(&beside);
         if (!both) {
             HOLDS(wrong.status != POVUNDIRI_DONE);
             HOLDS(beside.status == POVUNDIRI_DONE || beside.status == POVUNDIRI_BUSY);
@@ -94,6 +101,7 @@ static void cross(bool both, bool joins) {
         is_whole(&here);
         is_whole(&there);
     }
+    HOLDS(both || meetings > 0);
     DONE(povundiri_drop(&here));
     DONE(povundiri_drop(&there));
 }

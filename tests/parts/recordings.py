@@ -43,6 +43,8 @@ THREADS = "-fsanitize=thread"
 # The reasons for what is missed, in the order of the library; what a run may miss that nothing disturbs.
 REASONS = ("too_large", "other_spec", "no_space", "rolling", "forked", "ended", "no_memory")
 MAY_MISS = ("too_large", "rolling")
+# The most units that may be missed as `rolling`, of those that were counted; seen were at most 0.0002.
+MOST_ROLLING = 0.05
 MOST_SECONDS = 100
 # In this time a program makes BEGINNINGS calls, also on a busy machine.
 ENOUGH_SECONDS = 60
@@ -215,6 +217,8 @@ def to_its_end(runs: Folder, mode: str) -> str | None:
     if "r" in mode and b", read 0, " in came.output:
         return "no report was read meanwhile"
     begun, ended = runs.counts()
+    if missed["rolling"] > MOST_ROLLING * sum(ended.values()):
+        return f"missed are {missed}, of {ended}"
     return runs.wrong() if begun == ended and +ended else f"begun are {begun}, and ended {ended}"
 
 

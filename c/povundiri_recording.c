@@ -596,7 +596,7 @@ static uint32_t ask(struct povundiri_recording *recording, size_t metric) {
     return is_spent(status) ? (uint32_t)POVUNDIRI_DONE : status;
 }
 
-static bool is_told(uint32_t status) {
+static bool is_kept(uint32_t status) {
     return status == POVUNDIRI_DONE || status == POVUNDIRI_REFUSED_OTHER_SPEC || status == POVUNDIRI_REFUSED_TOO_LARGE;
 }
 
@@ -608,7 +608,7 @@ static uint32_t hist_of(struct povundiri_recording *recording, const char *name,
     status = povundiri_metrics_add(metrics, recording->shape, name, length, spec, values, count);
     if (status != POVUNDIRI_DONE) return status;
     status = ask(recording, metrics->count - 1);
-    if (is_told(status)) {
+    if (is_kept(status)) {
         *metric = metrics->count - 1;
     } else {
         povundiri_metrics_forget_last(metrics);

@@ -48,14 +48,14 @@ public:
 
     // What the call returned that made it: Done, or why samples are missed: RefusedOtherSpec, RefusedTooLarge (povundiri_recording_hist).
     // Empty: no call did.
-    Status told() const noexcept { return told_; }
+    Status status() const noexcept { return status_; }
 
 private:
     friend class Recording;
 
     povundiri_recording* recording_ = nullptr;
     std::size_t number_ = 0;
-    Status told_ = Status::Empty;
+    Status status_ = Status::Empty;
 };
 
 class Recording {
@@ -97,7 +97,7 @@ public:
     void leave() noexcept { povundiri_recording_leave(recording_); }
 
     // The histogram of a name. A name or a spec that no histogram may have is returned, or thrown as a Fault, and 'metric' is unchanged. But
-    // RefusedOtherSpec and RefusedTooLarge are not thrown: there is a metric all the same, and its 'told' returns them.
+    // RefusedOtherSpec and RefusedTooLarge are not thrown: there is a metric all the same, and its 'status' returns them.
     [[nodiscard]] Status try_hist(std::string_view name, povundiri_spec spec, Span<const std::uint32_t> values, Metric& metric) noexcept {
         std::size_t number = 0;
         const auto status = static_cast<Status>(
@@ -105,7 +105,7 @@ public:
         if (!is_made(status)) return status;
         metric.recording_ = recording_;
         metric.number_ = number;
-        metric.told_ = status;
+        metric.status_ = status;
         return status;
     }
     Metric linear(std::string_view name, std::uint32_t minimum, std::uint32_t maximum, std::uint32_t buckets) {

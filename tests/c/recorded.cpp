@@ -79,7 +79,7 @@ void metrics() {
     RETURNS(RefusedBadName, recording.try_hist("", again, {}, metric));
     RETURNS(BadKind, recording.try_hist("k", {9, 0, 0, 0}, {}, metric));
     RETURNS(SpecBadMin, recording.try_hist("k", {POVUNDIRI_LINEAR, 0, 10, 3}, {}, metric));
-    HOLDS(!metric.add(1) && !none.add(1) && none.told() == Status::Empty && recording.missed() == 0);
+    HOLDS(!metric.add(1) && !none.add(1) && none.status() == Status::Empty && recording.missed() == 0);
     metric = metric_of(recording, "b");
     HOLDS(metric.add(true) && metric.add(1, 4));
     HOLDS(units_in(recording.report(), "b") == 5);
@@ -255,7 +255,7 @@ void other_spec() {
     HOLDS(opens(folder("spec"), recording) && recording.began().adopted);
     Metric metric;
     RETURNS(RefusedOtherSpec, recording.try_hist("b", sparse, {}, metric));
-    HOLDS(metric.told() == Status::RefusedOtherSpec && !metric.add(5, 2) && recording.missed(Missed::OtherSpec) == 2);
+    HOLDS(metric.status() == Status::RefusedOtherSpec && !metric.add(5, 2) && recording.missed(Missed::OtherSpec) == 2);
     HOLDS(recording.report().find("\n!missed,other_spec,2\n") != std::string::npos);
 }
 

@@ -11,7 +11,7 @@ from __future__ import annotations
 import os
 import pathlib
 
-# No check of a crate has been seen to take more; `bench/gate.py` shows what they take.
+# Most checks take less. The largest take up to 7.2 GiB, and have smaller ones beside them: `bench/gate.py` shows it.
 BYTES_FOR_A_CHECK = 5 * 10**9
 
 

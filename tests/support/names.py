@@ -51,12 +51,13 @@ LEFT: list[tuple[str, str, str]] = [
     ),
     (
         "where the actor stands, at the stage of each call and each part of one",
-        "hist_core/Add hist_core/DeltaCall hist_core/Hist hist_core/Making hist_core/Sampling hist_core/SnapshotCall",
+        "hist_core/Add hist_core/DeltaCall hist_core/Hist hist_core/NewRecord hist_core/SampleSearch"
+        " hist_core/SnapshotCall",
         "StandsAtStage",
     ),
     (
         "how each call, and each part of one, begins",
-        "hist_core/Add hist_core/DeltaCall hist_core/Making hist_core/Sampling hist_core/SnapshotCall",
+        "hist_core/Add hist_core/DeltaCall hist_core/NewRecord hist_core/SampleSearch hist_core/SnapshotCall",
         "IsStarted",
     ),
     (
@@ -66,12 +67,12 @@ LEFT: list[tuple[str, str, str]] = [
     ),
     (
         "the same of the two calls that allocate, by their stages",
-        "hist_core/Add hist_core/Making",
+        "hist_core/Add hist_core/NewRecord",
         "IsAllocated IsAllocating",
     ),
     (
         "the same of the two searches that make a record, by their stages",
-        "hist_core/Hist hist_core/Sampling",
+        "hist_core/Hist hist_core/SampleSearch",
         "IsMade",
     ),
     (

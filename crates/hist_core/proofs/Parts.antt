@@ -6,7 +6,7 @@ pub mod Compares
 pub mod Comparisons
 pub mod Deeds
 pub mod Differences
-pub mod Makings
+pub mod NewRecords
 pub mod Records
 pub mod Sames
 pub mod Walks

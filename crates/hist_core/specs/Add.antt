@@ -36,11 +36,11 @@ use Rattle.hist_core.specs.declared.add.AddStep.TheVariants.{More, Done, Refused
 use Rattle.hist_core.specs.declared.add.AddStage.{AddStage}
 use Rattle.hist_core.specs.declared.add.AddStage.TheVariants.{LoadingSingle, Packing, LoadingCounts, SeekingCounts, Allocating, Mounting, Purging, LoadingAgain, Disabling, Moving, Sampling, Counting, Summing, Noting}
 use Rattle.segment_calls.specs.declared.refusal.Refusal.TheVariants as why
-use Rattle.hist_core.specs.Making.{IsCause, is_full}
+use Rattle.hist_core.specs.NewRecord.{IsCause, is_full}
 use Rattle.hist_core.specs.StepsBy.{SharedEffect, links, raises, DoesOnly, StepsBy, IsFree, LiesWithin}
-use Rattle.hist_core.specs.Sampling.{IsSampling, IsStarted as BeginsToSearch, SawNoSample}
-use Rattle.hist_core.specs.declared.sampling.SamplingStep.{SamplingStep}
-use Rattle.hist_core.specs.declared.sampling.SamplingStep.TheVariants as found
+use Rattle.hist_core.specs.SampleSearch.{IsSampleSearch, IsStarted as BeginsToSearch, SawNoSample}
+use Rattle.hist_core.specs.declared.sample_search.SampleSearchStep.{SampleSearchStep}
+use Rattle.hist_core.specs.declared.sample_search.SampleSearchStep.TheVariants as found
 
 -- ---- what it counts
 
@@ -80,8 +80,8 @@ pub record IsCounting (shape : Dimensions) (known : Known) (add : Add) : Type 0 
 -- What it does first: it loads the single word or, if the histogram is sparse, looks for the sample of the value, which is an `i32`.
 abbrev pub OpensWith : Dimensions → Known → Add → AddStage → Type 0
 OpensWith shape known add LoadingSingle = has_buckets known.spec ≡ true
-OpensWith shape known add (Sampling sampling) =
-    (known.spec ≡ spec.Sparse) × (is_i32 add.value ≡ true) × BeginsToSearch shape known.reference add.value sampling
+OpensWith shape known add (Sampling sample_search) =
+    (known.spec ≡ spec.Sparse) × (is_i32 add.value ≡ true) × BeginsToSearch shape known.reference add.value sample_search
 OpensWith shape known add stage = ⊥
 
 -- It begins: it counts `units` units of a value in a known histogram, and an amount.
@@ -184,9 +184,9 @@ StandsBefore shape known add a _ = ⊥
 -- Where its actor is, and how far its entry is.
 abbrev pub StandsAtStage : Dimensions → Known → Amid → Add → Actor → AddStage → Type 0
 StandsAtStage shape known amid add a (Counting at) = HasEntry known amid add a false false × IsCountOf known add a at × (at < shape.size)
-StandsAtStage shape known amid add a (Sampling sampling) =
-    HasEntry known amid add a false false × (known.spec ≡ spec.Sparse) × (sampling.histogram ≡ known.reference) × (sampling.value ≡ add.value)
-    × IsSampling shape sampling a
+StandsAtStage shape known amid add a (Sampling sample_search) =
+    HasEntry known amid add a false false × (known.spec ≡ spec.Sparse) × (sample_search.histogram ≡ known.reference) × (sample_search.value ≡ add.value)
+    × IsSampleSearch shape sample_search a
 StandsAtStage shape known amid add a Summing = MayTurn a × HasEntry known amid add a true false × (int_eq add.amount (pos 0) ≡ false)
 StandsAtStage shape known amid add a Noting = MayTurn a × HasEntry known amid add a true (not (int_eq add.amount (pos 0)))
 StandsAtStage shape known amid add a stage =
@@ -289,11 +289,11 @@ IsAllocated old said.Corrupt new result = (new ≡ old) × (result ≡ Refused w
 
 -- it looks for the sample of its value
 abbrev pub IsSearching : AddStage → Type 0
-IsSearching (Sampling sampling) = ⊤
+IsSearching (Sampling sample_search) = ⊤
 IsSearching _ = ⊥
 
 -- what a step of its search leads to: it continues, or counts in the sample, or is refused
-abbrev pub IsSampled : Add → SamplingStep → Add → AddStep → Type 0
+abbrev pub IsSampled : Add → SampleSearchStep → Add → AddStep → Type 0
 IsSampled old found.More new result = (new ≡ old) × (result ≡ More)
 IsSampled old (found.Found sample) new result = (new ≡ record old { stage = Counting ((sample + SAMPLE_COUNT) % 2 ^ 64) }) × (result ≡ More)
 IsSampled old (found.Refused cause) new result = (new ≡ old) × (result ≡ Refused cause)

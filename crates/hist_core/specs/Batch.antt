@@ -23,7 +23,7 @@ use Rattle.hist_core.specs.declared.batch.Batch.{Batch}
 use Rattle.hist_core.specs.declared.batch.BatchStep.{BatchStep}
 use Rattle.hist_core.specs.declared.batch.BatchStep.TheVariants.{More, Done, Refused}
 use Rattle.hist_core.specs.Add.{Amid, IsAdd, IsCounting, FrameOfAdd, NeedsBlock, StaysOpen, block_words, counted_entry, ended_entry, OpensWith}
-use Rattle.hist_core.specs.Making.{IsCause, is_full}
+use Rattle.hist_core.specs.NewRecord.{IsCause, is_full}
 use Rattle.hist_core.specs.StepsBy.{SharedEffect, links, raises, DoesOnly, StepsBy, IsFree}
 
 -- ---- what it counts

@@ -10,10 +10,10 @@ use Rattle.alloc_core.specs.Attempt.{attempt_of}
 use Rattle.alloc_core.specs.Alloc as alloc
 use Rattle.list_core.specs.Publish as publish
 use Rattle.segment_machine.specs.Form.{off_word}
-use Rattle.hist_core.specs.declared.making.MakingStage.{MakingStage}
-use Rattle.hist_core.specs.declared.making.MakingStage.TheVariants as making
-use Rattle.hist_core.specs.declared.sampling.SamplingStage.{SamplingStage}
-use Rattle.hist_core.specs.declared.sampling.SamplingStage.TheVariants as sampling
+use Rattle.hist_core.specs.declared.new_record.NewRecordStage.{NewRecordStage}
+use Rattle.hist_core.specs.declared.new_record.NewRecordStage.TheVariants as new_record
+use Rattle.hist_core.specs.declared.sample_search.SampleSearchStage.{SampleSearchStage}
+use Rattle.hist_core.specs.declared.sample_search.SampleSearchStage.TheVariants as sample_search
 use Rattle.hist_core.specs.declared.add.Add.{Add}
 use Rattle.hist_core.specs.declared.add.AddStage.{AddStage}
 use Rattle.hist_core.specs.declared.add.AddStage.TheVariants as adding
@@ -24,17 +24,17 @@ use Rattle.hist_core.specs.declared.actor_run.Running.TheVariants as runs
 use Rattle.hist_core.specs.declared.actor_run.ActorRun.{ActorRun}
 use Rattle.hist_core.specs.declared.world_state.WorldState.{WorldState}
 
--- the exchange that is the next event of the making of a record: of the free pointer, when its words are claimed; of a next or of the tail,
+-- the exchange that is the next event of a new record: of the free pointer, when its words are claimed; of a next or of the tail,
 -- when it is put on the list
-abbrev pub making_attempt : MakingStage → Option Attempt
-making_attempt (making.Allocating allocation) = attempt_of (alloc.next_event allocation)
-making_attempt (making.Filling at index) = None
-making_attempt (making.Publishing publishing) = attempt_of (publish.next_event publishing)
+abbrev pub new_record_attempt : NewRecordStage → Option Attempt
+new_record_attempt (new_record.Allocating allocation) = attempt_of (alloc.next_event allocation)
+new_record_attempt (new_record.Filling at index) = None
+new_record_attempt (new_record.Publishing publishing) = attempt_of (publish.next_event publishing)
 
--- the exchange that is the next event of a search for a sample: one of the making of a sample
-abbrev pub sampling_attempt : SamplingStage → Option Attempt
-sampling_attempt (sampling.Making m) = making_attempt m.stage
-sampling_attempt _ = None
+-- the exchange that is the next event of a search for a sample: one of a new sample
+abbrev pub sample_search_attempt : SampleSearchStage → Option Attempt
+sample_search_attempt (sample_search.Making m) = new_record_attempt m.stage
+sample_search_attempt _ = None
 
 -- the exchange that is the next event of an `add`: of the single word, when it packs its units there or disables it; of the counts
 -- reference, when it mounts counts; or one of its claim or of its search for a sample
@@ -43,12 +43,12 @@ add_attempt add (adding.Packing old new) = attempt_of (Some (exchange (add.histo
 add_attempt add (adding.Mounting at) = attempt_of (Some (exchange (add.histogram + HISTOGRAM_COUNTS) 0 at))
 add_attempt add (adding.Disabling counts old) = attempt_of (Some (exchange (add.histogram + HISTOGRAM_SINGLE) old (off_word add.version old)))
 add_attempt add (adding.Allocating allocation) = attempt_of (alloc.next_event allocation)
-add_attempt add (adding.Sampling s) = sampling_attempt s.stage
+add_attempt add (adding.Sampling s) = sample_search_attempt s.stage
 add_attempt add _ = None
 
--- the exchange that is the next event of a `hist`: one of the making of its record
+-- the exchange that is the next event of a `hist`: one of its new record
 abbrev pub hist_attempt : HistStage → Option Attempt
-hist_attempt (asking.Making m) = making_attempt m.stage
+hist_attempt (asking.Making m) = new_record_attempt m.stage
 hist_attempt _ = None
 
 -- the exchange that is the next event of a `batch`: that of the item that it counts next

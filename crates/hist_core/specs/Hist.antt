@@ -28,10 +28,10 @@ use Rattle.hist_core.specs.declared.hist.HistStep.TheVariants.{More, Done, Refus
 use Rattle.hist_core.specs.StepsBy.{SharedEffect, links, raises, DoesOnly, FrameOfStep, SawEnd, StepsBy, IsFree}
 use Rattle.hist_core.specs.declared.hist.HistStage.{HistStage}
 use Rattle.hist_core.specs.declared.hist.HistStage.TheVariants.{Walking, Comparing, Making}
-use Rattle.hist_core.specs.declared.making.MakingStep.{MakingStep}
-use Rattle.hist_core.specs.declared.making.MakingStep.TheVariants as made
-use Rattle.hist_core.specs.Making.{IsMaking, Wanted, is_full}
-use Rattle.hist_core.specs.Making as making
+use Rattle.hist_core.specs.declared.new_record.NewRecordStep.{NewRecordStep}
+use Rattle.hist_core.specs.declared.new_record.NewRecordStep.TheVariants as made
+use Rattle.hist_core.specs.NewRecord.{IsNewRecord, Wanted, is_full}
+use Rattle.hist_core.specs.NewRecord as new_record
 
 -- ---- what it asks for
 
@@ -120,7 +120,7 @@ StandsAtStage shape h a given Walking = IsFree a × HaveOtherNames h a given
 StandsAtStage shape h a given (Comparing same) =
     IsFree a × ((front : List ℕ) × (given ≡ front ++ h.reference ∷ []) × HaveOtherNames h a front)
     × Reaches shape.size h same × (same < comparisons h) × AreSame a.seen h same
-StandsAtStage shape h a given (Making making) = (given ≡ a.seen.chain) × SawEnd a.seen × HaveOtherNames h a given × IsMaking shape (wanted_of h) making a
+StandsAtStage shape h a given (Making new_record) = (given ≡ a.seen.chain) × SawEnd a.seen × HaveOtherNames h a given × IsNewRecord shape (wanted_of h) new_record a
 
 -- Its walk has given the front of the chain that its actor has seen.
 pub record IsHist (shape : Dimensions) (h : Hist) (a : Actor) : Type 0 where
@@ -145,7 +145,7 @@ SawNoName name seen = All (SawOtherName seen name) seen.chain × SawEnd seen
 -- the actor saw the list to its end, and no record of the name on it; and the block for the record of the name and a spec is refused
 abbrev pub LacksRecord : List ℕ → Spec → Refusal → Actor → Actor → Type 0
 LacksRecord name spec cause a b =
-    SawNoName name b.seen × (letters : List ℕ) × AreNameWords name letters × making.IsCause cause (BLOCK_HEADER + length (payload_words name spec letters)) a b
+    SawNoName name b.seen × (letters : List ℕ) × AreNameWords name letters × new_record.IsCause cause (BLOCK_HEADER + length (payload_words name spec letters)) a b
 
 -- why a `hist` of a name and a spec is refused: its actor saw no record of the name and got no block for one, or saw that the first one has
 -- another spec
@@ -180,11 +180,11 @@ IsSomeHist n h = (shape : Dimensions) × (a : Actor) × (n ≡ shape.size) × Is
 
 -- it is making its record
 abbrev pub IsMakingRecord : HistStage → Type 0
-IsMakingRecord (Making making) = ⊤
+IsMakingRecord (Making new_record) = ⊤
 IsMakingRecord _ = ⊥
 
 -- what a step of making its record leads to: it continues, walks on from where it was, or is refused
-abbrev pub IsMade : Hist → MakingStep → Hist → HistStep → Type 0
+abbrev pub IsMade : Hist → NewRecordStep → Hist → HistStep → Type 0
 IsMade old made.More new result = (new ≡ old) × (result ≡ More)
 IsMade old made.Done new result = (new ≡ record old { stage = Walking }) × (result ≡ More)
 IsMade old (made.Refused cause) new result = (new ≡ old) × (result ≡ Refused cause)

@@ -1,8 +1,8 @@
 pub mod WorldFault
 pub mod StepsBy
-pub mod Making
+pub mod NewRecord
 pub mod Hist
-pub mod Sampling
+pub mod SampleSearch
 pub mod Add
 pub mod Batch
 pub mod ActorRun

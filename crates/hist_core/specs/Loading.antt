@@ -8,11 +8,11 @@ use Rattle.alloc_core.specs.Event.Access.{load}
 use Rattle.alloc_core.specs.Load.{load_of}
 use Rattle.alloc_core.specs.Alloc as alloc
 use Rattle.list_core.specs.Publish as publish
-use Rattle.hist_core.specs.declared.making.MakingStage.{MakingStage}
-use Rattle.hist_core.specs.declared.making.MakingStage.TheVariants as making
-use Rattle.hist_core.specs.declared.sampling.Sampling.{Sampling}
-use Rattle.hist_core.specs.declared.sampling.SamplingStage.{SamplingStage}
-use Rattle.hist_core.specs.declared.sampling.SamplingStage.TheVariants as sampling
+use Rattle.hist_core.specs.declared.new_record.NewRecordStage.{NewRecordStage}
+use Rattle.hist_core.specs.declared.new_record.NewRecordStage.TheVariants as new_record
+use Rattle.hist_core.specs.declared.sample_search.SampleSearch.{SampleSearch}
+use Rattle.hist_core.specs.declared.sample_search.SampleSearchStage.{SampleSearchStage}
+use Rattle.hist_core.specs.declared.sample_search.SampleSearchStage.TheVariants as sample_search
 use Rattle.hist_core.specs.declared.add.Add.{Add}
 use Rattle.hist_core.specs.declared.add.AddStage.{AddStage}
 use Rattle.hist_core.specs.declared.add.AddStage.TheVariants as adding
@@ -34,20 +34,20 @@ use Rattle.hist_core.specs.Walk.{spot_of}
 abbrev pub loads : ℕ → Option ℕ
 loads at = load_of (Some (load at))
 
--- the word that the making of a record loads next, when its words are claimed or when it is put on the list
-abbrev pub making_load : MakingStage → Option ℕ
-making_load (making.Allocating allocation) = load_of (alloc.next_event allocation)
-making_load (making.Filling at index) = None
-making_load (making.Publishing publishing) = load_of (publish.next_event publishing)
+-- the word that is loaded next for a new record, when its words are claimed or when it is put on the list
+abbrev pub new_record_load : NewRecordStage → Option ℕ
+new_record_load (new_record.Allocating allocation) = load_of (alloc.next_event allocation)
+new_record_load (new_record.Filling at index) = None
+new_record_load (new_record.Publishing publishing) = load_of (publish.next_event publishing)
 
 -- the word that a search for a sample loads next: the next of the block where its walk is; the type, the histogram or the value of a
 -- record; or a word for the sample that it makes
-abbrev pub sampling_load : Sampling → SamplingStage → Option ℕ
-sampling_load s sampling.Walking = loads (s.walk + BLOCK_NEXT)
-sampling_load s (sampling.LoadingType at) = loads (at + BLOCK_TYPE)
-sampling_load s (sampling.LoadingHistogram at) = loads (at + SAMPLE_HISTOGRAM)
-sampling_load s (sampling.LoadingValue at of) = loads (at + SAMPLE_VALUE)
-sampling_load s (sampling.Making m) = making_load m.stage
+abbrev pub sample_search_load : SampleSearch → SampleSearchStage → Option ℕ
+sample_search_load s sample_search.Walking = loads (s.walk + BLOCK_NEXT)
+sample_search_load s (sample_search.LoadingType at) = loads (at + BLOCK_TYPE)
+sample_search_load s (sample_search.LoadingHistogram at) = loads (at + SAMPLE_HISTOGRAM)
+sample_search_load s (sample_search.LoadingValue at of) = loads (at + SAMPLE_VALUE)
+sample_search_load s (sample_search.Making m) = new_record_load m.stage
 
 -- the word that an `add` loads next: the single word, the counts reference, or a word of its claim or of its search for a sample
 abbrev pub add_load : Add → AddStage → Option ℕ
@@ -56,7 +56,7 @@ add_load add adding.LoadingCounts = loads (add.histogram + HISTOGRAM_COUNTS)
 add_load add adding.SeekingCounts = loads (add.histogram + HISTOGRAM_COUNTS)
 add_load add (adding.LoadingAgain counts) = loads (add.histogram + HISTOGRAM_SINGLE)
 add_load add (adding.Allocating allocation) = load_of (alloc.next_event allocation)
-add_load add (adding.Sampling s) = sampling_load s s.stage
+add_load add (adding.Sampling s) = sample_search_load s s.stage
 add_load add _ = None
 
 -- the word of a record that is compared as number k, if k and the number of words of the name are below 2^60, as in every record
@@ -69,7 +69,7 @@ compared_load hist k =
 abbrev pub hist_load : Hist → HistStage → Option ℕ
 hist_load hist asking.Walking = loads (hist.walk + BLOCK_NEXT)
 hist_load hist (asking.Comparing same) = compared_load hist same
-hist_load hist (asking.Making m) = making_load m.stage
+hist_load hist (asking.Making m) = new_record_load m.stage
 
 -- the word that a `delta` of a histogram loads next: the single word, the counts reference, a count, a word of its walk, the count of a
 -- sample, or the sum

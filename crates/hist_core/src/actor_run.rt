@@ -8,7 +8,7 @@ use crate::delta_call::{DeltaCall, DeltaCallStep};
 use crate::drawing::{draw, draw_sum};
 use crate::entry::{Entry, Taken};
 use crate::hist::{Hist, HistStep, KnownHist};
-use crate::samples::key_of;
+use crate::keys::key_of;
 use crate::snapshot_call::{SnapshotCall, SnapshotCallStep};
 use alloc_core::Attempt;
 use alloc_core::event::set_bits;

@@ -3,7 +3,7 @@
 ghost use Rattle.std.specs.Prelude.{◌≡◌, length};
 
 use crate::hist::KnownHist;
-use crate::sampling::{Sampling, SamplingStep};
+use crate::sample_search::{SampleSearch, SampleSearchStep};
 use crate::word_ops::fetch_add;
 use alloc_core::event::{exchange, store};
 use alloc_core::{Alloc, AllocStep, Attempt};
@@ -59,7 +59,7 @@ pub(crate) enum AddStage {
     },
     /// It looks for the first sample of its value, or makes one. The histogram is sparse.
     Sampling {
-        sampling: Sampling,
+        sample_search: SampleSearch,
     },
     /// It adds its units to the count at a word.
     Counting {
@@ -125,7 +125,7 @@ impl Add {
         ensures { IsStarted shape version (known_of known.now) value units amount result }
     {
         if known.ranges.len() == 0 {
-            let sampling = Sampling::start(shape, known.reference, value);
+            let sample_search = SampleSearch::start(shape, known.reference, value);
             return Add {
                 shape,
                 version,
@@ -135,7 +135,7 @@ impl Add {
                 value,
                 units,
                 amount,
-                stage: AddStage::Sampling { sampling },
+                stage: AddStage::Sampling { sample_search },
             };
         }
         Add {
@@ -376,17 +376,17 @@ impl Add {
 
     // What a step of its search leads to: it continues, counts in the sample, which lies within the segment, or is
     // refused.
-    fn sampled(&mut self, said: SamplingStep) -> AddStep
+    fn sampled(&mut self, said: SampleSearchStep) -> AddStep
         ensures { IsSampled self.old said self.new result }
     {
         match said {
-            SamplingStep::More => AddStep::More,
-            SamplingStep::Found(sample) => {
+            SampleSearchStep::More => AddStep::More,
+            SampleSearchStep::Found(sample) => {
                 let at = sample.wrapping_add(SAMPLE_COUNT as u64);
                 self.stage = AddStage::Counting { at };
                 AddStep::More
             }
-            SamplingStep::Refused(refusal) => AddStep::Refused(refusal),
+            SampleSearchStep::Refused(refusal) => AddStep::Refused(refusal),
         }
     }
 
@@ -398,8 +398,8 @@ impl Add {
         ensures same { self.new ≡ record self.old { stage = self.new.stage } }
     {
         match &mut self.stage {
-            AddStage::Sampling { sampling } => {
-                let said = sampling.step(words);
+            AddStage::Sampling { sample_search } => {
+                let said = sample_search.step(words);
                 self.sampled(said)
             }
             _ => AddStep::More,
@@ -454,7 +454,7 @@ impl Add {
                 wanted: 0,
             }),
             AddStage::Allocating { alloc } => alloc.next_exchange(),
-            AddStage::Sampling { sampling } => sampling.next_exchange(),
+            AddStage::Sampling { sample_search } => sample_search.next_exchange(),
             _ => None,
         }
     }
@@ -471,7 +471,7 @@ impl Add {
                 Some((self.histogram as usize).wrapping_add(HISTOGRAM_COUNTS))
             }
             AddStage::Allocating { alloc } => alloc.next_load(),
-            AddStage::Sampling { sampling } => sampling.next_load(),
+            AddStage::Sampling { sample_search } => sample_search.next_load(),
             _ => None,
         }
     }

@@ -12,7 +12,7 @@ ghost use Rattle.hist_core.specs.ActorRun.{known_of, entry_of as machine_entry};
 use crate::add::Add;
 use crate::entry::Entry;
 use crate::hist::KnownHist;
-use crate::samples::key_of;
+use crate::keys::key_of;
 use segment_image::Shape;
 use std::alloc::{AllocError, Global};
 

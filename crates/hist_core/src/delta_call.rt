@@ -2,8 +2,8 @@
 //! sum what is new.
 
 use crate::hist::KnownHist;
+use crate::keys::list_by_key;
 use crate::mounted::Mounted;
-use crate::samples::list_by_key;
 use crate::walk::{Met, SampleWalk};
 use crate::word_ops::{fetch_max, swap};
 use bucket_ranges::Ranges;

@@ -6,7 +6,7 @@ ghost use Rattle.hist_core.specs.declared.delta_call.DeltaCallStep.TheVariants.{
 ghost use Rattle.hist_core.specs.ActorRun.{IsLast, LastBecomes};
 
 use crate::entry::Taken;
-use crate::samples::list_by_key;
+use crate::keys::list_by_key;
 
 // The last has also taken these units of a key. There is room for them.
 pub(crate) fn draw(taken: &mut Vec<Taken>, key: i32, units: u64)

@@ -2,7 +2,7 @@
 
 ghost use Rattle.std.specs.Prelude.{◌≡◌, ◌≢◌, ◌≤◌, ◌<◌, ℕ, List, length};
 
-use crate::making::{Making, MakingStep};
+use crate::new_record::{NewRecord, NewRecordStep};
 use alloc_core::Attempt;
 use bucket_ranges::{Ranges, Spec};
 use list_core::{Walk, WalkStep};
@@ -31,7 +31,7 @@ pub(crate) enum HistStage {
     /// It loads a word of the record where the walk is. `same` words before it were as wanted.
     Comparing { same: usize },
     /// It makes its record.
-    Making { making: Making },
+    Making { new_record: NewRecord },
 }
 
 /// What a step of a `hist` says.
@@ -186,8 +186,8 @@ impl Hist {
             }
             WalkStep::End => {
                 let room = self.payload.len() as u64;
-                let making = Making::start(self.shape, room, TYPE_HISTOGRAM);
-                self.stage = HistStage::Making { making };
+                let new_record = NewRecord::start(self.shape, room, TYPE_HISTOGRAM);
+                self.stage = HistStage::Making { new_record };
                 HistStep::More
             }
             WalkStep::Stray => HistStep::More,
@@ -195,16 +195,16 @@ impl Hist {
     }
 
     // What a step of making its record leads to: it continues, walks on from where it was, or is refused.
-    fn made(&mut self, said: MakingStep) -> HistStep
+    fn made(&mut self, said: NewRecordStep) -> HistStep
         ensures { IsMade self.old said self.new result }
     {
         match said {
-            MakingStep::More => HistStep::More,
-            MakingStep::Done => {
+            NewRecordStep::More => HistStep::More,
+            NewRecordStep::Done => {
                 self.stage = HistStage::Walking;
                 HistStep::More
             }
-            MakingStep::Refused(refusal) => HistStep::Refused(refusal),
+            NewRecordStep::Refused(refusal) => HistStep::Refused(refusal),
         }
     }
 
@@ -216,8 +216,8 @@ impl Hist {
         ensures asks { self.new.asked ≡ self.old.asked }
     {
         match &mut self.stage {
-            HistStage::Making { making } => {
-                let said = making.step(words, &self.payload);
+            HistStage::Making { new_record } => {
+                let said = new_record.step(words, &self.payload);
                 self.made(said)
             }
             _ => HistStep::More,
@@ -229,7 +229,7 @@ impl Hist {
         ensures { result ≡ hist_attempt self.now.stage }
     {
         match &self.stage {
-            HistStage::Making { making } => making.next_exchange(),
+            HistStage::Making { new_record } => new_record.next_exchange(),
             _ => None,
         }
     }
@@ -253,7 +253,7 @@ impl Hist {
         match &self.stage {
             HistStage::Walking => Some(self.walk.next_load()),
             HistStage::Comparing { same } => self.compared_load(*same),
-            HistStage::Making { making } => making.next_load(),
+            HistStage::Making { new_record } => new_record.next_load(),
         }
     }
 

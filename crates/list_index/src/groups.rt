@@ -6,15 +6,15 @@ ghost use Rattle.list_index.specs.Groups.{group_of as group_of_key, numbers_of};
 use std::alloc::Global;
 use std::collections::HashMap;
 
-// A group has this many keys, half of them below its number times this.
-const KEYS: u64 = 4_294_967_296;
+/// How many keys a group has: 2^32.
+pub const GROUP_KEYS: u64 = 4_294_967_296;
 
-/// Returns the group of a key: a group has 2^32 keys, half of them below its number times 2^32.
+/// Returns the group of a key: a group has [`GROUP_KEYS`] keys, half of them below its number times that.
 #[inline(always)]
 pub fn group_of(key: u64) -> u64
     ensures { result ≡ group_of_key key }
 {
-    key.wrapping_add(KEYS / 2) / KEYS
+    key.wrapping_add(GROUP_KEYS / 2) / GROUP_KEYS
 }
 
 /// For each group the numbers that were entered with it, in their order.
@@ -81,6 +81,6 @@ fn groups_are_apart(rt: HostRuntime) {
     assert!(rt; groups.numbers(7)[0] == 16);
     assert!(rt; groups.numbers(7)[1] == 50);
     assert!(rt; groups.numbers(8).len() == 1);
-    assert!(rt; group_of(7 * 4_294_967_296) == 7);
-    assert!(rt; group_of(7 * 4_294_967_296 - 1) == 7);
+    assert!(rt; group_of(7 * GROUP_KEYS) == 7);
+    assert!(rt; group_of(7 * GROUP_KEYS - 1) == 7);
 }

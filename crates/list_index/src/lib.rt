@@ -12,5 +12,5 @@ mod groups;
 mod keys;
 
 pub use firsts::Firsts;
-pub use groups::{Groups, group_of};
+pub use groups::{GROUP_KEYS, Groups, group_of};
 pub use keys::{next_byte_key, next_key};

@@ -27,9 +27,15 @@ use Rattle.live_segment.specs.Hist.Search.{HasSearched}
 use Rattle.live_segment.specs.Delta.Outcome.{AreUnits, HasTaken}
 use Rattle.live_segment.specs.Delta.Owed.{HasEnough, TookEnough}
 use Rattle.live_segment.specs.Snapshot.Outcome.{HasSnapshot}
-use Rattle.live_segment.specs.List.Values.{AreFewKeys}
+use Rattle.live_segment.specs.List.Values.{AreFewKeys, AreMostKeys}
 use Rattle.live_segment.specs.Standing.{HasFirst, HasList, HasShared}
 use Rattle.live_segment.specs.RecorderState.{GivesFresh, IsSameIfBucketed, Means, view_of_state}
+
+-- ---- `most_keys`
+
+-- a histogram that the recorder knows may have this many keys
+abbrev pub AreMostKeysOf : Segment → RecorderState → Hist → ℕ → Type 0
+AreMostKeysOf segment state histogram keys = (known : Known) → Means state histogram known → AreMostKeys segment known keys
 
 -- ---- `hist`
 

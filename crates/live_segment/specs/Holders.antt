@@ -1,8 +1,11 @@
 -- The holders of a segment, openers and recorders: what they have done and seen, and which segment that is.
-use Rattle.std.specs.Prelude.{◌≡◌, false, ◌<◌, ℕ, List, slice_set}
+use Rattle.std.specs.Prelude.{◌≡◌, false, ◌<◌, ℕ, List, Err, MatchOption, MatchResult, Result, slice_set}
 use Rattle.atomic_table.specs.Seated.{TableId}
 use Rattle.segment_image.specs.declared.layout.TheConstants.{VERSION_WORD}
+use Rattle.segment_image.specs.Checks.{first_fault}
 use Rattle.segment_image.specs.Image.{blank_words}
+use Rattle.segment_calls.specs.declared.open_fault.OpenFault.{OpenFault}
+use Rattle.segment_calls.specs.declared.open_fault.OpenFault.TheVariants.{NoMemory}
 use Rattle.segment_machine.specs.declared.actor.Actor.{Actor}
 use Rattle.live_segment.specs.declared.rule.Opening.{Opening}
 use Rattle.live_segment.specs.declared.rule.Setting.{Setting}
@@ -12,7 +15,7 @@ use Rattle.live_segment.specs.declared.recorder.Recorder.{Recorder}
 use Rattle.segment_machine.specs.Actor.{is_opener}
 use Rattle.segment_machine.specs.Event.{Event, Ready}
 use Rattle.live_segment.specs.Steps.{Pass}
-use Rattle.live_segment.specs.Rule.{first_view, words_of, IsOf}
+use Rattle.live_segment.specs.Rule.{first_view, open_checks, words_of, IsOf}
 use Rattle.live_segment.specs.RecorderState.{view_of_state}
 
 -- the table that has the words of a segment
@@ -53,6 +56,16 @@ pub record IsOpened (setting : Setting) (words : List ℕ) (first : Actor) (segm
 abbrev pub IsNew : Setting → Segment → Opener → Type 0
 IsNew setting =
     IsOpened setting (slice_set (blank_words setting.shape.size setting.shape.page setting.id) VERSION_WORD setting.version) (first_view setting)
+
+-- `create` returns the fault of the first check that fails; else a new segment with this setting, and its opener, or `NoMemory`
+abbrev pub AnswersCreate : (size page id cursors version : ℕ) → Result (Segment × Opener) OpenFault → Type 0
+AnswersCreate size page id cursors version result =
+    MatchOption (first_fault (open_checks size page cursors version))
+    (MatchResult result
+    (λ made. IsNew
+    (record { shape = record { size = size; page = page }; version = version; id = id; cursors = cursors; full = false }) made.0 made.1)
+    (λ fault. fault ≡ NoMemory))
+    (λ fault. result ≡ Err fault)
 
 -- an opener continues with the same segment
 pub record IsSameOpener (old new : Opener) : Type 0 where

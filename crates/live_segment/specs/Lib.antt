@@ -17,7 +17,7 @@ pub mod Answers
 pub mod Standing
 pub mod Steps
 pub mod Holders
-pub mod Lending
+pub mod Opener
 pub mod Closing
 pub mod Seated
 pub mod Ready

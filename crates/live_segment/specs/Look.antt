@@ -11,7 +11,7 @@ IsGivenBy one two three result =
     (λ head. MatchResult result (λ image. IsLook head one two three image) (λ fault. fault ≡ NoMemory))
     (λ fault. result ≡ Err fault)
 
--- this is what some three copies of this many words give; or memory ran out for one of them
+-- this is what some three copies of this many words give; or memory ran out
 abbrev pub IsLookTaken : ℕ → Result (List ℕ) LookFault → Type 0
 IsLookTaken size result =
     ((one two three : List ℕ) × (length one ≡ size) × (length two ≡ size) × (length three ≡ size) × IsGivenBy one two three result)

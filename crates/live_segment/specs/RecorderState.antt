@@ -1,5 +1,5 @@
 -- All that a recorder has except its segment: what it has done and seen, and what it knows.
-use Rattle.std.specs.Prelude.{◌≡◌, true, ◌<◌, ℕ, List, [], drop, length, map}
+use Rattle.std.specs.Prelude.{◌≡◌, true, ◌<◌, ◌≤◌, ℕ, List, [], MatchOption, Option, drop, length, map}
 use mathlib.Core.Option.{some}
 use lib.ListN.{get_elem?}
 use Rattle.std.specs.List.{All}
@@ -35,6 +35,14 @@ pub record IsRecorderAt (segment : Segment) (state : RecorderState) : Type 0 whe
   pub indexed : IsIndexed Name segment.setting.shape.size state.seat.me.0.seen state.index
   pub sampled : IsIndexed Sample segment.setting.shape.size state.seat.me.0.seen state.samples
 
+-- it is that of a recorder at some segment, of which no call runs
+abbrev pub IsRecorderSomewhere : RecorderState → Type 0
+IsRecorderSomewhere state = (segment : Segment) × IsRecorderAt segment state
+
+-- it stays that of a recorder at each segment at which it is that of one
+abbrev pub StaysRecorder : RecorderState → RecorderState → Type 0
+StaysRecorder old new = (segment : Segment) → IsRecorderAt segment old → IsRecorderAt segment new
+
 -- what its recorder has done and seen
 abbrev pub view_of_state : RecorderState → Actor
 view_of_state state = state.seat.me.0
@@ -58,6 +66,19 @@ Means state histogram known = get_elem? (view_of_state state).answers.names hist
 abbrev pub IsNamed : List ℕ → Spec → RecorderState → Hist → Type 0
 IsNamed name spec state histogram =
     Knows state histogram × ((known : Known) × Means state histogram known × (known.name ≡ name) × SameSpec known.spec spec)
+
+-- it finds the histogram that it knows at a place, or knows none there
+abbrev pub IsFoundAt : ℕ → RecorderState → Option Hist → Type 0
+IsFoundAt place state found =
+    MatchOption found (length (view_of_state state).answers.names ≤ place) (λ histogram. (histogram.index ≡ place) × Knows state histogram)
+
+-- this is the name of a histogram that it knows
+abbrev pub IsKnownName : RecorderState → Hist → List ℕ → Type 0
+IsKnownName state histogram name = (known : Known) → Means state histogram known → name ≡ known.name
+
+-- this is the spec of a histogram that it knows, as the first `hist` of its name gave it
+abbrev pub IsKnownSpec : RecorderState → Hist → Spec → Type 0
+IsKnownSpec state histogram spec = (known : Known) → Means state histogram known → spec ≡ known.spec
 
 -- ---- before a call and after it
 

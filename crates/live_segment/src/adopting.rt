@@ -43,9 +43,7 @@ impl Segment {
     ghost use Rattle.segment_image.specs.Head.{head_of};
     ghost use Rattle.bucket_ranges.specs.Reading.{IsListed, reading_along};
     ghost use Rattle.segment_promises.specs.Adoption.{IsAdoptable, used_of};
-    ghost use Rattle.image_adoption.specs.Checking.{IsFaultOf};
-    ghost use Rattle.std.specs.Prelude.{MatchResult};
-    ghost use Rattle.live_segment.specs.Adopted.{IsAdopted};
+    ghost use Rattle.live_segment.specs.Adopted.{AnswersAdopt, IsAdopted};
 
     /// Returns a segment that continues from the words of an image, of its shape, version, id and full flag, and its
     /// opener. The segment is opened with these words, and its opener stands for all that they read as along their
@@ -60,7 +58,7 @@ impl Segment {
         words: &[u64],
         cursors: usize,
     ) -> Result<(Segment, Opener), AdoptFault>
-        ensures answer { MatchResult result (λ made. IsAdopted words.now cursors made.0 made.1) (λ fault. IsFaultOf words.now cursors fault) }
+        ensures answer { AnswersAdopt words.now cursors result }
     {
         Segment::adopt_in(alloc, Memory::of_heap(alloc), words, cursors)
     }
@@ -73,7 +71,7 @@ impl Segment {
         words: &[u64],
         cursors: usize,
     ) -> Result<(Segment, Opener), AdoptFault>
-        ensures answer { MatchResult result (λ made. IsAdopted words.now cursors made.0 made.1) (λ fault. IsFaultOf words.now cursors fault) }
+        ensures answer { AnswersAdopt words.now cursors result }
     {
         let Adoptable { references, used } = check(alloc, words, cursors)?;
         let made = Segment::adopted(alloc, memory, words, references, used, cursors)?;

@@ -3,7 +3,6 @@
 ghost use Rattle.std.specs.Prelude.{◌≡◌, ◌≤◌, true, []};
 ghost use Rattle.segment_machine.specs.declared.place.Place.TheVariants.{Idle};
 ghost use Rattle.segment_machine.specs.Actor.{is_opener, offered_of, outstanding_of};
-ghost use Rattle.std.proofs.Props.{props};
 
 use crate::recorder::{Recorder, RecorderState};
 use crate::rule::Pass;
@@ -29,14 +28,12 @@ pub struct Opener {
 }
 
 impl Opener {
-    ghost use Rattle.std.specs.Prelude.{Ok, Err, IfOk, MatchOption, MatchResult};
-    ghost use Rattle.segment_image.specs.Checks.{first_fault};
-    ghost use Rattle.segment_machine.specs.Seats.{offering, parent, newcomer, giver, getter, purse, joined};
-    ghost use Rattle.live_segment.specs.Steps.{recorder_checks, IsSame};
-    ghost use Rattle.live_segment.specs.Lending.{LendsUnits};
+    ghost use Rattle.std.specs.Prelude.{Ok, Err, IfOk};
+    ghost use Rattle.segment_machine.specs.Seats.{purse};
+    ghost use Rattle.live_segment.specs.Opener.{AnswersRecorder, AnswersState, GetsUnits, MakesRecorder, GivesUnits, TakesBack, IsMadeWithSame, IsStateOf, LendsUnits, RecorderGetsUnits};
     ghost use Rattle.live_segment.specs.declared.segment.Segment.{Segment};
-    ghost use Rattle.live_segment.specs.Holders.{IsMadeWith, IsRecorderOf, IsSameOpener, RecordsInto, view_of_opener, view_of_recorder};
-    ghost use Rattle.live_segment.specs.RecorderState.{given_fresh, IsRecorderAt, IsSameRecorder, view_of_state};
+    ghost use Rattle.live_segment.specs.Holders.{IsMadeWith, IsRecorderOf, RecordsInto, view_of_opener, view_of_recorder};
+    ghost use Rattle.live_segment.specs.RecorderState.{IsRecorderAt, view_of_state};
 
     // The opener of a segment that was just opened, which has these units.
     pub(crate) fn new(alloc: Global, seat: Pass, units: u32) -> Opener
@@ -88,8 +85,8 @@ impl Opener {
         requires { IsMadeWith segment.now self.old }
         ensures made { IsMadeWith segment.entry.now self.new }
         ensures into { IfOk result (RecordsInto segment.entry.now) }
-        ensures mine { MatchResult result (λ _. IsSameOpener self.old self.new × (view_of_opener self.new ≡ parent (offering (view_of_opener self.old) units))) (λ _. self.new ≡ self.old) }
-        ensures theirs { MatchOption (first_fault (recorder_checks (view_of_opener self.old) units)) (MatchResult result (λ recorder. (recorder.segment ≡ segment.entry) × (view_of_recorder recorder ≡ newcomer (offering (view_of_opener self.old) units)) × (given_fresh recorder.state ≡ 0)) (λ _. ⊥)) (λ why. result ≡ Err why) }
+        ensures mine { MakesRecorder units self.old result self.new }
+        ensures theirs { AnswersRecorder segment.entry units self.old result }
     {
         let state = self.recorder_state(segment, units)?;
         Ok(Recorder { segment, state })
@@ -106,8 +103,8 @@ impl Opener {
         requires { IsMadeWith segment.now self.old }
         ensures made { IsMadeWith segment.now self.new }
         ensures at { IfOk result (IsRecorderAt segment.now) }
-        ensures mine { MatchResult result (λ _. IsSameOpener self.old self.new × (view_of_opener self.new ≡ parent (offering (view_of_opener self.old) units))) (λ _. self.new ≡ self.old) }
-        ensures theirs { MatchOption (first_fault (recorder_checks (view_of_opener self.old) units)) (MatchResult result (λ state. (view_of_state state ≡ newcomer (offering (view_of_opener self.old) units)) × (given_fresh state ≡ 0)) (λ _. ⊥)) (λ why. result ≡ Err why) }
+        ensures mine { MakesRecorder units self.old result self.new }
+        ensures theirs { AnswersState units self.old result }
     {
         if units > self.units {
             return Err(Refusal::NoUnits);
@@ -125,7 +122,7 @@ impl Opener {
     // A purse with this many of its units, or why there is none.
     fn fill_purse(&mut self, segment: &Segment, units: u32) -> Result<Pass, Refusal>
         requires { self.old.seat.table_id ≡ segment.now.table.shared.table_id }
-        ensures mine { MatchResult result (λ _. IsSameOpener self.old self.new × (view_of_opener self.new ≡ giver (view_of_opener self.old) units)) (λ _. self.new ≡ self.old) }
+        ensures mine { GivesUnits units self.old result self.new }
         ensures filled { IfOk result (λ filled. (filled.table_id ≡ self.old.seat.table_id) × (filled.me ≡ (purse units, []))) }
         ensures why { LendsUnits units (view_of_opener self.old) result }
     {
@@ -149,11 +146,11 @@ impl Opener {
     pub fn lend(&mut self, recorder: &mut Recorder, units: u32) -> Result<(), Refusal>
         requires { IsRecorderOf recorder.old self.old }
         ensures kept { recorder.new.segment ≡ recorder.old.segment }
-        ensures mine { MatchResult result (λ _. IsSameOpener self.old self.new × (view_of_opener self.new ≡ giver (view_of_opener self.old) units)) (λ _. self.new ≡ self.old) }
-        ensures theirs { MatchResult result (λ _. IsSameRecorder recorder.old.state recorder.new.state × (view_of_recorder recorder.new ≡ getter (view_of_recorder recorder.old) units)) (λ _. recorder.new ≡ recorder.old) }
+        ensures mine { GivesUnits units self.old result self.new }
+        ensures theirs { RecorderGetsUnits units recorder.old result recorder.new }
         ensures why { LendsUnits units (view_of_opener self.old) result }
         ensures of { IsRecorderOf recorder.new self.new }
-        ensures made { (segment : Segment) → IsMadeWith segment self.old → IsMadeWith segment self.new }
+        ensures made { IsMadeWithSame self.old self.new }
     {
         let filled = self.fill_purse(recorder.segment, units)?;
         recorder.state.get(recorder.segment, filled, units);
@@ -171,13 +168,13 @@ impl Opener {
         units: u32,
     ) -> Result<(), Refusal>
         requires at { IsRecorderAt segment.now state.old }
-        requires of { state.old.seat.table_id ≡ self.old.seat.table_id }
+        requires of { IsStateOf state.old self.old }
         ensures at { IsRecorderAt segment.now state.new }
-        ensures mine { MatchResult result (λ _. IsSameOpener self.old self.new × (view_of_opener self.new ≡ giver (view_of_opener self.old) units)) (λ _. self.new ≡ self.old) }
-        ensures theirs { MatchResult result (λ _. IsSameRecorder state.old state.new × (view_of_state state.new ≡ getter (view_of_state state.old) units)) (λ _. state.new ≡ state.old) }
+        ensures mine { GivesUnits units self.old result self.new }
+        ensures theirs { GetsUnits units state.old result state.new }
         ensures why { LendsUnits units (view_of_opener self.old) result }
-        ensures of { state.new.seat.table_id ≡ self.new.seat.table_id }
-        ensures made { (other : Segment) → IsMadeWith other self.old → IsMadeWith other self.new }
+        ensures of { IsStateOf state.new self.new }
+        ensures made { IsMadeWithSame self.old self.new }
     {
         let filled = self.fill_purse(segment, units)?;
         state.get(segment, filled, units);
@@ -189,8 +186,8 @@ impl Opener {
     /// [made]. It takes no memory.
     pub fn join(&mut self, recorder: Recorder)
         requires { IsRecorderOf recorder self.old }
-        ensures takes { IsSameOpener self.old self.new × (view_of_opener self.new ≡ joined (view_of_opener self.old) (view_of_recorder recorder.entry)) }
-        ensures made { (segment : Segment) → IsMadeWith segment self.old → IsMadeWith segment self.new }
+        ensures takes { TakesBack self.old (view_of_recorder recorder.entry) self.new }
+        ensures made { IsMadeWithSame self.old self.new }
     {
         let Recorder { segment, state } = recorder;
         self.join_state(segment, state);
@@ -199,9 +196,9 @@ impl Opener {
     /// The same, for a caller that keeps the segment itself [takes]. The opener stays that of its segment [made].
     pub fn join_state(&mut self, segment: &Segment, state: RecorderState)
         requires at { IsRecorderAt segment.now state }
-        requires of { state.seat.table_id ≡ self.old.seat.table_id }
-        ensures takes { IsSameOpener self.old self.new × (view_of_opener self.new ≡ joined (view_of_opener self.old) (view_of_state state)) }
-        ensures made { (other : Segment) → IsMadeWith other self.old → IsMadeWith other self.new }
+        requires of { IsStateOf state self.old }
+        ensures takes { TakesBack self.old (view_of_state state) self.new }
+        ensures made { IsMadeWithSame self.old self.new }
     {
         let RecorderState { seat, units, .. } = state;
         segment.join(&mut self.seat, seat);

@@ -85,14 +85,12 @@ fn has_too_many_values(spec: &Spec) -> bool
 }
 
 impl<'a> Recorder<'a> {
-    ghost use Rattle.std.specs.Prelude.{◌↔◌, ◌<◌, ◌≤◌, ◌++◌, IsTrue, IfOk, MatchOption, length};
-    ghost use Rattle.segment_machine.specs.declared.actor.Known.{Known};
+    ghost use Rattle.std.specs.Prelude.{◌↔◌, ◌<◌, ◌++◌, IsTrue, IfOk};
     ghost use Rattle.live_segment.specs.Alloc.Allocation.{spoiled};
     ghost use Rattle.live_segment.specs.List.SharedCursors.{AnswersNext, gift};
-    ghost use Rattle.live_segment.specs.List.Values.{AreMostKeys};
-    ghost use Rattle.live_segment.specs.Holders.{view_of_recorder};
-    ghost use Rattle.live_segment.specs.RecorderState.{HasLimit, IsNamed, IsSameRecorder, Knows, KnowsOn, Means};
-    ghost use Rattle.live_segment.specs.Answers.{AnswersAdd, AnswersBatch, AnswersDelta, AnswersFirst, AnswersFresh, AnswersFront, AnswersHist, AnswersList, AnswersOpen, AnswersRecords, AnswersSnapshot, ClaimsAdd, ClaimsBatch, ClaimsHist, ShowsEnough, ShowsFewKeys, ShowsUnits, TakesEnough, TakesFewKeys};
+    ghost use Rattle.live_segment.specs.Holders.{HasCursor, view_of_recorder};
+    ghost use Rattle.live_segment.specs.RecorderState.{HasLimit, IsFoundAt, IsKnownName, IsKnownSpec, IsNamed, IsSameRecorder, Knows, KnowsOn};
+    ghost use Rattle.live_segment.specs.Answers.{AreMostKeysOf, AnswersAdd, AnswersBatch, AnswersDelta, AnswersFirst, AnswersFresh, AnswersFront, AnswersHist, AnswersList, AnswersOpen, AnswersRecords, AnswersSnapshot, ClaimsAdd, ClaimsBatch, ClaimsHist, ShowsEnough, ShowsFewKeys, ShowsUnits, TakesEnough, TakesFewKeys};
 
     /// Returns the units that it may still spend.
     pub fn units(&self) -> u32
@@ -127,7 +125,7 @@ impl<'a> Recorder<'a> {
 
     /// Returns the histogram that it knows at a place, as [`Hist::place`] has it, or none.
     pub fn hist_at(&self, place: usize) -> Option<Hist>
-        ensures { MatchOption result (length (view_of_recorder self.now).answers.names ≤ place) (λ histogram. (histogram.index ≡ place) × Knows self.now.state histogram) }
+        ensures { IsFoundAt place self.now.state result }
     {
         self.state.hist_at(place)
     }
@@ -136,7 +134,7 @@ impl<'a> Recorder<'a> {
     /// buckets, or of a sparse one as many records of five words as fit in the segment. It is the same each time.
     pub fn most_keys(&self, histogram: Hist) -> usize
         requires { Knows self.now.state histogram }
-        ensures { (known : Known) → Means self.now.state histogram known → AreMostKeys self.now.segment.now known result }
+        ensures { AreMostKeysOf self.now.segment.now self.now.state histogram result }
     {
         self.state.most_keys(self.segment, histogram)
     }
@@ -144,7 +142,7 @@ impl<'a> Recorder<'a> {
     /// Returns the name of a histogram that it knows.
     pub fn name(&self, histogram: Hist) -> &[u8]
         requires { Knows self.now.state histogram }
-        ensures { (known : Known) → Means self.now.state histogram known → result.now ≡ known.name }
+        ensures { IsKnownName self.now.state histogram result.now }
     {
         self.state.name(histogram)
     }
@@ -152,7 +150,7 @@ impl<'a> Recorder<'a> {
     /// Returns the spec of a histogram that it knows, as the first `hist` of its name gave it.
     pub fn spec(&self, histogram: Hist) -> &Spec
         requires { Knows self.now.state histogram }
-        ensures { (known : Known) → Means self.now.state histogram known → result.now ≡ known.spec }
+        ensures { IsKnownSpec self.now.state histogram result.now }
     {
         self.state.spec(histogram)
     }
@@ -401,7 +399,7 @@ impl<'a> Recorder<'a> {
     /// all recorders together a front of the list, each record once, and is at the end of that front; and what it gave
     /// one of them is in the order of the list. If the call returns None, this front is all of the list [shared].
     pub fn next_shared(&mut self, cursor: usize) -> Option<u64>
-        requires { cursor < (view_of_recorder self.old).segment.cursors }
+        requires { HasCursor self.old cursor }
         ensures kept { self.new.segment ≡ self.old.segment }
         ensures same { IsSameRecorder self.old.state self.new.state }
         ensures answer { AnswersNext cursor (view_of_recorder self.old) result (view_of_recorder self.new) }

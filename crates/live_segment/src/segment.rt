@@ -47,16 +47,15 @@ fn opening_words(alloc: Global, setting: &Setting) -> Result<Vec<u64>, AllocErro
 }
 
 impl Segment {
-    ghost use Rattle.std.specs.Prelude.{◌≡◌, ◌≤◌, ◌⊎◌, false, Err, MatchOption, MatchResult};
-    ghost use Rattle.segment_image.specs.Checks.{first_fault};
+    ghost use Rattle.std.specs.Prelude.{◌≡◌, ◌≤◌, ◌⊎◌, false, Err};
     ghost use Rattle.segment_machine.specs.Actor.{offered_of, outstanding_of};
     ghost use Rattle.segment_machine.specs.Seats.{MayOffer, offering, MaySplit, parent, newcomer, MayFill, lender, purse, MayPour, getter, joined};
     ghost use Rattle.live_segment.specs.Adopted.{MayGoOn};
     ghost use Rattle.live_segment.specs.Closing.{IsImageOf, ReadsJoined, DeltasAddUp, SnapshotsAgree, ReadsStopped};
-    ghost use Rattle.live_segment.specs.Rule.{IsKeptOpening, open_checks, opener_for, words_of};
+    ghost use Rattle.live_segment.specs.Rule.{IsKeptOpening, opener_for, words_of};
     ghost use Rattle.live_segment.specs.Seated.{IsSeated};
     ghost use Rattle.live_segment.specs.Steps.{IsAtRest, IsSame, Joinable};
-    ghost use Rattle.live_segment.specs.Holders.{IsNew, IsOpened, IsMadeWith, opened_with, view_of_opener};
+    ghost use Rattle.live_segment.specs.Holders.{AnswersCreate, IsNew, IsOpened, IsMadeWith, opened_with, view_of_opener};
 
     /// Returns a new segment without records, and its opener, which has all 4,294,967,295 units. Its words are those of
     /// a blank image, except for the version.
@@ -86,7 +85,7 @@ impl Segment {
         cursors: usize,
         version: u64,
     ) -> Result<(Segment, Opener), OpenFault>
-        ensures { MatchOption (first_fault (open_checks size page cursors version)) (MatchResult result (λ made. IsNew (record { shape = record { size = size; page = page }; version = version; id = id; cursors = cursors; full = false }) made.0 made.1) (λ fault. fault ≡ OpenFault.NoMemory)) (λ fault. result ≡ Err fault) }
+        ensures { AnswersCreate size page id cursors version result }
     {
         Segment::create_in(
             alloc,
@@ -112,7 +111,7 @@ impl Segment {
         cursors: usize,
         version: u64,
     ) -> Result<(Segment, Opener), OpenFault>
-        ensures { MatchOption (first_fault (open_checks size page cursors version)) (MatchResult result (λ made. IsNew (record { shape = record { size = size; page = page }; version = version; id = id; cursors = cursors; full = false }) made.0 made.1) (λ fault. fault ≡ OpenFault.NoMemory)) (λ fault. result ≡ Err fault) }
+        ensures { AnswersCreate size page id cursors version result }
     {
         let Ok(shape) = Shape::of(size, page) else {
             return Err(OpenFault::BadShape);

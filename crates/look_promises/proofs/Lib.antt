@@ -1,5 +1,5 @@
 pub mod Moments
-pub mod Making
+pub mod NewRecords
 pub mod Copies
 pub mod Words
 pub mod Amounts

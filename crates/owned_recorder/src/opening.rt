@@ -1,15 +1,10 @@
 //! An opener makes recorders that keep their segment alive, lends them units, and takes them back.
 
-ghost use Rattle.std.specs.Prelude.{◌≡◌, Err, IfOk, MatchOption, MatchResult};
+ghost use Rattle.std.specs.Prelude.{◌≡◌, IfOk};
 ghost use Rattle.std.specs.Arc.{arc_value};
-ghost use Rattle.segment_image.specs.Checks.{first_fault};
-ghost use Rattle.segment_machine.specs.Seats.{offering, parent, newcomer, giver, getter, joined};
-ghost use Rattle.live_segment.specs.declared.segment.Segment.{Segment as SomeSegment};
-ghost use Rattle.live_segment.specs.Steps.{recorder_checks};
-ghost use Rattle.live_segment.specs.Lending.{LendsUnits};
-ghost use Rattle.live_segment.specs.Holders.{IsMadeWith, IsSameOpener, view_of_opener};
-ghost use Rattle.live_segment.specs.RecorderState.{given_fresh, IsSameRecorder};
-ghost use Rattle.owned_recorder.specs.Holders.{IsRecorderOf, RecordsInto, view_of_owned};
+ghost use Rattle.live_segment.specs.Opener.{MakesRecorder, GivesUnits, TakesBack, IsMadeWithSame, LendsUnits};
+ghost use Rattle.live_segment.specs.Holders.{IsMadeWith, view_of_opener};
+ghost use Rattle.owned_recorder.specs.Holders.{AnswersOwned, IsRecorderOf, OwnedGetsUnits, RecordsInto, view_of_owned};
 
 use crate::owned::OwnedRecorder;
 use live_segment::{Opener, Segment};
@@ -29,8 +24,8 @@ pub fn owned_recorder(
     requires { IsMadeWith (arc_value segment) opener.old }
     ensures made { IsMadeWith (arc_value segment) opener.new }
     ensures into { IfOk result (RecordsInto (arc_value segment)) }
-    ensures mine { MatchResult result (λ _. IsSameOpener opener.old opener.new × (view_of_opener opener.new ≡ parent (offering (view_of_opener opener.old) units))) (λ _. opener.new ≡ opener.old) }
-    ensures theirs { MatchOption (first_fault (recorder_checks (view_of_opener opener.old) units)) (MatchResult result (λ owned. (owned.segment ≡ segment) × (view_of_owned owned ≡ newcomer (offering (view_of_opener opener.old) units)) × (given_fresh owned.state ≡ 0)) (λ _. ⊥)) (λ why. result ≡ Err why) }
+    ensures mine { MakesRecorder units opener.old result opener.new }
+    ensures theirs { AnswersOwned segment units opener.old result }
 {
     let state = opener.recorder_state(&segment, units)?;
     Ok(OwnedRecorder { segment, state })
@@ -43,11 +38,11 @@ pub fn owned_recorder(
 pub fn lend(opener: &mut Opener, owned: &mut OwnedRecorder, units: u32) -> Result<(), Refusal>
     requires { IsRecorderOf owned.old opener.old }
     ensures kept { owned.new.segment ≡ owned.old.segment }
-    ensures mine { MatchResult result (λ _. IsSameOpener opener.old opener.new × (view_of_opener opener.new ≡ giver (view_of_opener opener.old) units)) (λ _. opener.new ≡ opener.old) }
-    ensures theirs { MatchResult result (λ _. IsSameRecorder owned.old.state owned.new.state × (view_of_owned owned.new ≡ getter (view_of_owned owned.old) units)) (λ _. owned.new ≡ owned.old) }
+    ensures mine { GivesUnits units opener.old result opener.new }
+    ensures theirs { OwnedGetsUnits units owned.old result owned.new }
     ensures why { LendsUnits units (view_of_opener opener.old) result }
     ensures of { IsRecorderOf owned.new opener.new }
-    ensures made { (segment : SomeSegment) → IsMadeWith segment opener.old → IsMadeWith segment opener.new }
+    ensures made { IsMadeWithSame opener.old opener.new }
 {
     opener.lend_state(&owned.segment, &mut owned.state, units)
 }
@@ -56,8 +51,8 @@ pub fn lend(opener: &mut Opener, owned: &mut OwnedRecorder, units: u32) -> Resul
 /// keeps the segment alive, it ends.
 pub fn join(opener: &mut Opener, owned: OwnedRecorder)
     requires { IsRecorderOf owned opener.old }
-    ensures takes { IsSameOpener opener.old opener.new × (view_of_opener opener.new ≡ joined (view_of_opener opener.old) (view_of_owned owned)) }
-    ensures made { (segment : SomeSegment) → IsMadeWith segment opener.old → IsMadeWith segment opener.new }
+    ensures takes { TakesBack opener.old (view_of_owned owned) opener.new }
+    ensures made { IsMadeWithSame opener.old opener.new }
 {
     let OwnedRecorder { segment, state } = owned;
     opener.join_state(&segment, state);

@@ -1,14 +1,12 @@
 //! A recorder that keeps its segment alive instead of borrowing it.
 
-ghost use Rattle.std.specs.Prelude.{◌≡◌, ◌↔◌, ◌<◌, ◌≤◌, ◌++◌, length, IsTrue, IfOk, MatchOption};
+ghost use Rattle.std.specs.Prelude.{◌≡◌, ◌↔◌, ◌<◌, ◌++◌, IsTrue, IfOk};
 ghost use Rattle.std.specs.Arc.{arc_value};
 ghost use Rattle.std.proofs.Props.{props};
-ghost use Rattle.segment_machine.specs.declared.actor.Known.{Known};
 ghost use Rattle.live_segment.specs.Alloc.Allocation.{spoiled};
-ghost use Rattle.live_segment.specs.Answers.{AnswersAdd, AnswersBatch, AnswersDelta, AnswersFirst, AnswersFresh, AnswersFront, AnswersHist, AnswersList, AnswersOpen, AnswersRecords, AnswersSnapshot, ClaimsAdd, ClaimsBatch, ClaimsHist, ShowsEnough, ShowsFewKeys, ShowsUnits, TakesEnough, TakesFewKeys};
+ghost use Rattle.live_segment.specs.Answers.{AreMostKeysOf, AnswersAdd, AnswersBatch, AnswersDelta, AnswersFirst, AnswersFresh, AnswersFront, AnswersHist, AnswersList, AnswersOpen, AnswersRecords, AnswersSnapshot, ClaimsAdd, ClaimsBatch, ClaimsHist, ShowsEnough, ShowsFewKeys, ShowsUnits, TakesEnough, TakesFewKeys};
 ghost use Rattle.live_segment.specs.List.SharedCursors.{AnswersNext, gift};
-ghost use Rattle.live_segment.specs.List.Values.{AreMostKeys};
-ghost use Rattle.live_segment.specs.RecorderState.{HasLimit, IsNamed, IsRecorderAt, IsSameRecorder, Knows, KnowsOn, Means};
+ghost use Rattle.live_segment.specs.RecorderState.{HasLimit, IsFoundAt, IsKnownName, IsKnownSpec, IsNamed, IsRecorderAt, IsSameRecorder, Knows, KnowsOn};
 
 use bucket_ranges::Spec;
 use live_segment::{Hist, RecorderState, Segment};
@@ -64,7 +62,7 @@ impl OwnedRecorder {
 
     /// Returns the histogram that it knows at a place, as [`Hist::place`] has it, or none.
     pub fn hist_at(&self, place: usize) -> Option<Hist>
-        ensures { MatchOption result (length (view_of_owned self.now).answers.names ≤ place) (λ histogram. (histogram.index ≡ place) × Knows self.now.state histogram) }
+        ensures { IsFoundAt place self.now.state result }
     {
         self.state.hist_at(place)
     }
@@ -72,7 +70,7 @@ impl OwnedRecorder {
     /// Returns how many keys a histogram may have, as [`Recorder::most_keys`] does.
     pub fn most_keys(&self, histogram: Hist) -> usize
         requires { Knows self.now.state histogram }
-        ensures { (known : Known) → Means self.now.state histogram known → AreMostKeys (arc_value self.now.segment) known result }
+        ensures { AreMostKeysOf (arc_value self.now.segment) self.now.state histogram result }
     {
         self.state.most_keys(&self.segment, histogram)
     }
@@ -80,7 +78,7 @@ impl OwnedRecorder {
     /// Returns the name of a histogram that it knows.
     pub fn name(&self, histogram: Hist) -> &[u8]
         requires { Knows self.now.state histogram }
-        ensures { (known : Known) → Means self.now.state histogram known → result.now ≡ known.name }
+        ensures { IsKnownName self.now.state histogram result.now }
     {
         self.state.name(histogram)
     }
@@ -88,7 +86,7 @@ impl OwnedRecorder {
     /// Returns the spec of a histogram that it knows, as the first `hist` of its name gave it.
     pub fn spec(&self, histogram: Hist) -> &Spec
         requires { Knows self.now.state histogram }
-        ensures { (known : Known) → Means self.now.state histogram known → result.now ≡ known.spec }
+        ensures { IsKnownSpec self.now.state histogram result.now }
     {
         self.state.spec(histogram)
     }

@@ -16,7 +16,7 @@
 #![tactic(auto)]
 
 mod gate;
-mod looking;
+mod look;
 mod merging;
 mod opening;
 mod outputs;
@@ -27,7 +27,7 @@ mod stop;
 mod worker;
 
 pub use gate::{Gate, OpenGate};
-pub use looking::look_file;
+pub use look::look_file;
 pub use merging::merge_files;
 pub use resuming::resume_script;
 pub use run::run_script;

@@ -11,7 +11,7 @@ use crate::context::Context;
 use crate::explaining::{FaultContext, failure_of, unopened, unopened_out};
 use crate::failure::Failure;
 use crate::incoming::Incoming;
-use crate::looking::open_look;
+use crate::look::open_look;
 use crate::noted::{Noted, Stream};
 use crate::output::{Output, open_output};
 use crate::terminal::reads_terminal;

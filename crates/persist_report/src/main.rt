@@ -15,7 +15,7 @@ mod incoming;
 mod inputs;
 mod leftover;
 mod lock;
-mod looking;
+mod look;
 mod noted;
 mod output;
 mod part;

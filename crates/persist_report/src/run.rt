@@ -9,7 +9,7 @@ use crate::failure::Failure;
 use crate::files::{merge_files_into, resume_file, run_file, write_file};
 use crate::folding::fold_folder;
 use crate::inputs::is_of_many;
-use crate::looking::look_into;
+use crate::look::look_into;
 use crate::repeating::{Division, Shown, begin, show_again, wait};
 use crate::scales::print_scale;
 use crate::sizing::size_of_task;

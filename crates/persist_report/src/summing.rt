@@ -8,7 +8,7 @@ use crate::context::Context;
 use crate::failure::Failure;
 use crate::incoming::Incoming;
 use crate::inputs::{Named, What};
-use crate::looking::look_at;
+use crate::look::look_at;
 use crate::peeked::Peeked;
 use crate::progress::ProgressLine;
 use crate::recorded::add_recorded;

@@ -25,5 +25,6 @@ pub use reading_texts::report_text;
 pub use reporting::{read_image, report_of, write_and_flush};
 pub use rows::read_rows;
 pub use script::{
-    CallKind, Script, ScriptCall, ScriptFault, ScriptHist, read_script, read_script_for,
+    CallKind, MAX_SCRIPT_BYTES, Script, ScriptCall, ScriptFault, ScriptHist, read_script,
+    read_script_for,
 };

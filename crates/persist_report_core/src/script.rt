@@ -1,16 +1,16 @@
 //! Scripts: what is to be recorded, as CSV records.
 
 mod draft;
+mod existing_segment;
 mod fault;
 mod names;
-mod naming;
 mod reading;
 mod request;
 
 use bucket_ranges::Spec;
+pub use existing_segment::read_script_for;
 pub use fault::ScriptFault;
-pub use naming::read_script_for;
-pub use reading::read_script;
+pub use reading::{MAX_SCRIPT_BYTES, read_script};
 use segment_image::Shape;
 
 /// What a script asks for.

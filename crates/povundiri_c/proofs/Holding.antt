@@ -11,7 +11,7 @@ use Rattle.live_segment.specs.declared.opener.Opener.{Opener}
 use Rattle.owned_recorder.specs.declared.owned.OwnedRecorder.{OwnedRecorder}
 use Rattle.live_segment.specs.declared.segment.Segment.{Segment}
 use Rattle.live_segment.specs.Holders.{IsMadeWith, IsSameOpener, view_of_opener}
-use Rattle.live_segment.specs.Lending.{LendsUnits}
+use Rattle.live_segment.specs.Opener.{LendsUnits}
 use Rattle.live_segment.specs.RecorderState.{IsSameRecorder, view_of_state}
 use Rattle.owned_recorder.specs.Holders.{IsRecorderOf, RecordsInto, view_of_owned}
 use Rattle.povundiri_c.specs.declared.joinable_recorder.JoinableRecorder.{JoinableRecorder}

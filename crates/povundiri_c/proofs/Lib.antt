@@ -4,10 +4,10 @@ pub mod Ending
 pub mod Fitting
 pub mod Holding
 pub mod Joining
-pub mod Making
+pub mod NewSegments
 pub mod Passing
 pub mod Present
 pub mod Reporting
 pub mod Mailboxes
-pub mod Looking
+pub mod Looks
 pub mod Summing

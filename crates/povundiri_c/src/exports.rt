@@ -1,6 +1,6 @@
 //! The functions that C calls.
 
-mod looking;
+mod look;
 mod reading;
 mod recording;
 mod reporting;

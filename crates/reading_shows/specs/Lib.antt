@@ -3,7 +3,7 @@ pub use Rattle.image_reader.specs.Readable
 pub use Rattle.bucket_ranges.specs.Reading
 pub mod Columns
 pub mod Shares
-pub mod Naming
+pub mod RowNames
 pub mod Bars
 pub mod Heights
 pub mod Choice

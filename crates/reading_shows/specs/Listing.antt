@@ -12,7 +12,7 @@ use Rattle.reading_shows.specs.declared.listing.ListColumns.{ListColumns}
 use Rattle.text_styles.specs.declared.list_style.ListStyle.{ListStyle}
 use Rattle.reading_shows.specs.declared.choice.Choice.{Choice}
 use Rattle.reading_shows.specs.Columns.{at_left, at_right, times}
-use Rattle.reading_shows.specs.Naming.{naming_of}
+use Rattle.reading_shows.specs.RowNames.{row_names_of}
 use Rattle.reading_shows.specs.Shares.{mean}
 use Rattle.reading_shows.specs.Showing.{AreShown, ending, quantile, range_of_found}
 
@@ -29,7 +29,7 @@ pub record ListLine : Type 0 where
 
 -- the values of the row of a histogram that holds a quantile
 abbrev pub quantile_text : Histogram → ℕ → List ℕ
-quantile_text hist thousandths = range_of_found (naming_of hist.spec) (quantile (units_of hist) (rows_of hist) thousandths)
+quantile_text hist thousandths = range_of_found (row_names_of hist.spec) (quantile (units_of hist) (rows_of hist) thousandths)
 
 -- the key by which lines are sorted by units: 2^64 - 1 less the units, and then the bytes of the name
 abbrev pub rank_of : Histogram → List ℕ

@@ -8,7 +8,7 @@ use Rattle.reading_overviews.specs.Numbers.{number}
 use Rattle.reading_shows.specs.declared.frame.Frame.{Frame}
 use Rattle.reading_shows.specs.Shares.{percent}
 use Rattle.reading_shows.specs.Bars.{marks_of}
-use Rattle.reading_shows.specs.Naming.{range_text, has_line}
+use Rattle.reading_shows.specs.RowNames.{range_text, has_line}
 use Rattle.reading_shows.specs.Showing.{row_or_none, begins_gap}
 
 -- the bar of a number of units, given the most that a bar shows: a rectangle, in thousandths of the width of the longest one
@@ -22,15 +22,15 @@ drawn_bar units most =
 abbrev pub unit_row : Frame → HistRow → List ℕ
 unit_row frame row =
     joined (
-    codes "<tr><td>" ∷ range_text frame.naming row ∷ codes "</td><td>" ∷ drawn_bar row.units frame.most ∷ codes "</td><td>"
+    codes "<tr><td>" ∷ range_text frame.row_names row ∷ codes "</td><td>" ∷ drawn_bar row.units frame.most ∷ codes "</td><td>"
     ∷ number true row.units ∷ codes "</td><td>" ∷ percent (codes "&lt;0.1%") row.units frame.total ∷ codes "</td><td>" ∷ percent (codes "&lt;0.1%") row.up_to frame.total
     ∷ codes "</td></tr>\n" ∷ [])
 
 -- row `i`; neighbouring rows that have no row in the page share the row of a gap
 abbrev pub row_in_page : Frame → List HistRow → ℕ → List ℕ
 row_in_page frame rows i =
-    if has_line frame.naming (row_or_none rows i) then unit_row frame (row_or_none rows i)
-    else (if begins_gap frame.naming rows i then codes "<tr><td>...</td></tr>\n" else [])
+    if has_line frame.row_names (row_or_none rows i) then unit_row frame (row_or_none rows i)
+    else (if begins_gap frame.row_names rows i then codes "<tr><td>...</td></tr>\n" else [])
 
 -- the rows of a table
 abbrev pub rows_in_page : Frame → List HistRow → List ℕ

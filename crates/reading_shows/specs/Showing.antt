@@ -15,11 +15,11 @@ use Rattle.reading_overviews.specs.Numbers.{number, signed}
 use Rattle.text_styles.specs.declared.style.Style.{Style}
 use Rattle.reading_shows.specs.declared.frame.Frame.{Frame}
 use Rattle.reading_shows.specs.declared.frame.LineColumns.{LineColumns}
-use Rattle.reading_shows.specs.declared.naming.Naming.{Naming}
+use Rattle.reading_shows.specs.declared.row_names.RowNames.{RowNames}
 use Rattle.reading_shows.specs.declared.choice.Choice.{Choice}
 use Rattle.reading_shows.specs.Choice.{is_chosen}
 use Rattle.reading_shows.specs.Most.{shown_rows, left_out_rows}
-use Rattle.reading_shows.specs.Naming.{naming_of, is_truth, range_text, has_line}
+use Rattle.reading_shows.specs.RowNames.{row_names_of, is_truth, range_text, has_line}
 use Rattle.reading_shows.specs.Columns.{at_right, times}
 use Rattle.reading_shows.specs.Shares.{mean, percent}
 use Rattle.reading_shows.specs.Since.{Since, untold, told_since, counts_before, came_to_rows, came_to_all, came_text}
@@ -48,30 +48,30 @@ abbrev pub has_units : HistRow → Bool
 has_units row = not (row.units == 0)
 
 -- the values of a row, or the word none
-abbrev pub range_of_found : Naming → Option HistRow → List ℕ
-range_of_found naming None = codes "none"
-range_of_found naming (Some row) = range_text naming row
+abbrev pub range_of_found : RowNames → Option HistRow → List ℕ
+range_of_found row_names None = codes "none"
+range_of_found row_names (Some row) = range_text row_names row
 
 -- the line of the quantiles
-abbrev pub quantile_line : Naming → ℕ → List HistRow → List ℕ
-quantile_line naming total rows =
+abbrev pub quantile_line : RowNames → ℕ → List HistRow → List ℕ
+quantile_line row_names total rows =
     joined (
-    codes "  50%: " ∷ range_of_found naming (quantile total rows 500)
-    ∷ codes ", 90%: " ∷ range_of_found naming (quantile total rows 900)
-    ∷ codes ", 99%: " ∷ range_of_found naming (quantile total rows 990)
-    ∷ codes ", 99.9%: " ∷ range_of_found naming (quantile total rows 999) ∷ codes "\n" ∷ [])
+    codes "  50%: " ∷ range_of_found row_names (quantile total rows 500)
+    ∷ codes ", 90%: " ∷ range_of_found row_names (quantile total rows 900)
+    ∷ codes ", 99%: " ∷ range_of_found row_names (quantile total rows 990)
+    ∷ codes ", 99.9%: " ∷ range_of_found row_names (quantile total rows 999) ∷ codes "\n" ∷ [])
 
 -- the line of the first row that has units, and of the last, up to which there are all units
-abbrev pub ends_line : Naming → ℕ → List HistRow → List ℕ
-ends_line naming total rows =
+abbrev pub ends_line : RowNames → ℕ → List HistRow → List ℕ
+ends_line row_names total rows =
     joined (
-    codes "  least: " ∷ range_of_found naming (find has_units rows)
-    ∷ codes ", greatest: " ∷ range_of_found naming (quantile total rows 1000) ∷ codes "\n" ∷ [])
+    codes "  least: " ∷ range_of_found row_names (find has_units rows)
+    ∷ codes ", greatest: " ∷ range_of_found row_names (quantile total rows 1000) ∷ codes "\n" ∷ [])
 
 -- both lines; a boolean histogram has neither
-abbrev pub rank_lines : Naming → ℕ → List HistRow → List ℕ
-rank_lines naming total rows =
-    if is_truth naming then [] else (quantile_line naming total rows ++ ends_line naming total rows)
+abbrev pub rank_lines : RowNames → ℕ → List HistRow → List ℕ
+rank_lines row_names total rows =
+    if is_truth row_names then [] else (quantile_line row_names total rows ++ ends_line row_names total rows)
 
 -- the units of a histogram that no delta has taken
 abbrev pub left_of : Histogram → ℕ
@@ -99,7 +99,7 @@ taken_line is_human hist = if was_taken hist then left_line is_human hist else [
 abbrev pub number_lines : Bool → ℕ → Histogram → List ℕ
 number_lines is_human came hist =
     number_line is_human (kind_word hist.spec) hist.sum (units_of hist) came
-    ++ rank_lines (naming_of hist.spec) (units_of hist) (rows_of hist)
+    ++ rank_lines (row_names_of hist.spec) (units_of hist) (rows_of hist)
     ++ taken_line is_human hist
 
 -- ---- the lines of its rows
@@ -114,12 +114,12 @@ row_or_none rows i = get_or rows i (record { low = pos 0; high = pos 0; units = 
 
 -- whether row `i`, which has no line, begins a gap: it is the first of all, or the one before has units; a boolean histogram
 -- has no gap
-abbrev pub begins_gap : Naming → List HistRow → ℕ → Bool
-begins_gap naming rows i = not (is_truth naming) && ((i == 0) || has_units (row_or_none rows (i - 1)))
+abbrev pub begins_gap : RowNames → List HistRow → ℕ → Bool
+begins_gap row_names rows i = not (is_truth row_names) && ((i == 0) || has_units (row_or_none rows (i - 1)))
 
 -- a width at which the values of a row fit too, if it has a line
-abbrev pub widened : Naming → ℕ → HistRow → ℕ
-widened naming width row = if has_line naming row then max width (length (range_text naming row)) else width
+abbrev pub widened : RowNames → ℕ → HistRow → ℕ
+widened row_names width row = if has_line row_names row then max width (length (range_text row_names row)) else width
 
 -- how wide the column of the units that came is, with a blank before them: as wide as they or their head need; 0 if they are not shown
 abbrev pub came_width : Bool → Bool → List ℕ → ℕ
@@ -128,7 +128,7 @@ came_width is_human is_told cames = if is_told then max 4 (length (came_text is_
 -- how wide the columns of a histogram are: values and units as wide as they or their heads need, and the bars fill the line
 abbrev pub columns_of : Style → Frame → Bool → List ℕ → List HistRow → LineColumns
 columns_of style frame is_told cames rows =
-    let values = fold (widened frame.naming) 6 rows in
+    let values = fold (widened frame.row_names) 6 rows in
     let units = max 5 (length (number style.is_human frame.most)) in
     let came = came_width style.is_human is_told cames in
     record { values = values; bars = style.width - values - units - came - 20; units = units; came = came }
@@ -148,7 +148,7 @@ head_line columns =
 abbrev pub unit_line : Style → LineColumns → Frame → HistRow → ℕ → List ℕ
 unit_line style columns frame row came =
     joined (
-    codes "  " ∷ at_right columns.values (range_text frame.naming row) ∷ codes " "
+    codes "  " ∷ at_right columns.values (range_text frame.row_names row) ∷ codes " "
     ∷ bar style.is_ascii columns.bars (height_of style.is_log row.units) (height_of style.is_log frame.most) ∷ codes " " ∷ at_right columns.units (number style.is_human row.units)
     ∷ at_right columns.came (came_text style.is_human came)
     ∷ at_right 8 (percent (codes "<0.1%") row.units frame.total)
@@ -161,8 +161,8 @@ gap_line columns = joined (codes "  " ∷ at_right columns.values (codes "...") 
 -- the line of row `i`; neighbouring rows without lines share the line of a gap
 abbrev pub line_at : Style → LineColumns → Frame → List ℕ → List HistRow → ℕ → List ℕ
 line_at style columns frame cames rows i =
-    if has_line frame.naming (row_or_none rows i) then unit_line style columns frame (row_or_none rows i) (get_or cames i 0)
-    else (if begins_gap frame.naming rows i then gap_line columns else [])
+    if has_line frame.row_names (row_or_none rows i) then unit_line style columns frame (row_or_none rows i) (get_or cames i 0)
+    else (if begins_gap frame.row_names rows i then gap_line columns else [])
 
 -- the lines of rows in these columns
 abbrev pub lines_in : Style → LineColumns → Frame → List ℕ → List HistRow → List ℕ
@@ -207,7 +207,7 @@ meanwhile_line style hist =
 -- what the lines of a histogram have in common
 abbrev pub frame_of : Histogram → Frame
 frame_of hist = record {
-  naming = naming_of hist.spec;
+  row_names = row_names_of hist.spec;
   total = units_of hist;
   most = most_of (rows_of hist);
 }

@@ -7,7 +7,7 @@ ghost use Rattle.reading_texts.specs.Rows.{rows_of as rows_of_histogram};
 ghost use Rattle.reading_shows.specs.Showing.{frame_of as frame_of_histogram, shows_all_of as shows_all_of_histogram};
 
 use crate::lines::most;
-use crate::naming::{Naming, naming_of};
+use crate::row_names::{RowNames, row_names_of};
 use image_reader::HistReading;
 use reading_texts::{HistRow, is_sparse, units};
 
@@ -15,7 +15,7 @@ use reading_texts::{HistRow, is_sparse, units};
 #[derive(Clone, Copy, Debug, PartialEq, Eq)]
 pub(crate) struct Frame {
     // How the values of a row are written.
-    pub(crate) naming: Naming,
+    pub(crate) row_names: RowNames,
     // The units of all rows.
     pub(crate) total: u64,
     // The units of the row that has the most.
@@ -42,7 +42,7 @@ pub(crate) fn frame_of(hist: &HistReading, rows: &[HistRow]) -> Frame
     ensures { result ≡ frame_of_histogram (histogram_view hist.now) }
 {
     Frame {
-        naming: naming_of(&hist.spec),
+        row_names: row_names_of(&hist.spec),
         total: units(hist),
         most: most(rows),
     }

@@ -9,7 +9,7 @@ ghost use Rattle.reading_texts.specs.Text.{kind_word as kind_word_of};
 ghost use Rattle.reading_overviews.specs.Numbers.{signed};
 ghost use Rattle.reading_shows.specs.Showing.{reaches as reaches_of, quantile as quantile_of, has_units as has_units_of, range_of_found, quantile_line, ends_line, rank_lines, number_line, number_lines, left_of, was_taken as was_taken_of, left_text, left_line, taken_line};
 
-use crate::naming::{Naming, is_truth, naming_of, put_range};
+use crate::row_names::{RowNames, is_truth, put_range, row_names_of};
 use crate::shares::put_mean;
 use crate::since::put_came;
 use image_reader::HistReading;
@@ -69,13 +69,13 @@ fn least(rows: &[HistRow]) -> Option<HistRow>
 // Puts the values of a row, or the word none.
 pub(crate) fn put_found(
     text: &mut Vec<u8>,
-    naming: Naming,
+    row_names: RowNames,
     found: Option<HistRow>,
 ) -> Result<(), AllocError>
-    ensures { OnOk result (text.new.items ≡ text.old.items ++ range_of_found naming found) }
+    ensures { OnOk result (text.new.items ≡ text.old.items ++ range_of_found row_names found) }
 {
     match found {
-        Some(row) => put_range(text, naming, &row),
+        Some(row) => put_range(text, row_names, &row),
         None => text.extend_from_slice(b"none"),
     }
 }
@@ -83,20 +83,20 @@ pub(crate) fn put_found(
 // Puts the line of the quantiles.
 fn put_quantiles(
     text: &mut Vec<u8>,
-    naming: Naming,
+    row_names: RowNames,
     total: u64,
     rows: &[HistRow],
 ) -> Result<(), AllocError>
-    ensures { OnOk result (text.new.items ≡ text.old.items ++ quantile_line naming total rows.now) }
+    ensures { OnOk result (text.new.items ≡ text.old.items ++ quantile_line row_names total rows.now) }
 {
     text.extend_from_slice(b"  50%: ")?;
-    put_found(text, naming, quantile(total, rows, 500))?;
+    put_found(text, row_names, quantile(total, rows, 500))?;
     text.extend_from_slice(b", 90%: ")?;
-    put_found(text, naming, quantile(total, rows, 900))?;
+    put_found(text, row_names, quantile(total, rows, 900))?;
     text.extend_from_slice(b", 99%: ")?;
-    put_found(text, naming, quantile(total, rows, 990))?;
+    put_found(text, row_names, quantile(total, rows, 990))?;
     text.extend_from_slice(b", 99.9%: ")?;
-    put_found(text, naming, quantile(total, rows, 999))?;
+    put_found(text, row_names, quantile(total, rows, 999))?;
     text.extend_from_slice(b"\n")?;
     Ok(())
 }
@@ -104,16 +104,16 @@ fn put_quantiles(
 // Puts the line of the first row that has units, and of the last.
 fn put_ends(
     text: &mut Vec<u8>,
-    naming: Naming,
+    row_names: RowNames,
     total: u64,
     rows: &[HistRow],
 ) -> Result<(), AllocError>
-    ensures { OnOk result (text.new.items ≡ text.old.items ++ ends_line naming total rows.now) }
+    ensures { OnOk result (text.new.items ≡ text.old.items ++ ends_line row_names total rows.now) }
 {
     text.extend_from_slice(b"  least: ")?;
-    put_found(text, naming, least(rows))?;
+    put_found(text, row_names, least(rows))?;
     text.extend_from_slice(b", greatest: ")?;
-    put_found(text, naming, quantile(total, rows, 1000))?;
+    put_found(text, row_names, quantile(total, rows, 1000))?;
     text.extend_from_slice(b"\n")?;
     Ok(())
 }
@@ -121,17 +121,17 @@ fn put_ends(
 // Puts both lines, unless the histogram is boolean.
 fn put_ranks(
     text: &mut Vec<u8>,
-    naming: Naming,
+    row_names: RowNames,
     total: u64,
     rows: &[HistRow],
 ) -> Result<(), AllocError>
-    ensures { OnOk result (text.new.items ≡ text.old.items ++ rank_lines naming total rows.now) }
+    ensures { OnOk result (text.new.items ≡ text.old.items ++ rank_lines row_names total rows.now) }
 {
-    if is_truth(naming) {
+    if is_truth(row_names) {
         return Ok(());
     }
-    put_quantiles(text, naming, total, rows)?;
-    put_ends(text, naming, total, rows)
+    put_quantiles(text, row_names, total, rows)?;
+    put_ends(text, row_names, total, rows)
 }
 
 // Puts the line of the kind, the units and what came to them, the sum and the mean.
@@ -264,7 +264,7 @@ pub(crate) fn put_numbers(
 {
     let total = units(hist);
     put_summary(text, is_human, hist, total, came)?;
-    put_ranks(text, naming_of(&hist.spec), total, rows)?;
+    put_ranks(text, row_names_of(&hist.spec), total, rows)?;
     put_taken(text, is_human, hist)?;
     Ok(())
 }

@@ -4,7 +4,7 @@ ghost use Rattle.std.specs.Prelude.{◌≡◌, ◌<◌, ◌^◌, ◌++◌, lengt
 ghost use Rattle.std.specs.List.{fold};
 ghost use Rattle.reading_overviews.specs.Numbers.{number};
 ghost use Rattle.reading_shows.specs.Columns.{at_right};
-ghost use Rattle.reading_shows.specs.Naming.{range_text};
+ghost use Rattle.reading_shows.specs.RowNames.{range_text};
 ghost use Rattle.reading_shows.specs.Since.{came_text};
 ghost use Rattle.reading_shows.specs.Showing.{most_of, begins_gap as begins_gap_of, widened, came_width as came_width_of, columns_of as columns_of_rows, came_head, head_line, unit_line, gap_line, line_at, lines_in, row_lines, plural as plural_of, left_out_text, left_out_line};
 
@@ -12,7 +12,7 @@ use crate::bars::put_bar;
 use crate::columns::{put_at_right, put_bytes};
 use crate::frame::{Frame, LineColumns};
 use crate::heights::height_of;
-use crate::naming::{Naming, has_line, is_truth, put_range};
+use crate::row_names::{RowNames, has_line, is_truth, put_range};
 use crate::shares::put_percent;
 use crate::since::{came_at, most_that_came, put_came};
 use reading_overviews::put_number;
@@ -32,22 +32,26 @@ pub(crate) fn most(rows: &[HistRow]) -> u64
 }
 
 // Whether row `i`, which has no line, begins a gap.
-pub(crate) fn begins_gap(naming: Naming, rows: &[HistRow], i: usize) -> bool
+pub(crate) fn begins_gap(row_names: RowNames, rows: &[HistRow], i: usize) -> bool
     requires { i < length rows.now }
-    ensures { result ≡ begins_gap_of naming rows.now i }
+    ensures { result ≡ begins_gap_of row_names rows.now i }
 {
-    !is_truth(naming) && (i == 0 || rows[i - 1].units != 0)
+    !is_truth(row_names) && (i == 0 || rows[i - 1].units != 0)
 }
 
 // How wide the values of the rows with lines are, or their head. They are written to `room` to see how long they are.
-fn values_width(room: &mut Vec<u8>, naming: Naming, rows: &[HistRow]) -> Result<usize, AllocError>
-    ensures { IfOk result (λ width. width ≡ fold (widened naming) 6 rows.now) }
+fn values_width(
+    room: &mut Vec<u8>,
+    row_names: RowNames,
+    rows: &[HistRow],
+) -> Result<usize, AllocError>
+    ensures { IfOk result (λ width. width ≡ fold (widened row_names) 6 rows.now) }
 {
     let mut width = 6;
     for row in rows {
-        if has_line(naming, row) {
+        if has_line(row_names, row) {
             room.clear();
-            put_range(room, naming, row)?;
+            put_range(room, row_names, row)?;
             width = width.max(room.len());
         }
     }
@@ -91,7 +95,7 @@ fn columns_of(
 ) -> Result<LineColumns, AllocError>
     ensures { IfOk result (λ columns. columns ≡ columns_of_rows style frame is_told cames.now rows.now) }
 {
-    let values = values_width(room, frame.naming, rows)?;
+    let values = values_width(room, frame.row_names, rows)?;
     let units = units_width(room, style.is_human, frame.most)?;
     let came = came_width(room, style.is_human, is_told, cames)?;
     let width = usize::from(style.width);
@@ -137,13 +141,13 @@ fn put_values(
     text: &mut Vec<u8>,
     room: &mut Vec<u8>,
     width: usize,
-    naming: Naming,
+    row_names: RowNames,
     row: &HistRow,
 ) -> Result<(), AllocError>
-    ensures { OnOk result (text.new.items ≡ text.old.items ++ at_right width (range_text naming row.now)) }
+    ensures { OnOk result (text.new.items ≡ text.old.items ++ at_right width (range_text row_names row.now)) }
 {
     room.clear();
-    put_range(room, naming, row)?;
+    put_range(room, row_names, row)?;
     put_at_right(text, width, room.as_slice())
 }
 
@@ -190,7 +194,7 @@ fn put_units(
     ensures { OnOk result (text.new.items ≡ text.old.items ++ unit_line style columns frame row.now came) }
 {
     text.extend_from_slice(b"  ")?;
-    put_values(text, room, columns.values, frame.naming, row)?;
+    put_values(text, room, columns.values, frame.row_names, row)?;
     text.push(b' ')?;
     let height = height_of(style.is_log, row.units);
     let most = height_of(style.is_log, frame.most);
@@ -228,11 +232,11 @@ fn put_row(
     requires { i < length rows.now }
     ensures { OnOk result (text.new.items ≡ text.old.items ++ line_at style columns frame cames.now rows.now i) }
 {
-    if has_line(frame.naming, &rows[i]) {
+    if has_line(frame.row_names, &rows[i]) {
         let came = came_at(cames, i);
         return put_units(text, room, style, columns, frame, &rows[i], came);
     }
-    if begins_gap(frame.naming, rows, i) {
+    if begins_gap(frame.row_names, rows, i) {
         put_gap(text, columns)?;
     }
     Ok(())

@@ -14,7 +14,7 @@ use crate::choice::{Choice, chosen};
 use crate::columns::{put_at_left, put_at_right, put_bytes};
 use crate::ending::put_ending;
 use crate::heading::{put_found, quantile};
-use crate::naming::{Naming, naming_of};
+use crate::row_names::{RowNames, row_names_of};
 use crate::shares::put_mean;
 use image_reader::{HistReading, Reading};
 use reading_overviews::put_number;
@@ -69,15 +69,15 @@ fn mean_text(alloc: Global, is_human: bool, sum: i128, units: u64) -> Result<Vec
 // The values of the row that holds a quantile, as a text of its own.
 fn quantile_text(
     alloc: Global,
-    naming: Naming,
+    row_names: RowNames,
     total: u64,
     rows: &[HistRow],
     thousandths: u32,
 ) -> Result<Vec<u8>, AllocError>
-    ensures { IfOk result (λ text. text.items ≡ range_of_found naming (quantile_of total rows.now thousandths)) }
+    ensures { IfOk result (λ text. text.items ≡ range_of_found row_names (quantile_of total rows.now thousandths)) }
 {
     let mut text = Vec::new(alloc);
-    put_found(&mut text, naming, quantile(total, rows, thousandths))?;
+    put_found(&mut text, row_names, quantile(total, rows, thousandths))?;
     Ok(text)
 }
 
@@ -104,16 +104,16 @@ pub(crate) fn entry_of(
 {
     let rows = rows_of(alloc, hist)?;
     let rows = rows.as_slice();
-    let naming = naming_of(&hist.spec);
+    let row_names = row_names_of(&hist.spec);
     let total = units(hist);
     Ok(ListEntry {
         name: Vec::from_slice(alloc, hist.name.as_slice())?,
         kind: Vec::from_slice(alloc, kind_word(&hist.spec))?,
         units: number_text(alloc, is_human, total)?,
         mean: mean_text(alloc, is_human, hist.sum, total)?,
-        median: quantile_text(alloc, naming, total, rows, 500)?,
-        high: quantile_text(alloc, naming, total, rows, 990)?,
-        greatest: quantile_text(alloc, naming, total, rows, 1000)?,
+        median: quantile_text(alloc, row_names, total, rows, 500)?,
+        high: quantile_text(alloc, row_names, total, rows, 990)?,
+        greatest: quantile_text(alloc, row_names, total, rows, 1000)?,
         rank: rank_of(alloc, total, hist.name.as_slice())?,
     })
 }

@@ -6,7 +6,7 @@ ghost use Rattle.reading_shows.specs.PageRows.{drawn_bar, unit_row, row_in_page,
 use crate::bars::marks;
 use crate::frame::Frame;
 use crate::lines::begins_gap;
-use crate::naming::{has_line, put_range};
+use crate::row_names::{has_line, put_range};
 use crate::shares::put_percent;
 use itoa::Buffer;
 use reading_overviews::put_number;
@@ -33,7 +33,7 @@ fn put_units(text: &mut Vec<u8>, frame: Frame, row: &HistRow) -> Result<(), Allo
     ensures { OnOk result (text.new.items ≡ text.old.items ++ unit_row frame row.now) }
 {
     text.extend_from_slice(b"<tr><td>")?;
-    put_range(text, frame.naming, row)?;
+    put_range(text, frame.row_names, row)?;
     text.extend_from_slice(b"</td><td>")?;
     put_drawn_bar(text, row.units, frame.most)?;
     text.extend_from_slice(b"</td><td>")?;
@@ -51,10 +51,10 @@ fn put_row(text: &mut Vec<u8>, frame: Frame, rows: &[HistRow], i: usize) -> Resu
     requires { i < length rows.now }
     ensures { OnOk result (text.new.items ≡ text.old.items ++ row_in_page frame rows.now i) }
 {
-    if has_line(frame.naming, &rows[i]) {
+    if has_line(frame.row_names, &rows[i]) {
         return put_units(text, frame, &rows[i]);
     }
-    if begins_gap(frame.naming, rows, i) {
+    if begins_gap(frame.row_names, rows, i) {
         text.extend_from_slice(b"<tr><td>...</td></tr>\n")?;
     }
     Ok(())

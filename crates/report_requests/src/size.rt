@@ -6,6 +6,7 @@ ghost use Rattle.clap.specs.Words.{kind_of};
 use crate::arguments::{command_with, explain_flag, option, put};
 use clap::error::ErrorKind;
 use clap::{Arg, ArgAction, ArgMatches, Command, Error, value_parser};
+use segment_image::layout::{MAX_PAGE, MAX_SIZE, MIN_PAGE};
 use std::alloc::{AllocError, Global};
 
 /// What `size` is asked for: the histograms of a script, or those of options; how many words a page has, if not as many
@@ -45,7 +46,7 @@ fn page_option<'a>(alloc: Global) -> Arg<'a> {
         "WORDS",
         "Words of a page [default: those of the script, or 4096]",
     )
-    .value_parser(value_parser!(u64).range(64..=65536))
+    .value_parser(value_parser!(u64).range(MIN_PAGE as i64..=MAX_PAGE as i64))
 }
 
 // The values of each sparse histogram.
@@ -56,7 +57,7 @@ fn values_option<'a>(alloc: Global) -> Arg<'a> {
         "N",
         "Values of each sparse histogram [default: the script's]",
     )
-    .value_parser(value_parser!(u64).range(0..=1048576))
+    .value_parser(value_parser!(u64).range(0..=MAX_SIZE as i64))
 }
 
 // The arguments of the command.

@@ -12,13 +12,10 @@ ghost use Rattle.schedule.specs.Schedule.{AreOrders, IsLaterFault, IsReadAs, IsR
 use crate::fault::ScheduleFault;
 use crate::order::{Opening, Order, read_opening, read_order};
 use csv::ByteRecord;
-use persist_report_core::read_rows;
+use persist_report_core::{MAX_SCRIPT_BYTES, read_rows};
 use segment_image::{ReadFault, Watched, read_bytes};
 use std::alloc::Global;
 use std::io::Read;
-
-// How many bytes a schedule has at most.
-const MAX_BYTES: usize = 16_777_216;
 
 /// What is to be done in a world, in order.
 #[derive(Debug, Drop)]
@@ -75,7 +72,7 @@ fn bytes_of<R: Read>(alloc: Global, reader: &mut Watched<R>) -> Result<Vec<u8>, 
     ensures end { OnOk result (IsAtEnd (R.remaining (watched_inner reader.new))) }
     ensures taken { TakesAtMost 16777217 (R.remaining (watched_inner reader.old)) (R.remaining (watched_inner reader.new)) }
 {
-    match read_bytes(alloc, reader, MAX_BYTES) {
+    match read_bytes(alloc, reader, MAX_SCRIPT_BYTES) {
         Ok(bytes) => Ok(bytes),
         Err(ReadFault::NoMemory) => Err(ScheduleFault::NoMemory),
         Err(ReadFault::TooLong) => Err(ScheduleFault::TooLong),

@@ -9,7 +9,7 @@ use Rattle.segment_looks.specs.declared.fault.LookFault.TheVariants.{NoMemory}
 use Rattle.hist_core.specs.declared.world_state.WorldState.{WorldState}
 use Rattle.schedule.specs.declared.order.Order.{Order}
 use Rattle.stepped.specs.Lines.{Deed}
-use Rattle.stepped.specs.Looking.{GivesImage, Look, TakesLook, begun_behind, first_bad, is_bad_load, look_behind}
+use Rattle.stepped.specs.Look.{GivesImage, Look, TakesLook, begun_behind, first_bad, is_bad_load, look_behind}
 use Rattle.stepped.specs.Replay.{DoesOrder}
 
 -- ---- images

@@ -7,5 +7,5 @@ pub mod Said
 pub mod Picture
 pub mod Form
 pub mod Replay
-pub mod Looking
+pub mod Look
 pub mod Output

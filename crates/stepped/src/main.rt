@@ -7,7 +7,7 @@ mod failure;
 mod fault;
 mod form;
 mod lines;
-mod looking;
+mod look;
 mod meaning;
 mod noted;
 mod picture;

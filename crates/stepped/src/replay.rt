@@ -5,7 +5,7 @@ ghost use Rattle.std.specs.Prelude.{◌≡◌};
 use crate::fault::ReplayFault;
 use crate::form::Form;
 use crate::lines::{Change, Effect, LinePlace, Load, Miss};
-use crate::looking::Copies;
+use crate::look::Copies;
 use crate::meaning::word;
 use hist_core::{Begun, Call, Stepped, World};
 use schedule::{NewWorld, Order, OrderKind};
@@ -40,7 +40,7 @@ ghost use Rattle.stepped.specs.Fault.{fault_of_world};
 ghost use Rattle.stepped.specs.Form.{Writes, text_of, texts};
 ghost use Rattle.stepped.specs.Lines.{Deed};
 ghost use Rattle.stepped.specs.Lines.Deed.{Looks};
-ghost use Rattle.stepped.specs.Looking.{TakesLook, look_of};
+ghost use Rattle.stepped.specs.Look.{TakesLook, look_of};
 ghost use Rattle.stepped.specs.Replay.{DoesOrder, EndsCall, FailsAt, RunsEvents, HasChanged, IsDifference, Replays, ShowsMove, StopsWith, next_found, next_miss, placed};
 
 // Where two lists of words differ first.

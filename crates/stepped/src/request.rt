@@ -64,7 +64,7 @@ pub enum Show {
 
 /// What the program is asked to do.
 #[derive(Clone, Copy)]
-pub struct Request<'a> {
+pub struct ReplayRequest<'a> {
     /// The file with the schedule.
     pub schedule: &'a str,
     /// After how many events it ends at the latest.
@@ -156,15 +156,15 @@ fn show_of(matches: &ArgMatches<'_>) -> Show {
     }
 }
 
-impl<'a> Request<'a> {
+impl<'a> ReplayRequest<'a> {
     /// The request of a command line, whose first word is the program's name.
     ///
     /// The error says what is wrong with the words, or has the help or the version that they ask for.
-    pub fn of<S: AsStr>(alloc: Global, words: &'a [S]) -> Result<Request<'a>, Error> {
+    pub fn of<S: AsStr>(alloc: Global, words: &'a [S]) -> Result<ReplayRequest<'a>, Error> {
         let mut command = command(alloc)?;
         let matches = command.try_get_matches_from_mut(words)?;
         match matches.get_str("SCHEDULE") {
-            Some(schedule) => Ok(Request {
+            Some(schedule) => Ok(ReplayRequest {
                 schedule,
                 events: matches.get_one::<u64>("stop").unwrap_or(u64::MAX),
                 show: show_of(&matches),

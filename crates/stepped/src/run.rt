@@ -11,16 +11,16 @@ ghost use Rattle.stepped.specs.Form.{texts};
 ghost use Rattle.stepped.specs.Lines.{Deed};
 ghost use Rattle.stepped.specs.Output.{IsReportOf};
 ghost use Rattle.stepped.specs.Replay.{Replays};
-ghost use Rattle.stepped.specs.Looking.{GivesImage, Look, TakesLook, begun_look, no_look};
+ghost use Rattle.stepped.specs.Look.{GivesImage, Look, TakesLook, begun_look, no_look};
 
 use crate::explaining::{Seen, failure_of};
 use crate::failure::Failure;
 use crate::fault::ReplayFault;
 use crate::form::Form;
-use crate::looking::{Copies, first_bad};
+use crate::look::{Copies, first_bad};
 use crate::noted::Noted;
 use crate::replay::Replay;
-use crate::request::{Request, Show, not_text};
+use crate::request::{ReplayRequest, Show, not_text};
 use fault_texts::is_asked;
 use persist_report_core::report_text;
 use schedule::{Opening, Order, Schedule, read_schedule};
@@ -40,7 +40,7 @@ pub fn run<R: Env + Files + Print + AllocGlobal>(rt: &R) -> Result<(), Failure>
     ensures { IfErr result UsageIsMistake }
 {
     let words = words(rt)?;
-    match Request::of(rt.alloc(), words.as_slice()) {
+    match ReplayRequest::of(rt.alloc(), words.as_slice()) {
         Ok(request) => {
             let mut seen = Seen::nothing(rt.alloc(), request.explains || is_asked(rt));
             if let Err(fault) = meet(rt, request, &mut seen) {
@@ -113,10 +113,10 @@ fn words_in<R: Files + AllocGlobal>(
 fn start<R: Files + AllocGlobal>(
     rt: &R,
     opening: Opening,
-    request: Request<'_>,
+    request: ReplayRequest<'_>,
     seen: &mut Seen,
 ) -> Result<Replay, ReplayFault> {
-    let Request { events, show, .. } = request;
+    let ReplayRequest { events, show, .. } = request;
     let form = match show {
         Show::Picture => Form::Picture(0),
         Show::Lines | Show::Report | Show::Image | Show::Look => Form::Lines,
@@ -133,7 +133,7 @@ fn start<R: Files + AllocGlobal>(
 // Replays a schedule, and shows what was asked for.
 fn meet<R: Files + Print + AllocGlobal>(
     rt: &R,
-    request: Request<'_>,
+    request: ReplayRequest<'_>,
     seen: &mut Seen,
 ) -> Result<(), ReplayFault> {
     let alloc = rt.alloc();

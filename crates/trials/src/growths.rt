@@ -7,8 +7,8 @@
 
 mod adopting;
 mod again;
-mod making;
 mod merging;
+mod new_values;
 mod recording;
 mod stepping;
 
@@ -16,7 +16,7 @@ use anyhow::Result;
 
 /// Makes each call once, and again if it is refused.
 pub(crate) fn show(rt: &(impl Print + AllocGlobal)) -> Result<()> {
-    making::show(rt)?;
+    new_values::show(rt)?;
     stepping::show(rt)?;
     let image = recording::show(rt)?;
     let merged = merging::show(rt, image.words())?;

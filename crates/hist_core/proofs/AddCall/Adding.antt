@@ -22,7 +22,7 @@ use Rattle.hist_core.specs.Batch.{RunsEntries, EntriesHaveEnded, IsCutAt}
 use Rattle.hist_core.specs.StepsBy.{SharedEffect, links, raises, DoesOnly, StepsBy}
 use Rattle.hist_core.proofs.Worlds.Landing.{Landing, does_as_said}
 use Rattle.hist_core.specs.ActorRun.{known_of, ended_by, begun_by, pending_by, held_by, IsGhostNoting, IsAdding, StandsIn, IsActorRunOf, IsAddAnnounced, LandsBack, MayBeRefused, Answers, DoesAsSaid, IsRefusedBy, Serves, is_flagged, lacks_room}
-use Rattle.hist_core.specs.Making.{IsCause}
+use Rattle.hist_core.specs.NewRecord.{IsCause}
 use Rattle.hist_core.proofs.AddCall.Refusals.{HasOnlyNoted, cause_noted, needs_still}
 use Rattle.hist_core.proofs.Parts.Allocations.{goes_with}
 use Rattle.hist_core.proofs.AddCall.Entries.{ended_is_over}
@@ -44,7 +44,7 @@ has_entry shape known amid add a (stage.Purging at counts) stands = (false, fals
 has_entry shape known amid add a (stage.LoadingAgain counts) stands = (false, false, stands.1)
 has_entry shape known amid add a (stage.Disabling counts old) stands = (false, false, stands.1)
 has_entry shape known amid add a (stage.Moving counts bucket units) stands = (false, false, stands.1)
-has_entry shape known amid add a (stage.Sampling sampling) stands = (false, false, stands.0)
+has_entry shape known amid add a (stage.Sampling sample_search) stands = (false, false, stands.0)
 has_entry shape known amid add a (stage.Counting at) stands = (false, false, stands.0)
 has_entry shape known amid add a stage.Summing stands = (true, false, stands.1)
 has_entry shape known amid add a stage.Noting stands = (true, not (int_eq add.amount (pos 0)), stands.1)

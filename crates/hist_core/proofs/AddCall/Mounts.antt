@@ -23,7 +23,7 @@ use Rattle.hist_core.specs.declared.add.AddStage.TheVariants.{SeekingCounts, All
 use Rattle.segment_calls.specs.declared.refusal.Refusal.TheVariants as why
 use Rattle.hist_core.specs.StepsBy.{DoesOnly, FrameOfStep, SeesNoMore, StepsBy, is_tied}
 use Rattle.hist_core.specs.Add.{Amid, HasEntry, HasMetNoCounts, CountsLieWithin, NeedsBlock, NeedsCounts, StandsAtStage, IsAdd, AddGives, BeginsToAllocate, IsAllocated, block_words, serves_counted}
-use Rattle.hist_core.specs.Making.{IsCause}
+use Rattle.hist_core.specs.NewRecord.{IsCause}
 use Rattle.hist_core.proofs.AddCall.Counts.{counts_in}
 use Rattle.hist_core.proofs.AddCall.Entries.{counting_of}
 use Rattle.hist_core.proofs.AddCall.Going.{acts_on, packs_on, goes_still, aside_counts}

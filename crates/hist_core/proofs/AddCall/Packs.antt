@@ -98,7 +98,7 @@ module _ (shape : Dimensions) (known : Known) (amid : Amid) (add : Add) (a : Act
       stood (LoadingAgain counts) is learned = absurd is
       stood (Disabling counts old) is learned = absurd is
       stood (Moving counts bucket units) is learned = absurd is
-      stood (Sampling sampling) is learned = absurd is
+      stood (Sampling sample_search) is learned = absurd is
       stood (Counting at) is learned = absurd is
       stood Summing is learned = absurd is
       stood Noting is learned = absurd is

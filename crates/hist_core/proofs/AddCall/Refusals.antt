@@ -9,8 +9,8 @@ use Rattle.hist_core.specs.declared.add.AddStep.TheVariants.{Refused}
 use Rattle.segment_calls.specs.declared.refusal.Refusal.TheVariants as why
 use Rattle.hist_core.specs.StepsBy.{DoesOnly, FrameOfStep, IsFree}
 use Rattle.hist_core.specs.Add.{Amid, HasEntry, NeedsBlock, FrameOfAdd, AddGives, block_words, serves_counted}
-use Rattle.hist_core.specs.Making.{IsCause, is_full}
-use Rattle.hist_core.specs.Sampling.{SawNoSample}
+use Rattle.hist_core.specs.NewRecord.{IsCause, is_full}
+use Rattle.hist_core.specs.SampleSearch.{SawNoSample}
 use Rattle.hist_core.proofs.AddCall.Entries.{counting_of}
 
 -- a step that leaves its frame leaves what no call of `add` changes

@@ -6,13 +6,13 @@ use Rattle.hist_core.specs.declared.add.Add.{Add}
 use Rattle.hist_core.specs.declared.add.AddStep.{AddStep}
 use Rattle.hist_core.specs.declared.add.AddStage.{AddStage}
 use Rattle.hist_core.specs.declared.add.AddStage.TheVariants as stage
-use Rattle.hist_core.specs.declared.sampling.Sampling.{Sampling}
-use Rattle.hist_core.specs.declared.sampling.SamplingStep.{SamplingStep}
-use Rattle.hist_core.specs.declared.sampling.SamplingStep.TheVariants as found
+use Rattle.hist_core.specs.declared.sample_search.SampleSearch.{SampleSearch}
+use Rattle.hist_core.specs.declared.sample_search.SampleSearchStep.{SampleSearchStep}
+use Rattle.hist_core.specs.declared.sample_search.SampleSearchStep.TheVariants as found
 use Rattle.hist_core.specs.Add.{Amid, HasEntry, IsAdd, IsSampled, OpensWith, StandsAtStage, NeedsBlock, StaysOpen, AddGives, block_words, serves_counted}
 use Rattle.hist_core.specs.StepsBy.{SharedEffect, links, raises, DoesOnly, FrameOfStep, StepsBy, IsFree}
-use Rattle.hist_core.specs.Sampling.{SamplingGives, SawNoSample, serves_sample}
-use Rattle.hist_core.specs.Making.{IsCause, is_full}
+use Rattle.hist_core.specs.SampleSearch.{SampleSearchGives, SawNoSample, serves_sample}
+use Rattle.hist_core.specs.NewRecord.{IsCause, is_full}
 use Rattle.hist_core.proofs.AddCall.Entries.{counting_of}
 use Rattle.hist_core.proofs.AddCall.Going.{goes_still}
 use Rattle.hist_core.proofs.AddCall.Refusals.{beside_aside, refuses}
@@ -29,12 +29,12 @@ pub stands_first : (shape : Dimensions) (known : Known) (amid : Amid) (add : Add
     → (front behind : List ℕ) × (a.seen.chain ≡ front ++ known.reference ∷ behind) → HasEntry known amid add a false false → IsFree a
     → StandsAtStage shape known amid add a at
 stands_first shape known amid add a stage.LoadingSingle bucketed segment lawful knows reach met has free = (bucketed, has, free_turns a.hand.place free)
-stands_first shape known amid add a (stage.Sampling sampling) (sparse, valued, starts) segment lawful knows reach met has free = (
+stands_first shape known amid add a (stage.Sampling sample_search) (sparse, valued, starts) segment lawful knows reach met has free = (
   has,
   sparse,
   starts.of,
   starts.counts,
-  begins_at shape known.reference add.value sampling a starts segment lawful free (known, (knows, refl, sparse)) valued
+  begins_at shape known.reference add.value sample_search a starts segment lawful free (known, (knows, refl, sparse)) valued
       (λ none. true≢false (sym (sym (ap (is_reference shape.size) none) ∙ reach))) reach met,
 )
 stands_first shape known amid add a (stage.Packing old new) none segment lawful knows reach met has free = absurd none
@@ -52,7 +52,7 @@ stands_first shape known amid add a stage.Noting none segment lawful knows reach
 
 -- ---- a step
 
-module _ (shape : Dimensions) (known : Known) (amid : Amid) (add : Add) (a : Actor) (words : List ℕ) (is : IsAdd shape known amid add a) (s : Sampling)
+module _ (shape : Dimensions) (known : Known) (amid : Amid) (add : Add) (a : Actor) (words : List ℕ) (is : IsAdd shape known amid add a) (s : SampleSearch)
     (samples : add.stage ≡ stage.Sampling s) where
   pub stood_sampling : StandsAtStage shape known amid add a (stage.Sampling s)
   stood_sampling = subst (StandsAtStage shape known amid add a) samples is.stands
@@ -69,36 +69,36 @@ module _ (shape : Dimensions) (known : Known) (amid : Amid) (add : Add) (a : Act
   has_still b beside = ap (λ e. e.running) beside.entries ∙ stood_sampling.0
 
   -- if it has seen no sample of its value, it needs one
-  needs_sample : (x : Sampling) → x ≡ record s { walk = x.walk; stage = x.stage } → (b : Actor) → SawNoSample x.histogram x.value b.seen
+  needs_sample : (x : SampleSearch) → x ≡ record s { walk = x.walk; stage = x.stage } → (b : Actor) → SawNoSample x.histogram x.value b.seen
       → NeedsBlock known (add.value, add.units) b
   needs_sample x same b none = record {
     counts = λ bucketed. absurd (true≢false (sym bucketed ∙ ap has_buckets stood_sampling.1));
     value = λ sparse. subst (λ (p : ℕ × ℤ). SawNoSample p.0 p.1 b.seen)
-        (λ i. ((ap (λ (y : Sampling). y.histogram) same ∙ stood_sampling.2) i, (ap (λ (y : Sampling). y.value) same ∙ stood_sampling.3) i)) none;
+        (λ i. ((ap (λ (y : SampleSearch). y.histogram) same ∙ stood_sampling.2) i, (ap (λ (y : SampleSearch). y.value) same ∙ stood_sampling.3) i)) none;
   }
 
   -- its search makes the sample of its value
-  serves_it : (full : Bool) (x : Sampling) → x ≡ record s { walk = x.walk; stage = x.stage } → (b : Actor) → DoesOnly false full (serves_sample x a) a b
+  serves_it : (full : Bool) (x : SampleSearch) → x ≡ record s { walk = x.walk; stage = x.stage } → (b : Actor) → DoesOnly false full (serves_sample x a) a b
       → DoesOnly false full (serves_counted known add a) a b
   serves_it full x same b = does_less false full (serves_sample x a) (serves_counted known add a) a b so
     where
       so : (deed : SharedEffect) → serves_sample x a deed → serves_counted known add a deed
       so (links made) it = it ∙ (λ i. Sample
-          ((ap (λ (y : Sampling). y.histogram) same ∙ (stood_sampling.2 ∙ is.counting.reference)) i)
-          ((ap (λ (y : Sampling). y.value) same ∙ stood_sampling.3) i))
+          ((ap (λ (y : SampleSearch). y.histogram) same ∙ (stood_sampling.2 ∙ is.counting.reference)) i)
+          ((ap (λ (y : SampleSearch). y.value) same ∙ stood_sampling.3) i))
       so (raises words) (it, none) = (it ∙ sym words_are, needs_sample x same a none)
 
   -- for each result of a step of the search
-  pub samples_so : (x : Sampling) → x ≡ record s { walk = x.walk; stage = x.stage } → (new_words : List ℕ) (says : SamplingStep) (new : Add) (result : AddStep)
-      → StepsBy shape.size add.version a words new_words (SamplingGives shape x says a) → IsSampled (record add { stage = stage.Sampling x }) says new result
+  pub samples_so : (x : SampleSearch) → x ≡ record s { walk = x.walk; stage = x.stage } → (new_words : List ℕ) (says : SampleSearchStep) (new : Add) (result : AddStep)
+      → StepsBy shape.size add.version a words new_words (SampleSearchGives shape x says a) → IsSampled (record add { stage = stage.Sampling x }) says new result
       → StepsBy shape.size add.version a words new_words (AddGives shape known amid new result a)
   samples_so x same new_words found.More new result goes (new_is, result_is) =
       subst (λ (p : Add × AddStep). StepsBy shape.size add.version a words new_words (AddGives shape known amid p.0 p.1 a)) (λ i. (sym new_is i, sym result_is i))
       (goes_with goes (λ b (beside, does, searches). goes_still shape known amid add a is (stage.Sampling x) b (beside_aside a b beside) (still_open b beside) (serves_it false x same b does) (
         has_still b beside,
         stood_sampling.1,
-        ap (λ (y : Sampling). y.histogram) same ∙ stood_sampling.2,
-        ap (λ (y : Sampling). y.value) same ∙ stood_sampling.3,
+        ap (λ (y : SampleSearch). y.histogram) same ∙ stood_sampling.2,
+        ap (λ (y : SampleSearch). y.value) same ∙ stood_sampling.3,
         searches,
       )))
   samples_so x same new_words (found.Found sample) new result goes (new_is, result_is) =
@@ -113,7 +113,7 @@ module _ (shape : Dimensions) (known : Known) (amid : Amid) (add : Add) (a : Act
           free_turns b.hand.place free,
           (subst (λ (l : List Known). Contains l known) (sym beside.names) is.knows, refl, stood_sampling.1),
           subst (λ (p : ℕ × _). IsFirstSample b.seen p.0 p.1 sample)
-              (λ i. ((ap (λ (y : Sampling). y.histogram) same ∙ stood_sampling.2) i, (ap (λ (y : Sampling). y.value) same ∙ stood_sampling.3) i)) first,
+              (λ i. ((ap (λ (y : SampleSearch). y.histogram) same ∙ stood_sampling.2) i, (ap (λ (y : SampleSearch). y.value) same ∙ stood_sampling.3) i)) first,
           here,
         ),
         omega (arith, here, within),

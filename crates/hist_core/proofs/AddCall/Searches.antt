@@ -12,18 +12,18 @@ use Rattle.segment_machine.specs.Walking.{IsFixed, WalkingEvent}
 use Rattle.segment_promises.proofs.Growing.{others_still, reference_within, still}
 use Rattle.segment_promises.proofs.Calls.SeenWords.{seen_now}
 use Rattle.hist_core.proofs.Parts.Alone.{by_event}
-use Rattle.hist_core.specs.declared.making.Making.{Making as MakingOf}
-use Rattle.hist_core.specs.declared.making.MakingStep.{MakingStep}
-use Rattle.hist_core.specs.declared.making.MakingStep.TheVariants as made
-use Rattle.hist_core.specs.declared.sampling.Sampling.{Sampling}
-use Rattle.hist_core.specs.declared.sampling.SamplingStep.{SamplingStep}
-use Rattle.hist_core.specs.declared.sampling.SamplingStep.TheVariants.{More, Found}
-use Rattle.hist_core.specs.declared.sampling.SamplingStage.{SamplingStage}
-use Rattle.hist_core.specs.declared.sampling.SamplingStage.TheVariants.{Walking, LoadingType, LoadingHistogram, LoadingValue, Making}
+use Rattle.hist_core.specs.declared.new_record.NewRecord.{NewRecord as NewRecordOf}
+use Rattle.hist_core.specs.declared.new_record.NewRecordStep.{NewRecordStep}
+use Rattle.hist_core.specs.declared.new_record.NewRecordStep.TheVariants as made
+use Rattle.hist_core.specs.declared.sample_search.SampleSearch.{SampleSearch}
+use Rattle.hist_core.specs.declared.sample_search.SampleSearchStep.{SampleSearchStep}
+use Rattle.hist_core.specs.declared.sample_search.SampleSearchStep.TheVariants.{More, Found}
+use Rattle.hist_core.specs.declared.sample_search.SampleSearchStage.{SampleSearchStage}
+use Rattle.hist_core.specs.declared.sample_search.SampleSearchStage.TheVariants.{Walking, LoadingType, LoadingHistogram, LoadingValue, Making}
 use Rattle.hist_core.specs.StepsBy.{SharedEffect, links, raises, DoesOnly, FrameOfStep, SawEnd, SeesNoMore, StepsBy, IsFree}
-use Rattle.hist_core.specs.Making.{MakingGives, MayMake, is_full, serves_wanted}
-use Rattle.hist_core.specs.Making as making
-use Rattle.hist_core.specs.Sampling.{HaveOthers, IsIts, IsMade, IsMakingSample, IsSampling, IsSomeSampling, IsStarted, StandsAtRecord, SamplingGives, StandsAtStage, behind_type, serves_sample, wanted_of}
+use Rattle.hist_core.specs.NewRecord.{NewRecordGives, MayMake, is_full, serves_wanted}
+use Rattle.hist_core.specs.NewRecord as new_record
+use Rattle.hist_core.specs.SampleSearch.{HaveOthers, IsIts, IsMade, IsMakingSample, IsSampleSearch, IsSomeSampleSearch, IsStarted, StandsAtRecord, SampleSearchGives, StandsAtStage, behind_type, serves_sample, wanted_of}
 use Rattle.hist_core.proofs.Worlds.Free.{free_turns}
 use Rattle.hist_core.proofs.Makes.Drafts.{begins}
 use Rattle.hist_core.proofs.Parts.Allocations.{EndsWith, goes_with, walks_saying}
@@ -37,9 +37,9 @@ stands_last : (front : List ℕ) (at : ℕ) → at ≡ stands_behind (front ++ a
 stands_last front at = let long = length_push front at in sym (get_or_push (stops front) at 0 (length (front ++ at ∷ [])) (omega (arith, long)))
 
 -- an actor that may turn to it begins at the record of a sparse histogram that it knows and has visited
-pub begins_at : (shape : Dimensions) (histogram : ℕ) (value : ℤ) (s : Sampling) (a : Actor) → IsStarted shape histogram value s → a.segment.shape ≡ shape
+pub begins_at : (shape : Dimensions) (histogram : ℕ) (value : ℤ) (s : SampleSearch) (a : Actor) → IsStarted shape histogram value s → a.segment.shape ≡ shape
     → IsShape shape → IsFree a → (known : Known) × Sparse a histogram known → is_i32 value ≡ true → histogram ≢ 0 → is_reference shape.size histogram ≡ true
-    → (front behind : List ℕ) × (a.seen.chain ≡ front ++ histogram ∷ behind) → IsSampling shape s a
+    → (front behind : List ℕ) × (a.seen.chain ≡ front ++ histogram ∷ behind) → IsSampleSearch shape s a
 begins_at shape histogram value s a starts segment lawful free knows valued some reach (front, behind, chain) = record {
   shaped = starts.shaped;
   segment = segment;
@@ -52,13 +52,13 @@ begins_at shape histogram value s a starts segment lawful free knows valued some
   walk = starts.walk ∙ (stands_last front histogram ∙ ap (λ (h : ℕ). stands_behind (front ++ h ∷ [])) (sym starts.of));
   reach = ap (is_reference shape.size) starts.walk ∙ reach;
   chain = subst (λ (h : ℕ). IsPrefix (front ++ h ∷ []) a.seen.chain) (sym starts.of) (behind, chain ∙ sym (append_assoc front (histogram ∷ []) behind));
-  whole = λ making. absurd (subst IsMakingSample starts.stage making);
+  whole = λ new_record. absurd (subst IsMakingSample starts.stage new_record);
   stands = subst (StandsAtStage shape s a []) (sym starts.stage) (free, All-nil _);
 }
 
 -- ---- a step
 
-module _ (shape : Dimensions) (version : ℕ) (s : Sampling) (a : Actor) (words : List ℕ) (long : length words ≡ shape.size) (is : IsSampling shape s a) where
+module _ (shape : Dimensions) (version : ℕ) (s : SampleSearch) (a : Actor) (words : List ℕ) (long : length words ≡ shape.size) (is : IsSampleSearch shape s a) where
   -- all that the walk has given
   abbrev given : List ℕ
   given = is.front ++ s.histogram ∷ is.behind
@@ -67,10 +67,10 @@ module _ (shape : Dimensions) (version : ℕ) (s : Sampling) (a : Actor) (words 
   others_on b beside records others = others_still a.seen b.seen beside.words s.histogram s.value records others
 
   -- it continues, and so may its walk
-  goes_further : (walk : ℕ) (behind : List ℕ) (stage : SamplingStage) (b : Actor) → FrameOfStep a b → walk ≡ stands_behind (is.front ++ s.histogram ∷ behind)
+  goes_further : (walk : ℕ) (behind : List ℕ) (stage : SampleSearchStage) (b : Actor) → FrameOfStep a b → walk ≡ stands_behind (is.front ++ s.histogram ∷ behind)
       → is_reference shape.size walk ≡ true → IsPrefix (is.front ++ s.histogram ∷ behind) b.seen.chain
       → (IsMakingSample stage → (is.front ++ s.histogram ∷ behind ≡ b.seen.chain) × SawEnd b.seen)
-      → StandsAtStage shape (record s { walk = walk; stage = stage }) b behind stage → IsSampling shape (record s { walk = walk; stage = stage }) b
+      → StandsAtStage shape (record s { walk = walk; stage = stage }) b behind stage → IsSampleSearch shape (record s { walk = walk; stage = stage }) b
   goes_further walk behind stage b beside here reach chain whole stands = record {
     shaped = is.shaped;
     segment = ap (λ x. x.shape) beside.segment ∙ is.segment;
@@ -87,9 +87,9 @@ module _ (shape : Dimensions) (version : ℕ) (s : Sampling) (a : Actor) (words 
     stands = stands;
   }
 
-  goes_still : (stage : SamplingStage) (b : Actor) → FrameOfStep a b → (IsMakingSample stage → (given ≡ b.seen.chain) × SawEnd b.seen)
+  goes_still : (stage : SampleSearchStage) (b : Actor) → FrameOfStep a b → (IsMakingSample stage → (given ≡ b.seen.chain) × SawEnd b.seen)
       → StandsAtStage shape (record s { stage = stage }) b is.behind stage
-      → IsSampling shape (record s { stage = stage }) b
+      → IsSampleSearch shape (record s { stage = stage }) b
   goes_still stage b beside whole stands =
       goes_further s.walk is.behind stage b beside is.walk is.reach (prefix_of_prefix given a.seen.chain b.seen.chain is.chain beside.chain) whole stands
 
@@ -106,7 +106,7 @@ module _ (shape : Dimensions) (version : ℕ) (s : Sampling) (a : Actor) (words 
     -- it found a record, whose type it loads next
     pub meets : (reference walk : ℕ) → Record reference ≡ said_of (length words) (word_at words (s.walk + 3))
         → walk ≡ stands_behind (given ++ reference ∷ []) → is_reference (length words) walk ≡ true → walk ≡ reference
-        → StepsBy shape.size version a words words (SamplingGives shape (record s { walk = walk; stage = LoadingType reference }) More a)
+        → StepsBy shape.size version a words words (SampleSearchGives shape (record s { walk = walk; stage = LoadingType reference }) More a)
     meets reference walk says walked reach here =
         let onward = append_assoc is.front (s.histogram ∷ is.behind) (reference ∷ []) in
         let within = reference_within shape reference is.lawful_shape (subst (λ (p : ℕ × ℕ). is_reference p.0 p.1 ≡ true) (λ i. (long i, here i)) reach) in
@@ -120,12 +120,12 @@ module _ (shape : Dimensions) (version : ℕ) (s : Sampling) (a : Actor) (words 
 
     -- a word that no list has: it is where it was
     pub strays : (walk : ℕ) → Stray ≡ said_of (length words) (word_at words (s.walk + 3)) → walk ≡ s.walk
-        → StepsBy shape.size version a words words (SamplingGives shape (record s { walk = walk }) More a)
+        → StepsBy shape.size version a words words (SampleSearchGives shape (record s { walk = walk }) More a)
     strays walk says here = goes_with (loads Stray says) (λ b (beside, done, ends_so, free, front). (
       beside,
       does_nothing (serves_sample s a) a b done,
       goes_further walk is.behind s.stage b beside (here ∙ is.walk) (ap (is_reference shape.size) here ∙ is.reach) front
-          (λ making. absurd (subst IsMakingSample walks making)) (subst (StandsAtStage shape (record s { walk = walk }) b is.behind) (sym walks) (free, others_on b beside is.behind stood.1)),
+          (λ new_record. absurd (subst IsMakingSample walks new_record)) (subst (StandsAtStage shape (record s { walk = walk }) b is.behind) (sym walks) (free, others_on b beside is.behind stood.1)),
     ))
 
     -- its actor may make a sample
@@ -142,15 +142,15 @@ module _ (shape : Dimensions) (version : ℕ) (s : Sampling) (a : Actor) (words 
     }
 
     -- at the end of the list it begins to make a sample
-    pub ends : (walk : ℕ) (makes : MakingOf) → End ≡ said_of (length words) (word_at words (s.walk + 3)) → walk ≡ s.walk → making.IsStarted s.shape 4 3 makes
-        → StepsBy shape.size version a words words (SamplingGives shape (record s { walk = walk; stage = Making makes }) More a)
+    pub ends : (walk : ℕ) (makes : NewRecordOf) → End ≡ said_of (length words) (word_at words (s.walk + 3)) → walk ≡ s.walk → new_record.IsStarted s.shape 4 3 makes
+        → StepsBy shape.size version a words words (SampleSearchGives shape (record s { walk = walk; stage = Making makes }) More a)
     ends walk makes says here starts = goes_with (loads End says) (λ b (beside, done, ends_so, free, front). (
       beside,
       does_nothing (serves_sample s a) a b done,
-      goes_further walk is.behind (Making makes) b beside (here ∙ is.walk) (ap (is_reference shape.size) here ∙ is.reach) front (λ making. ends_so) (
+      goes_further walk is.behind (Making makes) b beside (here ∙ is.walk) (ap (is_reference shape.size) here ∙ is.reach) front (λ new_record. ends_so) (
         others_on b beside is.behind stood.1,
         begins shape (wanted_of s) makes b (ap (λ x. x.shape) beside.segment ∙ is.segment) is.lawful_shape (may_make b beside) (free_turns b.hand.place free)
-            (subst (λ (d : Dimensions). making.IsStarted d 4 3 makes) is.shaped starts),
+            (subst (λ (d : Dimensions). new_record.IsStarted d 4 3 makes) is.shaped starts),
       ),
     ))
 
@@ -198,7 +198,7 @@ module _ (shape : Dimensions) (version : ℕ) (s : Sampling) (a : Actor) (words 
       seen_still other word saw = still a.seen.words acted.seen.words beside.words other word saw
 
       -- it is still there
-      met_still : (stage : SamplingStage) → StandsAtRecord shape (record s { stage = stage }) at acted is.behind
+      met_still : (stage : SampleSearchStage) → StandsAtRecord shape (record s { stage = stage }) at acted is.behind
       met_still stage = record { free = met.free; passed = met.passed; are = met.are; others = others_on acted beside met.passed met.others; within = met.within }
 
       -- it is no sample of the value
@@ -209,8 +209,8 @@ module _ (shape : Dimensions) (version : ℕ) (s : Sampling) (a : Actor) (words 
             (All-push (SawOther acted.seen s.histogram s.value) met.passed at (others_on acted beside met.passed met.others) other),
       )
 
-      does_load : (new : Sampling) (said : SamplingStep) → (Learned a (walking_event event) found → SamplingGives shape new said a acted)
-          → StepsBy shape.size version a words words (SamplingGives shape new said a)
+      does_load : (new : SampleSearch) (said : SampleSearchStep) → (Learned a (walking_event event) found → SampleSearchGives shape new said a acted)
+          → StepsBy shape.size version a words words (SampleSearchGives shape new said a)
       does_load new said gives = by_event (walking_event event) (free_turns a.hand.place met.free, there, fixed)
           (sym (set-get_or words (at + index) 0))
           (λ learned apart ordered. gives learned)
@@ -226,16 +226,16 @@ module _ (shape : Dimensions) (version : ℕ) (s : Sampling) (a : Actor) (words 
     abbrev typed : Actor
     typed = next a (walking_event (load_published at 2)) tag
 
-    pub loads_type : StepsBy shape.size version a words words (SamplingGives shape (record s { stage = behind_type at tag }) More a)
+    pub loads_type : StepsBy shape.size version a words words (SampleSearchGives shape (record s { stage = behind_type at tag }) More a)
     loads_type = does_load at met_type 2 (inl refl) (record s { stage = behind_type at tag }) More (λ learned. (
       beside at met_type 2 (inl refl),
       none at met_type 2 (inl refl),
-      goes_still (behind_type at tag) typed (beside at met_type 2 (inl refl)) (λ making. absurd (makes_none (tag == 3) making)) (by (tag == 3) refl learned),
+      goes_still (behind_type at tag) typed (beside at met_type 2 (inl refl)) (λ new_record. absurd (makes_none (tag == 3) new_record)) (by (tag == 3) refl learned),
     ))
       where
         makes_none : (test : Bool) → IsMakingSample (if test then LoadingHistogram at else Walking) → ⊥
-        makes_none true making = making
-        makes_none false making = making
+        makes_none true new_record = new_record
+        makes_none false new_record = new_record
 
         by : (test : Bool) → (tag == 3) ≡ test → Learned a (walking_event (load_published at 2)) tag
             → let stage = if test then LoadingHistogram at else Walking in StandsAtStage shape (record s { stage = stage }) typed is.behind stage
@@ -258,7 +258,7 @@ module _ (shape : Dimensions) (version : ℕ) (s : Sampling) (a : Actor) (words 
     fixed_histogram : IsFixed a at 4
     fixed_histogram = inr (inr (met_sample.1.0, omega arith, omega arith))
 
-    pub loads_histogram : StepsBy shape.size version a words words (SamplingGives shape (record s { stage = LoadingValue at (word_at words (at + 4)) }) More a)
+    pub loads_histogram : StepsBy shape.size version a words words (SampleSearchGives shape (record s { stage = LoadingValue at (word_at words (at + 4)) }) More a)
     loads_histogram =
         let of : ℕ = word_at words (at + 4) in
         let b : Actor = next a (walking_event (load_published at 4)) of in
@@ -291,7 +291,7 @@ module _ (shape : Dimensions) (version : ℕ) (s : Sampling) (a : Actor) (words 
     valued = next a (walking_event (load_published at 5)) word
 
     -- it is the first sample of the value
-    pub found_so : IsIts s of word true → StepsBy shape.size version a words words (SamplingGives shape s (Found at) a)
+    pub found_so : IsIts s of word true → StepsBy shape.size version a words words (SampleSearchGives shape s (Found at) a)
     found_so (its, same) =
         let met = met_value.0 in
         let its_beside = beside at met 5 fixed_value in
@@ -320,7 +320,7 @@ module _ (shape : Dimensions) (version : ℕ) (s : Sampling) (a : Actor) (words 
         ))
 
     -- it is none of the value, and the walk continues
-    pub other_so : IsIts s of word false → StepsBy shape.size version a words words (SamplingGives shape (record s { stage = Walking }) More a)
+    pub other_so : IsIts s of word false → StepsBy shape.size version a words words (SampleSearchGives shape (record s { stage = Walking }) More a)
     other_so other =
         let met = met_value.0 in
         let its_beside = beside at met 5 fixed_value in
@@ -339,7 +339,7 @@ module _ (shape : Dimensions) (version : ℕ) (s : Sampling) (a : Actor) (words 
 
   -- ---- a sample is made
 
-  module _ (m : MakingOf) (makes : s.stage ≡ Making m) where
+  module _ (m : NewRecordOf) (makes : s.stage ≡ NewRecord m) where
     pub stood_making : StandsAtStage shape s a is.behind (Making m)
     stood_making = subst (StandsAtStage shape s a is.behind) makes is.stands
 
@@ -361,34 +361,34 @@ module _ (shape : Dimensions) (version : ℕ) (s : Sampling) (a : Actor) (words 
             let (whole, saw) = is.whole (subst IsMakingSample (sym makes) tt) in
             (it, (is.front, is.behind, sym whole, stood_making.0, saw))
 
-    -- for each result of a step of the making
-    pub makes_so : (x : MakingOf) (new_words : List ℕ) (says : MakingStep) (new : Sampling) (result : SamplingStep)
-        → StepsBy shape.size version a words new_words (MakingGives shape (wanted_of s) x says a) → IsMade (record s { stage = Making x }) says new result
-        → StepsBy shape.size version a words new_words (SamplingGives shape new result a)
+    -- for each result of a step of the new record
+    pub makes_so : (x : NewRecordOf) (new_words : List ℕ) (says : NewRecordStep) (new : SampleSearch) (result : SampleSearchStep)
+        → StepsBy shape.size version a words new_words (NewRecordGives shape (wanted_of s) x says a) → IsMade (record s { stage = Making x }) says new result
+        → StepsBy shape.size version a words new_words (SampleSearchGives shape new result a)
     makes_so x new_words made.More new result goes (new_is, result_is) =
-        subst (λ (p : Sampling × SamplingStep). StepsBy shape.size version a words new_words (SamplingGives shape p.0 p.1 a)) (λ i. (sym new_is i, sym result_is i))
-        (goes_with goes (λ b (beside, does, list, makes_on). (beside, serves_it false b does, goes_still (Making x) b beside (λ making. whole_still b list) (others_on b beside is.behind stood_making.0, makes_on))))
+        subst (λ (p : SampleSearch × SampleSearchStep). StepsBy shape.size version a words new_words (SampleSearchGives shape p.0 p.1 a)) (λ i. (sym new_is i, sym result_is i))
+        (goes_with goes (λ b (beside, does, list, makes_on). (beside, serves_it false b does, goes_still (Making x) b beside (λ new_record. whole_still b list) (others_on b beside is.behind stood_making.0, makes_on))))
     makes_so x new_words made.Done new result goes (new_is, result_is) =
-        subst (λ (p : Sampling × SamplingStep). StepsBy shape.size version a words new_words (SamplingGives shape p.0 p.1 a)) (λ i. (sym new_is i, sym result_is i))
+        subst (λ (p : SampleSearch × SampleSearchStep). StepsBy shape.size version a words new_words (SampleSearchGives shape p.0 p.1 a)) (λ i. (sym new_is i, sym result_is i))
         (goes_with goes (λ b (beside, does, turns). (beside, serves_it false b does, goes_still Walking b beside (λ none. absurd none) (turns, others_on b beside is.behind stood_making.0))))
     makes_so x new_words (made.Refused cause) new result goes (new_is, result_is) =
-        subst (λ (p : Sampling × SamplingStep). StepsBy shape.size version a words new_words (SamplingGives shape p.0 p.1 a)) (λ i. (sym new_is i, sym result_is i))
+        subst (λ (p : SampleSearch × SampleSearchStep). StepsBy shape.size version a words new_words (SampleSearchGives shape p.0 p.1 a)) (λ i. (sym new_is i, sym result_is i))
         (goes_with goes (λ b (beside, does, list, turns, is_cause).
         (beside, serves_it (is_full cause) b does, turns, is_cause, (is.front, is.behind, sym (whole_still b list).0, others_on b beside is.behind stood_making.0, (whole_still b list).1))))
 
 -- ---- where it loads
 
-pub type_inside : (s : Sampling) (words : List ℕ) (at : ℕ) → s.stage ≡ LoadingType at → ∥ IsSomeSampling (length words) s ∥₁
+pub type_inside : (s : SampleSearch) (words : List ℕ) (at : ℕ) → s.stage ≡ LoadingType at → ∥ IsSomeSampleSearch (length words) s ∥₁
     → (at + 5 ≤ length words) × (length words ≤ 1048576)
 type_inside s words at loads stands = ∥∥₁_elim stands (hlevel props) (λ (shape, a, long, is).
     let within = type_within shape 1 s a words long is at loads in let many = is.lawful_shape.many in (omega (arith, within, long), omega (arith, many, long)))
 
-pub histogram_inside : (s : Sampling) (words : List ℕ) (at : ℕ) → s.stage ≡ LoadingHistogram at → ∥ IsSomeSampling (length words) s ∥₁
+pub histogram_inside : (s : SampleSearch) (words : List ℕ) (at : ℕ) → s.stage ≡ LoadingHistogram at → ∥ IsSomeSampleSearch (length words) s ∥₁
     → (at + 8 ≤ length words) × (length words ≤ 1048576)
 histogram_inside s words at loads stands = ∥∥₁_elim stands (hlevel props) (λ (shape, a, long, is).
     let within = histogram_within shape 1 s a words long is at loads in let many = is.lawful_shape.many in (omega (arith, within, long), omega (arith, many, long)))
 
-pub value_inside : (s : Sampling) (words : List ℕ) (at of : ℕ) → s.stage ≡ LoadingValue at of → ∥ IsSomeSampling (length words) s ∥₁
+pub value_inside : (s : SampleSearch) (words : List ℕ) (at of : ℕ) → s.stage ≡ LoadingValue at of → ∥ IsSomeSampleSearch (length words) s ∥₁
     → (at + 8 ≤ length words) × (length words ≤ 1048576)
 value_inside s words at of loads stands = ∥∥₁_elim stands (hlevel props) (λ (shape, a, long, is).
     let within = value_within shape 1 s a words long is at of loads in let many = is.lawful_shape.many in (omega (arith, within, long), omega (arith, many, long)))

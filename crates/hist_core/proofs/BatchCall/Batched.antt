@@ -21,7 +21,7 @@ use Rattle.hist_core.specs.Batch.{IsBatch, IsCutAt, EntriesHaveEnded, IsSomeBatc
 use Rattle.hist_core.specs.StepsBy.{SharedEffect, links, raises, DoesOnly, StepsBy}
 use Rattle.hist_core.proofs.Worlds.Landing.{Landing, does_as_said}
 use Rattle.hist_core.specs.ActorRun.{known_of, ended_by, begun_by, pending_by, entry_of, held_by, IsGhostNoting, IsBatching, StandsIn, IsActorRunOf, IsBatchAnnounced, LandsBack, Answers, DoesAsSaid, IsRefusedBy, Serves, is_flagged, lacks_room}
-use Rattle.hist_core.specs.Making.{IsCause}
+use Rattle.hist_core.specs.NewRecord.{IsCause}
 use Rattle.hist_core.proofs.AddCall.Refusals.{HasOnlyNoted, cause_noted, needs_still}
 use Rattle.hist_core.proofs.Parts.Allocations.{goes_with}
 use Rattle.hist_core.proofs.Worlds.Apart.{asks_not, adds_not, looks_not, sets_not}

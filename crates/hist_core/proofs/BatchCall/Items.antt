@@ -15,7 +15,7 @@ use Rattle.hist_core.specs.declared.batch.BatchStep.{BatchStep}
 use Rattle.hist_core.specs.declared.batch.BatchStep.TheVariants.{More, Done, Refused}
 use Rattle.hist_core.specs.Add.{IsAdd, FrameOfAdd, NeedsBlock, StaysOpen, HasEntry, EntryHasEnded, AddSteps, AddGives, block_words, counted_entry, ended_entry}
 use Rattle.hist_core.specs.Add.{serves_counted as add_serves}
-use Rattle.hist_core.specs.Making.{IsCause, is_full}
+use Rattle.hist_core.specs.NewRecord.{IsCause, is_full}
 use Rattle.hist_core.specs.Batch.{IsBatch, IsItem, CountsItem, SumsUp, EntriesHaveEnded, BatchGives, IsItemSaid, ItemWaits, amid_of, counted_entries, serves_counted, sample_of, sum_entries, units_among}
 use Rattle.hist_core.specs.StepsBy.{SharedEffect, links, raises, DoesOnly, StepsBy, IsFree}
 use Rattle.hist_core.proofs.Parts.Allocations.{goes_with}

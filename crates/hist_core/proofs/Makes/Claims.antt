@@ -15,20 +15,20 @@ use Rattle.segment_machine.specs.Stages.{FollowsAllocation, StandsAtAllocStage}
 use Rattle.segment_invariant.proofs.Lists.Elements.{at_from}
 use Rattle.segment_invariant.proofs.Lists.Ends.{own_found}
 use Rattle.segment_calls.specs.declared.refusal.Refusal.TheVariants as why
-use Rattle.hist_core.specs.declared.making.Making.{Making}
-use Rattle.hist_core.specs.declared.making.MakingStep.{MakingStep}
-use Rattle.hist_core.specs.declared.making.MakingStep.TheVariants.{More, Refused}
-use Rattle.hist_core.specs.declared.making.MakingStage.TheVariants.{Allocating, Filling}
+use Rattle.hist_core.specs.declared.new_record.NewRecord.{NewRecord}
+use Rattle.hist_core.specs.declared.new_record.NewRecordStep.{NewRecordStep}
+use Rattle.hist_core.specs.declared.new_record.NewRecordStep.TheVariants.{More, Refused}
+use Rattle.hist_core.specs.declared.new_record.NewRecordStage.TheVariants.{Allocating, Filling}
 use Rattle.hist_core.specs.StepsBy.{DoesOnly, FrameOfStep, SeesNoMore, StepsBy, is_tied}
-use Rattle.hist_core.specs.Making.{Wanted, IsMaking, StandsAtStage, MakingGives, IsAllocated, IsCause, is_full, serves_wanted}
+use Rattle.hist_core.specs.NewRecord.{Wanted, IsNewRecord, StandsAtStage, NewRecordGives, IsAllocated, IsCause, is_full, serves_wanted}
 use Rattle.hist_core.proofs.Makes.Drafts.{may_still}
 use Rattle.hist_core.proofs.Parts.Allocations.{allocates_on, goes_with}
 use Rattle.hist_core.proofs.Parts.Deeds.{does_still, is_full_end}
 use Rattle.hist_core.proofs.Parts.Claims.{IsEnd, changed_at, claimed_of, claimed_suits, goes_noting, rests_at}
 use Rattle.hist_core.proofs.Parts.Alone.{frame_of}
 
-module _ (shape : Dimensions) (version : ℕ) (wanted : Wanted) (m : Making) (a : Actor) (words : List ℕ) (long : length words ≡ shape.size)
-    (is : IsMaking shape wanted m a) (x : Allocation) (allocates : m.stage ≡ Allocating x) where
+module _ (shape : Dimensions) (version : ℕ) (wanted : Wanted) (m : NewRecord) (a : Actor) (words : List ℕ) (long : length words ≡ shape.size)
+    (is : IsNewRecord shape wanted m a) (x : Allocation) (allocates : m.stage ≡ Allocating x) where
   stands : StandsAtStage shape wanted a (Allocating x)
   stands = subst (StandsAtStage shape wanted a) allocates is.stands
 
@@ -40,7 +40,7 @@ module _ (shape : Dimensions) (version : ℕ) (wanted : Wanted) (m : Making) (a 
         (allocates_on (serves_wanted wanted) version a x y words new_words says stands.0 stands.3 (long ∙ sym size) step)
 
     -- it continues
-    still_claims : says ≡ said.More → is_some (alloc.next_event y) ≡ true → StepsBy shape.size version a words new_words (MakingGives shape wanted (record { stage = Allocating y }) More a)
+    still_claims : says ≡ said.More → is_some (alloc.next_event y) ≡ true → StepsBy shape.size version a words new_words (NewRecordGives shape wanted (record { stage = Allocating y }) More a)
     still_claims goes_on more = goes_with claims (λ b (beside, does, apart, goes, words_same, list, ends). (
       beside,
       subst (λ (s : AllocStep). DoesOnly false (is_full_end s) (serves_wanted wanted) a b) goes_on does,
@@ -59,17 +59,17 @@ module _ (shape : Dimensions) (version : ℕ) (wanted : Wanted) (m : Making) (a 
     ))
 
     -- it is refused
-    is_refused : (why : Refusal) (new : Making) → is_full_end says ≡ is_full why → ((b : Actor) → FollowsAllocation b y → b.hand.place ≡ Idle) → ((b : Actor) → IsEnd says x.size a b → IsCause why x.size a b)
-        → StepsBy shape.size version a words new_words (MakingGives shape wanted new (Refused why) a)
+    is_refused : (why : Refusal) (new : NewRecord) → is_full_end says ≡ is_full why → ((b : Actor) → FollowsAllocation b y → b.hand.place ≡ Idle) → ((b : Actor) → IsEnd says x.size a b → IsCause why x.size a b)
+        → StepsBy shape.size version a words new_words (NewRecordGives shape wanted new (Refused why) a)
     is_refused why new fills idle cause = goes_with claims (λ b (beside, does, apart, goes, words_same, list, ends).
         (beside, subst (λ (full : Bool). DoesOnly false full (serves_wanted wanted) a b) fills does, list, ap is_tied (idle b goes), subst (λ (n : ℕ). IsCause why n a b) stands.3 (cause b ends)))
 
     -- it has a block, which is to be the record: it stores the payload there
-    has_claimed : (at : ℕ) → says ≡ said.Done at → StepsBy shape.size version a words new_words (MakingGives shape wanted (record { stage = Filling at 0 }) More a)
+    has_claimed : (at : ℕ) → says ≡ said.Done at → StepsBy shape.size version a words new_words (NewRecordGives shape wanted (record { stage = Filling at 0 }) More a)
     has_claimed at done = goes_noting claims (λ b (beside, does, apart, goes, words_same, list, ends). claimed b beside does list apart goes (claimed_of y.stage at (sym done ∙ step.answers)))
       where
         claimed : (b : Actor) → FrameOfStep a b → DoesOnly false (is_full_end says) (serves_wanted wanted) a b → SeesNoMore a b → AreOwnBlocksApart b → FollowsAllocation b y → (size : ℕ) × (y.stage ≡ Claimed at size)
-            → (notes : List Note) × (c : Actor) × Notes b notes c × MakingGives shape wanted (record { stage = Filling at 0 }) More a c
+            → (notes : List Note) × (c : Actor) × Notes b notes c × NewRecordGives shape wanted (record { stage = Filling at 0 }) More a c
         claimed b beside does list apart goes (size, ends) =
             let has = subst (StandsAtAllocStage b y) ends goes.stands in
             let place = subst (IsAimed y) ends goes.lawful.aimed in
@@ -116,20 +116,20 @@ module _ (shape : Dimensions) (version : ℕ) (wanted : Wanted) (m : Making) (a 
             )
 
   -- for each result of a step of the allocation
-  pub allocates_so : (y : Allocation) (new_words : List ℕ) (says : AllocStep) (new : Making) (result : MakingStep) → alloc.IsStep x words y new_words says
+  pub allocates_so : (y : Allocation) (new_words : List ℕ) (says : AllocStep) (new : NewRecord) (result : NewRecordStep) → alloc.IsStep x words y new_words says
       → (says ≡ said.More → is_some (alloc.next_event y) ≡ true) → IsAllocated (record { stage = Allocating y }) says new result
-      → StepsBy shape.size version a words new_words (MakingGives shape wanted new result a)
+      → StepsBy shape.size version a words new_words (NewRecordGives shape wanted new result a)
   allocates_so y new_words said.More new result step more (new_is, result_is) =
-      subst (λ (p : Making × MakingStep). StepsBy shape.size version a words new_words (MakingGives shape wanted p.0 p.1 a)) (λ i. (sym new_is i, sym result_is i))
+      subst (λ (p : NewRecord × NewRecordStep). StepsBy shape.size version a words new_words (NewRecordGives shape wanted p.0 p.1 a)) (λ i. (sym new_is i, sym result_is i))
       (still_claims y new_words said.More step refl (more refl))
   allocates_so y new_words (said.Done at) new result step more (new_is, result_is) =
-      subst (λ (p : Making × MakingStep). StepsBy shape.size version a words new_words (MakingGives shape wanted p.0 p.1 a)) (λ i. (sym new_is i, sym result_is i))
+      subst (λ (p : NewRecord × NewRecordStep). StepsBy shape.size version a words new_words (NewRecordGives shape wanted p.0 p.1 a)) (λ i. (sym new_is i, sym result_is i))
       (has_claimed y new_words (said.Done at) step at refl)
   allocates_so y new_words said.Full new result step more result_is =
-      subst (λ (r : MakingStep). StepsBy shape.size version a words new_words (MakingGives shape wanted new r a)) (sym result_is)
+      subst (λ (r : NewRecordStep). StepsBy shape.size version a words new_words (NewRecordGives shape wanted new r a)) (sym result_is)
       (is_refused y new_words said.Full step why.Full new refl (λ b goes. rests_at b y y.stage (λ e. cc (step.answers ∙ e)) goes.stands) (λ b ends. ends))
   allocates_so y new_words said.Corrupt new result step more result_is =
-      subst (λ (r : MakingStep). StepsBy shape.size version a words new_words (MakingGives shape wanted new r a)) (sym result_is)
+      subst (λ (r : NewRecordStep). StepsBy shape.size version a words new_words (NewRecordGives shape wanted new r a)) (sym result_is)
       (is_refused y new_words said.Corrupt step why.Corrupt new refl (λ b goes. rests_at b y y.stage (λ e. cc (step.answers ∙ e)) goes.stands) (λ b ends. ends))
 
   -- what the step of its allocation asks for

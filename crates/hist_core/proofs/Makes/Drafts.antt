@@ -3,9 +3,9 @@ use Rattle.segment_invariant.proofs.Prelude.Std.{◌≡◌, ℕ, ◌+◌, ◌*�
 use Rattle.segment_invariant.proofs.Prelude.Machine.{Dimensions, buckets_of, IsShape, Actor, Known, Made, Own, MayTurn}
 use Rattle.segment_machine.specs.declared.actor.Made.TheVariants.{Histogram, Sample}
 use Rattle.segment_machine.specs.Publishing.{MayPublish}
-use Rattle.hist_core.specs.declared.making.Making.{Making}
+use Rattle.hist_core.specs.declared.new_record.NewRecord.{NewRecord}
 use Rattle.hist_core.specs.StepsBy.{FrameOfStep}
-use Rattle.hist_core.specs.Making.{Wanted, MayMake, IsMaking, IsStarted, StandsAtStage, tag_of}
+use Rattle.hist_core.specs.NewRecord.{Wanted, MayMake, IsNewRecord, IsStarted, StandsAtStage, tag_of}
 
 -- a valid shape has 64 words at least
 pub is_wide : (shape : Dimensions) → IsShape shape → 64 ≤ shape.size
@@ -43,8 +43,8 @@ max_one : (n : ℕ) → 1 ≤ n → max n 1 ≡ n
 max_one n some = omega (arith, some)
 
 -- an actor that may turn to it, and may make it, begins to claim its words
-pub begins : (shape : Dimensions) (wanted : Wanted) (m : Making) (a : Actor) → a.segment.shape ≡ shape → IsShape shape → MayMake shape wanted a → MayTurn a
-    → IsStarted shape wanted.room (tag_of wanted.made) m → IsMaking shape wanted m a
+pub begins : (shape : Dimensions) (wanted : Wanted) (m : NewRecord) (a : Actor) → a.segment.shape ≡ shape → IsShape shape → MayMake shape wanted a → MayTurn a
+    → IsStarted shape wanted.room (tag_of wanted.made) m → IsNewRecord shape wanted m a
 begins shape wanted m a segment lawful may turns starts =
     let some = may.some in
     let enough = may.enough in

@@ -8,11 +8,11 @@ use Rattle.alloc_core.specs.Event as atomic
 use Rattle.list_core.specs.Publish as publish
 use Rattle.segment_machine.specs.Allocating.{stored}
 use Rattle.segment_machine.specs.Publishing.{own_at}
-use Rattle.hist_core.specs.declared.making.Making.{Making}
-use Rattle.hist_core.specs.declared.making.MakingStep.TheVariants.{More}
-use Rattle.hist_core.specs.declared.making.MakingStage.TheVariants.{Filling, Publishing}
+use Rattle.hist_core.specs.declared.new_record.NewRecord.{NewRecord}
+use Rattle.hist_core.specs.declared.new_record.NewRecordStep.TheVariants.{More}
+use Rattle.hist_core.specs.declared.new_record.NewRecordStage.TheVariants.{Filling, Publishing}
 use Rattle.hist_core.specs.StepsBy.{FrameOfStep, StepsBy}
-use Rattle.hist_core.specs.Making.{Wanted, IsMaking, IsFilledTo, IsNextFilled, IsPayloadFilled, StandsAtStage, MakingGives, serves_wanted}
+use Rattle.hist_core.specs.NewRecord.{Wanted, IsNewRecord, IsFilledTo, IsNextFilled, IsPayloadFilled, StandsAtStage, NewRecordGives, serves_wanted}
 use Rattle.hist_core.proofs.Worlds.Free.{free_turns}
 use Rattle.hist_core.proofs.Makes.Drafts.{is_wide, may_still}
 use Rattle.hist_core.proofs.Parts.Alone.{by_event, makes_so, allocating_beside}
@@ -66,8 +66,8 @@ own_there (own ∷ rest) at x is = by (own.at == at) refl (own_there rest at x) 
 
 -- ---- a step
 
-module _ (shape : Dimensions) (version : ℕ) (wanted : Wanted) (m : Making) (a : Actor) (words : List ℕ) (long : length words ≡ shape.size)
-    (is : IsMaking shape wanted m a) (at index : ℕ) (fills : m.stage ≡ Filling at index) where
+module _ (shape : Dimensions) (version : ℕ) (wanted : Wanted) (m : NewRecord) (a : Actor) (words : List ℕ) (long : length words ≡ shape.size)
+    (is : IsNewRecord shape wanted m a) (at index : ℕ) (fills : m.stage ≡ Filling at index) where
   stands : StandsAtStage shape wanted a (Filling at index)
   stands = subst (StandsAtStage shape wanted a) fills is.stands
 
@@ -98,8 +98,8 @@ module _ (shape : Dimensions) (version : ℕ) (wanted : Wanted) (m : Making) (a 
   whole_front = stored_is all own.payload index stands.4.2 stands.1
 
   -- the next word, or the publish
-  pub fills_so : (new_words : List ℕ) (new : Making) → new_words ≡ atomic.after (atomic.store_payload at index value) words → IsPayloadFilled all at (index + 1) new
-      → StepsBy shape.size version a words new_words (MakingGives shape wanted new More a)
+  pub fills_so : (new_words : List ℕ) (new : NewRecord) → new_words ≡ atomic.after (atomic.store_payload at index value) words → IsPayloadFilled all at (index + 1) new
+      → StepsBy shape.size version a words new_words (NewRecordGives shape wanted new More a)
   fills_so new_words new are (then_at, goes, new_is) = by_event event (
     own,
     ((own_there a.hand.own at own stands.4.1.0).0, stands.4.1.1),

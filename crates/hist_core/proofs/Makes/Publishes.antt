@@ -9,12 +9,12 @@ use Rattle.list_core.specs.declared.publish.PubStage.TheVariants.{StoreOwnNext, 
 use Rattle.list_core.specs.Publish.{Publishing as PublishingOf, IsReach, IsWithin, answer}
 use Rattle.list_core.specs.Publish as publish
 use Rattle.segment_machine.specs.Stages.{PublishesAt}
-use Rattle.hist_core.specs.declared.making.Making.{Making}
-use Rattle.hist_core.specs.declared.making.MakingStep.{MakingStep}
-use Rattle.hist_core.specs.declared.making.MakingStep.TheVariants.{More, Done}
-use Rattle.hist_core.specs.declared.making.MakingStage.TheVariants.{Publishing}
+use Rattle.hist_core.specs.declared.new_record.NewRecord.{NewRecord}
+use Rattle.hist_core.specs.declared.new_record.NewRecordStep.{NewRecordStep}
+use Rattle.hist_core.specs.declared.new_record.NewRecordStep.TheVariants.{More, Done}
+use Rattle.hist_core.specs.declared.new_record.NewRecordStage.TheVariants.{Publishing}
 use Rattle.hist_core.specs.StepsBy.{DoesOnly, FrameOfStep, SeesNoMore, StepsBy, IsFree, is_tied}
-use Rattle.hist_core.specs.Making.{Wanted, IsMaking, StandsAtStage, MakingGives, IsPublished, serves_wanted}
+use Rattle.hist_core.specs.NewRecord.{Wanted, IsNewRecord, StandsAtStage, NewRecordGives, IsPublished, serves_wanted}
 use Rattle.hist_core.proofs.Makes.Drafts.{may_still}
 use Rattle.hist_core.proofs.Parts.Allocations.{goes_with, publishes_on}
 
@@ -44,8 +44,8 @@ never_strays b reference made (Link tail) ends stands = cc ends
 never_strays b reference made (MoveTail old new linked) ends stands = cc ends
 never_strays b reference made Strayed ends stands = stands
 
-module _ (shape : Dimensions) (version : ℕ) (wanted : Wanted) (m : Making) (a : Actor) (words : List ℕ) (long : length words ≡ shape.size)
-    (is : IsMaking shape wanted m a) (x : PublishingOf) (publishes : m.stage ≡ Publishing x) where
+module _ (shape : Dimensions) (version : ℕ) (wanted : Wanted) (m : NewRecord) (a : Actor) (words : List ℕ) (long : length words ≡ shape.size)
+    (is : IsNewRecord shape wanted m a) (x : PublishingOf) (publishes : m.stage ≡ Publishing x) where
   stands : StandsAtStage shape wanted a (Publishing x)
   stands = subst (StandsAtStage shape wanted a) publishes is.stands
 
@@ -58,7 +58,7 @@ module _ (shape : Dimensions) (version : ℕ) (wanted : Wanted) (m : Making) (a 
 
     -- it continues
     still_puts : is_some (publish.next_event y) ≡ true → IsReach shape.size y
-        → StepsBy shape.size version a words new_words (MakingGives shape wanted (record { stage = Publishing y }) More a)
+        → StepsBy shape.size version a words new_words (NewRecordGives shape wanted (record { stage = Publishing y }) More a)
     still_puts more reach = goes_with puts (λ b (beside, does, list, goes). (
       beside,
       does,
@@ -72,18 +72,18 @@ module _ (shape : Dimensions) (version : ℕ) (wanted : Wanted) (m : Making) (a 
     ))
 
     -- the record is on the list
-    has_put : (new : Making) → says ≡ put.Done → StepsBy shape.size version a words new_words (MakingGives shape wanted new Done a)
+    has_put : (new : NewRecord) → says ≡ put.Done → StepsBy shape.size version a words new_words (NewRecordGives shape wanted new Done a)
     has_put new done = goes_with puts (λ b (beside, does, list, goes). (beside, does, rests_at b y.reference wanted.made y.stage (sym step.answers ∙ done) goes))
 
   -- for each result of a step of the publish
-  pub publishes_so : (y : PublishingOf) (new_words : List ℕ) (says : PubStep) (result : MakingStep) → publish.IsStep x words y new_words says
+  pub publishes_so : (y : PublishingOf) (new_words : List ℕ) (says : PubStep) (result : NewRecordStep) → publish.IsStep x words y new_words says
       → (says ≡ put.More → is_some (publish.next_event y) ≡ true) → IsReach shape.size y → IsPublished says result
-      → StepsBy shape.size version a words new_words (MakingGives shape wanted (record { stage = Publishing y }) result a)
+      → StepsBy shape.size version a words new_words (NewRecordGives shape wanted (record { stage = Publishing y }) result a)
   publishes_so y new_words put.More result step more reach result_is =
-      subst (λ (r : MakingStep). StepsBy shape.size version a words new_words (MakingGives shape wanted (record { stage = Publishing y }) r a)) (sym result_is)
+      subst (λ (r : NewRecordStep). StepsBy shape.size version a words new_words (NewRecordGives shape wanted (record { stage = Publishing y }) r a)) (sym result_is)
       (still_puts y new_words put.More step (more refl) reach)
   publishes_so y new_words put.Done result step more reach result_is =
-      subst (λ (r : MakingStep). StepsBy shape.size version a words new_words (MakingGives shape wanted (record { stage = Publishing y }) r a)) (sym result_is)
+      subst (λ (r : NewRecordStep). StepsBy shape.size version a words new_words (NewRecordGives shape wanted (record { stage = Publishing y }) r a)) (sym result_is)
       (has_put y new_words put.Done step (record { stage = Publishing y }) refl)
   publishes_so y new_words put.Stray result step more reach result_is =
       goes_with (puts y new_words put.Stray step) (λ b (beside, does, list, goes). absurd (never_strays b y.reference wanted.made y.stage (sym step.answers) goes))

@@ -18,7 +18,7 @@ use Rattle.segment_machine.specs.Calls.{change_own}
 use Rattle.segment_machine.specs.Publishing.{own_at}
 use Rattle.segment_machine.specs.Stages.{StandsAtAllocStage, allocates}
 use Rattle.segment_calls.specs.declared.refusal.Refusal.TheVariants as why
-use Rattle.hist_core.specs.Making.{IsCause}
+use Rattle.hist_core.specs.NewRecord.{IsCause}
 use Rattle.hist_core.specs.StepsBy.{StepsBy}
 
 -- ---- a block that is claimed

@@ -5,7 +5,7 @@ use Rattle.segment_machine.specs.Made.{SawOtherName}
 use Rattle.segment_machine.specs.Note.{MayNote, knows}
 use Rattle.segment_machine.specs.Walking.{IsFixed, EndsWithin, StaysAsSeen}
 use Rattle.segment_promises.proofs.Calls.SeenWords.{seen_now}
-use Rattle.hist_core.specs.Making.{is_full}
+use Rattle.hist_core.specs.NewRecord.{is_full}
 use Rattle.hist_core.proofs.Parts.Alone.{by_event, seen_words}
 use Rattle.hist_core.proofs.Parts.Deeds.{does_nothing}
 use Rattle.hist_core.specs.declared.hist.Hist.{Hist}

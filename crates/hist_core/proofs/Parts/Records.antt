@@ -5,7 +5,7 @@ use Rattle.std.proofs.lemmas.List.{get_or_push, replicate-append-replicate}
 use Rattle.bucket_ranges.specs.declared.spec.Spec.TheVariants as spec
 use Rattle.hist_core.specs.declared.hist.Hist.{Hist}
 use Rattle.hist_core.specs.Hist.{IsAsking, wanted_of}
-use Rattle.hist_core.specs.Making.{MayMake}
+use Rattle.hist_core.specs.NewRecord.{MayMake}
 
 -- the first word of a payload is a kind, which is not 0
 kind_is : (kind : Spec) (rest : List ℕ) → slice_index (spec_fields kind ++ rest) 0 ≢ 0

@@ -10,8 +10,8 @@ use Rattle.hist_core.specs.declared.hist.Hist.{Hist}
 use Rattle.hist_core.specs.declared.hist.HistStep.TheVariants.{More}
 use Rattle.hist_core.specs.declared.hist.HistStage.{HistStage}
 use Rattle.hist_core.specs.declared.hist.HistStage.TheVariants.{Walking, Comparing, Making}
-use Rattle.hist_core.specs.declared.making.Making.{Making as MakingOf}
-use Rattle.hist_core.specs.Making.{IsStarted}
+use Rattle.hist_core.specs.declared.new_record.NewRecord.{NewRecord as NewRecordOf}
+use Rattle.hist_core.specs.NewRecord.{IsStarted}
 use Rattle.hist_core.proofs.Makes.Drafts.{begins, is_wide}
 use Rattle.hist_core.proofs.Parts.Records.{may_make, some_to_compare_is}
 use Rattle.hist_core.specs.StepsBy.{FrameOfStep, StepsBy, IsFree}
@@ -132,14 +132,14 @@ module _ (shape : Dimensions) (version : ℕ) (h : Hist) (a : Actor) (words : Li
       ))
 
   -- at the end of the list it begins to make its record
-  pub ends : (walk : ℕ) (making : MakingOf) → End ≡ said_of (length words) (word_at words (h.walk + 3)) → walk ≡ h.walk
-      → IsStarted h.shape (vec_len h.payload) 1 making
-      → StepsBy shape.size version a words words (HistGives shape (record h { walk = walk; stage = Making making }) More a)
-  ends walk making says here starts = goes_with (loads End says) (λ b (beside, done, ends_so, free, front). (
+  pub ends : (walk : ℕ) (new_record : NewRecordOf) → End ≡ said_of (length words) (word_at words (h.walk + 3)) → walk ≡ h.walk
+      → IsStarted h.shape (vec_len h.payload) 1 new_record
+      → StepsBy shape.size version a words words (HistGives shape (record h { walk = walk; stage = Making new_record }) More a)
+  ends walk new_record says here starts = goes_with (loads End says) (λ b (beside, done, ends_so, free, front). (
     beside,
     does_nothing (serves_asked h a) a b done,
     record {
-      asking = asks_on shape h is.asking h.reference walk (Making making);
+      asking = asks_on shape h is.asking h.reference walk (Making new_record);
       segment = ap (λ s. s.shape) beside.segment ∙ is.segment;
       lawful_shape = is.lawful_shape;
       given = is.given;
@@ -150,9 +150,9 @@ module _ (shape : Dimensions) (version : ℕ) (h : Hist) (a : Actor) (words : Li
         ends_so.0,
         ends_so.1,
         others_still a b beside h is.given stands.1,
-        begins shape (wanted_of h) making b (ap (λ s. s.shape) beside.segment ∙ is.segment) is.lawful_shape
+        begins shape (wanted_of h) new_record b (ap (λ s. s.shape) beside.segment ∙ is.segment) is.lawful_shape
             (may_make shape h is.asking b (ap (λ s. s.shape) beside.segment ∙ is.segment)) (free_turns b.hand.place free)
-            (subst (λ (p : Dimensions × ℕ). IsStarted p.0 p.1 1 making) (λ i. (is.asking.shaped i, h.payload.ok.0 i)) starts),
+            (subst (λ (p : Dimensions × ℕ). IsStarted p.0 p.1 1 new_record) (λ i. (is.asking.shaped i, h.payload.ok.0 i)) starts),
       );
     },
   ))

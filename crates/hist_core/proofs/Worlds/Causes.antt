@@ -16,7 +16,7 @@ use Rattle.hist_core.specs.Start.{Start}
 use Rattle.hist_core.specs.WorldState.{IsFlagSet, IsReachedAs}
 use Rattle.hist_core.proofs.Worlds.Starts.{kept_there}
 use Rattle.hist_core.specs.Hist.{HasOtherSpec, SawNoName}
-use Rattle.hist_core.specs.Making.{IsCause}
+use Rattle.hist_core.specs.NewRecord.{IsCause}
 use Rattle.hist_core.specs.ActorRun.{IsRefusedBy, LacksBlock}
 use Rattle.hist_core.proofs.AddCall.Refusals.{cause_noted, needs_still}
 

@@ -17,11 +17,11 @@ use Rattle.hist_core.specs.declared.hist.Hist.{Hist as HistCall}
 use Rattle.hist_core.specs.declared.hist.KnownHist.{KnownHist}
 use Rattle.hist_core.specs.declared.hist.HistStage.{HistStage}
 use Rattle.hist_core.specs.declared.hist.HistStage.TheVariants as hists
-use Rattle.hist_core.specs.declared.making.MakingStage.{MakingStage}
-use Rattle.hist_core.specs.declared.making.MakingStage.TheVariants.{Allocating, Filling, Publishing}
-use Rattle.hist_core.specs.declared.sampling.Sampling.{Sampling}
-use Rattle.hist_core.specs.declared.sampling.SamplingStage.{SamplingStage}
-use Rattle.hist_core.specs.declared.sampling.SamplingStage.TheVariants as samples
+use Rattle.hist_core.specs.declared.new_record.NewRecordStage.{NewRecordStage}
+use Rattle.hist_core.specs.declared.new_record.NewRecordStage.TheVariants.{Allocating, Filling, Publishing}
+use Rattle.hist_core.specs.declared.sample_search.SampleSearch.{SampleSearch}
+use Rattle.hist_core.specs.declared.sample_search.SampleSearchStage.{SampleSearchStage}
+use Rattle.hist_core.specs.declared.sample_search.SampleSearchStage.TheVariants as samples
 use Rattle.hist_core.specs.declared.actor_run.Running.{Running}
 use Rattle.hist_core.specs.declared.actor_run.Running.TheVariants.{SetCorrupt, Hist, Add, Delta, Snapshot, Batch}
 use Rattle.hist_core.specs.declared.world_state.WorldState.{WorldState}
@@ -30,10 +30,10 @@ use Rattle.hist_core.specs.Add.{Amid, IsAdd}
 use Rattle.hist_core.specs.Batch.{IsBatch, amid_of, counted_entries}
 use Rattle.hist_core.specs.Hist as hist
 use Rattle.hist_core.specs.Hist.{IsHist, wanted_of}
-use Rattle.hist_core.specs.Making as making
-use Rattle.hist_core.specs.Making.{IsMaking, Wanted}
-use Rattle.hist_core.specs.Sampling as sampling
-use Rattle.hist_core.specs.Sampling.{IsSampling}
+use Rattle.hist_core.specs.NewRecord as new_record
+use Rattle.hist_core.specs.NewRecord.{IsNewRecord, Wanted}
+use Rattle.hist_core.specs.SampleSearch as sample_search
+use Rattle.hist_core.specs.SampleSearch.{IsSampleSearch}
 use Rattle.hist_core.specs.StepsBy.{IsFree}
 use Rattle.hist_core.specs.ActorRun.{StandsIn, pending_by}
 use Rattle.hist_core.specs.Transit.{CountsInRecord, MoveTheirOwn}
@@ -71,7 +71,7 @@ module _ (a : Actor) (look : Look) (bucket units : ℕ) (at : a.hand.place ≡ M
   publishes_not reference made Published stands = cc (sym stands.0 ∙ at)
   publishes_not reference made Strayed stands = absurd stands
 
-  makes_not : {X : Type 0} (shape : Dimensions) (wanted : Wanted) (stage : MakingStage) → making.StandsAtStage shape wanted a stage → X
+  makes_not : {X : Type 0} (shape : Dimensions) (wanted : Wanted) (stage : NewRecordStage) → new_record.StandsAtStage shape wanted a stage → X
   makes_not shape wanted (Allocating allocation) stands = claims_not allocation allocation.stage stands.0.stands
   makes_not shape wanted (Filling from index) stands = freed stands.0
   makes_not shape wanted (Publishing publishing) stands = publishes_not publishing.reference wanted.made publishing.stage stands.0
@@ -81,12 +81,12 @@ module _ (a : Actor) (look : Look) (bucket units : ℕ) (at : a.hand.place ≡ M
   asks_none shape h given (hists.Comparing same) stands = freed stands.0
   asks_none shape h given (hists.Making m) stands = makes_not shape (wanted_of h) m.stage stands.3.stands
 
-  samples_not : {X : Type 0} (shape : Dimensions) (s : Sampling) (behind : List ℕ) (stage : SamplingStage) → sampling.StandsAtStage shape s a behind stage → X
+  samples_not : {X : Type 0} (shape : Dimensions) (s : SampleSearch) (behind : List ℕ) (stage : SampleSearchStage) → sample_search.StandsAtStage shape s a behind stage → X
   samples_not shape s behind samples.Walking stands = freed stands.0
   samples_not shape s behind (samples.LoadingType from) stands = freed stands.free
   samples_not shape s behind (samples.LoadingHistogram from) stands = freed stands.0.free
   samples_not shape s behind (samples.LoadingValue from of) stands = freed stands.0.free
-  samples_not shape s behind (samples.Making m) stands = makes_not shape (sampling.wanted_of s) m.stage stands.1.stands
+  samples_not shape s behind (samples.Making m) stands = makes_not shape (sample_search.wanted_of s) m.stage stands.1.stands
 
   -- ---- where it counts
 

@@ -7,12 +7,12 @@ pub mod Indexing
 pub mod Knowing
 pub mod KnownNames
 pub mod NamesHeld
-pub mod Naming
+pub mod NamesAndSpecs
 pub mod OneName
 pub mod OwnNames
 pub mod Opening
 pub mod RecordRead
 pub mod Recorded
 pub mod SameLawful
-pub mod Searching
+pub mod NameSearch
 pub mod Settled

@@ -8,20 +8,17 @@ ghost use Rattle.live_segment.specs.List.Keys.{sample_key as key_of_sample};
 use crate::list::index::KeyKind;
 use crate::rule::Pass;
 use crate::segment::Segment;
-use list_index::next_key;
+use list_index::{GROUP_KEYS, next_key};
 use segment_image::layout::{
     BLOCK_TYPE, HISTOGRAM_NAME, HISTOGRAM_NAME_LENGTH, SAMPLE_HISTOGRAM, SAMPLE_VALUE,
     TYPE_HISTOGRAM, TYPE_SAMPLE,
 };
 
-// How far apart the keys of the samples of two histograms are: as far as there are values.
-const VALUES: u64 = 4_294_967_296;
-
-// The key of the samples of a value of a histogram, by the word of the value.
+// The key of the samples of a value of a histogram, by the word of the value: the keys of a histogram are a group.
 fn sample_key(histogram: u64, word: u64) -> u64
     ensures { result ≡ key_of_sample histogram word }
 {
-    histogram.wrapping_mul(VALUES).wrapping_add(word)
+    histogram.wrapping_mul(GROUP_KEYS).wrapping_add(word)
 }
 
 /// The key of the samples of a value of a histogram.

@@ -5,7 +5,6 @@ ghost use Rattle.segment_machine.specs.Seats.{getter, purse};
 ghost use Rattle.live_segment.specs.Rule.{IsOf};
 ghost use Rattle.live_segment.specs.Steps.{IsAtRest};
 ghost use Rattle.live_segment.specs.RecorderState.{IsRecorderAt};
-ghost use Rattle.live_segment.specs.declared.segment.Segment.{Segment as SomeSegment};
 
 use super::{Hist, KnownHistogram, has_too_many_values};
 use crate::add::cost::{price, units_of_items};
@@ -39,16 +38,15 @@ pub struct RecorderState {
 }
 
 impl RecorderState {
-    ghost use Rattle.std.specs.Prelude.{◌↔◌, ◌≢◌, ◌<◌, ◌≤◌, ◌++◌, IsTrue, IfOk, MatchOption, MatchResult, length};
+    ghost use Rattle.std.specs.Prelude.{◌↔◌, ◌≢◌, ◌<◌, ◌++◌, IsTrue, IfOk, MatchOption, MatchResult, length};
     ghost use Rattle.segment_machine.specs.declared.actor.Known.{Known};
     ghost use mathlib.Core.Option.{some};
     ghost use lib.ListN.{get_elem?};
     ghost use Rattle.live_segment.specs.Alloc.Allocation.{spoiled};
     ghost use Rattle.live_segment.specs.List.SharedCursors.{AnswersNext, gift};
     ghost use Rattle.live_segment.specs.Hist.Answer.{IsAnsweredWith, IsKnownAt, IsRefusedWith, NoneHasName};
-    ghost use Rattle.live_segment.specs.List.Values.{AreMostKeys};
-    ghost use Rattle.live_segment.specs.RecorderState.{given_fresh, HasLimit, IsNamed, IsSameRecorder, Knows, KnowsOn, Means, view_of_state};
-    ghost use Rattle.live_segment.specs.Answers.{AnswersAdd, AnswersBatch, AnswersDelta, AnswersFirst, AnswersFresh, AnswersFront, AnswersHist, AnswersList, AnswersOpen, AnswersOpenAs, AnswersRecords, AnswersSnapshot, ClaimsAdd, ClaimsBatch, ClaimsHist, ShowsEnough, ShowsFewKeys, ShowsUnits, TakesEnough, TakesFewKeys};
+    ghost use Rattle.live_segment.specs.RecorderState.{given_fresh, HasLimit, IsFoundAt, IsKnownName, IsKnownSpec, IsNamed, IsRecorderSomewhere, IsSameRecorder, Knows, KnowsOn, StaysRecorder, view_of_state};
+    ghost use Rattle.live_segment.specs.Answers.{AreMostKeysOf, AnswersAdd, AnswersBatch, AnswersDelta, AnswersFirst, AnswersFresh, AnswersFront, AnswersHist, AnswersList, AnswersOpen, AnswersOpenAs, AnswersRecords, AnswersSnapshot, ClaimsAdd, ClaimsBatch, ClaimsHist, ShowsEnough, ShowsFewKeys, ShowsUnits, TakesEnough, TakesFewKeys};
 
     // That of a recorder that has done nothing, at a seat with these units.
     pub(crate) fn new(alloc: Global, segment: &Segment, seat: Pass, units: u32) -> RecorderState
@@ -85,7 +83,7 @@ impl RecorderState {
 
     /// The units that it may still spend.
     pub fn units(&self) -> u32
-        requires { (segment : SomeSegment) × IsRecorderAt segment self.now }
+        requires { IsRecorderSomewhere self.now }
         ensures { result ≡ (view_of_state self.now).units.share }
     {
         self.units
@@ -100,7 +98,7 @@ impl RecorderState {
     /// Each has that limit then [limits], and all else is unchanged: what it has done and seen [view], and what it knows [same]. It stays one
     /// of each segment that it is of [at].
     pub fn limit_indexes(&mut self, entries: usize)
-        ensures at { (segment : SomeSegment) → IsRecorderAt segment self.old → IsRecorderAt segment self.new }
+        ensures at { StaysRecorder self.old self.new }
         ensures same { IsSameRecorder self.old self.new }
         ensures view { view_of_state self.new ≡ view_of_state self.old }
         ensures limits { HasLimit entries self.new }
@@ -112,7 +110,7 @@ impl RecorderState {
 
     /// Whether it knows a histogram: the calls that take one ask for that.
     pub fn knows(&self, histogram: Hist) -> bool
-        requires { (segment : SomeSegment) × IsRecorderAt segment self.now }
+        requires { IsRecorderSomewhere self.now }
         ensures { IsTrue result ↔ Knows self.now histogram }
     {
         histogram.index < self.known.len()
@@ -120,8 +118,8 @@ impl RecorderState {
 
     /// The histogram that it knows at a place.
     pub fn hist_at(&self, place: usize) -> Option<Hist>
-        requires { (segment : SomeSegment) × IsRecorderAt segment self.now }
-        ensures { MatchOption result (length (view_of_state self.now).answers.names ≤ place) (λ histogram. (histogram.index ≡ place) × Knows self.now histogram) }
+        requires { IsRecorderSomewhere self.now }
+        ensures { IsFoundAt place self.now result }
     {
         if place < self.known.len() {
             Some(Hist { index: place })
@@ -134,32 +132,32 @@ impl RecorderState {
     pub fn most_keys(&self, segment: &Segment, histogram: Hist) -> usize
         requires at { IsRecorderAt segment.now self.now }
         requires knows { Knows self.now histogram }
-        ensures { (known : Known) → Means self.now histogram known → AreMostKeys segment.now known result }
+        ensures { AreMostKeysOf segment.now self.now histogram result }
     {
         segment.keys_of(&self.known[histogram.index])
     }
 
     /// The name of a histogram, as [`Recorder::name`](super::Recorder::name) has it.
     pub fn name(&self, histogram: Hist) -> &[u8]
-        requires at { (segment : SomeSegment) × IsRecorderAt segment self.now }
+        requires at { IsRecorderSomewhere self.now }
         requires knows { Knows self.now histogram }
-        ensures { (known : Known) → Means self.now histogram known → result.now ≡ known.name }
+        ensures { IsKnownName self.now histogram result.now }
     {
         self.known[histogram.index].name.as_slice()
     }
 
     /// The spec of a histogram, as [`Recorder::spec`](super::Recorder::spec) has it.
     pub fn spec(&self, histogram: Hist) -> &Spec
-        requires at { (segment : SomeSegment) × IsRecorderAt segment self.now }
+        requires at { IsRecorderSomewhere self.now }
         requires knows { Knows self.now histogram }
-        ensures { (known : Known) → Means self.now histogram known → result.now ≡ known.spec }
+        ensures { IsKnownSpec self.now histogram result.now }
     {
         &self.known[histogram.index].spec
     }
 
     // The place of the histogram of a name among those that it knows.
     fn index_of(&self, name: &[u8]) -> Option<usize>
-        requires { (segment : SomeSegment) × IsRecorderAt segment self.now }
+        requires { IsRecorderSomewhere self.now }
         ensures { MatchOption result (NoneHasName self.now.known.items name.now) (IsKnownAt self.now.known.items name.now) }
     {
         let known = self.known.as_slice();
@@ -217,7 +215,7 @@ impl RecorderState {
 
     // The histogram that it knows at a place, if its record is this one.
     fn known_of(&self, index: usize, reference: u64) -> Option<Hist>
-        requires at { (segment : SomeSegment) × IsRecorderAt segment self.now }
+        requires at { IsRecorderSomewhere self.now }
         requires index { index < length self.now.known.items }
         ensures { (known : Known) → get_elem? (view_of_state self.now).answers.names index ≡ some known → MatchOption result (known.reference ≢ reference) (λ histogram. (histogram.index ≡ index) × (known.reference ≡ reference)) }
     {

@@ -11,7 +11,7 @@ use Rattle.look_promises.specs.Images.{total_looked}
 use Rattle.look_promises.proofs.Moments.Runs.{kept_at, chain_at}
 use Rattle.look_promises.proofs.Copies.ThreeCopies.{ThreeCopies, seen_in}
 use Rattle.look_promises.proofs.Moments.Listed.{same_place, ends_at, place_of}
-use Rattle.look_promises.proofs.Making.Starts.{not_yet}
+use Rattle.look_promises.proofs.NewRecords.Starts.{not_yet}
 use Rattle.look_promises.proofs.Copies.References.{looked}
 use Rattle.look_promises.proofs.Moments.Room.{record_was}
 use Rattle.look_promises.proofs.Amounts.Forms.{both}

@@ -11,7 +11,7 @@ use Rattle.look_promises.proofs.Moments.Runs.{kept_at, chain_at}
 use Rattle.look_promises.proofs.Copies.ThreeCopies.{ThreeCopies, three_copies, seen_in}
 use Rattle.look_promises.proofs.Copies.Following.{many}
 use Rattle.look_promises.proofs.Moments.Listed.{sample_place, ends_at, place_of}
-use Rattle.look_promises.proofs.Making.Starts.{not_yet}
+use Rattle.look_promises.proofs.NewRecords.Starts.{not_yet}
 use Rattle.look_promises.proofs.Copies.Between.{at_least}
 use Rattle.look_promises.proofs.Moments.Room.{sample_was, record_was}
 use Rattle.look_promises.proofs.Amounts.Marks.{total_there, from_moment}

@@ -10,7 +10,7 @@ use Rattle.look_promises.proofs.Moments.Runs.{kept_at, chain_at}
 use Rattle.look_promises.proofs.Moments.Room.{sample_was}
 use Rattle.look_promises.proofs.Copies.ThreeCopies.{ThreeCopies, three_copies, seen_in}
 use Rattle.look_promises.proofs.Moments.Listed.{sample_place, ends_at}
-use Rattle.look_promises.proofs.Making.Starts.{not_yet}
+use Rattle.look_promises.proofs.NewRecords.Starts.{not_yet}
 use Rattle.look_promises.proofs.Copies.Between.{at_least, between}
 use Rattle.look_promises.proofs.Copies.Named.{one_within}
 

@@ -14,7 +14,7 @@ use Rattle.look_promises.specs.Images.{LooksHaveSums}
 use Rattle.look_promises.proofs.Moments.Runs.{Run, kept_at, chain_at, reached}
 use Rattle.look_promises.proofs.Copies.ThreeCopies.{ThreeCopies, three_copies}
 use Rattle.look_promises.proofs.Moments.Listed.{ends_at, place_of}
-use Rattle.look_promises.proofs.Making.Starts.{not_yet}
+use Rattle.look_promises.proofs.NewRecords.Starts.{not_yet}
 use Rattle.look_promises.proofs.Moments.Room.{record_was, word_was}
 
 -- the sum of a record and a mark of 0

@@ -11,7 +11,7 @@ use Rattle.look_promises.specs.Images.{IsTotalAmong, total_looked, LooksCountTot
 use Rattle.look_promises.proofs.Moments.Runs.{Run, kept_at, rises_at, chain_at}
 use Rattle.look_promises.proofs.Copies.ThreeCopies.{ThreeCopies, three_copies, seen_in}
 use Rattle.look_promises.proofs.Moments.Listed.{ends_at, place_of}
-use Rattle.look_promises.proofs.Making.Starts.{not_yet}
+use Rattle.look_promises.proofs.NewRecords.Starts.{not_yet}
 use Rattle.look_promises.proofs.Moments.Room.{record_was, word_was, claimed_from}
 use Rattle.look_promises.specs.Looks.{IsBetween}
 use Rattle.segment_invariant.specs.Seen.{IsCounterIn}

@@ -8,7 +8,7 @@ use Rattle.look_promises.specs.Images.{LooksMarkPacked}
 use Rattle.look_promises.proofs.Moments.Runs.{kept_at, chain_at}
 use Rattle.look_promises.proofs.Copies.ThreeCopies.{ThreeCopies, three_copies, seen_in}
 use Rattle.look_promises.proofs.Moments.Listed.{ends_at, place_of}
-use Rattle.look_promises.proofs.Making.Starts.{not_yet}
+use Rattle.look_promises.proofs.NewRecords.Starts.{not_yet}
 use Rattle.look_promises.proofs.Moments.Room.{record_was, word_was}
 use Rattle.look_promises.proofs.Copies.Named.{one_within}
 use Rattle.look_promises.proofs.Amounts.Marks.{same_packed, single_none}

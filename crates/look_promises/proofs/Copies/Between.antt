@@ -15,7 +15,7 @@ use Rattle.look_promises.proofs.Copies.ThreeCopies.{ThreeCopies, three_copies, s
 use Rattle.look_promises.proofs.Copies.Following.{place_of}
 use Rattle.look_promises.proofs.Moments.Unchanged.{IsOfList}
 use Rattle.look_promises.proofs.Moments.Listed.{block_was, block_word, listed_at, ends_at}
-use Rattle.look_promises.proofs.Making.Starts.{not_yet}
+use Rattle.look_promises.proofs.NewRecords.Starts.{not_yet}
 
 -- a block with a counter is claimed
 claimed : (body : Body) (i : ℕ) → IsCounterIn body i → is_claimed body ≡ true

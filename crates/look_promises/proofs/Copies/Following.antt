@@ -18,8 +18,8 @@ use Rattle.look_promises.specs.Looks.{FollowsList, LooksFollow}
 use Rattle.look_promises.proofs.Moments.Runs.{Run, kept_at, chain_at, chain_is, chain_on, reached, free_on}
 use Rattle.look_promises.proofs.Copies.ThreeCopies.{ThreeCopies, three_copies, seen_in}
 use Rattle.look_promises.proofs.Copies.Headers.{wide}
-use Rattle.look_promises.proofs.Making.Carried.{OfHand}
-use Rattle.look_promises.proofs.Making.Unlinked.{IsEnd, Lacks, lacking_unlinked, ends_unclaimed, ends_in_hand}
+use Rattle.look_promises.proofs.NewRecords.Carried.{OfHand}
+use Rattle.look_promises.proofs.NewRecords.Unlinked.{IsEnd, Lacks, lacking_unlinked, ends_unclaimed, ends_in_hand}
 use Rattle.look_promises.proofs.Copies.Walks.{next_at, Gives, Ends, front, fronts, front_of}
 
 -- no block can be where a list ends

@@ -10,7 +10,7 @@ use Rattle.look_promises.proofs.Moments.Room.{record_was, word_was}
 use Rattle.look_promises.proofs.Copies.ThreeCopies.{ThreeCopies, three_copies, seen_in}
 use Rattle.look_promises.proofs.Copies.Following.{place_of, many}
 use Rattle.look_promises.proofs.Moments.Listed.{ends_at}
-use Rattle.look_promises.proofs.Making.Starts.{not_yet}
+use Rattle.look_promises.proofs.NewRecords.Starts.{not_yet}
 
 -- a word is 0, or a number
 abbrev IsNoneOr : ℕ → ℕ → Type 0

@@ -11,10 +11,10 @@ use Rattle.look_promises.specs.Looks.{IsBetween, CountsStartAtZero, LooksCountUn
 use Rattle.look_promises.proofs.Moments.Runs.{Run, run_of, kept_at, rises_at, chain_at}
 use Rattle.look_promises.proofs.Copies.ThreeCopies.{ThreeCopies, three_copies}
 use Rattle.look_promises.proofs.Moments.Listed.{ends_at, place_of}
-use Rattle.look_promises.proofs.Making.Starts.{not_yet}
+use Rattle.look_promises.proofs.NewRecords.Starts.{not_yet}
 use Rattle.look_promises.proofs.Moments.Room.{record_was, word_was, claimed_from}
 use Rattle.look_promises.proofs.Copies.Between.{at_least}
-use Rattle.look_promises.proofs.Making.Unmounted.{none_before}
+use Rattle.look_promises.proofs.NewRecords.Unmounted.{none_before}
 
 module _ (run : Run) (last : ℕ) where
   open run use {shape, opened, at}

@@ -14,7 +14,7 @@ use Rattle.look_promises.proofs.Copies.ThreeCopies.{ThreeCopies, three_copies, s
 use Rattle.look_promises.proofs.Moments.Firsts.{first_then}
 use Rattle.look_promises.proofs.Moments.Runs.{Run, kept_at, chain_at, reached}
 use Rattle.look_promises.proofs.Moments.Listed.{ends_at, same_place, place_of}
-use Rattle.look_promises.proofs.Making.Starts.{not_yet}
+use Rattle.look_promises.proofs.NewRecords.Starts.{not_yet}
 use Rattle.look_promises.proofs.Moments.Room.{record_was, word_was}
 use Rattle.look_promises.proofs.Copies.Named.{one_within}
 use Rattle.look_promises.proofs.Amounts.OneMoment.{of_then}

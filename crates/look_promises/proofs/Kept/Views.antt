@@ -9,7 +9,7 @@ use Rattle.segment_invariant.proofs.Consistency.Firsts.{first_there}
 use Rattle.look_promises.proofs.Moments.Runs.{Run, kept_at, rises_at, chain_at}
 use Rattle.look_promises.proofs.Moments.Firsts.{first_on}
 use Rattle.look_promises.proofs.Moments.Listed.{place_of}
-use Rattle.look_promises.proofs.Making.Starts.{not_yet}
+use Rattle.look_promises.proofs.NewRecords.Starts.{not_yet}
 use Rattle.look_promises.proofs.Moments.Room.{record_was, word_was}
 
 -- its six words that change

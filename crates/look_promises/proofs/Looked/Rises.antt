@@ -17,7 +17,7 @@ use Rattle.look_promises.proofs.Copies.ThreeCopies.{ThreeCopies, three_copies, s
 use Rattle.look_promises.proofs.Copies.Following.{within, was_listed}
 use Rattle.look_promises.proofs.Moments.Firsts.{first_then, value_then}
 use Rattle.look_promises.proofs.Moments.Listed.{sample_place, same_place, ends_at, place_of}
-use Rattle.look_promises.proofs.Making.Starts.{not_yet}
+use Rattle.look_promises.proofs.NewRecords.Starts.{not_yet}
 use Rattle.look_promises.proofs.Moments.Room.{sample_was, record_was}
 use Rattle.look_promises.proofs.Amounts.Calls.{counted_most}
 use Rattle.look_promises.proofs.Amounts.Values.{values_held}

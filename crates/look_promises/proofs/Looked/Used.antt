@@ -27,7 +27,7 @@ use Rattle.look_promises.proofs.Moments.Runs.{Run, kept_at, chain_at, reached}
 use Rattle.look_promises.proofs.Copies.ThreeCopies.{ThreeCopies, seen_in, hd_of}
 use Rattle.look_promises.proofs.Copies.Following.{place_of}
 use Rattle.look_promises.proofs.Moments.Listed.{ends_at}
-use Rattle.look_promises.proofs.Making.Starts.{not_yet}
+use Rattle.look_promises.proofs.NewRecords.Starts.{not_yet}
 use Rattle.look_promises.proofs.Copies.Between.{between}
 use Rattle.look_promises.proofs.Moments.Room.{record_was, word_was}
 use Rattle.look_promises.proofs.Looked.Anatomy.{seen_of, shown, is_taken_so}

@@ -12,7 +12,7 @@ use Rattle.look_promises.proofs.Copies.Walks.{Gives}
 use Rattle.look_promises.proofs.Copies.Following.{many, moment, was_listed, before_free, before_last}
 use Rattle.look_promises.proofs.Moments.Unchanged.{list_long}
 use Rattle.look_promises.proofs.Moments.Listed.{block_was, ends_at}
-use Rattle.look_promises.proofs.Making.Starts.{not_yet}
+use Rattle.look_promises.proofs.NewRecords.Starts.{not_yet}
 use Rattle.look_promises.proofs.Copies.References.{looked}
 use Rattle.look_promises.proofs.Moments.Room.{block_below, record_was, word_was, counts_below}
 

@@ -15,8 +15,8 @@ use segment_image::{ReadFault, Watched, read_bytes};
 use std::alloc::Global;
 use std::io::Read;
 
-// The most bytes that a script has.
-const MAX_BYTES: usize = 16_777_216;
+/// The most bytes that a script has, and a schedule: 16 MiB.
+pub const MAX_SCRIPT_BYTES: usize = 16_777_216;
 
 /// The script that the bytes are.
 pub(crate) fn script_in(alloc: Global, bytes: &[u8], pool: u64) -> Result<Script, ScriptFault>
@@ -53,7 +53,7 @@ pub(crate) fn bytes_of<R: Read>(
     ensures end { OnOk result (IsAtEnd (R.remaining (watched_inner reader.new))) }
     ensures taken { TakesAtMost 16777217 (R.remaining (watched_inner reader.old)) (R.remaining (watched_inner reader.new)) }
 {
-    match read_bytes(alloc, reader, MAX_BYTES) {
+    match read_bytes(alloc, reader, MAX_SCRIPT_BYTES) {
         Ok(bytes) => Ok(bytes),
         Err(ReadFault::NoMemory) => Err(ScriptFault::NoMemory),
         Err(ReadFault::TooLong) => Err(ScriptFault::TooLong),

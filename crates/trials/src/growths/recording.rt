@@ -5,7 +5,7 @@ ghost use Rattle.live_segment.specs.Holders.{HasCursor, IsMadeWith, SharesSegmen
 ghost use Rattle.live_segment.specs.RecorderState.{IsSameRecorder, Knows, KnowsOn};
 
 use crate::growths::again::{show_refused, show_try};
-use crate::growths::making::custom;
+use crate::growths::new_values::custom;
 use anyhow::Result;
 use live_segment::{
     Delta, Hist, Image, OpenFault, Opener, Recorder, Refusal, Segment, Snapshot, Spec,

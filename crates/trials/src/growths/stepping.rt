@@ -1,7 +1,7 @@
 //! A world, each kind of its calls, and a schedule.
 
 use crate::growths::again::{again, show_refused, show_try};
-use crate::growths::making::custom;
+use crate::growths::new_values::custom;
 use anyhow::{Context, Result};
 use bucket_ranges::Spec;
 use hist_core::{Answer, Begun, Call, Move, Stepped, World, WorldFault, run_schedule};

@@ -24,7 +24,7 @@ use Rattle.live_segment.specs.Hist.NewRecord.{HasMade}
 use Rattle.live_segment.specs.Hist.Search.{HasSearched}
 use Rattle.live_segment.specs.Hist.Outcome.{MakesFor}
 use Rattle.live_segment.proofs.lemmas.Hist.HistAnswered.{payload_long}
-use Rattle.live_segment.proofs.lemmas.Hist.Searching.{others_still}
+use Rattle.live_segment.proofs.lemmas.Hist.NameSearch.{others_still}
 use Rattle.live_segment.proofs.lemmas.Alloc.Blocks.{makes_between}
 use Rattle.live_segment.proofs.lemmas.List.Ends.{found_on}
 

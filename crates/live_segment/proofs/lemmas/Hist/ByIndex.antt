@@ -21,7 +21,7 @@ use Rattle.live_segment.specs.Seated.{IsSeated}
 use Rattle.live_segment.specs.Hist.Search.{FoundEnd, HasSearched, Searches, SearchesAt}
 use Rattle.live_segment.specs.Steps.{Pass}
 use Rattle.live_segment.proofs.lemmas.Hist.Indexing.{first_here}
-use Rattle.live_segment.proofs.lemmas.Hist.Searching.{first_with, first_without, name_still, others_still}
+use Rattle.live_segment.proofs.lemmas.Hist.NameSearch.{first_with, first_without, name_still, others_still}
 use Rattle.live_segment.proofs.lemmas.Hist.Settled.{walk_begins}
 use Rattle.live_segment.proofs.lemmas.List.Ends.{all_on}
 use Rattle.live_segment.proofs.lemmas.List.Showing.{sees_on}

@@ -16,7 +16,7 @@ use Rattle.live_segment.specs.Hist.Outcome.{ComesToKnow}
 use Rattle.live_segment.specs.Hist.Search.{asked_at, HasSearched}
 use Rattle.live_segment.proofs.lemmas.Hist.HistAnswered.{last_there, names_grew}
 use Rattle.live_segment.proofs.lemmas.Hist.RecordRead.{record_stays}
-use Rattle.live_segment.proofs.lemmas.Hist.Searching.{searched_not, searched_on}
+use Rattle.live_segment.proofs.lemmas.Hist.NameSearch.{searched_not, searched_on}
 
 -- by one of the name that it knew
 pub opened_known : (name : List ℕ) (spec : Spec) (reference index : ℕ) (known : Known) (a : Actor) (result : Option Hist) → KnowsNamed name a index known

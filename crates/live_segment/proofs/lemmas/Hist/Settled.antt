@@ -37,7 +37,7 @@ use Rattle.live_segment.proofs.lemmas.Alloc.Rooms.{lacked_since, lacks_room}
 use Rattle.live_segment.proofs.lemmas.Steps.Proceeding.{does_not, does_on, sees_list, sees_not, sees_on}
 use Rattle.segment_promises.proofs.Growing.{grows_by, grows_not, grows_same}
 use Rattle.live_segment.proofs.lemmas.Add.Refusing.{at_rest}
-use Rattle.live_segment.proofs.lemmas.Hist.Searching.{others_still}
+use Rattle.live_segment.proofs.lemmas.Hist.NameSearch.{others_still}
 
 -- ---- what each part leaves unchanged
 

@@ -31,7 +31,7 @@ use Rattle.live_segment.specs.List.Keys.{HasLookedForKey, seen_key}
 use Rattle.live_segment.specs.List.Walk.{HasCome, IsWalkProgress}
 use Rattle.live_segment.specs.Seated.{IsSeated}
 use Rattle.live_segment.specs.Steps.{Pass, Stepped}
-use Rattle.live_segment.proofs.lemmas.Hist.Searching.{searched_on, sees_searched}
+use Rattle.live_segment.proofs.lemmas.Hist.NameSearch.{searched_on, sees_searched}
 use Rattle.live_segment.proofs.lemmas.List.Keyed.{key_still, looked_still}
 use Rattle.live_segment.proofs.lemmas.List.WalkProgress.{chain_still, searched, way_on, whole}
 use Rattle.live_segment.proofs.lemmas.List.Walked.{come_still, stands_within}

@@ -1,4 +1,4 @@
-use Rattle.look_promises.proofs.Making.Starts.{records_start_at_zero}
+use Rattle.look_promises.proofs.NewRecords.Starts.{records_start_at_zero}
 use Rattle.look_promises.proofs.laws.records_start_at_zero.Goals as goal
 
 pub returns : goal.returns

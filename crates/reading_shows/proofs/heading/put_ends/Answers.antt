@@ -9,8 +9,8 @@ use Rattle.reading_shows.proofs.heading.put_ends.Goals as goal
 pub returns : goal.returns
 returns c =
     let first = c.args.text.now.items in
-    let least = range_of_found c.args.naming (find has_units c.args.rows.now) in
-    let greatest = range_of_found c.args.naming (quantile c.args.total c.args.rows.now 1000) in
+    let least = range_of_found c.args.row_names (find has_units c.args.rows.now) in
+    let greatest = range_of_found c.args.row_names (quantile c.args.total c.args.rows.now 1000) in
     let begun = codes "  least: " ∷ least ∷ [] in
     let low = rw c.least.ensures at c.in_ok-put_found.ensures in
     let high = rw c.quantile.ensures at c.in_ok-put_found-2.ensures in

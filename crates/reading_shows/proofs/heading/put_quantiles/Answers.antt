@@ -8,7 +8,7 @@ use Rattle.reading_shows.proofs.heading.put_quantiles.Goals as goal
 pub returns : goal.returns
 returns c =
     let first = c.args.text.now.items in
-    let at : ℕ → List ℕ = λ thousandths. range_of_found c.args.naming (quantile c.args.total c.args.rows.now thousandths) in
+    let at : ℕ → List ℕ = λ thousandths. range_of_found c.args.row_names (quantile c.args.total c.args.rows.now thousandths) in
     let half = rw c.quantile.ensures at c.in_ok-put_found.ensures in
     let most = rw c.quantile-2.ensures at c.in_ok-put_found-2.ensures in
     let nearly = rw c.quantile-3.ensures at c.in_ok-put_found-3.ensures in

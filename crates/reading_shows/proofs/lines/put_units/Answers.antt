@@ -5,7 +5,7 @@ use Rattle.reading_overviews.specs.Numbers.{number}
 use Rattle.reading_shows.specs.Bars.{bar}
 use Rattle.reading_shows.specs.Columns.{at_right}
 use Rattle.reading_shows.specs.Heights.{height_of}
-use Rattle.reading_shows.specs.Naming.{range_text}
+use Rattle.reading_shows.specs.RowNames.{range_text}
 use Rattle.reading_shows.specs.Shares.{percent}
 use Rattle.reading_shows.specs.Since.{came_text}
 use Rattle.reading_shows.proofs.Cells.{joined-begun}
@@ -17,7 +17,7 @@ returns c =
     let row = c.args.row.now in
     let frame = c.args.frame in
     let columns = c.args.columns in
-    let values = at_right columns.values (range_text frame.naming row) in
+    let values = at_right columns.values (range_text frame.row_names row) in
     let drawn = bar c.args.style.is_ascii columns.bars (height_of c.args.style.is_log row.units) (height_of c.args.style.is_log frame.most) in
     let high = rw (c.height_of-height.ensures, c.height_of-most.ensures) at c.in_ok-put_bar.ensures in
     let units = at_right columns.units (number c.args.style.is_human row.units) in

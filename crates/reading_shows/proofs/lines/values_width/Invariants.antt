@@ -4,4 +4,4 @@ use Rattle.reading_shows.specs.Showing.{widened}
 use Rattle.reading_shows.proofs.lines.values_width.Given as goal
 
 abbrev pub invariant-loop-row : goal.invariant-loop-row
-invariant-loop-row l = l.width ≡ fold (widened l.naming) 6 (take l.row-index l.rows)
+invariant-loop-row l = l.width ≡ fold (widened l.row_names) 6 (take l.row-index l.rows)

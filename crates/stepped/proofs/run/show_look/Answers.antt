@@ -2,7 +2,7 @@ use Rattle.std.proofs.Common.{List, ℕ, subst}
 use Rattle.std.specs.Io.KnownBytes.{Appends}
 use Rattle.segment_image.specs.Watched.{watched_inner}
 use Rattle.segment_image.specs.Words.{bytes_of_words}
-use Rattle.stepped.specs.Looking.{GivesImage, Look, TakesLook, begun_look, look_of, no_look}
+use Rattle.stepped.specs.Look.{GivesImage, Look, TakesLook, begun_look, look_of, no_look}
 use Rattle.stepped.proofs.Written.{image_behind}
 use Rattle.stepped.proofs.run.show_look.Goals as goal
 

@@ -1,8 +1,7 @@
 //! What a burst records.
 
+use bucket_ranges::limits::MAX_PACKED;
 use live_segment::Spec;
-
-const MOST_PACKED: u32 = 65_535;
 
 const MOUNTED_SAMPLES: u32 = 1_000_000;
 
@@ -30,8 +29,8 @@ impl Plan {
     pub(crate) fn samples(&self) -> u32 {
         match (self.packed, self.shared) {
             (false, _) => MOUNTED_SAMPLES,
-            (true, false) => MOST_PACKED,
-            (true, true) => MOST_PACKED / u32::from(self.threads).max(1),
+            (true, false) => MAX_PACKED as u32,
+            (true, true) => MAX_PACKED as u32 / u32::from(self.threads).max(1),
         }
     }
 

@@ -1,6 +1,6 @@
 use Rattle.segment_invariant.proofs.Prelude.Std.{sym, props, ∥∥₁_elim}
 use Rattle.hist_core.specs.Hist.{wanted_of}
-use Rattle.hist_core.proofs.Parts.Makings.{stood_making, makes_so}
+use Rattle.hist_core.proofs.Parts.NewRecords.{stood_making, makes_so}
 use Rattle.hist_core.proofs.Parts.Sames.{made_asks}
 use Rattle.hist_core.proofs.hist.Hist.make.Goals as goal
 
@@ -12,15 +12,15 @@ step-said-requires c = record {
     a,
     long,
     sym c.deref.ensures.value,
-    (stood_making shape 1 c.args.self.now a c.args.words.now is c.in-Making.making c.in-Making.is).3,
+    (stood_making shape 1 c.args.self.now a c.args.words.now is c.in-Making.new_record c.in-Making.is).3,
   ) ∣₁);
 }
 
 pub returns-in-Making-clause-steps : goal.returns-in-Making-clause-steps
 returns-in-Making-clause-steps c = λ shape version a long is.
-    makes_so shape version c.args.self.now a c.args.words.now is c.in-Making.making c.in-Making.is c.step-said.new.self c.step-said.new.words c.step-said.result
+    makes_so shape version c.args.self.now a c.args.words.now is c.in-Making.new_record c.in-Making.is c.step-said.new.self c.step-said.new.words c.step-said.result
     c.made.new.self c.made.result
-    (c.step-said.ensures shape version (wanted_of c.args.self.now) a long (sym c.deref.ensures.value) (stood_making shape version c.args.self.now a c.args.words.now is c.in-Making.making c.in-Making.is).3)
+    (c.step-said.ensures shape version (wanted_of c.args.self.now) a long (sym c.deref.ensures.value) (stood_making shape version c.args.self.now a c.args.words.now is c.in-Making.new_record c.in-Making.is).3)
     c.made.ensures
 
 pub returns-in-Making-clause-asks : goal.returns-in-Making-clause-asks

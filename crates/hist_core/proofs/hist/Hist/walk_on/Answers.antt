@@ -1,6 +1,6 @@
 use Rattle.segment_invariant.proofs.Prelude.Std.{◌≡◌, ◌≤◌, ◌+◌, ℕ, length, true, sym, subst, ◌∙◌, arith, props, ∥∥₁_elim}
 use Rattle.segment_invariant.proofs.Prelude.Machine.{Dimensions, IsShape, is_reference}
-use Rattle.hist_core.specs.Making.{IsStarted}
+use Rattle.hist_core.specs.NewRecord.{IsStarted}
 use Rattle.hist_core.proofs.Parts.Walks.{meets, strays, ends}
 use Rattle.hist_core.proofs.Makes.Drafts.{is_wide}
 use Rattle.hist_core.proofs.hist.Hist.walk_on.Goals as goal
@@ -12,11 +12,11 @@ pub step-requires-clause-reach : goal.step-requires-clause-reach
 step-requires-clause-reach c =
     ∥∥₁_elim c.requires.stands (hlevel props) (λ (shape, a, long, is). subst (λ (n : ℕ). is_reference n c.args.self.now.walk ≡ true) (sym long) is.reach)
 
-pub start-making-requires-clause-lawful : goal.start-making-requires-clause-lawful
-start-making-requires-clause-lawful c = ∥∥₁_elim c.requires.stands (hlevel props) (λ (shape, a, long, is). subst IsShape (sym is.asking.shaped) is.lawful_shape)
+pub start-new_record-requires-clause-lawful : goal.start-new_record-requires-clause-lawful
+start-new_record-requires-clause-lawful c = ∥∥₁_elim c.requires.stands (hlevel props) (λ (shape, a, long, is). subst IsShape (sym is.asking.shaped) is.lawful_shape)
 
-pub start-making-requires-clause-one_page : goal.start-making-requires-clause-one_page
-start-making-requires-clause-one_page c = ∥∥₁_elim c.requires.stands (hlevel props)
+pub start-new_record-requires-clause-one_page : goal.start-new_record-requires-clause-one_page
+start-new_record-requires-clause-one_page c = ∥∥₁_elim c.requires.stands (hlevel props)
     (λ (shape, a, long, is). subst (λ (n : ℕ). 4 + n ≤ c.args.self.now.shape.page) (sym (c.len-room.ensures ∙ c.args.self.now.payload.ok.0))
     (subst (λ (d : Dimensions). 4 + length c.args.self.now.payload.items ≤ d.page) (sym is.asking.shaped) is.asking.one_page))
 
@@ -29,8 +29,8 @@ returns-in-Record-clause-steps c = λ shape version a long is.
 pub returns-in-End-clause-steps : goal.returns-in-End-clause-steps
 returns-in-End-clause-steps c = λ shape version a long is.
     let did = c.in-End.ensures in
-    ends shape version c.args.self.now a c.args.words.now long is c.requires.walks c.step.new.self c.start-making.result did.says did.stands
-    (subst (λ (n : ℕ). IsStarted c.args.self.now.shape n 1 c.start-making.result) c.len-room.ensures c.start-making.ensures)
+    ends shape version c.args.self.now a c.args.words.now long is c.requires.walks c.step.new.self c.start-new_record.result did.says did.stands
+    (subst (λ (n : ℕ). IsStarted c.args.self.now.shape n 1 c.start-new_record.result) c.len-room.ensures c.start-new_record.ensures)
 
 pub returns-in-Stray-clause-steps : goal.returns-in-Stray-clause-steps
 returns-in-Stray-clause-steps c = λ shape version a long is.

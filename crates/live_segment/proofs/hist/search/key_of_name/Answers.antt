@@ -1,7 +1,7 @@
 use Rattle.std.proofs.Common.{◌<◌, ◌^◌, ap, subst, ◌∙◌}
 use Rattle.std.specs.List.{All}
 use Rattle.list_index.specs.Keys.{key_of}
-use Rattle.live_segment.proofs.lemmas.Hist.Naming.{letters_are}
+use Rattle.live_segment.proofs.lemmas.Hist.NamesAndSpecs.{letters_are}
 use Rattle.live_segment.proofs.hist.search.key_of_name.Goals as goal
 
 pub returns : goal.returns

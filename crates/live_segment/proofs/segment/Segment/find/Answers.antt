@@ -3,7 +3,7 @@ use Rattle.live_segment.specs.Hist.ListSearch.{ShowsName, ShowsSpec}
 use Rattle.segment_promises.proofs.Growing.{grows_not}
 use Rattle.live_segment.proofs.lemmas.List.Ends.{all_on}
 use Rattle.live_segment.proofs.lemmas.List.Showing.{same_on, sees_on, meets_still}
-use Rattle.live_segment.proofs.lemmas.Hist.Searching.{searched_not, searched_on, sees_searched, searched, seat_on, may_follow, room, found_end, ends, meets, room_found, walks_then, comes_further, met_spec, met_other}
+use Rattle.live_segment.proofs.lemmas.Hist.NameSearch.{searched_not, searched_on, sees_searched, searched, seat_on, may_follow, room, found_end, ends, meets, room_found, walks_then, comes_further, met_spec, met_other}
 use Rattle.live_segment.proofs.segment.Segment.find.Goals as goal
 
 pub loop-from-init : goal.loop-from-init

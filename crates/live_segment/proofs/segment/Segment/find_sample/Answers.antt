@@ -4,7 +4,7 @@ use Rattle.live_segment.specs.Add.SampleSearch.{ShowsValue, WalksBehind}
 use Rattle.segment_promises.proofs.Growing.{grows_not}
 use Rattle.live_segment.proofs.lemmas.List.Ends.{all_on}
 use Rattle.live_segment.proofs.lemmas.List.WalkProgress.{comes_further}
-use Rattle.live_segment.proofs.lemmas.Hist.Searching.{searched_not, searched_on, sees_searched, seat_on}
+use Rattle.live_segment.proofs.lemmas.Hist.NameSearch.{searched_not, searched_on, sees_searched, seat_on}
 use Rattle.live_segment.proofs.lemmas.List.Showing.{same_on}
 use Rattle.live_segment.proofs.lemmas.Add.SampleSearches.{may_follow, room, searched, found_end, ends, meets, room_found, walks_then, met_first}
 use Rattle.live_segment.proofs.segment.Segment.find_sample.Goals as goal

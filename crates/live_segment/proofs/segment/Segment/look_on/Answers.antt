@@ -3,7 +3,7 @@ use Rattle.segment_promises.proofs.Furthest.{last_of}
 use Rattle.live_segment.specs.declared.list.walk.WalkPlace.{WalkPlace}
 use Rattle.live_segment.proofs.lemmas.List.Showing.{same_on}
 use Rattle.live_segment.proofs.lemmas.List.WalkProgress.{searched, room, room_found, meets, way_on, comes_further}
-use Rattle.live_segment.proofs.lemmas.Hist.Searching.{searched_not, searched_on, sees_searched, seat_on}
+use Rattle.live_segment.proofs.lemmas.Hist.NameSearch.{searched_not, searched_on, sees_searched, seat_on}
 use Rattle.live_segment.proofs.lemmas.List.Indexed.{way, indexed_on, not_entered, entered, few_seen, passed_all}
 use Rattle.live_segment.proofs.segment.Segment.look_on.Goals as goal
 

@@ -6,7 +6,7 @@ use Rattle.segment_promises.proofs.Growing.{grows_not}
 use Rattle.live_segment.proofs.lemmas.List.Ends.{all_on}
 use Rattle.live_segment.proofs.lemmas.List.Showing.{same_on, sees_not}
 use Rattle.live_segment.proofs.lemmas.List.WalkProgress.{may_follow, room, searched, found_end, whole, chain_still, way_still, meets, room_found, way_on, comes_further}
-use Rattle.live_segment.proofs.lemmas.Hist.Searching.{searched_not, searched_on, seat_on}
+use Rattle.live_segment.proofs.lemmas.Hist.NameSearch.{searched_not, searched_on, seat_on}
 use Rattle.live_segment.proofs.segment.Segment.meet.Goals as goal
 
 pub loop-reference-init : goal.loop-reference-init

@@ -3,7 +3,7 @@ use Rattle.segment_image.specs.Shape.{Dimensions}
 use Rattle.live_segment.proofs.lemmas.Hist.ByIndex.{ended_since}
 use Rattle.live_segment.proofs.lemmas.Hist.Indexing.{walks_behind}
 use Rattle.live_segment.proofs.lemmas.List.IndexKept as kept
-use Rattle.live_segment.proofs.lemmas.Hist.Searching.{searched_on, seat_on}
+use Rattle.live_segment.proofs.lemmas.Hist.NameSearch.{searched_on, seat_on}
 use Rattle.live_segment.specs.declared.list.index.KeyKind.{KeyKind}
 use Rattle.live_segment.specs.List.Index.{IsIndexed}
 use Rattle.live_segment.proofs.lemmas.List.Indexed.{of_own}

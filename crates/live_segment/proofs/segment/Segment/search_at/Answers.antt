@@ -2,7 +2,7 @@ use Rattle.std.proofs.Common.{Bool, subst}
 use Rattle.live_segment.specs.Hist.ListSearch.{ShowsName, ShowsSpec}
 use Rattle.live_segment.proofs.lemmas.List.Showing.{sees_on, meets_still}
 use Rattle.live_segment.proofs.lemmas.Hist.ByIndex.{meets_it, room_it, walk_anew, met_here, other_here}
-use Rattle.live_segment.proofs.lemmas.Hist.Searching.{sees_searched, seat_on}
+use Rattle.live_segment.proofs.lemmas.Hist.NameSearch.{sees_searched, seat_on}
 use Rattle.live_segment.proofs.segment.Segment.search_at.Goals as goal
 
 pub shows_name-requires-clause-meets : goal.shows_name-requires-clause-meets

@@ -7,7 +7,7 @@ use Rattle.live_segment.specs.Add.SampleSearch.{FindsSample, WalksBehind}
 use Rattle.live_segment.specs.List.Index.{IsIndexed}
 use Rattle.live_segment.proofs.lemmas.Add.SampleKeys.{none_sampled, right_searched, sample_ended_since, walks_from}
 use Rattle.live_segment.proofs.lemmas.Add.SampleOf.{walk_begins}
-use Rattle.live_segment.proofs.lemmas.Hist.Searching.{searched_on, seat_on}
+use Rattle.live_segment.proofs.lemmas.Hist.NameSearch.{searched_on, seat_on}
 use Rattle.live_segment.proofs.lemmas.List.Indexed.{of_own}
 use Rattle.live_segment.proofs.lemmas.List.IndexKept as kept
 use Rattle.live_segment.proofs.segment.Segment.search_sample.Goals as goal

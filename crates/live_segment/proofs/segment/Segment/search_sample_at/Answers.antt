@@ -5,7 +5,7 @@ use Rattle.segment_machine.specs.Actor.{is_bound}
 use Rattle.live_segment.specs.Add.SampleSearch.{ShowsValue}
 use Rattle.live_segment.proofs.lemmas.Add.SampleKeys.{first_sampled, meets_sample, right_searched, room_sample}
 use Rattle.live_segment.proofs.lemmas.Add.SampleOf.{split_there, walk_begins}
-use Rattle.live_segment.proofs.lemmas.Hist.Searching.{searched_on, seat_on, sees_searched}
+use Rattle.live_segment.proofs.lemmas.Hist.NameSearch.{searched_on, seat_on, sees_searched}
 use Rattle.live_segment.proofs.segment.Segment.search_sample_at.Goals as goal
 
 pub shows_value-requires : goal.shows_value-requires

@@ -1,7 +1,7 @@
 use Rattle.std.proofs.Common.{ap, sym, ◌∙◌, inl, inr, refl}
 use Rattle.std.specs.Prelude.{Some}
 use Rattle.live_segment.proofs.lemmas.List.Showing.{sees_one, seen_one, may_load_fixed}
-use Rattle.live_segment.proofs.lemmas.Hist.Naming.{letters_are, name_fixed, words_room, shown_name}
+use Rattle.live_segment.proofs.lemmas.Hist.NamesAndSpecs.{letters_are, name_fixed, words_room, shown_name}
 use Rattle.live_segment.proofs.segment.Segment.shows_name.Goals as goal
 
 pub returns-then-load_published-ne-TYPE_HISTOGRAM-clause-shown : goal.returns-then-load_published-ne-TYPE_HISTOGRAM-clause-shown

@@ -1,7 +1,7 @@
 use Rattle.std.proofs.Common.{Bool, take, sym, subst, ◌∙◌}
 use Rattle.live_segment.specs.Hist.ListSearch.{ShowsWords}
 use Rattle.live_segment.proofs.lemmas.List.Showing.{same_on, sees_on, sees_one, seen_one, may_load_fixed}
-use Rattle.live_segment.proofs.lemmas.Hist.Naming.{fields_are, other_field, other_buckets, buckets_are, ranges_are, buckets_fixed, ranges_fixed, ranges_room, shown_spec}
+use Rattle.live_segment.proofs.lemmas.Hist.NamesAndSpecs.{fields_are, other_field, other_buckets, buckets_are, ranges_are, buckets_fixed, ranges_fixed, ranges_room, shown_spec}
 use Rattle.live_segment.proofs.segment.Segment.shows_spec.Goals as goal
 
 pub returns-then-not-shows-clause-shown : goal.returns-then-not-shows-clause-shown

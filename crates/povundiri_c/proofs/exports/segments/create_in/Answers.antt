@@ -2,7 +2,7 @@ use Rattle.segment_image.specs.Checks.{first_fault}
 use Rattle.live_segment.specs.Holders.{IsNew}
 use Rattle.live_segment.specs.Rule.{open_checks}
 use Rattle.povundiri_c.specs.Segments.{setting_asked}
-use Rattle.povundiri_c.proofs.Making.{created_with}
+use Rattle.povundiri_c.proofs.NewSegments.{created_with}
 use Rattle.povundiri_c.proofs.exports.segments.create_in.Goals as goal
 
 pub returns-in-Ok : goal.returns-in-Ok

@@ -1,4 +1,4 @@
-use Rattle.povundiri_c.proofs.Making.{filled_with}
+use Rattle.povundiri_c.proofs.NewSegments.{filled_with}
 use Rattle.povundiri_c.proofs.exports.segments.fill_with_segment.Goals as goal
 
 pub returns-in-Ok : goal.returns-in-Ok

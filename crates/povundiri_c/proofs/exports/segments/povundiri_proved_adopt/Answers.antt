@@ -1,6 +1,6 @@
 use Rattle.std.proofs.Common.{sym, ◌∙◌}
 use Rattle.povundiri_c.specs.Segments.{IsTakenUp}
-use Rattle.povundiri_c.proofs.Making.{into_empty}
+use Rattle.povundiri_c.proofs.NewSegments.{into_empty}
 use Rattle.povundiri_c.proofs.exports.segments.povundiri_proved_adopt.Goals as goal
 
 pub returns : goal.returns

@@ -1,6 +1,6 @@
 use Rattle.std.proofs.Common.{inl, sym, ◌∙◌}
 use Rattle.povundiri_c.specs.Segments.{InLentRoom, IsTakenUp}
-use Rattle.povundiri_c.proofs.Making.{into_empty}
+use Rattle.povundiri_c.proofs.NewSegments.{into_empty}
 use Rattle.povundiri_c.proofs.exports.segments.povundiri_proved_adopt_in.Goals as goal
 
 pub returns-in-Ok : goal.returns-in-Ok

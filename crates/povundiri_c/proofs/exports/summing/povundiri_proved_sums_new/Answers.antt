@@ -1,6 +1,6 @@
 use Rattle.std.proofs.Common.{sym, ◌∙◌}
 use Rattle.povundiri_c.specs.Sums.{IsSumMade}
-use Rattle.povundiri_c.proofs.Making.{into_empty}
+use Rattle.povundiri_c.proofs.NewSegments.{into_empty}
 use Rattle.povundiri_c.proofs.Summing.{sum_made}
 use Rattle.povundiri_c.proofs.exports.summing.povundiri_proved_sums_new.Goals as goal
 

@@ -1,6 +1,6 @@
 use Rattle.std.proofs.Common.{arith, ap, ◌∙◌}
 use Rattle.povundiri_c.specs.Recorders.{refused_with}
-use Rattle.povundiri_c.proofs.Looking.{taken_of_owned, refused_of_owned}
+use Rattle.povundiri_c.proofs.Looks.{taken_of_owned, refused_of_owned}
 use Rattle.povundiri_c.proofs.owned_segment.OwnedSegment.look.Goals as goal
 
 pub returns-in-Ok : goal.returns-in-Ok

@@ -1,5 +1,5 @@
 use Rattle.std.proofs.Common.{◌≡◌, ◌<◌, ◌+◌, ◌∙◌, ap, arith, subst, sym, take}
-use Rattle.stepped.specs.Looking.{Look, TakesLook, look_behind, look_of}
+use Rattle.stepped.specs.Look.{Look, TakesLook, look_behind, look_of}
 use Rattle.stepped.proofs.Looked.{looks_all, looks_next}
 use Rattle.stepped.proofs.replay.Replay.look_on.Goals as goal
 

@@ -1,5 +1,5 @@
 use Rattle.std.proofs.Common.{take}
-use Rattle.stepped.specs.Looking.{TakesLook, look_of}
+use Rattle.stepped.specs.Look.{TakesLook, look_of}
 use Rattle.stepped.proofs.replay.Replay.look_on.Given as goal
 
 -- the records so far are done

@@ -21,7 +21,7 @@ use Rattle.segment_machine.specs.Entry.{batch_entries}
 use Rattle.segment_machine.specs.Note.{MayNote, SawAll, TookAll, noted, begins}
 use Rattle.segment_machine.specs.Seats.{giver}
 use Rattle.segment_machine.specs.declared.actor.Answered.{Answered}
-use Rattle.segment_machine.specs.declared.actor.Known.{Known as MachineKnown}
+use Rattle.segment_machine.specs.declared.actor.Known.{Known}
 use Rattle.hist_core.specs.StepsBy.{SharedEffect, DoesOnly, StepsBy, HasMetKnown, IsFree}
 use Rattle.hist_core.specs.Add.{NeedsBlock, IsAdd, alone, block_words, counted_entry, IsStarted}
 use Rattle.hist_core.specs.Add.{serves_counted as add_serves}
@@ -98,7 +98,7 @@ pub record IsFreshRun (actor_run : ActorRun) : Type 0 where
 -- ---- what it knows
 
 -- a known histogram as the machine has it
-abbrev pub known_of : KnownHist → MachineKnown
+abbrev pub known_of : KnownHist → Known
 known_of known = record { name = known.name.items; spec = known.spec; reference = known.reference }
 
 -- Its name and its spec are valid, it has the ranges of the spec, its counts fit in a page, and its record lies in the segment.
@@ -161,7 +161,7 @@ HasDraft (Some (Delta delta_call None)) taken = (0 < vec_len taken) × ((last : 
 HasDraft running taken = ⊤
 
 -- until its first event it holds the name that it is to be shown with
-abbrev pub IsTimely : MachineKnown → DeltaCall → Option Taken → Type 0
+abbrev pub IsTimely : Known → DeltaCall → Option Taken → Type 0
 IsTimely known delta_call (Some fresh) = IsFirstStage delta_call.stage × (fresh.name.items ≡ known.name)
 IsTimely known delta_call None = HasBegun delta_call.stage
 
@@ -190,12 +190,12 @@ pub record IsGhostNoting (pending : List Entry) (name : List ℕ) (cost : ℕ) (
 -- an `add` counts one entry
 abbrev pub IsAdding : Dimensions → List Entry → AddCall → Actor → Type 0
 IsAdding shape pending add a =
-    (known : MachineKnown) × IsGhostNoting pending known.name add.units (counted_entry known add ∷ []) (IsAdd shape known (alone add) add) a
+    (known : Known) × IsGhostNoting pending known.name add.units (counted_entry known add ∷ []) (IsAdd shape known (alone add) add) a
 
 -- a `batch` counts an entry for each item, and one for its sum unless that is 0
 abbrev pub IsBatching : Dimensions → List Entry → BatchCall → Actor → Type 0
 IsBatching shape pending batch a =
-    (known : MachineKnown) × IsGhostNoting pending known.name batch.cost (counted_entries known batch) (IsBatch shape known batch) a
+    (known : Known) × IsGhostNoting pending known.name batch.cost (counted_entries known batch) (IsBatch shape known batch) a
 
 -- an actor, except for the delta that it takes
 abbrev pub apart_from_delta : Actor → Actor
@@ -205,7 +205,7 @@ apart_from_delta a = record a { deltas = record a.deltas { taking = false } }
 abbrev pub IsDrawing : Dimensions → List Entry → DeltaCall → Option Taken → Actor → Type 0
 IsDrawing shape pending delta_call fresh a =
     CountsNoEntries pending (apart_from_delta a)
-    × ((known : MachineKnown) × (earlier : List MachineTaken) × IsDeltaCall shape known earlier delta_call a × IsTimely known delta_call fresh)
+    × ((known : Known) × (earlier : List MachineTaken) × IsDeltaCall shape known earlier delta_call a × IsTimely known delta_call fresh)
 
 -- Where the machine's actor is that runs this call, or none. A `hist` asks for a histogram that is not known.
 abbrev pub StandsIn : Dimensions → List KnownHist → List Entry → Option Running → Actor → Type 0
@@ -215,7 +215,7 @@ StandsIn shape known pending (Some (Hist hist)) a = IsHist shape hist a × Count
 StandsIn shape known pending (Some (Add add)) a = IsAdding shape pending add a
 StandsIn shape known pending (Some (Delta delta_call fresh)) a = IsDrawing shape pending delta_call fresh a
 StandsIn shape known pending (Some (Batch batch)) a = IsBatching shape pending batch a
-StandsIn shape known pending (Some (Snapshot snapshot_call)) a = CountsNoEntries pending a × ((seen : MachineKnown) × IsSnapshotCall shape seen snapshot_call a)
+StandsIn shape known pending (Some (Snapshot snapshot_call)) a = CountsNoEntries pending a × ((seen : Known) × IsSnapshotCall shape seen snapshot_call a)
 
 -- there is room for the histogram that a `hist` asks for, in addition to those that are known
 abbrev pub HasRoomForHist : Option Running → ℕ → ℕ → Type 0
@@ -268,7 +268,7 @@ looked_by running = 0
 -- A snapshot of the histogram of a record is the last that was returned to its actor, and is what the actor saw since it began. The values
 -- of a sparse histogram ascend, each with units.
 pub record IsAnswer (histogram : ℕ) (snapshot : SnapshotAnswer) (a : Actor) : Type 0 where
-  pub known : MachineKnown
+  pub known : Known
   pub knows : Contains a.answers.names known
   pub reference : known.reference ≡ histogram
   pub before : List Answered
@@ -283,7 +283,7 @@ pub record IsAnswer (histogram : ℕ) (snapshot : SnapshotAnswer) (a : Actor) : 
 
 -- A delta of the histogram of a record is the last of what its actor's deltas took, and took all that the actor saw since it began.
 pub record IsTook (histogram : ℕ) (delta : DeltaAnswer) (a : Actor) : Type 0 where
-  pub known : MachineKnown
+  pub known : Known
   pub knows : Contains a.answers.names known
   pub reference : known.reference ≡ histogram
   pub before : List MachineTaken
@@ -299,7 +299,7 @@ pub record IsTook (histogram : ℕ) (delta : DeltaAnswer) (a : Actor) : Type 0 w
 -- value. Their actor has found no counts, and only a call that has found some moves units of another call: so it has moved nothing.
 abbrev pub LacksBlock : ℕ → ℤ × ℕ → Refusal → Actor → Actor → Type 0
 LacksBlock histogram sample cause a b =
-    (known : MachineKnown) × Contains b.answers.names known × (known.reference ≡ histogram) × IsCause cause (block_words known) a b × NeedsBlock known sample b
+    (known : Known) × Contains b.answers.names known × (known.reference ≡ histogram) × IsCause cause (block_words known) a b × NeedsBlock known sample b
 
 -- Why a running call is refused, by its last event: the block that it needs is refused, which for a batch is that of its next item; or its
 -- actor has seen that the first record of the name that a `hist` asks for has another spec. No other call is refused.
@@ -346,8 +346,8 @@ lacks_room said = false
 -- it needs the block.
 abbrev pub Serves : Option Running → Actor → SharedEffect → Type 0
 Serves (Some (Hist hist)) a deed = serves_asked hist a deed
-Serves (Some (Add add)) a deed = (known : MachineKnown) × Contains a.answers.names known × (known.reference ≡ add.histogram) × add_serves known add a deed
-Serves (Some (Batch batch)) a deed = (known : MachineKnown) × Contains a.answers.names known × (known.reference ≡ batch.histogram) × batch_serves known batch a deed
+Serves (Some (Add add)) a deed = (known : Known) × Contains a.answers.names known × (known.reference ≡ add.histogram) × add_serves known add a deed
+Serves (Some (Batch batch)) a deed = (known : Known) × Contains a.answers.names known × (known.reference ≡ batch.histogram) × batch_serves known batch a deed
 Serves running a deed = ⊥
 
 -- Its event sets the corrupt flag only with `Flagged`, and the full one only with a refusal `Full`; a record that it links is one that its

@@ -13,7 +13,7 @@ use Rattle.segment_calls.specs.declared.refusal.Refusal.TheVariants as why
 use Rattle.list_core.specs.Chain.{is_reference}
 use Rattle.list_core.specs.Walk.{IsPrefix, stands_behind}
 use Rattle.segment_machine.specs.declared.actor.Actor.{Actor}
-use Rattle.segment_machine.specs.declared.actor.Known.{Known as MachineKnown}
+use Rattle.segment_machine.specs.declared.actor.Known.{Known}
 use Rattle.segment_machine.specs.declared.actor.Made.{Made}
 use Rattle.segment_machine.specs.declared.actor.Made.TheVariants.{Histogram}
 use Rattle.segment_machine.specs.declared.seen.Seen.{Seen}
@@ -36,7 +36,7 @@ use Rattle.hist_core.specs.NewRecord as new_record
 -- ---- what it asks for
 
 -- what it asks for, as the machine knows it, with the record that its walk gave last
-abbrev pub asked_of : Hist → MachineKnown
+abbrev pub asked_of : Hist → Known
 asked_of h = record { name = h.asked.name.items; spec = h.asked.spec; reference = h.reference }
 
 -- what its record is to hold

@@ -2,3 +2,4 @@
 pub mod Allocation
 pub mod Claims
 pub mod Rises
+pub mod Prelude

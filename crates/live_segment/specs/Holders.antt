@@ -12,7 +12,7 @@ use Rattle.live_segment.specs.declared.rule.Setting.{Setting}
 use Rattle.live_segment.specs.declared.segment.Segment.{Segment}
 use Rattle.live_segment.specs.declared.opener.Opener.{Opener}
 use Rattle.live_segment.specs.declared.recorder.Recorder.{Recorder}
-use Rattle.segment_machine.specs.Actor.{is_opener}
+use Rattle.segment_machine.specs.Actor.{is_opener, outstanding_of}
 use Rattle.segment_machine.specs.Event.{Event, Ready}
 use Rattle.live_segment.specs.Steps.{Pass}
 use Rattle.live_segment.specs.Rule.{first_view, open_checks, words_of, IsOf}
@@ -66,6 +66,10 @@ AnswersCreate size page id cursors version result =
     (record { shape = record { size = size; page = page }; version = version; id = id; cursors = cursors; full = false }) made.0 made.1)
     (λ fault. fault ≡ NoMemory))
     (λ fault. result ≡ Err fault)
+
+-- an opener has joined all recorders that it made
+abbrev pub AllJoined : Opener → Type 0
+AllJoined opener = outstanding_of (view_of_opener opener).role ≡ 0
 
 -- an opener continues with the same segment
 pub record IsSameOpener (old new : Opener) : Type 0 where

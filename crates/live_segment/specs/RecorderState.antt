@@ -82,14 +82,14 @@ IsKnownSpec state histogram spec = (known : Known) → Means state histogram kno
 
 -- ---- before a call and after it
 
--- it records into the same segment as before, knows the same histograms, and was given no fresh records
+-- it records into the same segment, knows the same histograms, and was given no fresh records
 pub record IsSameRecorder (old new : RecorderState) : Type 0 where
   pub table : new.seat.table_id ≡ old.seat.table_id
   pub known : new.known ≡ old.known
   pub names : (view_of_state new).answers.names ≡ (view_of_state old).answers.names
   pub fresh : new.fresh ≡ old.fresh
 
--- It records into the same segment as before and was given no fresh records. It still knows each histogram that it knew, at the same place.
+-- It records into the same segment and was given no fresh records. It still knows each histogram that it knew, at the same place.
 pub record KnowsOn (old new : RecorderState) : Type 0 where
   pub table : new.seat.table_id ≡ old.seat.table_id
   pub fresh : new.fresh ≡ old.fresh

@@ -7,6 +7,7 @@ ghost use Rattle.live_segment.specs.Adopted as adopted;
 use crate::opener::Opener;
 use crate::rule::{Opening, Setting};
 use crate::segment::Segment;
+use bucket_ranges::limits::MAX_UNITS;
 use image_adoption::{AdoptFault, Adoptable, check};
 use segment_image::layout::QUEUE;
 use segment_image::{SegmentHead, header};
@@ -104,6 +105,6 @@ impl Segment {
             words,
             references,
         };
-        Segment::open(alloc, memory, opening, u32::MAX - used as u32)
+        Segment::open(alloc, memory, opening, MAX_UNITS as u32 - used as u32)
     }
 }

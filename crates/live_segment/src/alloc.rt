@@ -1,11 +1,7 @@
 //! How a recorder claims a block.
 
 ghost use Rattle.std.specs.Prelude.{◌≡◌, ◌+◌, ◌-◌, ◌<◌, ◌≤◌, true, false, IfOk};
-ghost use Rattle.segment_image.specs.declared.layout.TheConstants.{BLOCK_HEADER};
-ghost use Rattle.segment_machine.specs.Event.{allocating_event};
-ghost use Rattle.segment_machine.specs.Actor.{is_bound};
-ghost use Rattle.segment_machine.specs.Allocating.{exchange_free};
-ghost use Rattle.live_segment.specs.Alloc.Allocation.{Allocates, Wastes, claimed, raised_on, IsLost};
+ghost use Rattle.live_segment.specs.Alloc.Prelude.{Allocates, allocating_event, BLOCK_HEADER, claimed, exchange_free, is_bound, IsLost, IsSame, IsSeated, MayGiveUp, MayStep, raised_on, Wastes};
 
 use crate::rule::Pass;
 use crate::segment::Segment;
@@ -14,11 +10,6 @@ use segment_calls::Refusal;
 use segment_image::layout::{CLAIMED_COOKIE, FLAG_CORRUPT, WASTED_COOKIE};
 
 impl Segment {
-    ghost use Rattle.live_segment.specs.Holders.{MayStep};
-    ghost use Rattle.live_segment.specs.Seated.{IsSeated};
-    ghost use Rattle.live_segment.specs.Steps.{IsSame};
-    ghost use Rattle.live_segment.specs.Add.Refusal.{MayGiveUp};
-
     /// Claims a block of a type, of `size` words with its header, or up to four more.
     ///
     /// `Corrupt` if the loaded flags have the corrupt one, `Full` if the words pass the end of the segment: a call that

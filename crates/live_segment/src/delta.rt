@@ -10,7 +10,7 @@ use segment_image::layout::{BLOCK_LEAST, HEADER_WORDS};
 
 impl Segment {
     ghost use Rattle.std.specs.Prelude.{◌≡◌, ◌+◌, ◌≤◌, [], length, vec_capacity, IfSome, MatchOption};
-    ghost use Rattle.live_segment.specs.Delta.Prelude.{Actor, AreFewKeys, AreMostKeys, AreOwn, HasTaken, HasTakenSum, HoldsKeys, IsAtRest, IsSame, IsSeated, known_view, KnowsRight, MayTakeSum, NoRepeats, opened_with, SamplesStandBehind, Setting, Sparse, Standing};
+    ghost use Rattle.live_segment.specs.Delta.Prelude.{Actor, AreFewKeys, AreMostKeys, AreOwn, HasTaken, HasTakenSum, HoldsKeys, IsReadyFor, IsSame, known_view, KnowsRight, MayTakeSum, NoRepeats, opened_with, SamplesStandBehind, Setting, Sparse, Standing};
 
     // The delta takes what is new of the sum, after all buckets or all samples, and ends.
     fn take_sum(&self, seat: &mut Pass, histogram: &KnownHistogram) -> i64
@@ -62,9 +62,7 @@ impl Segment {
         samples: Option<&[u64]>,
         taken: &mut Vec<(i32, u64)>,
     ) -> i64
-        requires seat { IsSeated self.now seat.old }
-        requires rests { IsAtRest seat.old.me.0 }
-        requires right { KnowsRight self.now.setting seat.old.me.0 histogram.now }
+        requires ready { IsReadyFor self.now histogram.now seat.old }
         requires own { IfSome samples (λ own. (histogram.now.spec ≡ Sparse) × AreOwn self.now.setting.shape.size seat.old.me.0.seen histogram.now.reference own.now) }
         requires begins { taken.old.items ≡ [] }
         requires room { MatchOption samples (HoldsKeys self.now (known_view histogram.now) (vec_capacity taken.old)) (λ own. length own.now ≤ vec_capacity taken.old) }

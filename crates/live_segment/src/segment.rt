@@ -9,6 +9,7 @@ use crate::opener::Opener;
 use crate::rule::{Announcement, Opening, Pass, SegmentRule, Setting};
 use crate::seats::{Bound, Cut, Fill, Glue, Offer, Pour};
 use atomic_table::Table;
+use bucket_ranges::limits::MAX_UNITS;
 use image_adoption::MAX_CURSORS;
 use segment_calls::OpenFault;
 use segment_image::layout::{QUEUE, VERSION_FROZEN, VERSION_MOVING};
@@ -48,14 +49,14 @@ fn opening_words(alloc: Global, setting: &Setting) -> Result<Vec<u64>, AllocErro
 
 impl Segment {
     ghost use Rattle.std.specs.Prelude.{◌≡◌, ◌≤◌, ◌⊎◌, false, Err};
-    ghost use Rattle.segment_machine.specs.Actor.{offered_of, outstanding_of};
+    ghost use Rattle.segment_machine.specs.Actor.{offered_of};
     ghost use Rattle.segment_machine.specs.Seats.{MayOffer, offering, MaySplit, parent, newcomer, MayFill, lender, purse, MayPour, getter, joined};
     ghost use Rattle.live_segment.specs.Adopted.{MayGoOn};
     ghost use Rattle.live_segment.specs.Closing.{IsImageOf, ReadsJoined, DeltasAddUp, SnapshotsAgree, ReadsStopped};
     ghost use Rattle.live_segment.specs.Rule.{IsKeptOpening, opener_for, words_of};
     ghost use Rattle.live_segment.specs.Seated.{IsSeated};
     ghost use Rattle.live_segment.specs.Steps.{IsAtRest, IsSame, Joinable};
-    ghost use Rattle.live_segment.specs.Holders.{AnswersCreate, IsNew, IsOpened, IsMadeWith, opened_with, view_of_opener};
+    ghost use Rattle.live_segment.specs.Holders.{AllJoined, AnswersCreate, IsNew, IsOpened, IsMadeWith, opened_with, view_of_opener};
 
     /// Returns a new segment without records, and its opener, which has all 4,294,967,295 units. Its words are those of
     /// a blank image, except for the version.
@@ -147,7 +148,7 @@ impl Segment {
             words,
             references,
         };
-        Segment::open(alloc, memory, opening, u32::MAX)
+        Segment::open(alloc, memory, opening, MAX_UNITS as u32)
     }
 
     // The segment with this opening, a new one or that of an image, and its opener, which has these units.
@@ -208,9 +209,9 @@ impl Segment {
     pub fn close(self, opener: Opener) -> Image
         requires { IsMadeWith self opener }
         ensures image { IsImageOf self.setting result }
-        ensures joined { outstanding_of (view_of_opener opener).role ≡ 0 → ReadsJoined self.setting (view_of_opener opener) result }
-        ensures deltas { outstanding_of (view_of_opener opener).role ≡ 0 → DeltasAddUp (view_of_opener opener) }
-        ensures snapshots { outstanding_of (view_of_opener opener).role ≡ 0 → SnapshotsAgree (view_of_opener opener) }
+        ensures joined { AllJoined opener → ReadsJoined self.setting (view_of_opener opener) result }
+        ensures deltas { AllJoined opener → DeltasAddUp (view_of_opener opener) }
+        ensures snapshots { AllJoined opener → SnapshotsAgree (view_of_opener opener) }
         ensures stopped { ReadsStopped (opened_with self) (view_of_opener opener) result }
         ensures goes_on { MayGoOn result }
     {

@@ -30,7 +30,7 @@ fn snapshot_said(said: Announcement) -> Snapshot
 
 impl Segment {
     ghost use Rattle.std.specs.Prelude.{◌≤◌, length, IfOk, IfSome, MatchOption, ◌+◌, [], false, vec_capacity};
-    ghost use Rattle.live_segment.specs.Snapshot.Prelude.{Actor, answered_as, answers, AreFewKeys, AreOwn, AreUnits, HasLookedAtAll, HasSnapshot, is_opener, IsAtRest, IsSame, IsSeated, known_view, KnowsAlone, KnowsRight, load_sum, MayNote, MayStep, NoRepeats, noted, opened_with, BeginsWithTotals, SamplesStandBehind, saw_sum, Setting, Sparse, Standing, table_of, taking_event};
+    ghost use Rattle.live_segment.specs.Snapshot.Prelude.{Actor, answered_as, answers, AreFewKeys, AreOwn, AreUnits, HasLookedAtAll, HasSnapshot, is_opener, IsAtRest, IsReadyFor, IsSame, known_view, KnowsAlone, KnowsRight, load_sum, MayNote, MayStep, NoRepeats, noted, opened_with, BeginsWithTotals, SamplesStandBehind, saw_sum, Setting, Sparse, Standing, table_of, taking_event};
 
     // The sum of a histogram, and its redundant count, which is loaded last. No sample that was visited comes before
     // the record of its histogram.
@@ -123,9 +123,7 @@ impl Segment {
         samples: Option<&[u64]>,
         totals: Vec<(i32, u64)>,
     ) -> Snapshot
-        requires seat { IsSeated self.now seat.old }
-        requires rests { IsAtRest seat.old.me.0 }
-        requires right { KnowsRight self.now.setting seat.old.me.0 histogram.now }
+        requires ready { IsReadyFor self.now histogram.now seat.old }
         requires own { IfSome samples (λ own. (histogram.now.spec ≡ Sparse) × AreOwn self.now.setting.shape.size seat.old.me.0.seen histogram.now.reference own.now) }
         requires totals { MatchOption samples (BeginsWithTotals self.now histogram.now totals) (λ own. (totals.items ≡ []) × (length own.now ≤ vec_capacity totals)) }
         ensures same { IsSame seat.old seat.new }

@@ -40,7 +40,7 @@ impl OwnedRecorder {
     /// before the first such call.
     ///
     /// An index keeps at most 80 bytes for each entry, and 1,000 bytes; that of samples also 110 bytes for each sparse histogram of which it
-    /// has a sample. (This is measured, and not proved.)
+    /// has a sample. (Measured: `docs/PERFORMANCE.md`.)
     ///
     /// Each has that limit then [limits], and all else is unchanged: its segment [kept], what it has done and seen [view], and what it knows
     /// [same].

@@ -20,7 +20,7 @@ use fault_texts::{Origin, Source};
 use image_reader::Reading as ImageReading;
 use persist_report_core::{CliFault, write_and_flush};
 use reading_shows::{
-    Form, Source as Place, SumHead, first_missing, list_text, page_of_sum, show_since_text,
+    Form, Source as TextSource, SumHead, first_missing, list_text, page_of_sum, show_since_text,
     show_text,
 };
 use reading_sums::{MinusFault, Sums};
@@ -176,7 +176,7 @@ fn head_of(alloc: Global, sums: &Sums, left: u64) -> Result<SumHead, AllocError>
 fn form_text<R: AllocGlobal>(
     context: &Context<'_, R>,
     form: Form<'_>,
-    place: Place<'_>,
+    source: TextSource<'_>,
     sums: &Sums,
     reading: &ImageReading,
     left: u64,
@@ -240,7 +240,7 @@ fn wrong_with<R: AllocGlobal>(
 fn make_composed<R: AllocGlobal>(
     context: &Context<'_, R>,
     text: Text<'_>,
-    place: Place<'_>,
+    source: TextSource<'_>,
     has_totals: bool,
     sums: Sums,
     is_damaged: bool,
@@ -368,10 +368,10 @@ pub fn write_sum<
 }
 
 // Where a page comes from, as it says.
-fn place_in<'a>(text: Text<'a>) -> Place<'a> {
+fn source_in<'a>(text: Text<'a>) -> TextSource<'a> {
     match text {
         Text::Form(Form::Page { source, .. }) => source,
-        _ => Place::Input,
+        _ => TextSource::Input,
     }
 }
 
@@ -394,7 +394,7 @@ pub fn write_totals<
     if let Err(fault) = added {
         return Err(input_failure(context, fault, path_of(reader.into_inner().origin())));
     }
-    let place = place_in(text);
+    let place = source_in(text);
     let composed = make_composed(context, text, place, false, sums, false, 0)?;
     write_composed(context, composed, to)
 }

@@ -7,8 +7,12 @@ mod sparse;
 mod step;
 
 use anyhow::{Result, bail};
+use bucket_ranges::limits::MAX_PACKED;
 use std::rt::{Clock, Files};
 use std::thread::Threads;
+
+/// A count that no single word holds.
+pub(crate) const PAST_PACKED: u32 = MAX_PACKED as u32 + 1;
 
 /// Measures what the first word says, with the parameters after it.
 pub(crate) fn run<R: Threads + Clock + Files + Print + AllocGlobal + Sync>(

@@ -2,7 +2,7 @@
 use Rattle.segment_invariant.proofs.Prelude.Std.{◌≡◌, ℕ, Bool, true, false, not, pos, List, [], ◌∷◌, ◌++◌, map, length, take, drop, All, inl, inr, refl, sym, ap, subst, ◌∙◌, arith, Option, Some, Contains, int_eq, take-append-drop, All-nil, All-cons}
 use Rattle.segment_invariant.proofs.Prelude.Machine.{Dimensions, Actor, EntryProgress, has_ended, tally_noted, Note, Notes, is_untouched, noted, Refusal}
 use Rattle.std.proofs.lemmas.List.{take-take, take_all}
-use Rattle.segment_machine.specs.declared.actor.Known.{Known as MachineKnown}
+use Rattle.segment_machine.specs.declared.actor.Known.{Known}
 use Rattle.segment_machine.specs.declared.entry.Entry.{Entry as MachineEntry}
 use Rattle.segment_machine.specs.Note.{refused}
 use Rattle.hist_core.specs.declared.add.Add.{Add as AddCall}
@@ -32,7 +32,7 @@ use Rattle.hist_core.proofs.Worlds.Quiet.{takes_none, takes_not}
 use Rattle.hist_core.proofs.AddCall.GhostNotes.{Counts, goes_from, counts_somewhere, still_counts, has_counted, is_cut}
 
 -- its entry is there, however far it is
-pub has_entry : (shape : Dimensions) (known : MachineKnown) (amid : Amid) (add : AddCall) (a : Actor) (at : AddStage) → StandsAtStage shape known amid add a at
+pub has_entry : (shape : Dimensions) (known : Known) (amid : Amid) (add : AddCall) (a : Actor) (at : AddStage) → StandsAtStage shape known amid add a at
     → (counted summed : Bool) × HasEntry known amid add a counted summed
 has_entry shape known amid add a stage.LoadingSingle stands = (false, false, stands.1)
 has_entry shape known amid add a (stage.Packing old new) stands = (false, false, stands.1)
@@ -53,7 +53,7 @@ module _ (shape : Dimensions) (version : ℕ) (old : ActorRun) (add : AddCall) (
   adding : (a : Actor) → IsActorRunOf shape version old a → IsAdding shape (pending_by old) add a
   adding a run = subst (λ running. StandsIn shape old.known.items (pending_by old) running a) is run.stands
 
-  module _ (known : MachineKnown) where
+  module _ (known : Known) where
     abbrev entries : List MachineEntry
     entries = counted_entry known add ∷ []
 
@@ -115,7 +115,7 @@ module _ (shape : Dimensions) (version : ℕ) (old : ActorRun) (add : AddCall) (
           serves : (deed : SharedEffect) → serves_counted known now a deed → Serves old.running first deed
           serves deed it = subst (λ running. Serves running first deed) (sym is) (
             known,
-            subst (λ (l : List MachineKnown). Contains l known) (sym counts.run.names ∙ names) counts.counting.knows,
+            subst (λ (l : List Known). Contains l known) (sym counts.run.names ∙ names) counts.counting.knows,
             counts.counting.counting.reference,
             as_first deed it,
           )
@@ -125,7 +125,7 @@ module _ (shape : Dimensions) (version : ℕ) (old : ActorRun) (add : AddCall) (
           → IsRefusedBy old.running why first (noted b (refused 0))
       refused_by first b from aside why cause met = subst (λ running. IsRefusedBy running why first (noted b (refused 0))) (sym is) (
         known,
-        subst (λ (l : List MachineKnown). Contains l known) (sym aside.names) counts.counting.knows,
+        subst (λ (l : List Known). Contains l known) (sym aside.names) counts.counting.knows,
         counts.counting.counting.reference,
         cause_noted why (block_words known) first a b (noted b (refused 0)) from refl refl cause,
         record { counts = met.counts; value = met.value },
@@ -139,7 +139,7 @@ module _ (shape : Dimensions) (version : ℕ) (old : ActorRun) (add : AddCall) (
 
   -- what the machine's actor does, and what that is at run time
   module _ (a : Actor) (run : IsActorRunOf shape version old a) (at : AddStage) (words new_words : List ℕ) (long : length words ≡ shape.size) (new : ActorRun) where
-    abbrev its : MachineKnown
+    abbrev its : Known
     its = (adding a run).0
 
     goes : {holds : Actor → Type 0} → ((b : Actor) → HasOnlyNoted a b → Tells its b → StepsBy shape.size version b words new_words holds)

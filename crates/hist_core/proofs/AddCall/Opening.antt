@@ -4,7 +4,7 @@ use Rattle.segment_invariant.proofs.Prelude.Machine.{IsShape, boundaries_of, Dim
 use Rattle.segment_invariant.proofs.Prelude.Invariant.{Anatomy, order_of, Invariant, IsFirst, IsRightlyKnown}
 use Rattle.std.proofs.lemmas.List.{take-append-le, drop_all}
 use Rattle.segment_image.specs.declared.layout.TheConstants.{BLOCK_HEADER, HISTOGRAM_NAME}
-use Rattle.segment_machine.specs.declared.actor.Known.{Known as MachineKnown}
+use Rattle.segment_machine.specs.declared.actor.Known.{Known}
 use Rattle.segment_machine.specs.declared.entry.Entry.{Entry as MachineEntry}
 use Rattle.segment_machine.specs.Calls.{IsKeyOfBucket}
 use Rattle.segment_machine.specs.Entry.{AreWithin}
@@ -48,10 +48,10 @@ own_one (first ∷ rest) own (suc i) zero x y here there same =
 own_one (first ∷ rest) own (suc i) (suc j) x y here there same = own_one rest own.1 i j x y here there same
 
 -- what it knows is among what its actor knows
-pub known_inside : (list : List KnownHist) (names : List MachineKnown) (known : KnownHist) → map known_of list ≡ names → (i : ℕ) → get_elem? list i ≡ some known
+pub known_inside : (list : List KnownHist) (names : List Known) (known : KnownHist) → map known_of list ≡ names → (i : ℕ) → get_elem? list i ≡ some known
     → Contains names (known_of known)
 known_inside list names known same i at =
-    subst (λ (l : List MachineKnown). Contains l (known_of known)) same (contains_map known_of list known (contains_at list i known at))
+    subst (λ (l : List Known). Contains l (known_of known)) same (contains_map known_of list known (contains_at list i known at))
 
 -- in a kept state no two histograms that an actor knows have one reference
 module _ (shape : Dimensions) (opened : Anatomy) (state : State) (kept : Invariant shape opened state) (id : ℕ) (a : Actor)
@@ -62,15 +62,15 @@ module _ (shape : Dimensions) (opened : Anatomy) (state : State) (kept : Invaria
       let inside = known_inside list a.answers.names known names i at in
       let there = at_from a.answers.names (known_of known) inside in
       let (found, is, among, refers) = find_known a.answers.names known.reference there.0 (known_of known) there.1 refl in
-      let knows : (k : MachineKnown) → Contains a.answers.names k → IsRightlyKnown kept.anatomy k = λ k inside.
+      let knows : (k : Known) → Contains a.answers.names k → IsRightlyKnown kept.anatomy k = λ k inside.
       (let (j, at_j) = at_from a.answers.names k inside in all_at (IsRightlyKnown kept.anatomy) a.answers.names j k (kept.each id a mine lives).names at_j) in
       let its = knows (known_of known) inside in
       let other = knows found among in
       let same : found.name ≡ known.name.items = one_name shape opened state kept found.name known.name.items other.first_spec its.first_spec found.reference other.first
       (subst (λ (n : ℕ). IsFirst kept.anatomy.records known.name.items its.first_spec n) (sym refers) its.first) in
       let (j, at_j) = at_from a.answers.names found among in
-      let (k, at_k, k_is) = from_map known_of list j found (ap (λ (l : List MachineKnown). get_elem? l j) names ∙ at_j) in
-      is ∙ ap Some (sym k_is ∙ ap known_of (own_one list own j i k known at_k at (ap (λ (m : MachineKnown). m.name) k_is ∙ same)))
+      let (k, at_k, k_is) = from_map known_of list j found (ap (λ (l : List Known). get_elem? l j) names ∙ at_j) in
+      is ∙ ap Some (sym k_is ∙ ap known_of (own_one list own j i k known at_k at (ap (λ (m : Known). m.name) k_is ∙ same)))
 
 -- a record that it has visited is one that a list can have
 pub reference_there : (shape : Dimensions) (opened : Anatomy) (state : State) (kept : Invariant shape opened state) (id : ℕ) (a : Actor)
@@ -97,7 +97,7 @@ module _ (shape : Dimensions) (version : ℕ) (old new : ActorRun) (entries : Li
     has_units = let none = stands.1.share in omega (arith, none)
 
     -- it may begin to count them, if they are within its cost
-    pub before_it : (known : MachineKnown) → Contains a.answers.names known → AreWithin known.name cost entries → (standing : Actor → Type 0)
+    pub before_it : (known : Known) → Contains a.answers.names known → AreWithin known.name cost entries → (standing : Actor → Type 0)
         → standing (noted (getter a cost) (begins known.name cost entries)) → IsGhostNoting starts.pending known.name cost entries standing (getter a cost)
     before_it known inside within standing is = record {
       pending_are = starts.pending_are;
@@ -110,7 +110,7 @@ module _ (shape : Dimensions) (version : ℕ) (old new : ActorRun) (entries : Li
           stands.1.holds,
           stands.1.takes,
           (let share = has_units in omega (arith, share)),
-          contains_map (λ (k : MachineKnown). k.name) a.answers.names known inside,
+          contains_map (λ (k : Known). k.name) a.answers.names known inside,
           within,
         );
         stands = is;
@@ -185,7 +185,7 @@ module _ (shape : Dimensions) (version : ℕ) (known : KnownHist) (value : ℤ) 
   abbrev add : AddCall
   add = starts.add
 
-  abbrev machine : MachineKnown
+  abbrev machine : Known
   machine = known_of known
 
   pub add_stands : StandsIn shape old.known.items starts.begins.pending (Some (Add add)) (getter a units)

@@ -7,7 +7,7 @@ use Rattle.std.proofs.lemmas.List.Sums.{fold-append}
 use Rattle.bucket_ranges.specs.Tally.{units_of}
 use Rattle.segment_image.specs.declared.layout.TheConstants.{HISTOGRAM_NAME}
 use Rattle.segment_invariant.proofs.Lists.Elements.{all_at}
-use Rattle.segment_machine.specs.declared.actor.Known.{Known as MachineKnown}
+use Rattle.segment_machine.specs.declared.actor.Known.{Known}
 use Rattle.segment_machine.specs.declared.entry.Entry.{Entry as MachineEntry}
 use Rattle.segment_machine.specs.Entry.{AreWithin, batch_cost, batch_entries, item_entry, sum_entry}
 use Rattle.segment_machine.specs.Seats.{getter}
@@ -151,7 +151,7 @@ module _ (shape : Dimensions) (version : ℕ) (known : KnownHist) (items : List 
   abbrev call : BatchCall
   call = starts.call
 
-  abbrev machine : MachineKnown
+  abbrev machine : Known
   machine = known_of known
 
   abbrev told : List MachineEntry

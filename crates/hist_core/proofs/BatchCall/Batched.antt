@@ -2,7 +2,7 @@
 use Rattle.segment_invariant.proofs.Prelude.Std.{◌≡◌, ◌≤◌, ◌+◌, ◌-◌, ℕ, ℤ, List, ◌++◌, map, length, take, inr, refl, sym, ap, subst, ◌∙◌, arith, length-append, Option, Some, vec_len, length-map, take-append-drop, some, get_elem?, Contains}
 use Rattle.segment_invariant.proofs.Prelude.Machine.{Dimensions, Actor, Note, Notes, noted, tally_noted, Refusal}
 use Rattle.std.proofs.lemmas.List.{length-drop, take-take, take_all, drop-take}
-use Rattle.segment_machine.specs.declared.actor.Known.{Known as MachineKnown}
+use Rattle.segment_machine.specs.declared.actor.Known.{Known}
 use Rattle.segment_machine.specs.declared.entry.Entry.{Entry as MachineEntry}
 use Rattle.segment_machine.specs.Note.{refused}
 use Rattle.hist_core.specs.declared.batch.Batch.{Batch as BatchCall}
@@ -34,7 +34,7 @@ module _ (shape : Dimensions) (version : ℕ) (old : ActorRun) (batch : BatchCal
   batching : (a : Actor) → IsActorRunOf shape version old a → IsBatching shape (pending_by old) batch a
   batching a run = subst (λ running. StandsIn shape old.known.items (pending_by old) running a) is run.stands
 
-  module _ (known : MachineKnown) where
+  module _ (known : Known) where
     abbrev entries : List MachineEntry
     entries = counted_entries known batch
 
@@ -79,7 +79,7 @@ module _ (shape : Dimensions) (version : ℕ) (old : ActorRun) (batch : BatchCal
           serves : (deed : SharedEffect) → serves_counted known now a deed → Serves old.running first deed
           serves deed it = subst (λ running. Serves running first deed) (sym is) (
             known,
-            subst (λ (l : List MachineKnown). Contains l known) (sym counts.run.names ∙ names) counts.counting.knows,
+            subst (λ (l : List Known). Contains l known) (sym counts.run.names ∙ names) counts.counting.knows,
             counts.counting.reference,
             as_first deed (same_counted deed it),
           )
@@ -93,7 +93,7 @@ module _ (shape : Dimensions) (version : ℕ) (old : ActorRun) (batch : BatchCal
         subst (λ (p : List (ℤ × ℕ) × ℕ). get_elem? p.0 p.1 ≡ some sample) (λ i. (same.samples i, here i)) there,
         (
           known,
-          subst (λ (l : List MachineKnown). Contains l known) (sym aside.names) counts.counting.knows,
+          subst (λ (l : List Known). Contains l known) (sym aside.names) counts.counting.knows,
           counts.counting.reference,
           cause_noted why (block_words known) first a b (noted b (refused added)) from refl refl cause,
           record { counts = needs.counts; value = needs.value },
@@ -106,7 +106,7 @@ module _ (shape : Dimensions) (version : ℕ) (old : ActorRun) (batch : BatchCal
           subst (λ (v : ℕ). StepsBy shape.size v a words new_words (BatchGives shape known now said a)) (ap (λ s. s.version) counts.run.segment) (steps shape known a long counts.counting)
 
   -- what it counts is the same, since it counts the same items
-  entries_same : (known : MachineKnown) (now : BatchCall) → IsSameBatch batch now → counted_entries known now ≡ entries known
+  entries_same : (known : Known) (now : BatchCall) → IsSameBatch batch now → counted_entries known now ≡ entries known
   entries_same known now same i = same.entries known i ++ sum_entries known.name (same.sum i)
 
   -- there are as many more entries than have ended
@@ -122,7 +122,7 @@ module _ (shape : Dimensions) (version : ℕ) (old : ActorRun) (batch : BatchCal
   -- what the machine's actor does, and what that is at run time
   module _ (a : Actor) (run : IsActorRunOf shape version old a) (now : BatchCall) (same : IsSameBatch batch now) (words new_words : List ℕ) (long : length words ≡ shape.size)
       (new : ActorRun) where
-    abbrev its : MachineKnown
+    abbrev its : Known
     its = (batching a run).0
 
     still_same : counted_entries its now ≡ entries its

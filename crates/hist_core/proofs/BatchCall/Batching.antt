@@ -3,7 +3,7 @@ use Rattle.segment_invariant.proofs.Prelude.Std.{◌≡◌, ◌≤◌, ◌<◌, 
 use Rattle.segment_invariant.proofs.Prelude.Machine.{Dimensions, Actor, EntryProgress, fresh, tally_noted}
 use Rattle.std.proofs.lemmas.List.{take-append-le, take-map, map-set}
 use Rattle.atomic_table.proofs.Lists.{set_again}
-use Rattle.segment_machine.specs.declared.actor.Known.{Known as MachineKnown}
+use Rattle.segment_machine.specs.declared.actor.Known.{Known}
 use Rattle.segment_machine.specs.declared.entry.Entry.{Entry as MachineEntry}
 use Rattle.segment_machine.specs.Entry.{sum_entry}
 use Rattle.hist_core.specs.declared.add.Add.{Add}
@@ -24,7 +24,7 @@ pub some_inside : (batch : Batch) (words : List ℕ) → ∥ IsSomeBatch (length
 some_inside batch words stands = ∥∥₁_elim stands (hlevel props) (λ (shape, known, a, long, is).
     let within = is.within in let many = is.lawful_shape.many in (omega (arith, long, within), omega (arith, long, many)))
 
-module _ (shape : Dimensions) (known : MachineKnown) (batch : Batch) (a : Actor) (is : IsBatch shape known batch a) where
+module _ (shape : Dimensions) (known : Known) (batch : Batch) (a : Actor) (is : IsBatch shape known batch a) where
   -- of an item that is counted there is one more
   below : CountsItem shape known batch a → batch.added < length batch.items.items
   below c = let whole = ap length c.are ∙ length-append c.done (c.item ∷ c.rest) in let added = c.added in omega (arith, whole, added)
@@ -54,7 +54,7 @@ module _ (shape : Dimensions) (known : MachineKnown) (batch : Batch) (a : Actor)
       is.stands
 
 -- the units of its first entries, which are those of items
-pub first_units : (known : MachineKnown) (batch : Batch) (added : ℕ) → added ≤ length batch.items.items
+pub first_units : (known : Known) (batch : Batch) (added : ℕ) → added ≤ length batch.items.items
     → tally_noted (take added (counted_entries known batch)) known.name ≡ units_among (take added batch.items.items)
 first_units known batch added few =
     ap (λ l. tally_noted l known.name)
@@ -69,7 +69,7 @@ at_behind : {X : Type 0} (xs : List X) (x : X) (ys : List X) → get_elem? (xs +
 at_behind [] x ys = refl
 at_behind (y ∷ xs) x ys = at_behind xs x ys
 
-module _ (shape : Dimensions) (known : MachineKnown) (batch : Batch) (a : Actor) (is : IsBatch shape known batch a) (less : batch.added < vec_len batch.items) (x : Add)
+module _ (shape : Dimensions) (known : Known) (batch : Batch) (a : Actor) (is : IsBatch shape known batch a) (less : batch.added < vec_len batch.items) (x : Add)
     (at : get_elem? batch.items.items batch.added ≡ some x) where
   -- that is the item that is counted
   item_is : (item_there shape known batch a is less).item ≡ x

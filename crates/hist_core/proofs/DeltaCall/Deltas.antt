@@ -10,7 +10,7 @@ use Rattle.std.proofs.lemmas.List.{same_from_push, take-append-le, take_all}
 use Rattle.std.proofs.lemmas.List.Sorted.{IsPermutation-insert, length_permutation}
 use Rattle.segment_invariant.proofs.Lists.Elements.{all_at, all_from, contains_at}
 use Rattle.segment_invariant.proofs.Lists.Maps.{contains_map}
-use Rattle.segment_machine.specs.declared.actor.Known.{Known as MachineKnown}
+use Rattle.segment_machine.specs.declared.actor.Known.{Known}
 use Rattle.segment_machine.specs.declared.actor.Taken.{Taken as MachineTaken}
 use Rattle.segment_machine.specs.Note.{TookSample}
 use Rattle.segment_promises.specs.Values.{ListsValues}
@@ -126,7 +126,7 @@ taken_ascends world_state reached i r at = ∥∥₁_elim reached (hlevel props)
 -- ---- it continues
 
 -- once its first event has happened it is under way
-way_of : (shape : Dimensions) (known : MachineKnown) (earlier : List MachineTaken) (delta_call : DeltaCall) (a : Actor) (stage : DeltaStage) → HasBegun stage
+way_of : (shape : Dimensions) (known : Known) (earlier : List MachineTaken) (delta_call : DeltaCall) (a : Actor) (stage : DeltaStage) → HasBegun stage
     → StandsAtStage shape known earlier delta_call a stage → IsUnderWay known earlier delta_call a
 way_of shape known earlier delta_call a LoadingSingle begun stands = absurd begun
 way_of shape known earlier delta_call a (TakingPacked bucket units) begun stands = stands.0
@@ -140,7 +140,7 @@ way_of shape known earlier delta_call a LoadingSum begun stands = stands.0
 way_of shape known earlier delta_call a (Swapping sum) begun stands = stands.0
 
 -- before that its actor's deltas took what they took
-taken_first : (shape : Dimensions) (known : MachineKnown) (earlier : List MachineTaken) (delta_call : DeltaCall) (a : Actor) (stage : DeltaStage) → IsFirstStage stage
+taken_first : (shape : Dimensions) (known : Known) (earlier : List MachineTaken) (delta_call : DeltaCall) (a : Actor) (stage : DeltaStage) → IsFirstStage stage
     → StandsAtStage shape known earlier delta_call a stage → a.deltas.taken ≡ earlier
 taken_first shape known earlier delta_call a stage (inl is) stands = (subst (StandsAtStage shape known earlier delta_call a) is stands).1
 taken_first shape known earlier delta_call a stage (inr is) stands =
@@ -182,7 +182,7 @@ module _ (shape : Dimensions) (version : ℕ) (old : ActorRun) (a : Actor) (run 
   has_draft : HasDraft (Some (Delta delta_call fresh)) old.taken
   has_draft = subst (λ running. HasDraft running old.taken) is run.draft
 
-  abbrev known : MachineKnown
+  abbrev known : Known
   known = stands.1.0
 
   abbrev earlier : List MachineTaken
@@ -450,7 +450,7 @@ no_units : AreUnits []
 no_units = record { ascending = no_keys; some = λ k d below. absurd (omega (arith, below)) }
 
 -- so it is before its first event
-opens_first : (shape : Dimensions) (known : MachineKnown) (delta_call : DeltaCall) (stage : DeltaStage) → OpensWith shape known delta_call stage → IsFirstStage stage
+opens_first : (shape : Dimensions) (known : Known) (delta_call : DeltaCall) (stage : DeltaStage) → OpensWith shape known delta_call stage → IsFirstStage stage
 opens_first _ _ _ stage (inl opens) = inl opens.0
 opens_first _ _ _ stage (inr opens) = inr opens.0
 
@@ -468,7 +468,7 @@ module _ (shape : Dimensions) (version : ℕ) (known : KnownHist) (old new : Act
     delta_call = starts.delta_call
 
     knows : Contains a.answers.names (known_of known)
-    knows = subst (λ (l : List MachineKnown). Contains l (known_of known)) run.names (contains_map known_of old.known.items known (contains_at old.known.items i known at))
+    knows = subst (λ (l : List Known). Contains l (known_of known)) run.names (contains_map known_of old.known.items known (contains_at old.known.items i known at))
 
     -- of a histogram with buckets it is before the single word, of a sparse one at the record
     stands_first : (stage : DeltaStage) → OpensWith shape (known_of known) delta_call stage → StandsAtStage shape (known_of known) a.deltas.taken delta_call a stage

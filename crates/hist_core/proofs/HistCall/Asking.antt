@@ -9,7 +9,7 @@ use Rattle.hist_core.proofs.Parts.Alone.{alike}
 use Rattle.hist_core.specs.declared.call.Begun.{Begun}
 use Rattle.hist_core.specs.declared.call.Begun.TheVariants.{Going, Ended}
 use Rattle.atomic_table.proofs.Lists.{at_snoc}
-use Rattle.segment_machine.specs.declared.actor.Known.{Known as MachineKnown}
+use Rattle.segment_machine.specs.declared.actor.Known.{Known}
 use Rattle.segment_machine.specs.declared.actor.Made.TheVariants.{Histogram}
 use Rattle.segment_machine.specs.Note.{MayNote, knows}
 use Rattle.hist_core.specs.declared.call.Answer.TheVariants as answer
@@ -52,12 +52,12 @@ own_more [] known own none = ((λ i x at. absurd (some-ne-none x (sym at))), tt)
 own_more (first ∷ rest) known own none =
     (none_more rest known first.name.items own.0 (λ same. none 0 first refl (sym same)), own_more rest known own.1 (λ i x at. none (suc i) x at))
 
-one_of : (x y : MachineKnown) → Contains (x ∷ []) y → x ≡ y
+one_of : (x y : Known) → Contains (x ∷ []) y → x ≡ y
 one_of x y (zero, low, is) = is
 one_of x y (suc k, low, is) = absurd (omega (arith, low))
 
 -- an actor that may note that it knows a histogram has visited its record
-met_first : (b : Actor) (known : MachineKnown) → MayNote b (knows known) → Contains b.seen.chain known.reference
+met_first : (b : Actor) (known : Known) → MayNote b (knows known) → Contains b.seen.chain known.reference
 met_first b known ((front, behind, is, others, saw), spelled) =
     subst (λ (l : List ℕ). Contains l known.reference) (sym is) (Contains-append_right front (known.reference ∷ behind) known.reference (0, omega arith, refl))
 
@@ -102,7 +102,7 @@ module _ (shape : Dimensions) (version : ℕ) (old : ActorRun) (a : Actor) (run 
         lawful = subst (All (IsKnown shape)) (sym items) (All-push (IsKnown shape) old.known.items known run.lawful lawful);
         once = subst HaveOwnNames (sym items) (own_more old.known.items known run.once none);
         met = λ k inside.
-            ⊎_elim (λ before. met_on a b beside.names beside.chain run.met k before) (λ last. subst (λ (m : MachineKnown). Contains b.seen.chain m.reference) (one_of (known_of known) k last) met)
+            ⊎_elim (λ before. met_on a b beside.names beside.chain run.met k before) (λ last. subst (λ (m : Known). Contains b.seen.chain m.reference) (one_of (known_of known) k last) met)
             (Contains-append_cases b.answers.names (known_of known ∷ []) k inside);
         stands = (may, quiet_on (pending_by old) b (noted b (knows (known_of known))) refl refl refl quiet);
         room = tt;

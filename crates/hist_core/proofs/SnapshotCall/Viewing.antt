@@ -1,7 +1,7 @@
 -- A `snapshot` of an actor continues, and what it returns.
 use Rattle.segment_invariant.proofs.Prelude.Std.{◌≡◌, ◌≤◌, ◌+◌, inl, inr, ℕ, ℤ, List, [], length, map, take, All, refl, sym, ap, subst, ◌∙◌, Option, Some, None, Contains, range_with_len, some, get_elem?}
 use Rattle.segment_invariant.proofs.Prelude.Machine.{Dimensions, Actor, IsShape, boundaries_of, buckets_of, State, bucket_key, known_at}
-use Rattle.segment_machine.specs.declared.actor.Known.{Known as MachineKnown}
+use Rattle.segment_machine.specs.declared.actor.Known.{Known}
 use Rattle.segment_promises.proofs.Calls.BlankTotals.{keys_of_buckets, no_units}
 use Rattle.hist_core.proofs.Parts.Alone.{alike}
 use Rattle.hist_core.specs.declared.call.Stepped.{Stepped}
@@ -51,7 +51,7 @@ module _ (shape : Dimensions) (version : ℕ) (old : ActorRun) (a : Actor) (run 
   stands : StandsIn shape old.known.items (pending_by old) (Some (Snapshot snapshot_call)) a
   stands = subst (λ running. StandsIn shape old.known.items (pending_by old) running a) is run.stands
 
-  abbrev known : MachineKnown
+  abbrev known : Known
   known = stands.1.0
 
   looks : IsSnapshotCall shape known snapshot_call a
@@ -179,7 +179,7 @@ module _ (shape : Dimensions) (version : ℕ) (known : KnownHist) (old new : Act
     started = starts.1
 
     knows : Contains a.answers.names (known_of known)
-    knows = subst (λ (l : List MachineKnown). Contains l (known_of known)) run.names (contains_map known_of old.known.items known (contains_at old.known.items i known at))
+    knows = subst (λ (l : List Known). Contains l (known_of known)) run.names (contains_map known_of old.known.items known (contains_at old.known.items i known at))
 
     -- of a histogram with buckets it is before the single word, of a sparse one at the record
     stands_first : (stage : SnapshotStage) → OpensWith shape (known_of known) snapshot_call stage → StandsAtStage shape (known_of known) snapshot_call a stage
@@ -251,7 +251,7 @@ module _ (old new : WorldState) (actor : ℕ) (name : List ℕ) (place : ℕ) (r
   snapshot_begins starts = call_begins (begins_with old.shape old.version it r now starts place its.there its.resting.rests)
 
 -- it has done no event yet
-just_begun : (shape : Dimensions) (known : MachineKnown) (snapshot_call : SnapshotCall) (stage : SnapshotStage) → OpensWith shape known snapshot_call stage → HasJustBegun stage
+just_begun : (shape : Dimensions) (known : Known) (snapshot_call : SnapshotCall) (stage : SnapshotStage) → OpensWith shape known snapshot_call stage → HasJustBegun stage
 just_begun _ _ _ stage (inl opens) = inl opens.0
 just_begun _ _ _ stage (inr opens) = inr opens.0
 

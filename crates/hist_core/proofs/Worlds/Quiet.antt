@@ -3,7 +3,7 @@ use Rattle.segment_invariant.proofs.Prelude.Std.{◌≡◌, ◌≢◌, ◌≤◌
 use Rattle.segment_invariant.proofs.Prelude.Machine.{Dimensions, IsPrefix, Actor, Place, Spent, is_bound}
 use Rattle.segment_invariant.proofs.Lists.Elements.{at_from, split_at}
 use Rattle.std.proofs.lemmas.List.{length-drop, length-take-le, drop_all}
-use Rattle.segment_machine.specs.declared.actor.Known.{Known as MachineKnown}
+use Rattle.segment_machine.specs.declared.actor.Known.{Known}
 use Rattle.segment_machine.specs.Seats.{giver}
 use Rattle.hist_core.specs.declared.entry.Entry.{Entry}
 use Rattle.hist_core.specs.declared.actor_run.ActorRun.{ActorRun}
@@ -28,7 +28,7 @@ quiet_on pending a b units entries deltas quiet = record {
 pub met_on : (a b : Actor) → b.answers.names ≡ a.answers.names → IsPrefix a.seen.chain b.seen.chain → HasMetKnown a → HasMetKnown b
 met_on a b names (rest, grown) met known inside =
     subst (λ (l : List ℕ). Contains l known.reference) (sym grown)
-    (Contains-append_left a.seen.chain rest known.reference (met known (subst (λ (l : List MachineKnown). Contains l known) names inside)))
+    (Contains-append_left a.seen.chain rest known.reference (met known (subst (λ (l : List Known). Contains l known) names inside)))
 
 -- a record that was visited is somewhere on the list
 pub met_split : (chain : List ℕ) (at : ℕ) → Contains chain at → (front behind : List ℕ) × (chain ≡ front ++ at ∷ behind)

@@ -6,7 +6,7 @@ use Rattle.alloc_core.specs.declared.alloc.AllocStage.{AllocStage}
 use Rattle.alloc_core.specs.declared.alloc.AllocStage.TheVariants.{LoadFlags, LoadFree, ExchangeFree, StoreSize, StoreCookie, StoreType, SetFull, Claimed, Full, Corrupt}
 use Rattle.list_core.specs.declared.publish.PubStage.{PubStage}
 use Rattle.list_core.specs.declared.publish.PubStage.TheVariants.{StoreOwnNext, LoadTail, Link, MoveTail, Published, Strayed}
-use Rattle.segment_machine.specs.declared.actor.Known.{Known as MachineKnown}
+use Rattle.segment_machine.specs.declared.actor.Known.{Known}
 use Rattle.segment_machine.specs.Stages.{StandsAtAllocStage, PublishesAt}
 use Rattle.hist_core.specs.declared.add.Add.{Add as AddCall}
 use Rattle.hist_core.specs.declared.add.AddStage.{AddStage}
@@ -90,7 +90,7 @@ module _ (a : Actor) (look : Look) (bucket units : ℕ) (at : a.hand.place ≡ M
 
   -- ---- where it counts
 
-  module _ (shape : Dimensions) (known : MachineKnown) (amid : Amid) (call : AddCall) (is : IsAdd shape known amid call a) where
+  module _ (shape : Dimensions) (known : Known) (amid : Amid) (call : AddCall) (is : IsAdd shape known amid call a) where
     here : (stage : AddStage) → add.StandsAtStage shape known amid call a stage → call.histogram ≡ look.histogram
     here adds.LoadingSingle stands = turned stands.2
     here (adds.Packing old new) stands = cc (sym stands.2.0.1 ∙ at)
@@ -113,7 +113,7 @@ module _ (a : Actor) (look : Look) (bucket units : ℕ) (at : a.hand.place ≡ M
     pub counts_here : call.histogram ≡ look.histogram
     counts_here = here call.stage is.stands
 
-  batches_here : (shape : Dimensions) (known : MachineKnown) (call : BatchCall) → IsBatch shape known call a → call.histogram ≡ look.histogram
+  batches_here : (shape : Dimensions) (known : Known) (call : BatchCall) → IsBatch shape known call a → call.histogram ≡ look.histogram
   batches_here shape known call is = ⊎_elim
       (λ counts. sym is.reference ∙ (counts.stands.counting.reference ∙ counts_here shape known (amid_of known call counts.done counts.rest) counts.item counts.stands))
       (λ sums. turned sums.turns) is.stands

@@ -29,7 +29,7 @@ use Rattle.segment_promises.proofs.Spoilers.{notes_leave}
 use Rattle.segment_promises.specs.Adoption.{IsAdoptable}
 use Rattle.segment_promises.proofs.Adopting.Kept.{kept_are_adoptable}
 use Rattle.segment_image.specs.Head.{header_of}
-use Rattle.segment_machine.specs.declared.actor.Known.{Known as MachineKnown}
+use Rattle.segment_machine.specs.declared.actor.Known.{Known}
 use Rattle.segment_machine.specs.declared.place.Place.TheVariants.{FreeLoaded}
 use Rattle.segment_invariant.proofs.Lists.Maps.{contains_map}
 use Rattle.hist_core.specs.declared.hist.KnownHist.{KnownHist}
@@ -94,7 +94,7 @@ has_seen : (start : Start) (world_state : WorldState) (state : State) (reach : I
     → HasSeenEnough actor histogram snapshot start world_state state reach
 has_seen start world_state state reach actor b there records histogram snapshot is =
     let kept = kept_there start world_state state reach in
-    let known : MachineKnown = is.known in
+    let known : Known = is.known in
     let answered : Answered = is.answered in
     let sees = snapshots_see_accepted world_state.shape start.opened state (actor + 1) reach.shows.opener b known answered kept
     (ap (λ l. get_elem? l 0) reach.shows.actors) there records is.knows is.saw in
@@ -567,7 +567,7 @@ are_known_first world_state reached chain is_chain i r known at rests inside = �
     let there : get_elem? state.actors (i + 1) ≡ some a =
     ap (λ actors. get_elem? actors (i + 1)) reach.shows.actors ∙ behind_first reach.shows.opener reach.shows.recorders i ∙ found.1 in
     let words = reach.shows.words in
-    let knows : Contains a.answers.names (known_of known) = subst (λ (l : List MachineKnown). Contains l (known_of known)) run.names (contains_map known_of r.known.items known inside) in
+    let knows : Contains a.answers.names (known_of known) = subst (λ (l : List Known). Contains l (known_of known)) run.names (contains_map known_of r.known.items known inside) in
     let may = free_turns a.hand.place (subst (λ running. StandsIn world_state.shape r.known.items (pending_by r) running a) rests run.stands).0 in
     let first = names_are_first world_state.shape start.opened state chain kept
     (subst (λ (l : List ℕ). IsChain l (head_of l) chain) (sym words) is_chain) (i + 1) a there (not_spent a.hand.place may) (known_of known) knows in

@@ -3,7 +3,6 @@ use Rattle.std.specs.Prelude.{◌≡◌, ℕ, ◌+◌, ◌≤◌, List, length, 
 use Rattle.std.specs.List.{All, Contains}
 use Rattle.segment_image.specs.declared.layout.TheConstants.{BLOCK_LEAST, HISTOGRAM_NAME}
 use Rattle.bucket_ranges.specs.declared.spec.Spec.{Spec}
-use Rattle.list_core.specs.Walk.{IsPrefix, stands_behind}
 use Rattle.segment_machine.specs.declared.actor.Actor.{Actor}
 use Rattle.segment_machine.specs.declared.actor.Known.{Known}
 use Rattle.segment_machine.specs.declared.actor.Made.TheVariants.{Histogram}
@@ -16,17 +15,14 @@ use Rattle.live_segment.specs.declared.hist.search.Search.{Search}
 use Rattle.live_segment.specs.declared.hist.search.Search.TheVariants.{Met, OtherSpec, End}
 use Rattle.segment_promises.specs.Onward.{Grows, StaysApart}
 use Rattle.live_segment.specs.List.Ends.{SawAllOfList}
+use Rattle.live_segment.specs.List.Walk.{IsWalkProgress}
 
 -- ---- on the way
 
--- Its walk has given the front of the chain that it has seen, and is at the last of these records, or at the queue block. None of them has
--- the name.
+-- its walk along the list is at a block, and none of the records that it has given has the name
 pub record SearchesAt (name : List ℕ) (at : ℕ) (a : Actor) : Type 0 where
-  pub free : MayTurn a
   pub given : List ℕ
-  pub front : IsPrefix given a.seen.chain
-  pub stands : at ≡ stands_behind given
-  pub within : at + BLOCK_LEAST ≤ a.segment.shape.size
+  pub way : IsWalkProgress given at a
   pub others : All (SawOtherName a.seen name) given
 
 -- it has seen more of the list and of the words of records; a cursor that it had loaded may be let go, and all else is unchanged

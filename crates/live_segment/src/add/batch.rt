@@ -1,6 +1,6 @@
 //! How the items of a batch are counted, one after the other.
 
-ghost use Rattle.std.specs.Prelude.{◌≢◌, ◌+◌, ◌≤◌, pos, IfOk, MatchResult};
+ghost use Rattle.std.specs.Prelude.{◌≢◌, ◌≤◌, pos, IfOk, MatchResult};
 ghost use Rattle.live_segment.specs.Add.Prelude.{All, batch_cost, units_of};
 
 use crate::list::index::RecordIndex;
@@ -10,7 +10,7 @@ use crate::segment::Segment;
 use segment_calls::{BatchRefusal, Refusal};
 
 impl Segment {
-    ghost use Rattle.live_segment.specs.Add.Prelude.{ClaimsFor, ClaimsForAll, ClaimsForEach, CountsAlone, CountsFor, HasItems, HasNoted, IsAtRest, IsBatched, IsCutShort, IsIndexed, IsNotCounted, IsReadyFor, IsSame, IsSeated, item_of, known_view, KnowsRight, StopsAtItem};
+    ghost use Rattle.live_segment.specs.Add.Prelude.{ClaimsFor, ClaimsForAll, ClaimsForEach, CountsAlone, CountsFor, HasItems, HasNoted, IsAtRest, IsBatched, IsCutShort, IsIndexed, IsNotCounted, IsReadyFor, IsSame, item_of, known_view, StopsAtItem};
     ghost use Rattle.live_segment.specs.declared.list.index.KeyKind.TheVariants.{Sample as OfSample};
 
     // Counts a batch: its items, and then its sum if that is not 0.
@@ -25,10 +25,8 @@ impl Segment {
         items: &[(i32, u32)],
         sum: i64,
     ) -> Result<(), BatchRefusal>
-        requires seat { IsSeated self.now seat.old }
+        requires ready { IsReadyFor self.now histogram.now seat.old }
         requires indexed { IsIndexed OfSample self.now.setting.shape.size seat.old.me.0.seen samples.old }
-        requires right { KnowsRight self.now.setting seat.old.me.0 histogram.now }
-        requires rests { IsAtRest seat.old.me.0 }
         requires units { All (λ item. 1 ≤ item.1) items.now × (batch_cost items.now sum ≤ seat.old.me.0.units.share) }
         ensures same { IsSame seat.old seat.new }
         ensures indexed { IsIndexed OfSample self.now.setting.shape.size seat.new.me.0.seen samples.new }

@@ -10,7 +10,7 @@ use bucket_ranges::amount_of;
 use segment_calls::Refusal;
 
 impl Segment {
-    ghost use Rattle.live_segment.specs.Add.Prelude.{AnswersSample, ClaimsFor, CountsAlone, CountsFor, HasCounted, IsAtRest, IsIndexed, IsNotCounted, IsSame, IsSeated, item_of, known_view, KnowsRight, Sparse};
+    ghost use Rattle.live_segment.specs.Add.Prelude.{AnswersSample, ClaimsFor, CountsAlone, CountsFor, HasCounted, IsAtRest, IsIndexed, IsNotCounted, IsReadyFor, IsSame, item_of, known_view, Sparse};
     ghost use Rattle.live_segment.specs.declared.list.index.KeyKind.TheVariants.{Sample as OfSample};
 
     // Adds a sample.
@@ -25,10 +25,8 @@ impl Segment {
         value: i32,
         units: u32,
     ) -> Result<(), Refusal>
-        requires seat { IsSeated self.now seat.old }
+        requires ready { IsReadyFor self.now histogram.now seat.old }
         requires indexed { IsIndexed OfSample self.now.setting.shape.size seat.old.me.0.seen samples.old }
-        requires right { KnowsRight self.now.setting seat.old.me.0 histogram.now }
-        requires rests { IsAtRest seat.old.me.0 }
         requires units { (1 ≤ units) × (units ≤ seat.old.me.0.units.share) }
         ensures same { IsSame seat.old seat.new }
         ensures indexed { IsIndexed OfSample self.now.setting.shape.size seat.new.me.0.seen samples.new }

@@ -1,7 +1,7 @@
 //! What a `hist` of a recorder returns.
 
-ghost use Rattle.std.specs.Prelude.{◌≡◌, [], IfOk, MatchResult};
-ghost use Rattle.live_segment.specs.Hist.Prelude.{IsAnnouncedOf, IsAsked, LooksUp, MakesFor, MayTurn, OtherSpec, SaysAsked, Settles};
+ghost use Rattle.std.specs.Prelude.{◌≡◌, IfOk, MatchResult};
+ghost use Rattle.live_segment.specs.Hist.Prelude.{IsAnnouncedOf, LooksUp, MakesFor, OtherSpec, SaysAsked, Settles};
 
 use crate::hist::search::Search;
 use crate::list::index::RecordIndex;
@@ -11,7 +11,7 @@ use crate::segment::Segment;
 use segment_calls::{Asked, Refusal};
 
 impl Segment {
-    ghost use Rattle.live_segment.specs.Hist.Prelude.{AsksFor, IsIndexed, IsSame, IsSeated, Name, opened_with, Standing};
+    ghost use Rattle.live_segment.specs.Hist.Prelude.{AsksFor, IsIndexed, IsSame, Name, opened_with, Standing};
 
     // The first record of the name that is asked for, which is made if there is none.
     //
@@ -85,10 +85,7 @@ impl Segment {
         index: &mut RecordIndex,
         asked: Asked,
     ) -> Result<KnownHistogram, Refusal>
-        requires seat { IsSeated self.now seat.old }
-        requires indexed { IsIndexed Name self.now.setting.shape.size seat.old.me.0.seen index.old }
-        requires rests { MayTurn seat.old.me.0 × (seat.old.me.0.entries.running ≡ []) × (seat.old.me.0.answers.owed ≡ []) }
-        requires asked { IsAsked self.now.setting.shape asked }
+        requires asks { AsksFor self.now asked index.old seat.old }
         ensures same { IsSame seat.old seat.new }
         ensures indexed { IsIndexed Name self.now.setting.shape.size seat.new.me.0.seen index.new }
         ensures outcome { IsAnnouncedOf asked seat.old.me.0 result seat.new.me.0 }

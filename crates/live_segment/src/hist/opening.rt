@@ -1,7 +1,7 @@
 //! How a recorder opens a histogram whose record it has the reference of.
 
-ghost use Rattle.std.specs.Prelude.{◌≡◌, ◌+◌, ◌<◌, ◌≤◌, true, false, ℕ, length, map, min, IfOk, IfSome, MatchOption, MatchResult, Some, [], ⊤};
-ghost use Rattle.live_segment.specs.Hist.Prelude.{IsNotRead, MeetsRecord, ReadsRecord, MayLoadRecord, HasReadWords, IsFixed, ReadsName, ReadsSpec, Recognizes, SawLongName, SawNoSpec, SawOtherType, ShowsWords, IsAsked, is_opener, number_read, bytes_of_words, MayTurn, word_seen, name_words};
+ghost use Rattle.std.specs.Prelude.{◌≡◌, ◌+◌, ◌<◌, ◌≤◌, true, false, ℕ, length, map, min, IfOk, IfSome, MatchOption, Some};
+ghost use Rattle.live_segment.specs.Hist.Prelude.{IsNotRead, MeetsRecord, ReadsRecord, MayLoadRecord, HasReadWords, IsFixed, ReadsName, ReadsSpec, Recognizes, SawLongName, SawNoSpec, ShowsWords, is_opener, number_read, bytes_of_words, MayTurn, word_seen, name_words};
 ghost use Rattle.segment_image.specs.declared.layout.TheConstants.{BLOCK_TYPE, HISTOGRAM_KIND, HISTOGRAM_NAME_LENGTH, KIND_CUSTOM, KIND_LINEAR, TYPE_HISTOGRAM};
 
 use crate::hist::search::Search;
@@ -49,7 +49,7 @@ fn numbers_of(alloc: Global, words: &[u64]) -> Result<Vec<u32>, AllocError>
 }
 
 impl Segment {
-    ghost use Rattle.live_segment.specs.Hist.Prelude.{HasMetRecord, HasSearched, IsIndexed, IsSame, IsSeated, Name, opened_with, Standing, table_of};
+    ghost use Rattle.live_segment.specs.Hist.Prelude.{AsksFor, HasMetRecord, HasSearched, IsIndexed, IsSame, IsSeated, Name, opened_with, Standing, table_of};
 
     // Walks along the list up to a record. Whether the list has it.
     pub(crate) fn meet(&self, seat: &mut Pass, reference: u64) -> bool
@@ -234,10 +234,7 @@ impl Segment {
         asked: Asked,
         reference: u64,
     ) -> Option<KnownHistogram>
-        requires seat { IsSeated self.now seat.old }
-        requires indexed { IsIndexed Name self.now.setting.shape.size seat.old.me.0.seen index.old }
-        requires rests { MayTurn seat.old.me.0 × (seat.old.me.0.entries.running ≡ []) × (seat.old.me.0.answers.owed ≡ []) }
-        requires asked { IsAsked self.now.setting.shape asked }
+        requires asks { AsksFor self.now asked index.old seat.old }
         ensures same { IsSame seat.old seat.new }
         ensures indexed { IsIndexed Name self.now.setting.shape.size seat.new.me.0.seen index.new }
         ensures outcome { Recognizes asked reference seat.old.me.0 result seat.new.me.0 }

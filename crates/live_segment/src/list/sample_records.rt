@@ -1,6 +1,6 @@
 //! How a recorder visits the samples of a sparse histogram along the list.
 
-ghost use Rattle.std.specs.Prelude.{◌≡◌, ◌+◌, ◌≤◌, true, false, IfSome};
+ghost use Rattle.std.specs.Prelude.{◌≡◌, ◌+◌, ◌≤◌, true, IfSome};
 ghost use Rattle.live_segment.specs.List.Prelude.{Contains, CountsSample, HasReadWords, known_view, LooksAtValues, NoRepeats, SamplesAreFew, SamplesStandBehind, SeesSample, ShowsSample, Sparse};
 
 use crate::list::index::RecordIndex;
@@ -10,7 +10,7 @@ use crate::segment::Segment;
 use segment_image::layout::{SAMPLE_COUNT, SAMPLE_HISTOGRAM, SAMPLE_VALUE, TYPE_SAMPLE};
 
 impl Segment {
-    ghost use Rattle.live_segment.specs.List.Prelude.{Actor, has_buckets, HasMetRecord, HasPassedAll, HasSearched, IsIndexed, IsSame, IsSeated, KnowsRight, MayTurn, Setting};
+    ghost use Rattle.live_segment.specs.List.Prelude.{Actor, has_buckets, HasMetRecord, HasPassedAll, HasSearched, IsIndexed, IsSame, KnowsRight, MayTurn, Setting, WalksWith};
     ghost use Rattle.live_segment.specs.declared.list.index.KeyKind.TheVariants.{Sample as OfSample};
 
     // The value of a record that was visited, if it is a sample of a histogram.
@@ -68,10 +68,8 @@ impl Segment {
         index: &mut RecordIndex,
         histogram: &KnownHistogram,
     ) -> bool
-        requires seat { IsSeated self.now seat.old }
-        requires free { MayTurn seat.old.me.0 }
+        requires walks { WalksWith OfSample self.now index.old seat.old }
         requires right { (setting : Setting) × (a : Actor) × KnowsRight setting a histogram.now }
-        requires indexed { IsIndexed OfSample self.now.setting.shape.size seat.old.me.0.seen index.old }
         ensures same { IsSame seat.old seat.new }
         ensures view { HasSearched seat.old.me.0 seat.new.me.0 }
         ensures free { MayTurn seat.new.me.0 }

@@ -93,7 +93,7 @@ impl RecorderState {
     /// samples of sparse histograms. For a caller that has little memory: an index that is full finds what it has, and from there on the
     /// recorder searches the list, so calls take longer and return the same. What is entered already stays. There is no limit but memory
     /// before the first such call. An index keeps at most 80 bytes for each entry, and 1,000 bytes; that of samples also 110 bytes for each
-    /// sparse histogram of which it has a sample. (This is measured, and not proved.)
+    /// sparse histogram of which it has a sample. (Measured: `docs/PERFORMANCE.md`.)
     ///
     /// Each has that limit then [limits], and all else is unchanged: what it has done and seen [view], and what it knows [same]. It stays one
     /// of each segment that it is of [at].

@@ -4,6 +4,7 @@ ghost use Rattle.live_segment.specs.Holders.{IsMadeWith};
 
 use crate::growths::again::{again, show_refused, show_try};
 use anyhow::Result;
+use bucket_ranges::limits::MAX_UNITS;
 use image_reader::{Reading, read};
 use live_segment::{Opener, Segment};
 use persist_report_core::report_of;
@@ -58,7 +59,7 @@ fn merge_into(
     requires made { IsMadeWith segment.now opener.old }
     ensures { IsMadeWith segment.entry.now opener.new }
 {
-    let mut recorder = opener.recorder(segment, u32::MAX)?;
+    let mut recorder = opener.recorder(segment, MAX_UNITS as u32)?;
     show_try(rt, "merge")?;
     let is_whole = match merge(rt.alloc(), &mut recorder, reading) {
         Ok(report) => show_merged(rt, &report)?,

@@ -75,12 +75,8 @@ module _ (seen : Seen) (name : List ℕ) (key : ℕ) (is : IsNameKey name key) w
 -- a walk for a name that the index does not have continues at the place of the index
 pub walks_behind : (size : ℕ) (a : Actor) (index : RecordIndex) (name : List ℕ) (key : ℕ) → a.segment.shape.size ≡ size → 17 ≤ size → MayTurn a
     → IsIndexed Name size a.seen index → IsNameKey name key → first_of index.firsts key ≡ None → SearchesAt name index.place.at a
-walks_behind size a index name key sized wide free indexed is none =
-    let way = progress Name size a index sized wide free indexed in record {
-      free = free;
-      given = take index.place.given a.seen.chain;
-      front = way.front;
-      stands = way.stands;
-      within = way.within;
-      others = none_here a.seen name key is size index indexed none;
-    }
+walks_behind size a index name key sized wide free indexed is none = record {
+  given = take index.place.given a.seen.chain;
+  way = progress Name size a index sized wide free indexed;
+  others = none_here a.seen name key is size index indexed none;
+}

@@ -97,22 +97,19 @@ module _ {segment : Segment} {old : Pass} {name : List ℕ} {at : ℕ} (seated :
   abbrev chain : List ℕ
   chain = old.me.0.seen.chain
 
-  way_there : IsWalkProgress given at old.me.0
-  way_there = record { free = walks.free; front = walks.front; stands = walks.stands; within = walks.within }
-
   pub may_follow : MayStep segment old (walking_event (load_next at))
-  may_follow = way.may_follow seated way_there
+  may_follow = way.may_follow seated walks.way
 
   pub room : at + 5 ≤ segment.setting.shape.size
-  room = way.room seated way_there
+  room = way.room seated walks.way
 
   module _ (found : ℕ) (new : Pass) (load : Stepped old (walking_event (load_next at)) found new) where
     pub searched : HasSearched old.me.0 new.me.0
-    searched = way.searched seated way_there found new load
+    searched = way.searched seated walks.way found new load
 
     -- at the end of the list it has seen all of it
     pub found_end : NoRepeats chain → found ≡ 12 → SawAllOfList old.me.0.seen new.me.0.seen
-    found_end once end = way.found_end seated way_there found new load once end
+    found_end once end = way.found_end seated walks.way found new load once end
 
     others_then : All (SawOtherName new.me.0.seen name) given
     others_then = others_still old.me.0.seen new.me.0.seen searched.words name given walks.others
@@ -121,16 +118,15 @@ module _ {segment : Segment} {old : Pass} {name : List ℕ} {at : ℕ} (seated :
     pub ends : NoRepeats chain → KnowsOwnNames old.me.0 → found ≡ 12
         → SearchesAt name at new.me.0 × All (SawOtherName new.me.0.seen name) new.me.0.seen.chain × HasMadeNone name new.me.0
     ends once names end =
-        let whole : given ≡ chain = way.whole seated way_there found new load once end in
-        let same : new.me.0.seen.chain ≡ chain = way.chain_still seated way_there found new load once end in
-        let there = way.way_still seated way_there found new load once end in
+        let whole : given ≡ chain = way.whole seated walks.way found new load once end in
+        let same : new.me.0.seen.chain ≡ chain = way.chain_still seated walks.way found new load once end in
         let others : All (SawOtherName old.me.0.seen name) chain = subst (All (SawOtherName old.me.0.seen name)) whole walks.others in (
-          record { free = there.free; given = given; front = there.front; stands = there.stands; within = there.within; others = others_then },
+          record { given = given; way = way.way_still seated walks.way found new load once end; others = others_then },
           subst (All (SawOtherName new.me.0.seen name)) (whole ∙ sym same) others_then,
           λ spec r has.
               let published : Contains old.me.0.done.published (record { reference = r; made = made.Histogram name spec }) =
               subst (λ (l : List Published). Contains l (record { reference = r; made = made.Histogram name spec })) (ap (λ (a : Actor). a.done.published) load.view) has in
-              let listed : Contains chain r = All-contains (Contains chain) (records_met old.me.0) r (way.met_all seated way_there found new load once end)
+              let listed : Contains chain r = All-contains (Contains chain) (records_met old.me.0) r (way.met_all seated walks.way found new load once end)
               (Contains-append_left
               (map (λ (p : Published). p.reference) old.me.0.done.published ++ map (λ (g : Given). g.reference) old.me.0.done.given)
               (filter (λ at. not (at == 12)) (old.me.0.seen.tails ++ map (λ (s : Sighting). s.word) old.me.0.seen.cursors)) r
@@ -141,25 +137,21 @@ module _ {segment : Segment} {old : Pass} {name : List ℕ} {at : ℕ} (seated :
 
     module _ (miss : found ≢ 12) where
       longer : Walks new.me.0 (given ++ found ∷ [])
-      longer = way.longer seated way_there found new load miss
+      longer = way.longer seated walks.way found new load miss
 
       pub meets : MayLoadRecord found new.me.0
-      meets = way.meets seated way_there found new load miss
+      meets = way.meets seated walks.way found new load miss
 
       pub room_found : found + 5 ≤ segment.setting.shape.size
-      room_found = way.room_found seated way_there found new load miss
+      room_found = way.room_found seated walks.way found new load miss
 
       -- what a walk that continues after a record of another name knows
       pub walks_then : (b : Actor) → SeesWords new.me.0 b → SawOtherName b.seen name found → SearchesAt name found b
-      walks_then b sees other =
-          let there = way.way_on seated way_there found new load miss b sees in record {
-            free = there.free;
-            given = given ++ found ∷ [];
-            front = there.front;
-            stands = there.stands;
-            within = there.within;
-            others = All-push (SawOtherName b.seen name) given found (others_still new.me.0.seen b.seen sees.words name given others_then) other;
-          }
+      walks_then b sees other = record {
+        given = given ++ found ∷ [];
+        way = way.way_on seated walks.way found new load miss b sees;
+        others = All-push (SawOtherName b.seen name) given found (others_still new.me.0.seen b.seen sees.words name given others_then) other;
+      }
 
       -- the first of the name
       pub first_named : (b : Actor) → SeesWords new.me.0 b → SawName b.seen name found → IsFirstNamed b.seen name found
@@ -175,7 +167,7 @@ module _ {segment : Segment} {old : Pass} {name : List ℕ} {at : ℕ} (seated :
       -- it has come further along the list, which fits in the segment
       pub comes_further : (b : Actor) → SeesWords new.me.0 b → NoRepeats chain
           → (last_of chain at < last_of b.seen.chain found) × (last_of b.seen.chain found ≤ segment.setting.shape.size)
-      comes_further b sees once = way.comes_further seated way_there found new load miss b sees once
+      comes_further b sees once = way.comes_further seated walks.way found new load miss b sees once
 
 -- ---- a record of the name
 

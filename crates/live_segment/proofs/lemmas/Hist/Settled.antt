@@ -192,22 +192,21 @@ refused_around size a b why.OtherSpec none allocates = absurd allocates
 -- a walk that has just begun
 pub walk_begins : (name : List ℕ) (a : Actor) → MayTurn a → 17 ≤ a.segment.shape.size → SearchesAt name 12 a
 walk_begins name a free wide = record {
-  free = free;
   given = [];
-  front = (a.seen.chain, refl);
-  stands = refl;
-  within = omega (arith, wide);
+  way = record { free = free; front = (a.seen.chain, refl); stands = refl; within = omega (arith, wide) };
   others = All-nil _;
 }
 
 -- a walk continues after the end that it had reached, once a record is made
 pub walk_goes_on : (asked : Asked) (at : ℕ) (a b : Actor) → SearchesAt asked.name.items at a → HasMade asked a b → SearchesAt asked.name.items at b
 walk_goes_on asked at a b walks made = record {
-  free = made.free;
   given = walks.given;
-  front = subst (IsPrefix walks.given) (sym (ap (λ (x : Actor). x.seen.chain) made.view)) walks.front;
-  stands = walks.stands;
-  within = subst (λ (d : Dimensions). at + 5 ≤ d.size) (sym (ap (λ (x : Actor). x.segment.shape) made.view)) walks.within;
+  way = record {
+    free = made.free;
+    front = subst (IsPrefix walks.given) (sym (ap (λ (x : Actor). x.seen.chain) made.view)) walks.way.front;
+    stands = walks.way.stands;
+    within = subst (λ (d : Dimensions). at + 5 ≤ d.size) (sym (ap (λ (x : Actor). x.segment.shape) made.view)) walks.way.within;
+  };
   others = others_still a.seen b.seen (grows_same a.seen.words b.seen.words (ap (λ (x : Actor). x.seen.words) made.view)) asked.name.items walks.given walks.others;
 }
 
@@ -264,10 +263,10 @@ pub not_made : (asked : Asked) (at : ℕ) (a b c : Actor) (cause : Refusal) → 
 not_made asked at a b c cause none rests searched (walks, others, made_none) all allocates =
     let (looks, room, chain, words, owed, not_other) =
     refused_around (4 + length asked.payload.items) b c cause (ap (λ (x : Actor). x.entries.running) searched.view ∙ rests) allocates in
-    let looked = around_on a b c (searched_around a b walks.free searched) looks in
+    let looked = around_on a b c (searched_around a b walks.way.free searched) looks in
     let still = others_still b.seen c.seen (grows_same b.seen.words c.seen.words words) asked.name.items b.seen.chain others in
     let nothing : c.answers.owed ≡ [] = owed ∙ (ap (λ (x : Actor). x.answers.owed) searched.view ∙ none) in
-    let began = searched_around a b walks.free searched in
+    let began = searched_around a b walks.way.free searched in
     by cause (lacked_since cause (4 + length asked.payload.items) a b c (ap (λ (x : Actor). x.done) searched.view) began.seen.warned room) (subst (All (SawOtherName c.seen asked.name.items)) (sym chain) still)
     (all_on a.seen a.seen b.seen c.seen (grows_not a.seen.ends) began.seen.ends looks.seen.ends chain all) nothing looked not_other
   where

@@ -3,6 +3,7 @@
 ghost use Rattle.live_segment.specs.Holders.{IsMadeWith};
 ghost use Rattle.live_segment.specs.RecorderState.{Knows};
 
+use crate::timing::PAST_PACKED;
 use crate::timing::record::plan::{Plan, VALUES};
 use anyhow::{Result, bail};
 use live_segment::{Hist, Opener, Recorder, Refusal, Segment, VERSION_MOVING};
@@ -11,9 +12,6 @@ use std::rt::Clock;
 use std::thread;
 use std::thread::Threads;
 use std::time::Instant;
-
-// A count that no single word holds.
-const PAST_PACKED: u32 = 65_536;
 
 // What a thread records with, and into what.
 #[derive(Drop)]

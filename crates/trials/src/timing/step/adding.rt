@@ -1,12 +1,10 @@
 //! An actor that adds sample after sample.
 
+use crate::timing::PAST_PACKED;
 use anyhow::{Result, bail};
 use bucket_ranges::Spec;
 use hist_core::{Answer, Begun, Call, Stepped, World};
 use std::alloc::Global;
-
-// A count that no single word holds.
-const PAST_PACKED: u32 = 65_536;
 
 /// A world of one actor, which adds to a histogram whose counts are in use.
 #[derive(Drop)]

@@ -17,7 +17,7 @@ use Rattle.live_segment.proofs.segment.Segment.recognize.Goals as goal
 pub know-requires-clause-may : goal.know-requires-clause-may
 know-requires-clause-may c =
     let (free, may, met, room) = c.in-Met.ensures.outcome in record {
-      recorder = ap (λ (a : Actor). is_opener a.role) c.search.ensures.view.view ∙ c.requires.seat.recorder;
+      recorder = ap (λ (a : Actor). is_opener a.role) c.search.ensures.view.view ∙ c.requires.asks.seated.recorder;
       free = free;
       known = asked_at c.args.asked c.in-Met.found;
       says = (refl, refl);
@@ -27,7 +27,7 @@ know-requires-clause-may c =
 pub stand-requires : goal.stand-requires
 stand-requires c =
     let told = c.know.ensures (asked_at c.args.asked c.in-Met.found) (refl, refl) in
-    told.0.0 ∙ (c.search.ensures.same.0 ∙ c.requires.seat.table)
+    told.0.0 ∙ (c.search.ensures.same.0 ∙ c.requires.asks.seated.table)
 
 pub into_asked-requires : goal.into_asked-requires
 into_asked-requires c = (c.args.asked, refl)
@@ -50,7 +50,7 @@ returns-clause-outcome c =
     let told = c.know.ensures (asked_at c.args.asked found) (refl, refl) in
     let same : c.args.asked ≡ c.into_asked.result = cc c.into_asked.ensures in
     let at : c.of.result.reference ≡ found = ap (λ (k : Known). k.reference) c.of.ensures.view in
-    let looked = met_first c.args.asked c.args.seat.now.me.0 c.search.new.seat.me.0 found c.requires.rests.2 c.search.ensures.view c.in-Met.ensures.outcome in (
+    let looked = met_first c.args.asked c.args.seat.now.me.0 c.search.new.seat.me.0 found c.requires.asks.rests.2 c.search.ensures.view c.in-Met.ensures.outcome in (
       record {
         view = c.of.ensures.view ∙ (λ i. asked_at (sym same i) (sym at i));
         ranges = c.of.ensures.ranges ∙ ap (λ (a : Asked). a.ranges) (sym same);

@@ -16,7 +16,7 @@ const MOST_LINKS: u32 = 40;
 /// `/dev/stdout`.
 ///
 /// `Write` if a link cannot be read, or too many follow one another.
-pub fn place_of<R: Files + AllocGlobal>(rt: &R, path: &str) -> Result<Option<PathBuf>, Cause> {
+pub fn target_of<R: Files + AllocGlobal>(rt: &R, path: &str) -> Result<Option<PathBuf>, Cause> {
     let mut place = PathBuf::from_str(rt.alloc(), path)?;
     for _ in 0..MOST_LINKS {
         let link = match fs::symlink_metadata(rt, &place) {

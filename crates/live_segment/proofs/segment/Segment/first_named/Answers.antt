@@ -36,12 +36,12 @@ unreachable-requires c =
 pub returns-in-Met-find-clause-outcome : goal.returns-in-Met-find-clause-outcome
 returns-in-Met-find-clause-outcome c =
     met_then c.args.asked.now c.args.seat.now.me.0 c.search.new.seat.me.0 c.make_record.new.seat.me.0 c.find.new.seat.me.0 c.requires.asks.rests.2 c.search.ensures.view
-    c.in-End.ensures.outcome.0.free c.in_ok-make_record.ensures.outcome c.find.ensures.view c.in-Met-find.reference c.in-Met-find.ensures.outcome
+    c.in-End.ensures.outcome.0.way.free c.in_ok-make_record.ensures.outcome c.find.ensures.view c.in-Met-find.reference c.in-Met-find.ensures.outcome
 
 pub returns-in-OtherSpec-find-clause-outcome : goal.returns-in-OtherSpec-find-clause-outcome
 returns-in-OtherSpec-find-clause-outcome c =
     met_another_then c.args.asked.now c.args.seat.now.me.0 c.search.new.seat.me.0 c.make_record.new.seat.me.0 c.find.new.seat.me.0 c.requires.asks.rests.2 c.search.ensures.view
-    c.in-End.ensures.outcome.0.free c.in_ok-make_record.ensures.outcome c.find.ensures.view c.in-OtherSpec-find.ensures.outcome
+    c.in-End.ensures.outcome.0.way.free c.in_ok-make_record.ensures.outcome c.find.ensures.view c.in-OtherSpec-find.ensures.outcome
 
 pub returns-in-Met-clause-claims : goal.returns-in-Met-clause-claims
 returns-in-Met-clause-claims c = searches_none c.args.asked.now c.args.seat.now.me.0 c.search.new.seat.me.0 c.search.ensures.view

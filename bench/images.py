@@ -1,6 +1,6 @@
 """Families of images that grow, each with the report that it has to give.
 
-A family is a function of a number of words; it gives an `Image`. LAWFUL has those that a segment can become, FORGED
+A family is a function of a number of words; it gives an `Image`. VALID has those that a segment can become, FORGED
 those that somebody made to keep a reader busy.
 """
 
@@ -199,11 +199,11 @@ def largest(size: int) -> Image:
 
 def distinct_limits(count: int) -> list[int]:
     """Distinct maxima of linear specs whose four bytes are a valid name, in no order."""
-    lawful = [byte for byte in range(0x23, 0x7F) if byte != ord(",")]
-    numbers = random.Random(4).sample(range(len(lawful) ** 4), count)
-    side = len(lawful)
+    valid = [byte for byte in range(0x23, 0x7F) if byte != ord(",")]
+    numbers = random.Random(4).sample(range(len(valid) ** 4), count)
+    side = len(valid)
     places = [side**3, side**2, side, 1]
-    return [int.from_bytes(bytes(lawful[number // place % side] for place in places), "little") for number in numbers]
+    return [int.from_bytes(bytes(valid[number // place % side] for place in places), "little") for number in numbers]
 
 
 def overlapping_records(size: int, last_mark: int) -> tuple[bytes, list[str], list[int]]:
@@ -377,7 +377,7 @@ def samples(size: int) -> Image:
 
 
 MIB = 131_072
-LAWFUL = {
+VALID = {
     "boolean": boolean,
     "alike": alike,
     "sparse": sparse,
@@ -395,6 +395,6 @@ FORGED = {
     "samples": samples,
 }
 FAMILIES: dict[str, tuple[Callable[[int], Image], list[int]]] = {
-    name: (make, [MIB, 8 * MIB]) for name, make in {**LAWFUL, **FORGED}.items()
+    name: (make, [MIB, 8 * MIB]) for name, make in {**VALID, **FORGED}.items()
 }
 FAMILIES["lines"] = (lines, [MIB // 8, MIB])

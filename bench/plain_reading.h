@@ -106,7 +106,7 @@ inline Fault header_fault(const Words& words) {
     return nullptr;
 }
 
-inline bool is_lawful_sum(const Words& words, Word at) {
+inline bool is_valid_sum(const Words& words, Word at) {
     constexpr auto bound = static_cast<std::int64_t>(kMostUnits << 31);
     const auto sum = static_cast<std::int64_t>(words[at + 11]);
     const auto mark = static_cast<std::int64_t>(words[at + 12]);
@@ -116,7 +116,7 @@ inline bool is_lawful_sum(const Words& words, Word at) {
 
 // The bucket that the single word names, and the units that it keeps beside the counts.
 struct Single {
-    bool is_lawful = false;
+    bool is_valid = false;
     bool is_disabled = false;
     std::optional<Word> bucket;
     Word units = 0;
@@ -126,8 +126,8 @@ struct Single {
 inline Single packed_of(Word word, Word n) {
     Single single;
     const Word bucket = word >> 32, units = word & 0xFFFF'FFFF;
-    single.is_lawful = bucket < n && units >= 1 && units <= kMostPacked;
-    if (single.is_lawful) {
+    single.is_valid = bucket < n && units >= 1 && units <= kMostPacked;
+    if (single.is_valid) {
         single.bucket = bucket;
         single.units = units;
     }
@@ -137,14 +137,14 @@ inline Single packed_of(Word word, Word n) {
 inline Single single_of(Word word, Word n, Word version) {
     Single single;
     if (word == 0) {
-        single.is_lawful = true;
+        single.is_valid = true;
     } else if (word < kTop) {
         single = packed_of(word, n);
     } else if (version == 1) {
-        single.is_lawful = word == kNothingPacked || word - kTop < n;
-        if (single.is_lawful && word != kNothingPacked) single.bucket = word - kTop;
+        single.is_valid = word == kNothingPacked || word - kTop < n;
+        if (single.is_valid && word != kNothingPacked) single.bucket = word - kTop;
     } else if (word == kTop) {
-        single.is_lawful = true;
+        single.is_valid = true;
     } else {
         single = packed_of(word - kTop, n);
     }
@@ -191,10 +191,10 @@ private:
         if (length < 1 || length > 128 || 15 + (length + 7) / 8 > words_[at]) return {};
         std::string name(length, '\0');
         for (Word i = 0; i < length; ++i) name[i] = static_cast<char>(words_[at + 15 + i / 8] >> 8 * (i % 8));
-        const bool is_lawful = name[0] != '!' && std::all_of(name.begin(), name.end(), [](char byte) {
+        const bool is_valid = name[0] != '!' && std::all_of(name.begin(), name.end(), [](char byte) {
             return '!' <= byte && byte <= '~' && byte != ',' && byte != '"';
         });
-        return is_lawful ? name : std::string();
+        return is_valid ? name : std::string();
     }
 
     // Writes the boundaries of the record's ranges to boundaries_; false if its spec is invalid.
@@ -205,9 +205,9 @@ private:
         if (kind == kBoolean && (least != 1 || most != 2 || n != 3)) return false;
         if (n < 2 || n > kMostBuckets || 4 + 2 * n > page_) return false;
         boundaries_.push_back(0);
-        const bool is_lawful = kind == kCustom ? take_custom(at, name_words, least, most, n) : take_linear(least, most, n);
+        const bool is_valid = kind == kCustom ? take_custom(at, name_words, least, most, n) : take_linear(least, most, n);
         boundaries_.push_back(kGreatest);
-        return is_lawful;
+        return is_valid;
     }
 
     bool take_linear(Word least, Word most, Word n) {
@@ -243,7 +243,7 @@ private:
         const Single single = single_of(words_[at + 9], n, version_);
         if (single.bucket) totals_[*single.bucket] += single.units;
         if (single.bucket && totals_[*single.bucket] > kMostUnits) return "BadCounts";
-        if (!single.is_lawful || (single.is_disabled && counts == 0)) return "BadSingle";
+        if (!single.is_valid || (single.is_disabled && counts == 0)) return "BadSingle";
         if (!single.bucket && single_mark != 0) return "BadMark";
         if (single.bucket && single_mark > most_single_mark(totals_[*single.bucket])) return "BadMark";
         for (Word i = 0; counts != 0 && i < n; ++i) {
@@ -279,7 +279,7 @@ private:
         } else if (const Fault fault = take_totals(at)) {
             return fault;
         }
-        if (!is_lawful_sum(words_, at)) return "BadSum";
+        if (!is_valid_sum(words_, at)) return "BadSum";
         if (!names_.insert(histogram.name).second) return nullptr;
         histogram.at = at;
         histogram.kind = kind;

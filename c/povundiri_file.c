@@ -685,7 +685,7 @@ uint32_t povundiri_open(const char *path, struct povundiri_shape shape, enum pov
 struct reads {
     off_t at;
     size_t count;
-    uint64_t *words; /* those of each read behind those of the one before */
+    uint64_t *words; /* the words of each read, after those of the read before */
     size_t got[COPIES];
 };
 

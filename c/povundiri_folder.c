@@ -442,7 +442,7 @@ struct fold {
     struct povundiri_handle sums;
     struct final *finals; /* that are added */
     size_t count;
-    bool is_cut;                      /* others stand behind them, for the next round */
+    bool is_cut;                      /* others come after them, for the next round */
     bool is_writing;                  /* what follows is open */
     struct povundiri_held place, new; /* the folder, and totals.new */
 };

@@ -32,7 +32,7 @@ static uint32_t text_call(struct povundiri_handle *sums, const struct asked *ask
 }
 
 /* What is written after the text of the sum, into room for it; the bytes of it. */
-static size_t write_behind(const struct povundiri_recording *recording, const struct asked *asked, uint64_t left, char *text, size_t room) {
+static size_t write_ending(const struct povundiri_recording *recording, const struct asked *asked, uint64_t left, char *text, size_t room) {
     const char *const prefix = asked->prefix != NULL ? asked->prefix : "povundiri";
     size_t at = 0, i;
 #define PUT(...) at += (size_t)snprintf(room > at ? text + at : NULL, room > at ? room - at : 0, __VA_ARGS__)
@@ -54,16 +54,16 @@ static size_t write_behind(const struct povundiri_recording *recording, const st
 /* The text, for free(), with a zero after it. */
 static uint32_t text_of(const struct povundiri_recording *recording, struct povundiri_handle *sums, const struct asked *asked,
                         uint64_t left, char **text, size_t *length) {
-    enum { MOST_BEHIND = 4096 };
-    const size_t behind = MOST_BEHIND + (asked->prefix != NULL ? 16 * strlen(asked->prefix) : 0);
+    enum { MOST_ENDING = 4096 };
+    const size_t ending = MOST_ENDING + (asked->prefix != NULL ? 16 * strlen(asked->prefix) : 0);
     size_t needed = 0;
     uint32_t status = text_call(sums, asked, NULL, 0, &needed);
     if (status != POVUNDIRI_SHORT && status != POVUNDIRI_DONE) return status;
-    *text = (char *)malloc(needed + behind + 1);
+    *text = (char *)malloc(needed + ending + 1);
     if (*text == NULL) return POVUNDIRI_NO_MEMORY;
     status = text_call(sums, asked, *text, needed, &needed);
     if (status == POVUNDIRI_DONE) {
-        *length = needed + write_behind(recording, asked, left, *text + needed, behind);
+        *length = needed + write_ending(recording, asked, left, *text + needed, ending);
         (*text)[*length] = 0;
     } else {
         free(*text);

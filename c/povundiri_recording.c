@@ -70,7 +70,7 @@ struct povundiri_recording {
     struct local *shared;
     struct povundiri_metrics metrics;
     uint64_t bytes;               /* of the next segment, and of the spare */
-    struct povundiri_shape shape; /* in so many bytes */
+    struct povundiri_shape shape; /* of a segment of that size */
     uint64_t turns;               /* how many segments it had */
     uint64_t began_at;            /* when the present one was begun, in nanoseconds; 0: by another process */
     enum fit fit;                 /* of the present one */

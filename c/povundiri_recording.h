@@ -140,7 +140,7 @@ enum povundiri_missed {
 uint32_t povundiri_recording_open(const char *folder, const struct povundiri_recording_options *options,
                                   struct povundiri_recording **recording, struct povundiri_began *began) POVUNDIRI_CHECKED;
 
-/* Ends it: from now on samples are missed, as ENDED. Texts, sums and folds work as before. With a null, or a second time, nothing happens.
+/* Ends it: from now on samples are missed, as ENDED. Texts, sums and folds still work. With a null, or a second time, nothing happens.
  * This thread gives back what it has of the recording. A segment that others recorded into is final, so that a fold takes it, when each of
  * them has ended, or has called povundiri_recording_add or _leave once more.
  * Keep: process. */

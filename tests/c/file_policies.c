@@ -349,8 +349,8 @@ static void behind_a_link(void) {
 
 /* ---- What is not refused for good ---- */
 
-/* Calls that cannot be: no pointer, no policy, no lawful shape, options that are none, or handles that are full. */
-static void wrong_calls(const char *path, struct povundiri_shape unlawful) {
+/* Calls that cannot be: no pointer, no policy, no valid shape, options that are none, or handles that are full. */
+static void wrong_calls(const char *path, struct povundiri_shape invalid) {
     const struct povundiri_file_options wrong = {1 << 20, 0};
     const struct povundiri_shape shape = shape_of(WORDS);
     struct povundiri_shape many = shape;
@@ -363,7 +363,7 @@ static void wrong_calls(const char *path, struct povundiri_shape unlawful) {
     ANSWERS(NULL, povundiri_open(path, shape, POVUNDIRI_ADOPT_OR_SET_ASIDE, NULL, &file, NULL, &opened));
     ANSWERS(NULL, povundiri_open(path, shape, POVUNDIRI_ADOPT_OR_SET_ASIDE, NULL, &file, &segment, NULL));
     ANSWERS(BAD_KIND, povundiri_open(path, shape, (enum povundiri_policy)0, NULL, &file, &segment, &opened));
-    ANSWERS(OPEN_BAD_SHAPE, povundiri_open(path, unlawful, POVUNDIRI_ADOPT_OR_SET_ASIDE, NULL, &file, &segment, &opened));
+    ANSWERS(OPEN_BAD_SHAPE, povundiri_open(path, invalid, POVUNDIRI_ADOPT_OR_SET_ASIDE, NULL, &file, &segment, &opened));
     ANSWERS(OPEN_BAD_CURSORS, povundiri_open(path, many, POVUNDIRI_ADOPT_OR_SET_ASIDE, NULL, &file, &segment, &opened));
     ANSWERS(SYSTEM, povundiri_open(path, shape, POVUNDIRI_ADOPT_OR_SET_ASIDE, &wrong, &file, &segment, &opened));
     HOLDS(opened.fault == EINVAL && !segment.full && !povundiri_file_is_open(&file));
@@ -377,16 +377,16 @@ static void wrong_calls(const char *path, struct povundiri_shape unlawful) {
 
 static void other_faults(void) {
     const struct povundiri_shape shape = shape_of(WORDS);
-    struct povundiri_shape unlawful = shape;
+    struct povundiri_shape invalid = shape;
     struct povundiri_file file = {0}, other = {0};
     struct povundiri_handle segment = {0};
     struct povundiri_opened opened;
     const char *path;
     unsigned char *before;
     size_t length;
-    unlawful.page = 65;
+    invalid.page = 65;
     before = damaged_file("faults", &DAMAGES[2], &length);
-    wrong_calls(path_of("faults"), unlawful);
+    wrong_calls(path_of("faults"), invalid);
     HOLDS(open_file(&other, "faults") == 0);
     ANSWERS(SYSTEM, povundiri_open(path_of("faults"), shape, POVUNDIRI_ADOPT_OR_SET_ASIDE, NULL, &file, &segment, &opened));
     HOLDS(opened.fault == EBUSY);
@@ -396,7 +396,7 @@ static void other_faults(void) {
     HOLDS(opened.fault == EPERM && chmod(path_of("faults"), 0600) == 0);
     HOLDS(has_bytes(path_of("faults"), before, length) && with_bytes("faults.", before, length) == 0);
     path = path_of("none");
-    ANSWERS(OPEN_BAD_SHAPE, povundiri_open(path, unlawful, POVUNDIRI_ADOPT_OR_FAIL, NULL, &file, &segment, &opened));
+    ANSWERS(OPEN_BAD_SHAPE, povundiri_open(path, invalid, POVUNDIRI_ADOPT_OR_FAIL, NULL, &file, &segment, &opened));
     HOLDS(!is_there(path));
     free(before);
 }

@@ -373,7 +373,7 @@ int main(int count, char** words) {
     failed += group("a server that forks its workers", server_that_forks);
     failed += group("a daemon", daemon_that_opens);
     failed += group("statics and thread_locals in any order", statics_in_any_order);
-    failed += group("a thread behind the end of main", thread_behind_main);
+    failed += group("a thread after the end of main", thread_behind_main);
     failed += group("quick_exit and _exit", quick_ends);
     return failed != 0;
 }

@@ -123,7 +123,7 @@ static void try_file(const unsigned char *content, size_t length, struct povundi
     words = povundiri_file_words(&file, &count);
     need("words or none", (words == NULL) == (count == 0));
     if (words == NULL) {
-        need("nothing behind the header", length < 136 || is_blank(content + 136, length - 136));
+        need("nothing after the header", length < 136 || is_blank(content + 136, length - 136));
         status = povundiri_create_in(povundiri_file_room(&file), shape, &segment);
     } else {
         status = povundiri_adopt_in(povundiri_file_room(&file), words, count, 0, &segment);

@@ -226,7 +226,7 @@ static int with(const char *name, unsigned flags, mode_t mode) {
 }
 
 static void modes(void) {
-    static const mode_t unlawful[] = {0400, 0200, 0060, 0602, 0620, 0666, 0777, 04600, 01600};
+    static const mode_t invalid[] = {0400, 0200, 0060, 0602, 0620, 0666, 0777, 04600, 01600};
     static const mode_t masks[] = {0, 002, 022, 077};
     size_t i;
     for (i = 0; i < sizeof masks / sizeof masks[0]; i += 1) {
@@ -240,7 +240,7 @@ static void modes(void) {
     }
     umask(022);
     unlink(path_of("mode"));
-    for (i = 0; i < sizeof unlawful / sizeof unlawful[0]; i += 1) HOLDS(with("mode", 0, unlawful[i]) == EINVAL);
+    for (i = 0; i < sizeof invalid / sizeof invalid[0]; i += 1) HOLDS(with("mode", 0, invalid[i]) == EINVAL);
     HOLDS(with("mode", POVUNDIRI_FILE_GROUP_WRITES, 0662) == EINVAL && with("mode", 32, 0) == EINVAL);
     HOLDS(!is_there(path_of("mode")));
 }

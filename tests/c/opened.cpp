@@ -184,7 +184,7 @@ void looked() {
 int main(int count, char** words) {
     if (count != 2) return 2;
     folder = words[1];
-    int failed = group("a segment goes on", goes_on);
+    int failed = group("a segment continues", goes_on);
     failed += group("a damaged file", damaged);
     failed += group("a spent file", spent);
     failed += group("looks", looked);

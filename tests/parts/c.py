@@ -167,15 +167,15 @@ def sums(installed: native.Installed) -> Iterator[Case]:
     except native.Failed as why:
         yield "texts.c", str(why)
         return
-    lawful = [path for path in sorted(known.FOLDER.glob("*.img")) if is_summed(path.read_bytes())]
-    for image in lawful:
+    valid = [path for path in sorted(known.FOLDER.glob("*.img")) if is_summed(path.read_bytes())]
+    for image in valid:
         yield f"{image.name}, its sum", difference(known.wanted_of(image), answer(program, ["sum", image]))
-    for first in range(0, len(lawful) - 3, 3):
-        files = [lawful[first], *lawful[first + 1 : first + 3], lawful[first]]
+    for first in range(0, len(valid) - 3, 3):
+        files = [valid[first], *valid[first + 1 : first + 3], valid[first]]
         wanted = plain_sum([path.read_bytes() for path in files])
         yield f"{files[0].name} and others, their sum", difference(Answer(wanted), answer(program, ["sum", *files]))
     faulty = next(path for path in sorted(known.FOLDER.glob("*.img")) if plain_reader.answer(path.read_bytes())[1])
-    yield "a sum with a fault", difference(known.wanted_of(faulty), answer(program, ["sum", lawful[0], faulty]))
+    yield "a sum with a fault", difference(known.wanted_of(faulty), answer(program, ["sum", valid[0], faulty]))
 
 
 def report_in(program: Path, file: pathlib.Path) -> Answer:

@@ -237,19 +237,19 @@ def inputs_of_merge(folder: pathlib.Path, out: pathlib.Path, no_words: pathlib.P
 
 def inputs_of_resume(folder: pathlib.Path, out: pathlib.Path, no_words: pathlib.Path, base: pathlib.Path) -> Asked:
     return {
-        "no base to go on with": (["resume", "missing", SCRIPT, out], READ_FAULT),
-        "no script to go on with": (["resume", no_words, "missing", out], READ_FAULT),
-        "no folder to go on": (["resume", no_words, SCRIPT, folder / "missing" / "out"], WRITE_FAULT),
-        "a base to go on with that cannot be read": (["resume", "/proc/self/mem", no_words, out], READ_FAULT),
-        "a base to go on with that is no image": (["resume", no_words, "/proc/self/mem", out], fault("NotWords", 3)),
-        "a base to go on with that is no segment's": (
+        "no base to continue with": (["resume", "missing", SCRIPT, out], READ_FAULT),
+        "no script to continue with": (["resume", no_words, "missing", out], READ_FAULT),
+        "no folder to continue in": (["resume", no_words, SCRIPT, folder / "missing" / "out"], WRITE_FAULT),
+        "a base to continue with that cannot be read": (["resume", "/proc/self/mem", no_words, out], READ_FAULT),
+        "a base to continue with that is no image": (["resume", no_words, "/proc/self/mem", out], fault("NotWords", 3)),
+        "a base to continue with that is no segment's": (
             ["resume", EXAMPLE, "/proc/self/mem", out],
             fault("Adopt OldVersion", 3),
         ),
-        "a base to go on with without an end": (["resume", "/dev/zero", no_words, out], fault("TooLong", 3)),
-        "a script to go on with that cannot be read": (["resume", base, "/proc/self/mem", out], READ_FAULT),
-        "a script to go on with without an end": (["resume", base, "/dev/zero", out], fault("TooLong", 3)),
-        "a script to go on with that is no script": (["resume", base, no_words, out], fault("BadLine 1", 3)),
+        "a base to continue with without an end": (["resume", "/dev/zero", no_words, out], fault("TooLong", 3)),
+        "a script to continue with that cannot be read": (["resume", base, "/proc/self/mem", out], READ_FAULT),
+        "a script to continue with without an end": (["resume", base, "/dev/zero", out], fault("TooLong", 3)),
+        "a script to continue with that is no script": (["resume", base, no_words, out], fault("BadLine 1", 3)),
     }
 
 

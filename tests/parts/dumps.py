@@ -27,7 +27,7 @@ CHAINS = 8
 RUNS = 5
 STOPS = 2
 MOST_SECONDS = 60
-# What `extract` answers behind the last segment.
+# What `extract` prints after the last segment.
 NO_SEGMENT = fault("NoSegment", 3)
 
 # What is wrong with what a memory has, and nothing more; or None, and the units and the image of what was found there.

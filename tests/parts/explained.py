@@ -169,7 +169,7 @@ def scripts(program: pathlib.Path, folder: pathlib.Path) -> Iterator[Case]:
     yield "a script without an end", both(
         program, ["run", "/dev/zero", out], "TooLong", 3, ['"/dev/zero": 16777217 bytes were read']
     )
-    yield "a script that is lawful", difference(
+    yield "a script that is valid", difference(
         answer(program, ["run", SCRIPT, out]), answer(program, ["run", SCRIPT, out, "--explain"])
     )
 
@@ -333,10 +333,10 @@ def unreadable(program: pathlib.Path, folder: pathlib.Path) -> Iterator[Case]:
         "a missing dead": (["merge", EXAMPLE, "missing", out], missing),
         "a base that cannot be read": (["merge", folder, EXAMPLE, out], is_folder),
         "a dead that cannot be read": (["merge", EXAMPLE, folder, out], is_folder),
-        "a missing base to go on with": (["resume", "missing", SCRIPT, out], missing),
-        "a missing script to go on with": (["resume", EXAMPLE, "missing", out], missing),
-        "a base to go on with that cannot be read": (["resume", folder, SCRIPT, out], is_folder),
-        "a script to go on with that cannot be read": (["resume", base, folder, out], is_folder),
+        "a missing base to continue with": (["resume", "missing", SCRIPT, out], missing),
+        "a missing script to continue with": (["resume", EXAMPLE, "missing", out], missing),
+        "a base to continue with that cannot be read": (["resume", folder, SCRIPT, out], is_folder),
+        "a script to continue with that cannot be read": (["resume", base, folder, out], is_folder),
     }
     for name, (words, said) in reads.items():
         yield name, both(program, words, "Read", 4, [said], cwd=folder)

@@ -41,7 +41,7 @@ def size_at(data: bytes, at: int) -> int | None:
         return None
     words = struct.unpack_from(f"<{FIRST}Q", data, at)
     cookie, version, size, page = words[:4]
-    lawful = (
+    valid = (
         cookie == SEGMENT_COOKIE
         and version in (1, 2)
         and page in PAGES
@@ -51,7 +51,7 @@ def size_at(data: bytes, at: int) -> int | None:
         and FIRST <= words[FREE] <= size
         and words[QUEUE : QUEUE + 3] == (BLOCK_HEADER, 1, 0)
     )
-    return size if lawful and at + 8 * size <= len(data) else None
+    return size if valid and at + 8 * size <= len(data) else None
 
 
 def segments(data: bytes) -> list[tuple[int, bytes]]:
@@ -136,12 +136,12 @@ def small() -> Iterator[Image]:
     for less in (0, 1, 7, 8, 9, len(image) - 129, len(image) - 128, len(image) - 8, len(image)):
         yield f"a segment without {less} bytes", image[: len(image) - less]
     for before in (1, 4, 7, 8, 9, 16):
-        yield f"a segment behind {before} bytes", bytes(before) + image
+        yield f"a segment after {before} bytes", bytes(before) + image
     for more in (1, 7, 8):
         yield f"a segment before {more} bytes", image + bytes(more)
     for changed in FAULTS:
         yield f"word {changed[0]} is {changed[1]}", blank(64, fault_at=changed) + image
-    yield "one behind the other", b"".join(blank(64 * (i % 3 + 1)) for i in range(40))
+    yield "one after the other", b"".join(blank(64 * (i % 3 + 1)) for i in range(40))
     for sizes in ((64, 64, 64), (128, 64, 64), (64, 128, 192), (192, 64, 128)):
         whole = nested(sizes)
         for cut in (0, 8, 16, 256, 264, 512):
@@ -151,10 +151,10 @@ def small() -> Iterator[Image]:
 def at_blocks(chance: random.Random) -> Iterator[Image]:
     """Images about the ends of the blocks in which a file may be read, and of the greatest size."""
     for before in (BLOCK - 128, BLOCK - 64, BLOCK - 8, BLOCK, 8_192 - 8):
-        yield f"a segment behind {before} bytes", chance.randbytes(before) + blank(64)
+        yield f"a segment after {before} bytes", chance.randbytes(before) + blank(64)
     whole = blank(MOST_WORDS, PAGE)
     for before, less in ((0, 0), (BLOCK - 8, 0), (8, 8), (3 * MIB, 1)):
-        yield f"the greatest without {less} bytes, behind {before}", chance.randbytes(before) + whole[
+        yield f"the greatest without {less} bytes, after {before}", chance.randbytes(before) + whole[
             : len(whole) - less
         ]
     yield "the greatest, cut, with a small one in its words", whole[: 4 * MIB] + blank(128) + whole[5 * MIB : 6 * MIB]
@@ -204,7 +204,7 @@ def memory(program: pathlib.Path, folder: pathlib.Path) -> Iterator[Case]:
             long.write(image)
         came = refused.answer_within(program, least + pages, ["extract", file, out], b"", {})
         wrong = difference(Answer(error=f"{before}\n".encode()), came)
-        yield f"{name} behind {before} bytes", wrong if wrong or content(out) == image else "OUT is not the image"
+        yield f"{name} after {before} bytes", wrong if wrong or content(out) == image else "OUT is not the image"
     file.write_bytes(bytes(8) + blank(64))
     yield "memory that is refused", refused.wrong_of(
         program, ["extract", file, out], b"", least, 1, refused.EACH_BY_ITSELF, out

@@ -148,7 +148,7 @@ def wrong_where(
             if wrong is not None:
                 return f"{what} {place}: {wrong}"
         if not tried:
-            return f"no {what} was met"
+            return f"no {what} was seen"
     return None
 
 
@@ -281,7 +281,7 @@ def wrong_kills(command: Command) -> str | None:
                 return f"killed at call {place}: {wrong}"
             outs.add(left.get("out"))
         if outs != {stood, command.made["out"]}:
-            return "wanted the old OUT behind some kills and the new one behind others"
+            return "wanted the old OUT after some kills and the new one after others"
     return None
 
 
@@ -295,7 +295,7 @@ def wrong_report_writes(command: Command) -> str | None:
             wrong = f"came {came.output!r}, which is no beginning of the report"
         if wrong is not None:
             return f"write {place} of the report: {wrong}"
-    return None if tried else "no write was met"
+    return None if tried else "no write was seen"
 
 
 def wrong_growths(command: Command) -> str | None:

@@ -91,19 +91,19 @@ LISTING = 217
 # ---- folders
 
 
-def lawful_of(chance: random.Random) -> bytes:
+def valid_of(chance: random.Random) -> bytes:
     """A forged image of version 2 of which a look is the image itself, and no total is near its limit."""
     while True:
-        data = sums.lawful_of(chance)
+        data = sums.valid_of(chance)
         if plain_folders.looked(data) == data:
             return data
 
 
-def segment_of(chance: random.Random, number: int, is_lawful: bool) -> bytes:
+def segment_of(chance: random.Random, number: int, is_valid: bool) -> bytes:
     """The file of a segment, with an id of its own: whole, or maybe damaged."""
-    data = lawful_of(chance) if is_lawful or chance.random() < 0.6 else forge.image_of(chance)
+    data = valid_of(chance) if is_valid or chance.random() < 0.6 else forge.image_of(chance)
     data = with_id(data, chance.randrange(2**64)) if len(data) > 40 else data
-    if not is_lawful and chance.random() < 0.1:
+    if not is_valid and chance.random() < 0.1:
         data = chance.choice([b"", data[: len(data) // 2], data[:-3], b"no segment at all, and not even words"])
     return mapped(data)
 
@@ -125,7 +125,7 @@ def totals_of(chance: random.Random, segments: dict[int, bytes]) -> bytes:
     for number in sorted(chance.sample(range(1, 12), chance.randint(1, 5))):
         data = segments.get(number)
         if data is None or chance.random() < 0.3:
-            data = segment_of(chance, number, is_lawful=True)
+            data = segment_of(chance, number, is_valid=True)
         own = plain_folders.id_of(data)
         with contextlib.suppress(plain_sums.Wrong):
             whole = plain_folders.with_segment(whole, number, data)
@@ -136,11 +136,11 @@ def totals_of(chance: random.Random, segments: dict[int, bytes]) -> bytes:
     return text.replace(b"\nfold,1\n", f"\nfold,{chance.choice([1, 7, 2**63])}\n".encode())
 
 
-def filled(path: pathlib.Path, chance: random.Random, is_lawful: bool) -> None:
+def filled(path: pathlib.Path, chance: random.Random, is_valid: bool) -> None:
     """Segments in a recording's folder that is made, maybe totals, and other files."""
     made(path)
     numbers = chance.sample(range(1, 12), chance.randint(0, MOST_SEGMENTS))
-    segments = {number: segment_of(chance, number, is_lawful) for number in numbers}
+    segments = {number: segment_of(chance, number, is_valid) for number in numbers}
     if segments and chance.random() < 0.2:
         segments[10_000_000_000 + chance.randrange(5)] = segments.pop(max(segments))
     for number, data in segments.items():
@@ -209,15 +209,15 @@ def generated(program: pathlib.Path, top: pathlib.Path, seed: int | str) -> Iter
     for number in range(FOLDERS):
         chance = random.Random(f"folders {seed} {number}")
         path, title = top / f"folder {number}", f"folder {number} of seed {seed}"
-        is_lawful = chance.random() < 0.5
-        filled(path, chance, is_lawful)
+        is_valid = chance.random() < 0.5
+        filled(path, chance, is_valid)
         folder = Folder.at(path)
         yield from texts(program, folder, title)
         before = answer(program, ["report", "--totals", path])
         locked = {one for one in folder.segments if chance.random() < 0.25}
         yield from folded(program, path, locked, title)
         yield from folded(program, path, (), f"{title}, again")
-        if is_lawful:
+        if is_valid:
             after = answer(program, ["report", "--totals", path])
             yield f"{title}, the sum before and after", difference(before, after)
         at_rest = Folder.at(path)
@@ -303,7 +303,7 @@ def among_others(program: pathlib.Path, top: pathlib.Path) -> Iterator[Case]:
     text = plain_sums.text_by(two, sums.plain_show.text_of)
     came = answer(program, ["show", first, "--also", CRASH, "--also", second])
     yield "--also", difference(Answer(text), came)
-    yield "a slash behind it", difference(wanted, answer(program, ["report", f"{first}/", CRASH, second]))
+    yield "a slash after it", difference(wanted, answer(program, ["report", f"{first}/", CRASH, second]))
     since = plain_sums.since(two, one)
     came = answer(program, ["report", first, CRASH, second, "--minus", first])
     yield "--minus", difference(Answer(plain_sums.report_of(since, 0)), came)

@@ -197,10 +197,10 @@ def stopped_merge(whole: Sequence[str], reached: int) -> list[str]:
 
 def wrong_merge(lines: list[str], came: Answer) -> str | None:
     """What is wrong with a run in which a merge was refused and made once more, or None."""
-    before, (whole,), behind = merges_of(lines)
-    came_before, merges, came_behind = merges_of(came.output.decode().splitlines())
-    if came.status != 0 or (came_before, came_behind) != (before, behind) or len(merges) != 2 or merges[1] != whole:
-        return f"status {came.status}, {came.error[:200]!r}, or other lines before or behind the merge that was refused"
+    before, (whole,), after = merges_of(lines)
+    came_before, merges, came_after = merges_of(came.output.decode().splitlines())
+    if came.status != 0 or (came_before, came_after) != (before, after) or len(merges) != 2 or merges[1] != whole:
+        return f"status {came.status}, {came.error[:200]!r}, or other lines before or after the merge that was refused"
     reached = sum(line.startswith("added ") for line in merges[0])
     right = stopped_merge(whole, reached)
     return None if merges[0] == right else f"wanted {right}, came {merges[0]}"

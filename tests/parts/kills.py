@@ -106,7 +106,7 @@ def killed_often(
         flush=True,
     )
     if options.kills >= 200:
-        yield "each kind of kill", None if met["in the midst of a call"] and met["full"] else f"met were {dict(met)}"
+        yield "each kind of kill", None if met["in the midst of a call"] and met["full"] else f"seen were {dict(met)}"
 
 
 def cases(program: pathlib.Path, options: argparse.Namespace) -> Iterator[Case]:

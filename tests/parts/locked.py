@@ -96,7 +96,7 @@ def wrong_while_locked(
                 wrong or difference(lines, answer(program, [*words, "--explain"])) or touched(folder, {"out": STOOD})
             )
         if wrong is None and (took < 0.1 or out.stat().st_ino != before):
-            wrong = f"it ended behind {took} seconds" if took < 0.1 else "OUT is another file"
+            wrong = f"it ended after {took} seconds" if took < 0.1 else "OUT is another file"
         if wrong is not None:
             return wrong
     if wanted.status != 0:

@@ -141,7 +141,7 @@ def looked_often(
     )
     if options.looks >= 1000:
         kinds = ("amid a call", "full", "in memory")
-        yield "each kind of look", None if all(met[kind] for kind in kinds) else f"met were {dict(met)}"
+        yield "each kind of look", None if all(met[kind] for kind in kinds) else f"seen were {dict(met)}"
 
 
 def looked_inside(

@@ -160,7 +160,7 @@ def copies_of(chance: random.Random) -> list[list[int]]:
 
 
 def looked(copies: Sequence[bytes]) -> tuple[Answer, bytes | None]:
-    """What the program answers to these contents of the file, and the bytes of the look, if there is one."""
+    """What the program returns for these contents of the file, and the bytes of the look, if there is one."""
     seen: plain_reader.Seen = collections.Counter()
     try:
         one, two, three = (plain_reader.words_of(data, seen) for data in copies)

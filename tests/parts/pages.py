@@ -62,7 +62,7 @@ def complaint(
         if came != words:
             return f"line {number + 1}: wanted {words}, came {came}"
     if len(read.lines) > len(wanted):
-        return f"there is more behind it: {read.lines[len(wanted)]}"
+        return f"there is more after it: {read.lines[len(wanted)]}"
     return contents_complaint(read, shown) or widths_complaint(read, plain_show.bars_of(data, **options))
 
 

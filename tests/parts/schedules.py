@@ -282,8 +282,8 @@ def not_gone_on(program: pathlib.Path, folder: pathlib.Path) -> Iterator[tuple[s
     yield of("zeros", bytes(1024), adopt, fault("World 1 Adopt Image BadCookie", 3))
     yield of("version 1", stopped[:8] + b"\1" + stopped[9:], adopt, fault("World 1 Adopt OldVersion", 3))
     yield of("a corrupt one", corrupt, adopt, fault("World 1 Adopt Corrupt", 3))
-    yield of("a word behind the free pointer", stopped[:-1] + b"\1", adopt, fault("World 1 Adopt Damaged", 3))
-    yield of("a lawful one", stopped, adopt, Answer())
+    yield of("a word after the free pointer", stopped[:-1] + b"\1", adopt, fault("World 1 Adopt Damaged", 3))
+    yield of("a valid one", stopped, adopt, Answer())
 
 
 def replayed(program: pathlib.Path, path: pathlib.Path, text: str) -> Answer:
@@ -295,10 +295,10 @@ def fault(text: str, status: int) -> Answer:
     return Answer(error=f"stepped: {text}\n".encode(), status=status)
 
 
-def lawful(folder: pathlib.Path) -> Iterator[tuple[list[Word], str | None, Answer]]:
+def valid(folder: pathlib.Path) -> Iterator[tuple[list[Word], str | None, Answer]]:
     """Command lines and devices beside a schedule without a fault: words, the stream that is written, and what
     comes."""
-    path = folder / "lawful.csv"
+    path = folder / "valid.csv"
     path.write_text("world,64,64,7,1,1\nset_corrupt,0\nstep,0,1\n")
     lines = b"2,0,begin\n3,0,step,6,0,1\n3,0,answer,flagged\n"
     yield [path], None, Answer(lines)
@@ -312,7 +312,7 @@ def lawful(folder: pathlib.Path) -> Iterator[tuple[list[Word], str | None, Answe
         yield [path, *shown], FULL, fault("Write", 4)
 
 
-def wrong_lawful(program: pathlib.Path, words: Sequence[Word], device: str | None, wanted: Answer) -> str | None:
+def wrong_valid(program: pathlib.Path, words: Sequence[Word], device: str | None, wanted: Answer) -> str | None:
     if device is None:
         return difference(wanted, answer(program, words))
     with open(device, "wb") as stream:
@@ -330,8 +330,8 @@ def cases(program: pathlib.Path, options: argparse.Namespace) -> Iterator[Case]:
         yield f"known {case.stem}", wrong_known(program, case)
     with tempfile.TemporaryDirectory() as scratch, concurrent.futures.ThreadPoolExecutor(os.cpu_count()) as pool:
         folder = pathlib.Path(scratch)
-        for words, device, wanted in lawful(folder):
-            yield f"{' '.join(map(str, words))} to {device}", wrong_lawful(program, words, device, wanted)
+        for words, device, wanted in valid(folder):
+            yield f"{' '.join(map(str, words))} to {device}", wrong_valid(program, words, device, wanted)
         for usage, status in USAGES:
             yield f"usage {' '.join(usage)}", wrong_usage(program, usage, status)
         yield "stops that are gone on from", wrong_stops(program, pool, folder)

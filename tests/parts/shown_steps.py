@@ -167,7 +167,7 @@ def wrong_readme(program: pathlib.Path) -> str | None:
     at = 0
     for line in shown:
         if line not in rows[at:]:
-            return f"no row, or not behind the one before: {line}"
+            return f"no row, or not after the one before: {line}"
         at = rows.index(line, at) + 1
     return None if shown else "it has no row below the command"
 

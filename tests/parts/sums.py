@@ -211,7 +211,7 @@ def trees(program: pathlib.Path, top: pathlib.Path, seed: int | str) -> Iterator
     """Totals of totals are those of all images at once, in any grouping; and they are read back."""
     for number in range(FOLDERS // 4):
         chance = random.Random(f"trees {seed} {number}")
-        images = [lawful_of(chance) for _ in range(chance.randint(2, 9))]
+        images = [valid_of(chance) for _ in range(chance.randint(2, 9))]
         flat, left = plain_sums.sum_of(enumerate(images))
         assert not left
         level = []
@@ -236,7 +236,7 @@ def trees(program: pathlib.Path, top: pathlib.Path, seed: int | str) -> Iterator
         yield f"{title}, standard input", difference(Answer(plain_sums.report_of(flat, 0)), came)
 
 
-def lawful_of(chance: random.Random) -> bytes:
+def valid_of(chance: random.Random) -> bytes:
     """A forged image that can be read, and of which no total comes near its limit."""
     while True:
         data = forge.image_of(chance)
@@ -262,8 +262,8 @@ def earlier(program: pathlib.Path, top: pathlib.Path, seed: int | str) -> Iterat
     for number in range(FOLDERS):
         chance = random.Random(f"earlier {seed} {number}")
         by = ["--workers", str(WORKERS[number % len(WORKERS)])]
-        old = [lawful_of(chance) for _ in range(chance.randint(1, 3))]
-        new = [grown(data, chance) if chance.random() < 0.8 else lawful_of(chance) for data in old]
+        old = [valid_of(chance) for _ in range(chance.randint(1, 3))]
+        new = [grown(data, chance) if chance.random() < 0.8 else valid_of(chance) for data in old]
         folder, before = top / f"new {number}", top / f"old {number}"
         for place, images in ((folder, new), (before, old)):
             place.mkdir()
@@ -319,9 +319,9 @@ def sum_of_named(inputs: Sequence[tuple[object, bytes | None]]) -> tuple[Answer,
 def many(program: pathlib.Path, top: pathlib.Path, seed: int | str) -> Iterator[Case]:
     """More files than are open at once, some forged and some missing, by any number of workers."""
     chance = random.Random(f"many {seed}")
-    lawful = [lawful_of(chance) for _ in range(40)]
-    totals = plain_sums.totals_text(plain_sums.sum_of(enumerate(lawful[:2]))[0])
-    pool = [*lawful, *(image_of(chance) for _ in range(4)), b"no image at all\n", totals]
+    valid = [valid_of(chance) for _ in range(40)]
+    totals = plain_sums.totals_text(plain_sums.sum_of(enumerate(valid[:2]))[0])
+    pool = [*valid, *(image_of(chance) for _ in range(4)), b"no image at all\n", totals]
     inputs: list[tuple[object, bytes | None]] = []
     for number in range(MANY):
         path, data = top / f"{number:04}", chance.choice(pool)
@@ -333,7 +333,7 @@ def many(program: pathlib.Path, top: pathlib.Path, seed: int | str) -> Iterator[
     for place in (None, 0, chance.randrange(MANY), MANY - 1):
         named, data = list(inputs), b""
         if place is not None:
-            data = lawful[0]
+            data = valid[0]
             named[place] = ("-", data)
         report, strict = sum_of_named(named)
         names.write_bytes("".join(f"{name}\n" for name, _ in named).encode())
@@ -375,7 +375,7 @@ def limits(program: pathlib.Path, top: pathlib.Path, seed: int | str) -> Iterato
         inputs = []
         for place in range(chance.randint(3, 12)):
             is_image = chance.random() < (0.6 if is_small else 0.3)
-            data = lawful_of(chance) if is_image else plain_sums.totals_text(near_limits(chance, is_small))
+            data = valid_of(chance) if is_image else plain_sums.totals_text(near_limits(chance, is_small))
             path = top / f"limits {number} {place}"
             path.write_bytes(data)
             inputs.append((path, data))
@@ -406,7 +406,7 @@ def several(program: pathlib.Path, _top: pathlib.Path) -> Iterator[Case]:
     yield "a file twice", difference(Answer(plain_sums.report_of(twice, 0)), answer(program, ["report", CRASH, CRASH]))
     two, _ = plain_sums.sum_of([(CRASH, crash), (EXAMPLE, example)])
     wanted = Answer(plain_sums.report_of(two, 0))
-    yield "standard input behind a file", difference(wanted, answer(program, ["report", CRASH, "-"], example))
+    yield "standard input after a file", difference(wanted, answer(program, ["report", CRASH, "-"], example))
     yield "standard input first", difference(wanted, answer(program, ["report", "-", EXAMPLE], crash))
     for workers in WORKERS:
         came = answer(program, ["report", "-", EXAMPLE, "--workers", str(workers)], crash)

@@ -46,7 +46,7 @@ VERSION_2 = {
         {VERSION: 2, SINGLE: FROZEN + 2**32 + 2, COUNTS: 1, COUNTS + 1: 0},
         Answer(b"A,boolean,0,1,1\nA,boolean,1,2,2\nA,total,3,2\n"),
     ),
-    "stopped behind the freezing": (
+    "stopped after the freezing": (
         {VERSION: 2, SINGLE: FROZEN + 2**32 + 2, COUNTS: 0, COUNTS + 1: 0, SUM: 2, REDUNDANT: 2},
         Answer(b"A,boolean,1,2,2\nA,total,2,2\n"),
     ),

@@ -209,10 +209,10 @@ def spec_number(forge: Forge, record: Record) -> None:
 def linear_numbers(forge: Forge, record: Record) -> None:
     """The numbers of a linear spec at a limit, or one past it."""
     most = GREATEST - 1
-    lawful = [(1, most, 5), (5, 6, 3), (1, 4, 5), (1, 2, 3), (1, most, 1000)]
+    valid = [(1, most, 5), (5, 6, 3), (1, 4, 5), (1, 2, 3), (1, most, 1000)]
     wrong = [(1, GREATEST, 5), (5, 5, 3), (5, 5, 2), (5, 4, 3), (1, 4, 6), (1, 10, 2), (0, 10, 5), (1, most, 1001)]
     if record.kind == LINEAR:
-        forge.store(record.at + 5, *forge.chance.choice(forge.chance.choice([lawful, wrong, wrong])))
+        forge.store(record.at + 5, *forge.chance.choice(forge.chance.choice([valid, wrong, wrong])))
 
 
 def spec_past_page(forge: Forge, record: Record) -> None:

@@ -29,7 +29,7 @@ MOST_CURSORS = 8
 # What makes an image damaged, in no order: any of these does.
 LISTED = """
 a list that stops; a bad record; two records overlap; a record and counts overlap; counts overlap
-a word behind the free pointer; too little room behind the free pointer; a tail that is not on the list
+a word after the free pointer; too little room after the free pointer; a tail that is not on the list
 a later sample with a count; a later sample with a mark; a name that is not padded
 counts that are not in use; marks that are not in use; a mark of the packed bucket on its counts
 """
@@ -78,9 +78,9 @@ def damages_of_ends(read: Read) -> Iterator[str]:
     words = read.words
     page, free, tail = words[3], words[7], words[8]
     if any(words[free:]):
-        yield "a word behind the free pointer"
+        yield "a word after the free pointer"
     if 1 <= -free % page <= 4:
-        yield "too little room behind the free pointer"
+        yield "too little room after the free pointer"
     if tail not in (QUEUE, *read.references):
         yield "a tail that is not on the list"
 

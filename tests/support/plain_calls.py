@@ -355,6 +355,6 @@ class Calls:
         if actor in self.running:
             record = self.records[self.number[actor] - 1]
             events, found = self.running.pop(actor)
-            assert events is None or has_ended(events, found), f"the call of record {number} goes on"
+            assert events is None or has_ended(events, found), f"the call of record {number} has not ended"
         if said[0] == "hist":
             self.known.setdefault(actor, {})[record[2]] = int(said[1]), spec_of(record[3:])

@@ -38,7 +38,7 @@ a list that ends; Loop; stopped, BadRef below the first block; stopped, BadRef p
 stopped, BadBlock of another cookie; stopped, BadBlock too small; stopped, BadBlock past the free pointer
 stopped, BadBlock in two pages
 linear; boolean; custom; sparse; a type that is passed over
-a later record of a name; a lawful record after a faulty one
+a later record of a name; a valid record after a faulty one
 BadKind of a small block; BadKind of no kind
 BadName by its length; BadName past the block; BadName by a byte; BadName by its first byte
 BadSpec of a linear; BadSpec of a boolean; BadSpec of a custom's number of buckets; BadSpec past the block
@@ -399,7 +399,7 @@ def read_records(
                 else:
                     by_name[found["name"]] = read_at[at] = found
                     seen[KINDS[found["kind"]]] += 1
-                    seen["a lawful record after a faulty one"] += found["name"] in bad_names
+                    seen["a valid record after a faulty one"] += found["name"] in bad_names
                 seen["a block of counts named twice"] += words[at + 8] in counts_named
                 counts_named.update(words[at + 8 : at + 9] if words[at + 8] else ())
             elif words[at + 2] == 3:
@@ -409,11 +409,11 @@ def read_records(
         except Bad as bad:
             seen[bad.rule] += 1
             bad_records.append((at, bad.fault))
-            bad_names.update(lawful_name(words, at))
+            bad_names.update(valid_name(words, at))
     return by_name, bad_records
 
 
-def lawful_name(words: Words, at: int) -> list[bytes]:
+def valid_name(words: Words, at: int) -> list[bytes]:
     """The name of a record in a list, which is empty if the record has none."""
     try:
         return [name_of(words, at, collections.Counter())] if words[at + 2] == 1 and words[at] >= 16 else []

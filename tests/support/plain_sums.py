@@ -91,8 +91,8 @@ def has_its_keys(spec: Spec, keys: list[int]) -> bool:
         boundaries = plain_reader.linear_boundaries(*numbers)
         return boundaries is not None and keys == boundaries[:-1]
     if kind == CUSTOM:
-        lawful = 0 < len(numbers) < 1000 and numbers == sorted({*numbers} - {0}) and numbers[-1] <= GREATEST - 1
-        return lawful and keys == [0, *numbers]
+        valid = 0 < len(numbers) < 1000 and numbers == sorted({*numbers} - {0}) and numbers[-1] <= GREATEST - 1
+        return valid and keys == [0, *numbers]
     return kind == SPARSE or keys == [0, 1, 2]
 
 
@@ -174,7 +174,7 @@ def read_histograms(lines: Lines, whole: Sum) -> tuple[int, int]:
 
 
 def read_end(lines: Lines, count: int) -> None:
-    """Reads what follows so many histograms: the lines of folds, and the end."""
+    """Reads what follows this many histograms: the lines of folds, and the end."""
     while lines.begins("of", "fold"):
         many(lines.fields())
         lines.at += 1

@@ -115,10 +115,10 @@ def is_killed_thrice(service: Service) -> str | None:
     for turn in range(3):
         said = service.killed(folder, before)
         if said != f"segment 1: {'continued' if turn else 'begun'}\n":
-            return f"behind {before} requests it said {said!r}"
+            return f"after {before} requests it said {said!r}"
         left = service.recorded(folder)
         if left <= before:
-            return f"behind {before} requests came {left}"
+            return f"after {before} requests came {left}"
         before = left
     return None
 
@@ -133,7 +133,7 @@ def is_looked_at(service: Service) -> str | None:
             for _ in range(LOOKS):
                 found = service.looked(folder)
                 if found < before:
-                    return f"behind a look with {before} requests came one with {found}"
+                    return f"after a look with {before} requests came one with {found}"
                 before = found
         finally:
             running.send_signal(signal.SIGTERM)
@@ -231,7 +231,7 @@ def has_a_full_disk(service: Service) -> str | None:
     said, errors = service.ended(folder)
     served, missed = counts(said) or (0, -1)
     is_right = not errors and served >= ENOUGH and missed == 0 and service.recorded(folder) == served
-    return None if is_right else f"behind the full disk: {said} {errors}"
+    return None if is_right else f"after the full disk: {said} {errors}"
 
 
 TESTS = (

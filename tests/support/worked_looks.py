@@ -37,7 +37,7 @@ LOOKS: dict[str, tuple[Others, Others, Others]] = {
     "counts that were not in use when the single word was loaded": (
         {25: 7}, {}, {25: 7, **FIELDS, **NO_COUNTS, **MARKS, **SAMPLE},
     ),
-    "a sample that was linked behind the load of the next before it": (
+    "a sample that was linked after the load of the next before it": (
         {19: 12}, {}, {**FIELDS, **COUNTS, **MARKS, **ENDED},
     ),
     "a next that was not stored yet": ({19: 0}, {}, {**FIELDS, **COUNTS, **MARKS, **ENDED}),

@@ -9,12 +9,12 @@ import csv
 import io
 import pathlib
 import random
-import struct
 import tempfile
 from collections.abc import Callable, Iterator
 
 from parts import known
 from support import command_faults, forge, plain_damage, plain_export, plain_reader, plain_show
+from support.layout import with_words
 from support.program import EXAMPLE, Answer, Case, Word, answer, difference, explained, fault
 
 PROGRAM = "persist_report"
@@ -79,10 +79,7 @@ def commands() -> list[tuple[str, list[Word], Callable[[bytes], plain_damage.Wan
 
 def changed(words: dict[int, int]) -> bytes:
     """The bytes of the example's image, with other words."""
-    data = bytearray(EXAMPLE.read_bytes())
-    for at, word in words.items():
-        struct.pack_into("<Q", data, 8 * at, word)
-    return bytes(data)
+    return with_words(EXAMPLE.read_bytes(), words)
 
 
 def damaged(program: pathlib.Path, folder: pathlib.Path) -> Iterator[Case]:

@@ -9,12 +9,12 @@ import os
 import pathlib
 import pty
 import random
-import struct
 import subprocess
-from collections.abc import Iterator, Mapping, Sequence
+from collections.abc import Iterator, Sequence
 from typing import Any
 
 from support import faults, tracer
+from support.layout import with_words
 from support.program import EXAMPLE, SCRIPT, Answer, Case, Word, answer, difference, explained, fault, untried
 
 SEGMENT = "segment,256,64,7\n"
@@ -198,7 +198,7 @@ def images(program: pathlib.Path, folder: pathlib.Path) -> Iterator[Case]:
     image, example = folder / "bad.img", EXAMPLE.read_bytes()
     both_inputs: dict[str, list[Word]] = {"BASE": ["merge", image, EXAMPLE], "DEAD": ["merge", EXAMPLE, image]}
     for at, word, name, said in WORDS:
-        image.write_bytes(example[: 8 * at] + struct.pack("<Q", word) + example[8 * at + 8 :])
+        image.write_bytes(with_words(example, {at: word}))
         yield f"{name} of a file", both(program, ["report", image], f"Image {name}", 3, [f'"{image}", {said}'])
         for role, words in both_inputs.items():
             yield f"{name} of {role}", both(
@@ -260,14 +260,6 @@ def merges(program: pathlib.Path, folder: pathlib.Path) -> Iterator[Case]:
         f'BASE "{folder / "small.img"}": the record has 65 words, a page has 64',
     ]
     yield "larger than a page of BASE", both(program, words, "Merge M TooLarge", 3, said)
-
-
-def with_words(image: bytes, stored: Mapping[int, int]) -> bytes:
-    """An image with these words in it."""
-    words = list(struct.unpack(f"<{len(image) // 8}Q", image))
-    for at, word in stored.items():
-        words[at] = word
-    return struct.pack(f"<{len(words)}Q", *words)
 
 
 def bases(program: pathlib.Path, folder: pathlib.Path) -> Iterator[Case]:

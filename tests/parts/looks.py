@@ -24,6 +24,7 @@ from typing import Any
 
 from parts import known
 from support import forge, layout, plain_look, plain_reader, plain_show, tracer, worked_looks
+from support.layout import HISTOGRAM, ID, REDUNDANT
 from support.program import EXAMPLE, ROOT, Answer, Case, Word, answer, content, difference, fault, untried
 
 PROGRAM = "persist_report"
@@ -31,9 +32,6 @@ LOOKS = 100
 STOOD = b"what stood there before"
 # The first histogram of the example, and its units, which are also its redundant count.
 FIRST_NAME, FIRST_UNITS = b"request.ms", 70
-HISTOGRAM_TAG, HISTOGRAM_REDUNDANT = 1, 13
-# A header's word with the segment's id: the first words, up to this one, say which segment it is.
-ID = 4
 # How often the last copy is cut, the version may be another one, and the id of one copy is another one.
 DAMAGED = 0.1
 # How often a file is shown again and again while it changes, and how many looks there are at it then.
@@ -377,9 +375,9 @@ def chains(program: pathlib.Path, folder: pathlib.Path, seed: int | str) -> Iter
 def meanwhile(program: pathlib.Path, folder: pathlib.Path, closed: pathlib.Path) -> Iterator[Case]:
     """`show --live` marks the histogram whose units are not its redundant count; no other text does, and no look."""
     words = list(layout.words_of(closed.read_bytes()))
-    record = next(at for at in range(len(words)) if words[at + 1 : at + 3] == [forge.BLOCK_COOKIE, HISTOGRAM_TAG])
+    record = next(at for at in range(len(words)) if words[at + 1 : at + 3] == [forge.BLOCK_COOKIE, HISTOGRAM])
     for count in (FIRST_UNITS - 1, FIRST_UNITS + 1):
-        words[record + HISTOGRAM_REDUNDANT] = count
+        words[record + REDUNDANT] = count
         file = folder / "meanwhile"
         file.write_bytes(layout.data_of(words))
         text = plain_show.text_of(file.read_bytes())

@@ -6,21 +6,18 @@ from __future__ import annotations
 import argparse
 import pathlib
 import random
-import struct
 import tempfile
 from collections.abc import Iterator, Sequence
 from typing import Any, Optional
 
 from parts import known
 from support import command_faults, forge, plain_show
+from support.layout import HISTOGRAM, REDUNDANT, SAMPLE, data_of, words_of
 from support.program import EXAMPLE, Answer, Case, Word, answer, difference
 
 PROGRAM = "persist_report"
 MOST_IMAGES = 1000
 MOST_SPARSE_IMAGES = 12
-SAMPLE_TAG = 3
-HISTOGRAM_TAG = 1
-HISTOGRAM_REDUNDANT = 13
 MOST_COUNT = b"18,446,744,073,709,551,615"
 
 # The text of the example, by hand: two of the three units are true. Of the 80 cells of a line 31 are not the bar's.
@@ -187,11 +184,11 @@ def many_values(program: pathlib.Path, folder: pathlib.Path, chance: random.Rand
     script.write_text(f"segment,1024,64,7\nhist,many,sparse\n{adds}")
     answer(program, ["run", script, image])
     data = image.read_bytes()
-    words = list(struct.unpack(f"<{len(data) // 8}Q", data))
+    words = list(words_of(data))
     for at in range(len(words) - 7):
-        if words[at + 1 : at + 3] == [forge.BLOCK_COOKIE, SAMPLE_TAG] and chance.random() < 0.2:
+        if words[at + 1 : at + 3] == [forge.BLOCK_COOKIE, SAMPLE] and chance.random() < 0.2:
             words[at + 6 : at + 8] = [0, 0]
-    return struct.pack(f"<{len(words)}Q", *words)
+    return data_of(words)
 
 
 def sparse(program: pathlib.Path, folder: pathlib.Path, options: argparse.Namespace) -> Iterator[Case]:
@@ -214,16 +211,16 @@ def sparse(program: pathlib.Path, folder: pathlib.Path, options: argparse.Namesp
 def redundant(program: pathlib.Path, folder: pathlib.Path) -> Iterator[Case]:
     """The example with a redundant count of its own: with `--explain`, before the command or after it, one more line
     shows it, if it differs from the units. No variable of the environment asks for that line."""
-    words = list(struct.unpack(f"<{EXAMPLE.stat().st_size // 8}Q", EXAMPLE.read_bytes()))
-    record = next(at for at in range(len(words)) if words[at + 1 : at + 3] == [forge.BLOCK_COOKIE, HISTOGRAM_TAG])
+    words = list(words_of(EXAMPLE.read_bytes()))
+    record = next(at for at in range(len(words)) if words[at + 1 : at + 3] == [forge.BLOCK_COOKIE, HISTOGRAM])
     text = EXAMPLE_TEXT
     counted: list[tuple[int, list[str], bytes]] = [
         (3, [], b""), (2, [], b"2"), (0, [], b"0"), (2**64 - 1, ["--human"], MOST_COUNT)
     ]
     for count, human, line in counted:
-        words[record + HISTOGRAM_REDUNDANT] = count
+        words[record + REDUNDANT] = count
         image = folder / "counted"
-        image.write_bytes(struct.pack(f"<{len(words)}Q", *words))
+        image.write_bytes(data_of(words))
         told = text[:-1] + b"  counted once more: " + line + b"\n\n" if line else text
         ways: list[tuple[str, list[str], list[str], dict[str, str], bytes]] = [
             ("alone", [], [], {}, text),

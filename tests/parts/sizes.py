@@ -14,7 +14,7 @@ import re
 import tempfile
 from collections.abc import Iterator, Sequence
 
-from support import plain_sizes
+from support import layout, plain_sizes
 from support.program import Answer, Case, answer, difference
 
 PROGRAM = "persist_report"
@@ -126,7 +126,7 @@ def blocks_of(hists: Sequence[Hist], values: int) -> list[int]:
     for name, spec in hists:
         counts = plain_sizes.counts_words(spec)
         blocks.append(plain_sizes.record_words(name, spec))
-        blocks.extend([counts] if counts else [plain_sizes.SAMPLE_WORDS] * values)
+        blocks.extend([counts] if counts else [layout.LEAST_SAMPLE] * values)
     return blocks
 
 

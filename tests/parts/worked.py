@@ -8,7 +8,7 @@ import pathlib
 from collections.abc import Iterable, Iterator, Mapping
 
 from support.layout import (
-    BLOCK_COOKIE, FLAGS, FREE, FROZEN, NOTHING_PACKED, STATE, TAIL, TOP, VERSION, WORD, Words, data_of, words_of,
+    BLOCK_COOKIE, FLAGS, FREE, FROZEN, NOTHING_PACKED, STATE, TAIL, TOP, VERSION, Words, data_of, with_words, words_of,
 )
 from support.program import EXAMPLE, Answer, Case, answer, difference, fault
 
@@ -120,11 +120,7 @@ BAD_SAMPLES = [{38: 2**32}, {37: 2**31}, {39: 3}, {36: 40}]
 
 def stored_in(words: Iterable[int], *changes: Mapping[int, int]) -> bytes:
     """The bytes of words in which other words are stored."""
-    words = list(words)
-    for stored in changes:
-        for at, word in stored.items():
-            words[at] = word % WORD
-    return data_of(words)
+    return with_words(data_of(words), *changes)
 
 
 def example() -> Iterable[int]:

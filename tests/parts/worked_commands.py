@@ -5,13 +5,14 @@ from __future__ import annotations
 
 import argparse
 import pathlib
-import struct
 import tempfile
 from collections.abc import Iterator, Mapping, Sequence
 
 from parts import worked
 from parts.worked import COUNTS_REFERENCE, REDUNDANT, SINGLE, SINGLE_MARK, SUM, SUM_MARK
-from support.layout import BLOCK_COOKIE, FREE, FROZEN, MOST_SUM, MOST_UNITS, TAIL, TOP, VERSION, WORD, Words
+from support.layout import (
+    BLOCK_COOKIE, FREE, FROZEN, MOST_SUM, MOST_UNITS, TAIL, TOP, VERSION, Words, with_words,
+)
 from support.program import EXAMPLE, Answer, Case, Word, answer, difference, fault
 
 PROGRAM = "persist_report"
@@ -79,14 +80,6 @@ SCRIPTS = {
 NO_ROOM_FOR_COUNTS = (
     b"segment,64,64,7\nhist,A,boolean\nhist,B,boolean\nhist,C,boolean\nadd,A,1,1\nadd,A,0,1\nadd,A,1,1\n"
 )
-
-
-def with_words(data: bytes, stored: Stored) -> bytes:
-    """An image with these words in it."""
-    data = bytearray(data)
-    for at, word in stored.items():
-        data[8 * at : 8 * at + 8] = struct.pack("<Q", word % WORD)
-    return bytes(data)
 
 
 def image(stored: Stored) -> bytes:

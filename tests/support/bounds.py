@@ -12,6 +12,8 @@ import random
 import struct
 import time
 
+from support.layout import MOST_PACKED
+
 THREADS = 4
 LINEAR_LOWS = (0, 1, 126, 251, 376, 501, 625, 750, 875, 1000)
 CELLS = [
@@ -25,7 +27,6 @@ CELLS = [
 Cell = tuple[str, int]
 Units = collections.Counter[Cell]
 BYTES = THREADS * len(CELLS) * 16
-MOST_PACKED = 65_535
 # The shapes of its segments, and how long it lives at most, in seconds.
 SHAPES = ((65_536, 4096), (8192, 1024), (4096, 512), (2048, 512))
 LIVES = (0.001, 0.005, 0.02, 0.06)

@@ -21,6 +21,7 @@ from support.layout import (
     MOST_BYTES,
     MOST_SUM,
     MOST_UNITS,
+    NAME,
     NOTHING_PACKED,
     QUEUE,
     SAMPLE,
@@ -47,7 +48,7 @@ class Record:
 
     @property
     def first_range(self) -> int:
-        return self.at + 15 + -(-len(self.name) // 8)
+        return self.at + NAME + -(-len(self.name) // 8)
 
 
 class Forge(Words):
@@ -189,13 +190,13 @@ def name_length(forge: Forge, record: Record) -> None:
 def name_byte(forge: Forge, record: Record) -> None:
     byte = forge.chance.choice([0x00, 0x20, 0x7F, 0x80, 0xFF, *b',"!'])
     place = forge.chance.choice([0, len(record.name) - 1, forge.chance.randrange(len(record.name))])
-    at = record.at + 15 + place // 8
+    at = record.at + NAME + place // 8
     kept = forge.words[at] & ~(0xFF << 8 * (place % 8))
     forge.store(at, kept | byte << 8 * (place % 8))
 
 
 def name_start(forge: Forge, record: Record) -> None:
-    forge.store(record.at + 15, forge.words[record.at + 15] & ~0xFF | ord("!"))
+    forge.store(record.at + NAME, forge.words[record.at + NAME] & ~0xFF | ord("!"))
 
 
 def spec_number(forge: Forge, record: Record) -> None:
@@ -339,8 +340,8 @@ def name_of_another(forge: Forge, record: Record) -> None:
     """The name of an earlier record of the same kind of name words."""
     same = [other for other in forge.histograms if len(other.name) == len(record.name)]
     chosen = forge.chance.choice(same)
-    words = forge.words[chosen.at + 15 : chosen.first_range]
-    forge.store(record.at + 15, *words)
+    words = forge.words[chosen.at + NAME : chosen.first_range]
+    forge.store(record.at + NAME, *words)
 
 
 HISTOGRAM_FAULTS = [

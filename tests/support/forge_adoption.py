@@ -28,7 +28,7 @@ class Forge(forge.Forge):
     def histogram(self) -> forge.Record | None:
         record = super().histogram()
         if record is not None:
-            last, used = record.at + 15 + (len(record.name) - 1) // 8, len(record.name) % 8
+            last, used = record.at + layout.NAME + (len(record.name) - 1) // 8, len(record.name) % 8
             self.store(last, self.words[last] % 2 ** (8 * used) if used else self.words[last])
         return record
 
@@ -138,7 +138,7 @@ def later_sample(made: Forge) -> None:
 def unpadded_name(made: Forge) -> None:
     record = made.chance.choice(made.histograms)
     if len(record.name) % 8:
-        last = record.at + 15 + len(record.name) // 8
+        last = record.at + layout.NAME + len(record.name) // 8
         byte = made.chance.randrange(len(record.name) % 8, 8)
         made.store(last, made.words[last] | 1 << 8 * byte)
 

@@ -5,7 +5,7 @@ from __future__ import annotations
 import array
 import builtins
 import sys
-from collections.abc import Collection, Iterable
+from collections.abc import Collection, Iterable, Mapping
 
 SEGMENT_COOKIE = 0x408305DC
 # Its bytes, with which an image begins.
@@ -16,9 +16,10 @@ MOST_BYTES = 8 * MOST_WORDS
 PAGE = 65_536
 PAGES = range(64, PAGE + 1, 16)
 # The words of the header that stay, those that recorders change, and where the first block may begin.
-VERSION, STATE = 1, 5
+VERSION, ID, STATE = 1, 4, 5
 FLAGS, FREE, TAIL, QUEUE, FIRST = 6, 7, 8, 12, 16
 CORRUPT, FULL = 1, 2
+VERSION_MOVING, VERSION_FROZEN = 1, 2
 
 # A block: its size, its cookie, its type and the next on the list; after these its payload.
 SIZE, COOKIE, TYPE, NEXT, BLOCK_HEADER = 0, 1, 2, 3, 4
@@ -26,10 +27,17 @@ BLOCK_LEAST = 5
 BLOCK_COOKIE, WASTED = 0xC8799269, 2**64 - 1
 PURGED, HISTOGRAM, COUNTS, SAMPLE = 0, 1, 2, 3
 
+# Words of a histogram's record, from its number of buckets on, and the fewest that it has; and those of a sample's.
+HIST_BUCKETS, HIST_COUNTS, SINGLE, SINGLE_MARK, SUM, SUM_MARK, REDUNDANT, LENGTH, NAME = 7, 8, 9, 10, 11, 12, 13, 14, 15
+LEAST_HISTOGRAM = 16
+SAMPLE_COUNT, SAMPLE_MARK, LEAST_SAMPLE = 6, 7, 8
+
 # A histogram's kinds, and the ends of what its words may hold.
 LINEAR, BOOLEAN, CUSTOM, SPARSE = 1, 2, 3, 4
 TOP = 2**63
-NOTHING_PACKED, FROZEN = TOP + 65_535, TOP
+# The most units of a single word, and what stands there for its bucket if it has none.
+MOST_PACKED = NO_BUCKET = 65_535
+NOTHING_PACKED, FROZEN = TOP + NO_BUCKET, TOP
 LEAST, GREATEST = -(2**31), 2**31 - 1
 MOST_UNITS = 2**32 - 1
 MOST_SUM = 2**31 * MOST_UNITS
@@ -104,6 +112,15 @@ def data_of(words: Iterable[int]) -> bytes:
     if sys.byteorder == "big":
         stored.byteswap()
     return stored.tobytes()
+
+
+def with_words(data: bytes, *changes: Mapping[int, int]) -> bytes:
+    """An image with other words at these places."""
+    words = words_of(data)
+    for stored in changes:
+        for at, word in stored.items():
+            words[at] = word % WORD
+    return data_of(words)
 
 
 def words_of(data: bytes) -> array.array[int]:

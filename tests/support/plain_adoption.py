@@ -10,7 +10,7 @@ import collections
 import struct
 from collections.abc import Iterable, Iterator
 
-from support.layout import HISTOGRAM, MOST_UNITS, QUEUE, SAMPLE, SPARSE, TOP
+from support.layout import HISTOGRAM, MOST_UNITS, NAME, QUEUE, SAMPLE, SPARSE, TOP, VERSION_FROZEN
 from support.plain_reader import (
     ImageFault,
     ReadHistogram,
@@ -22,7 +22,6 @@ from support.plain_reader import (
     walk,
 )
 
-FROZEN = 2
 AMOUNT_OF_UNIT = 2**31
 MOST_CURSORS = 8
 
@@ -101,7 +100,7 @@ def damages_of_samples(read: Read) -> Iterator[str]:
 def damages_of_record(words: Words, at: int) -> Iterator[str]:
     """Those of the record of a histogram."""
     name = name_of(words, at, collections.Counter())
-    padded = struct.pack(f"<{-(-len(name) // 8)}Q", *words[at + 15 : at + 15 + -(-len(name) // 8)])
+    padded = struct.pack(f"<{-(-len(name) // 8)}Q", *words[at + NAME : at + NAME + -(-len(name) // 8)])
     if any(padded[len(name):]):
         yield "a name that is not padded"
     kind, n, counts, single = words[at + 4], words[at + 7], words[at + 8], words[at + 9]
@@ -151,7 +150,7 @@ def found_in(words: Words, cursors: int) -> tuple[str | None, list[str]]:
         check_header(words, collections.Counter())
     except ImageFault as fault:
         return str(fault), []
-    if words[1] != FROZEN:
+    if words[1] != VERSION_FROZEN:
         return "OldVersion", []
     if words[6] & 1:
         return "Corrupt", []

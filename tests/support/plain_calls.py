@@ -10,16 +10,16 @@ from __future__ import annotations
 from collections.abc import Generator, Iterable, Mapping, Sequence
 from typing import Any, Optional
 
-from support.layout import BLOCK_COOKIE as CLAIMED
+from support.layout import BLOCK_COOKIE as CLAIMED, LENGTH, NAME, REDUNDANT, SINGLE, SINGLE_MARK, SUM, SUM_MARK
 from support.layout import BLOCK_HEADER as HEADER
 from support.layout import (
     COOKIE, CORRUPT, FLAGS, FREE, FULL, HISTOGRAM, NEXT, QUEUE, SAMPLE, SIZE, TAIL, TOP, TYPE, WASTED, WORD,
 )
 from support.layout import COUNTS as OF_COUNTS
+from support.layout import HIST_COUNTS as COUNTS
 from support.plain_tally import Histogram, Spec, boundaries_of
 from support.seeded_schedules import Schedule
 
-COUNTS, SINGLE, SINGLE_MARK, SUM, SUM_MARK, REDUNDANT, LENGTH, NAME = 8, 9, 10, 11, 12, 13, 14, 15
 KINDS = {"linear": 1, "boolean": 2, "custom": 3, "sparse": 4}
 
 # An event: its kind, its word, what an exchange wants, and the operand. A call, which is sent what each event found.

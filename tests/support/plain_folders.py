@@ -14,14 +14,14 @@ import struct
 from collections.abc import Collection
 
 from support import plain_look, plain_reader, plain_sums
-from support.layout import SEGMENT_COOKIE, data_of
+from support.layout import ID, SEGMENT_COOKIE, data_of
 from support.plain_sums import Part, Sum, Wrong
 
 MARK, TOTALS, NEW_TOTALS, LOCK = "recording", "totals", "totals.new", "fold.lock"
 # How many files a fold takes at once.
 AT_ONCE = 256
-# The bytes that an id is read from, and its word.
-FRONT, ID = 48, 4
+# The bytes that an id is read from.
+FRONT = 48
 # A segment: its number and its id.
 Named = tuple[int, int]
 Left = list[tuple[pathlib.Path, str]]

@@ -9,11 +9,11 @@ from __future__ import annotations
 from collections.abc import Sequence
 
 from support.layout import (
-    BLOCK_HEADER, BLOCK_LEAST, FIRST, FREE, HISTOGRAM, MOST_BUCKETS, NEXT, QUEUE, SAMPLE, TAIL, TOP, TYPE, WORD,
+    BLOCK_HEADER, BLOCK_LEAST, FIRST, FREE, HISTOGRAM, HIST_BUCKETS, HIST_COUNTS, LEAST_HISTOGRAM, LEAST_SAMPLE,
+    MOST_BUCKETS, NEXT, QUEUE, REDUNDANT, SAMPLE, SAMPLE_COUNT, SAMPLE_MARK, SINGLE, SINGLE_MARK, SUM, SUM_MARK,
+    TAIL, TOP, TYPE, WORD,
 )
 
-BUCKETS, COUNTS, SINGLE, SINGLE_MARK, SUM, SUM_MARK, REDUNDANT, LEAST_HISTOGRAM = 7, 8, 9, 10, 11, 12, 13, 16
-COUNT, MARK, LEAST_SAMPLE = 6, 7, 8
 # The words of a copy.
 Copy = Sequence[int]
 
@@ -30,18 +30,18 @@ def followed(two: Copy, free: int) -> list[int]:
 
 def of_histogram(one: Copy, two: Copy, three: Copy, at: int) -> dict[int, int]:
     """The words of a histogram's record that are not those of the third copy, and those of its counts."""
-    free, buckets = three[FREE], three[at + BUCKETS] if at + LEAST_HISTOGRAM <= three[FREE] else WORD
+    free, buckets = three[FREE], three[at + HIST_BUCKETS] if at + LEAST_HISTOGRAM <= three[FREE] else WORD
     if buckets > MOST_BUCKETS:
         return {}
-    is_frozen, counts = two[at + SINGLE] >= TOP, two[at + COUNTS]
+    is_frozen, counts = two[at + SINGLE] >= TOP, two[at + HIST_COUNTS]
     if is_frozen and counts == 0:
-        counts = three[at + COUNTS]
+        counts = three[at + HIST_COUNTS]
     first = counts + BLOCK_HEADER
     if counts != 0 and (counts < FIRST or first + 2 * buckets > free):
         return {}
     words = {at + word: two[at + word] for word in (SINGLE, SUM)}
     words.update({at + word: one[at + word] for word in (SINGLE_MARK, SUM_MARK, REDUNDANT)})
-    words[at + COUNTS] = counts
+    words[at + HIST_COUNTS] = counts
     for place in range(first, first + buckets) if counts else ():
         words.setdefault(place, two[place] if is_frozen else 0)
     for place in range(first + buckets, first + 2 * buckets) if counts else ():
@@ -54,7 +54,7 @@ def of_record(one: Copy, two: Copy, three: Copy, at: int) -> dict[int, int]:
     if three[at + TYPE] == HISTOGRAM:
         return of_histogram(one, two, three, at)
     if three[at + TYPE] == SAMPLE and at + LEAST_SAMPLE <= three[FREE]:
-        return {at + COUNT: two[at + COUNT], at + MARK: one[at + MARK]}
+        return {at + SAMPLE_COUNT: two[at + SAMPLE_COUNT], at + SAMPLE_MARK: one[at + SAMPLE_MARK]}
     return {}
 
 

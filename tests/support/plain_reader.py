@@ -20,14 +20,13 @@ from typing import Any
 
 sys.path.insert(0, str(pathlib.Path(__file__).resolve().parents[1]))
 from support.layout import (
-    BLOCK_COOKIE, GREATEST, MOST_BYTES, MOST_SUM, MOST_UNITS, MOST_WORDS, QUEUE, SEGMENT_COOKIE, TOP,
+    BLOCK_COOKIE, GREATEST, MOST_BYTES, MOST_PACKED, MOST_SUM, MOST_UNITS, MOST_WORDS, NAME, NO_BUCKET, QUEUE,
+    SEGMENT_COOKIE, TOP,
 )
 
 # A mapped file has a word before the image, and up to nine after it.
 MOST_MAPPED_BYTES = MOST_BYTES + 80
 MAPPED_FRONT = struct.pack("<2Q", 0, SEGMENT_COOKIE)
-MOST_PACKED = 65_535
-NOTHING_PACKED = 65_535
 KINDS = {1: "linear", 2: "boolean", 3: "custom", 4: "sparse"}
 
 LISTED = """
@@ -165,7 +164,7 @@ def name_of(words: Words, at: int, seen: Seen) -> bytes:
     require(1 <= length <= 128, "BadName", "by its length")
     taken = -(-length // 8)
     require(15 + taken <= words[at], "BadName", "past the block")
-    whole = struct.pack(f"<{taken}Q", *words[at + 15 : at + 15 + taken])
+    whole = struct.pack(f"<{taken}Q", *words[at + NAME : at + NAME + taken])
     name = whole[:length]
     require(all(0x21 <= byte <= 0x7E and byte not in b',"' for byte in name), "BadName", "by a byte")
     require(name[:1] != b"!", "BadName", "by its first byte")
@@ -185,7 +184,7 @@ def linear_boundaries(least: int, most: int, n: int) -> list[int] | None:
 def custom_boundaries(words: Words, at: int, name: bytes) -> list[int]:
     least, most, n = words[at + 5 : at + 8]
     require(2 <= n <= 1000, "BadSpec", "of a custom's number of buckets")
-    first = at + 15 + -(-len(name) // 8)
+    first = at + NAME + -(-len(name) // 8)
     require(first + n - 1 <= at + words[at], "BadSpec", "past the block")
     boundaries = [0, *words[first : first + n - 1]]
     require(all(low < high for low, high in zip(boundaries, boundaries[1:])), "BadSpec", "of ranges out of order")
@@ -260,9 +259,9 @@ def packed_bucket(single: int, n: int, word: str) -> int:
 def disabled_bucket(single: int, n: int) -> int | None:
     """The bucket of a single word that is disabled, as in version 1; None if nothing was packed."""
     bucket = single - TOP
-    if bucket == NOTHING_PACKED:
+    if bucket == NO_BUCKET:
         return None
-    require(bucket < NOTHING_PACKED, "BadSingle", "of a disabled word of no form")
+    require(bucket < NO_BUCKET, "BadSingle", "of a disabled word of no form")
     require(bucket < n, "BadSingle", "of a disabled word of no bucket")
     return bucket
 

@@ -7,16 +7,13 @@ from __future__ import annotations
 import itertools
 from collections.abc import Iterable, Sequence
 
-from support.layout import BLOCK_HEADER, BLOCK_LEAST, FIRST, MOST_WORDS
-
-SAMPLE_WORDS = 8
-NAME_AT = 15
+from support.layout import BLOCK_HEADER, BLOCK_LEAST, FIRST, MOST_WORDS, NAME
 
 
 def record_words(name: str, spec: Sequence[str]) -> int:
     """The words of a histogram's record."""
     values = {int(value) for value in spec[1:]} - {0} if spec[0] == "custom" else set()
-    return NAME_AT + -(-len(name) // 8) + len(values)
+    return NAME + -(-len(name) // 8) + len(values)
 
 
 def counts_words(spec: Sequence[str]) -> int | None:

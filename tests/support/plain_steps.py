@@ -9,7 +9,7 @@ from __future__ import annotations
 import csv
 from collections.abc import Sequence
 
-from support.layout import COUNTS, HISTOGRAM, SAMPLE, TOP
+from support.layout import COUNTS, HISTOGRAM, NAME, SAMPLE, SINGLE, SUM, SUM_MARK, TOP
 from support.plain_calls import Calls, Event
 from support.plain_reader import signed
 from support.seeded_schedules import Schedule
@@ -17,8 +17,8 @@ from support.seeded_schedules import Schedule
 COLUMN = 32
 HEADER = {6: "flags", 7: "free", 8: "tail", 15: "queue.next"}
 COMMON = ["size", "cookie", "type", "next"]
-# In a histogram's record the single word, the sum and its mark, and the first word of the name.
-SINGLE, SUMS, NAME = 9, (11, 12), 15
+# The words of a histogram's record that hold a sum.
+SUMS = (SUM, SUM_MARK)
 FIELDS = {
     HISTOGRAM: [
         *COMMON, "kind", "min", "max", "buckets", "counts", "single", "single_mark", "sum", "sum_mark", "redundant",

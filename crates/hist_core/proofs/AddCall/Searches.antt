@@ -339,7 +339,7 @@ module _ (shape : Dimensions) (version : ℕ) (s : SampleSearch) (a : Actor) (wo
 
   -- ---- a sample is made
 
-  module _ (m : NewRecordOf) (makes : s.stage ≡ NewRecord m) where
+  module _ (m : NewRecordOf) (makes : s.stage ≡ Making m) where
     pub stood_making : StandsAtStage shape s a is.behind (Making m)
     stood_making = subst (StandsAtStage shape s a is.behind) makes is.stands
 

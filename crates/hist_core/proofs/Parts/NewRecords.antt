@@ -18,7 +18,7 @@ use Rattle.hist_core.proofs.Parts.Allocations.{goes_with}
 use Rattle.hist_core.proofs.Parts.Deeds.{does_less}
 use Rattle.hist_core.proofs.Parts.Walks.{others_still, asks_on}
 
-module _ (shape : Dimensions) (version : ℕ) (h : Hist) (a : Actor) (words : List ℕ) (is : IsHist shape h a) (m : NewRecordOf) (makes : h.stage ≡ NewRecord m) where
+module _ (shape : Dimensions) (version : ℕ) (h : Hist) (a : Actor) (words : List ℕ) (is : IsHist shape h a) (m : NewRecordOf) (makes : h.stage ≡ Making m) where
   pub stood_making : StandsAtStage shape h a is.given (Making m)
   stood_making = subst (StandsAtStage shape h a is.given) makes is.stands
 

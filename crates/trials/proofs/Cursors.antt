@@ -10,9 +10,9 @@ use Rattle.live_segment.specs.Holders.{HasCursor, IsMadeWith, view_of_opener, vi
 
 -- it is the newcomer, since the call was not refused
 pub is_newcomer : (opener : Opener) (units : ℕ) (recorder : Recorder) (S Q : Type 0) (fault : Option Refusal)
-    → MatchOption fault (S × (view_of_recorder recorder ≡ newcomer (offering (view_of_opener opener) units)) × Q) (λ why. Ok recorder ≡ Err why)
+    → MatchOption fault (S × ((view_of_recorder recorder ≡ newcomer (offering (view_of_opener opener) units)) × Q)) (λ why. Ok recorder ≡ Err why)
     → view_of_recorder recorder ≡ newcomer (offering (view_of_opener opener) units)
-is_newcomer opener units recorder S Q None told = told.1
+is_newcomer opener units recorder S Q None told = told.1.0
 is_newcomer opener units recorder S Q (Some why) refused = absurd (cc refused)
 
 -- if the segment has a shared cursor, the recorder has the first

@@ -29,7 +29,7 @@ returns-in_err-merged-clause-fault c =
     let new : IsNew setting c.in-Ok.segment c.in-Ok.opener = search rules in
     let opener : Actor = view_of_opener c.in-Ok.opener in
     let last : Actor = view_of_recorder c.merge_both-merged.new.recorder in
-    let theirs : view_of_recorder c.in-Ok-recorder.recorder ≡ newcomer (offering opener 4294967295) = (all_given setting opener new.view _ _ c.in-Ok-recorder.ensures.theirs).1 in
+    let theirs : view_of_recorder c.in-Ok-recorder.recorder ≡ newcomer (offering opener 4294967295) = (all_given setting opener new.view _ _ c.in-Ok-recorder.ensures.theirs).1.0 in
     let mine : view_of_opener c.recorder.new.self ≡ parent (offering opener 4294967295) = search rules in
     let closed : IsClosed setting last c.close-image.result =
     closed_so setting c.in-Ok.segment opener (view_of_opener c.recorder.new.self) (view_of_opener c.join.new.self) last c.close-image.result new.setting_is new.view mine
@@ -47,7 +47,7 @@ returns-clause-image c =
     let setting : Setting = record { shape = record { size = c.size.result; page = c.page.result }; version = 2; id = c.args.base.now.head.id; cursors = 0; full = false } in
     let new : IsNew setting c.in-Ok.segment c.in-Ok.opener = search rules in
     let opener : Actor = view_of_opener c.in-Ok.opener in
-    let theirs : view_of_recorder c.in-Ok-recorder.recorder ≡ newcomer (offering opener 4294967295) = (all_given setting opener new.view _ _ c.in-Ok-recorder.ensures.theirs).1 in
+    let theirs : view_of_recorder c.in-Ok-recorder.recorder ≡ newcomer (offering opener 4294967295) = (all_given setting opener new.view _ _ c.in-Ok-recorder.ensures.theirs).1.0 in
     let mine : view_of_opener c.recorder.new.self ≡ parent (offering opener 4294967295) = search rules in
     let last : Actor = view_of_recorder c.merge_both-merged.new.recorder in
     let closed : IsClosed setting last c.close-image.result =

@@ -3,8 +3,8 @@ use Rattle.std.proofs.lemmas.List.{length-append}
 use Rattle.segment_image.specs.Checks.{first_fault}
 use Rattle.segment_machine.specs.declared.actor.Actor.{Actor}
 use Rattle.segment_machine.specs.Actor.{made_of, outstanding_of}
-use Rattle.segment_machine.specs.Seats.{newcomer, offering}
-use Rattle.live_segment.specs.RecorderState.{given_fresh}
+use Rattle.segment_machine.specs.Seats.{offering}
+use Rattle.live_segment.specs.Opener.{IsNewcomer}
 use Rattle.live_segment.specs.Holders.{table_of, view_of_opener, view_of_recorder}
 use Rattle.live_segment.specs.Steps.{recorder_checks}
 use Rattle.live_segment.proofs.Seating.Callers.{made_still}
@@ -17,7 +17,7 @@ pub loop-number-preserved : goal.loop-number-preserved
 loop-number-preserved g c =
     let at = c.loop-number.invariant in
     let mine = c.in-Ok.ensures.mine in
-    let theirs : (c.in-Ok.recorder.segment ≡ c.args.segment) × (view_of_recorder c.in-Ok.recorder ≡ newcomer (offering (view_of_opener c.loop-number.opener) c.units_of.result)) × (given_fresh c.in-Ok.recorder.state ≡ 0) =
+    let theirs : (c.in-Ok.recorder.segment ≡ c.args.segment) × IsNewcomer c.units_of.result c.loop-number.opener c.in-Ok.recorder.state =
     not_refused (first_fault (recorder_checks (view_of_opener c.loop-number.opener) c.units_of.result)) c.in-Ok.recorder c.in-Ok.ensures.theirs in
     let P : ℕ → Worker g.row.G.Denot → Type 0 = λ k w. IsWorkerReady (table_of c.args.segment.now) (view_of_opener c.args.opener.now) c.args.script.now c.args.workers k w.part w.script.now w.recorder in
     let old : List (Worker g.row.G.Denot) = c.loop-number.all.items in
@@ -35,9 +35,9 @@ loop-number-preserved g c =
       workers_are = refl;
       script_is = refl;
       at = c.in-Ok.recorder.at.seated.table ∙ ap (λ s. table_of s.now) theirs.0;
-      fresh = fresh_newcomer (offering (view_of_opener c.loop-number.opener) c.units_of.result) (view_of_recorder c.in-Ok.recorder) theirs.1;
-      before = (let is = ap (λ (a : Actor). made_of a.role) theirs.1 in let made = at.1.made in let many = at.2 in omega (arith, is, made, many));
-      outstanding = (let is = ap (λ (a : Actor). outstanding_of a.role) theirs.1 in let out = at.1.outstanding in let many = at.2 in omega (arith, is, out, many));
+      fresh = fresh_newcomer (offering (view_of_opener c.loop-number.opener) c.units_of.result) (view_of_recorder c.in-Ok.recorder) theirs.1.0;
+      before = (let is = ap (λ (a : Actor). made_of a.role) theirs.1.0 in let made = at.1.made in let many = at.2 in omega (arith, is, made, many));
+      outstanding = (let is = ap (λ (a : Actor). outstanding_of a.role) theirs.1.0 in let out = at.1.outstanding in let many = at.2 in omega (arith, is, out, many));
     } in
     let many = ap length items ∙ length-append old (x ∷ []) in
     let before = at.2 in (

@@ -16,19 +16,19 @@ const MOST_LINKS: u32 = 40;
 /// `/dev/stdout`.
 ///
 /// `Write` if a link cannot be read, or too many follow one another.
-pub fn target_of<R: Files + AllocGlobal>(rt: &R, path: &str) -> Result<Option<PathBuf>, Cause> {
-    let mut place = PathBuf::from_str(rt.alloc(), path)?;
+pub fn end_of_links<R: Files + AllocGlobal>(rt: &R, path: &str) -> Result<Option<PathBuf>, Cause> {
+    let mut target = PathBuf::from_str(rt.alloc(), path)?;
     for _ in 0..MOST_LINKS {
-        let link = match fs::symlink_metadata(rt, &place) {
+        let link = match fs::symlink_metadata(rt, &target) {
             Ok(found) if found.is_symlink() => found,
-            Ok(_) => return Ok(Some(place)),
-            Err(error) if error.kind() == ErrorKind::NotFound => return Ok(Some(place)),
+            Ok(_) => return Ok(Some(target)),
+            Err(error) if error.kind() == ErrorKind::NotFound => return Ok(Some(target)),
             Err(error) => return Err(Cause::of_write(error)),
         };
         if is_open_file(rt, &link) {
             return Ok(None);
         }
-        place = target_of(rt, &place)?;
+        target = target_of(rt, &target)?;
     }
     Err(Cause::from(CliFault::Write))
 }

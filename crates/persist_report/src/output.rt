@@ -14,7 +14,7 @@ ghost use Rattle.std.specs.Prelude.{◌≡◌, IfErr, IsErrAnd, OnOk};
 
 use crate::cause::Cause;
 use crate::leftover::{PREFIX, is_at, tidy};
-use crate::link_target::{has_name, target_of};
+use crate::link_target::{end_of_links, has_name};
 use crate::lock::{Unopened, take_lock};
 use persist_report_core::CliFault;
 use std::alloc::AllocError;
@@ -150,7 +150,7 @@ fn try_output<P: Drop, R: Files<File = File> + Clock + RandomSource + AllocGloba
 ) -> Result<Option<Output<File, P>>, Unopened> {
     match OpenOptions::new().write(true).open(rt, out) {
         Ok(file) => open_for(rt, out, file),
-        Err(error) if error.kind() == ErrorKind::NotFound => match target_of(rt, out)? {
+        Err(error) if error.kind() == ErrorKind::NotFound => match end_of_links(rt, out)? {
             Some(place) => Ok(Some(create_beside(rt, place, None)?)),
             None => Err(Unopened::from(Cause::of_write(error))),
         },
@@ -169,7 +169,7 @@ fn open_for<P: Drop, R: Files<File = File> + Clock + RandomSource + AllocGlobal>
         return Ok(Some(Output::Itself(file)));
     }
     take_lock(rt, &file)?;
-    match target_of(rt, out)? {
+    match end_of_links(rt, out)? {
         Some(place) if !is_at(rt, &found, &place).map_err(Cause::of_write)? => Ok(None),
         Some(place) => {
             let output = create_beside(rt, place, Some((file, found.permissions())))?;

@@ -203,7 +203,7 @@ fn form_text<R: AllocGlobal>(
             choice,
         } => {
             let head = head_of(alloc, sums, left)?;
-            page_of_sum(alloc, &head, reading, place, shows_all, choice)
+            page_of_sum(alloc, &head, reading, source, shows_all, choice)
         }
         Form::Info { .. } => return Err(Failure::Usage(no_overview(alloc)?)),
     };
@@ -264,7 +264,7 @@ fn make_composed<R: AllocGlobal>(
                 fold: None,
             },
         )?,
-        Text::Form(form) => form_text(context, form, place, &sums, &reading, left)?,
+        Text::Form(form) => form_text(context, form, source, &sums, &reading, left)?,
         Text::Families { prefix, labels } => families_of(context, &reading, prefix, labels)?,
     };
     Ok(Composed { text, wrong })
@@ -302,11 +302,11 @@ fn compose<R: Files<File = File> + Clock + Input + Eprint + AllocGlobal + Thread
         None => sums,
     };
     let named = inputs.first().or(inputs.list).unwrap_or(DASH);
-    let place = source_of_sum(named, inputs.is_one(), names);
+    let source = source_of_sum(named, inputs.is_one(), names);
     make_composed(
         context,
         text,
-        place,
+        source,
         inputs.has_totals,
         sums,
         is_damaged,
@@ -394,7 +394,7 @@ pub fn write_totals<
     if let Err(fault) = added {
         return Err(input_failure(context, fault, path_of(reader.into_inner().origin())));
     }
-    let place = source_in(text);
-    let composed = make_composed(context, text, place, false, sums, false, 0)?;
+    let source = source_in(text);
+    let composed = make_composed(context, text, source, false, sums, false, 0)?;
     write_composed(context, composed, to)
 }

@@ -12,7 +12,7 @@ use std::marker::Model;
 use thiserror::Error;
 
 /// What the words from a free pointer on are taken for.
-#[derive(Clone, Copy, Debug, PartialEq, Eq)]
+#[derive(Clone, Copy, PartialEq, Eq)]
 pub(crate) enum Purpose {
     /// For a block.
     Claim,
@@ -21,7 +21,7 @@ pub(crate) enum Purpose {
 }
 
 /// What an allocation does next, or how it has ended.
-#[derive(Clone, Copy, Debug, PartialEq, Eq)]
+#[derive(Clone, Copy, PartialEq, Eq)]
 pub(crate) enum AllocStage {
     /// It loads the flags. Each try begins so.
     LoadFlags,
@@ -63,7 +63,7 @@ pub(crate) enum AllocStage {
 }
 
 /// What a step of an allocation says.
-#[derive(Clone, Copy, Debug, PartialEq, Eq)]
+#[derive(Clone, Copy, PartialEq, Eq)]
 pub enum AllocStep {
     /// The allocation continues.
     More,
@@ -81,7 +81,7 @@ pub enum AllocStep {
 pub struct TooLarge;
 
 /// One allocation of a block. A clause sees the plain record of it, `Allocation` in `specs/Alloc.antt`.
-#[derive(Debug, Drop)]
+#[derive(Drop)]
 pub struct Alloc {
     shape: Shape,
     size: u64,

@@ -7,7 +7,7 @@ use segment_image::Shape;
 use segment_image::layout::{BLOCK_LEAST, HEADER_WORDS};
 
 /// What an allocation does from a free pointer on (Chromium's persistent_memory_allocator).
-#[derive(Clone, Copy, Debug, PartialEq, Eq)]
+#[derive(Clone, Copy, PartialEq, Eq)]
 pub enum Planned {
     /// It claims `size` words from the free pointer on, which then goes to `next`. The size is more than what was
     /// asked for if one to four words of the page would be left: these become part of the block.

@@ -4,7 +4,7 @@ use std::marker::Model;
 
 /// The values from which a custom spec makes its buckets, in the order in which they were given. A clause sees the
 /// list of them.
-#[derive(Debug, Drop)]
+#[derive(Drop)]
 pub struct CustomValues {
     values: Vec<u32>,
 }

@@ -7,7 +7,7 @@ use std::marker::Model;
 
 /// The boundaries of a histogram's buckets, ascending: bucket i has the values from boundary i up to boundary
 /// i + 1. A clause sees the list of boundaries.
-#[derive(Debug, Drop)]
+#[derive(Drop)]
 pub struct Ranges {
     boundaries: Vec<u32>,
 }

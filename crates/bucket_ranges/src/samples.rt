@@ -12,7 +12,7 @@ use std::alloc::{AllocError, Global};
 use std::collections::BTreeMap;
 
 /// What samples add up to.
-#[derive(Debug, Drop)]
+#[derive(Drop)]
 pub struct Plain {
     /// The units of all buckets in order, each under its least value; of sparse ranges the values that have units,
     /// ascending.

@@ -8,7 +8,7 @@ use segment_image::layout::{BUCKET_WEIGHT, DISABLED_BIT, NO_BUCKET, VERSION_FROZ
 
 /// What the single word of a histogram says: a histogram whose samples all fell into one bucket needs no block of
 /// counts (after the packed single sample of Chromium's `HistogramSamples`).
-#[derive(Clone, Copy, Debug, PartialEq, Eq)]
+#[derive(Clone, Copy, PartialEq, Eq)]
 pub enum SingleWord {
     /// No sample was packed, and the counts are not in use.
     Empty,

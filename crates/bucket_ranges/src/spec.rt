@@ -5,7 +5,7 @@ use thiserror::Error;
 
 /// How a histogram splits the values from 0 to 2,147,483,646 into buckets (Chromium's `base::Histogram`; exponential
 /// ranges are left out), or that it does not split them.
-#[derive(Debug, Drop)]
+#[derive(Drop)]
 pub enum Spec {
     /// `n` buckets: one below `min`, one from `max` on, and the others between them as evenly as whole numbers allow.
     Linear { min: u32, max: u32, n: u32 },

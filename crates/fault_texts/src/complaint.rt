@@ -9,7 +9,7 @@ use csv::ByteRecord;
 use std::fmt;
 
 /// The forms of records.
-#[derive(Clone, Copy, Debug, PartialEq, Eq)]
+#[derive(Clone, Copy, PartialEq, Eq)]
 pub enum RecordForm {
     Segment,
     Add,
@@ -23,7 +23,7 @@ pub enum RecordForm {
 }
 
 /// What is wrong with a record of a script.
-#[derive(Clone, Copy, Debug, PartialEq, Eq)]
+#[derive(Clone, Copy, PartialEq, Eq)]
 pub enum Complaint {
     /// The script has no record of that number.
     NoRecord,

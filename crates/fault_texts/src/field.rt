@@ -7,7 +7,7 @@ use persist_report_core::{long_number, signed_number, unsigned_number};
 use std::fmt;
 
 /// What may be in a field of a script.
-#[derive(Clone, Copy, Debug, PartialEq, Eq)]
+#[derive(Clone, Copy, PartialEq, Eq)]
 pub enum Wanted {
     /// The word with which a record begins.
     Word,

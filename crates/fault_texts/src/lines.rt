@@ -14,7 +14,7 @@ use std::alloc::{AllocError, Global};
 use std::{fmt, io};
 
 /// Where bytes come from or go to.
-#[derive(Clone, Copy, Debug)]
+#[derive(Clone, Copy)]
 pub enum Origin<'a> {
     /// The file at a path.
     File(&'a str),

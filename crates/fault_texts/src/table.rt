@@ -8,7 +8,7 @@ use crate::world_table::WORLD_TEXTS;
 use std::fmt;
 
 /// What a fault means, and what to do.
-#[derive(Clone, Copy, Debug)]
+#[derive(Clone, Copy)]
 pub struct FaultText<'a> {
     /// The name, as the line of a fault or of a report has it.
     pub name: &'a str,
@@ -36,7 +36,7 @@ fn write_table<W: fmt::Write>(
 }
 
 /// The texts of all faults, one after the other: those of `TEXTS`, of texts of several inputs, of `stepped`, and of C.
-#[derive(Clone, Copy, Debug)]
+#[derive(Clone, Copy)]
 pub struct AllTexts;
 
 impl fmt::Display for AllTexts {

@@ -19,7 +19,7 @@ use segment_image::layout::{FLAG_CORRUPT, FLAGS_WORD};
 use std::alloc::{AllocError, Global};
 
 /// A running call, with what it does next.
-#[derive(Debug, Drop)]
+#[derive(Drop)]
 pub(crate) enum Running {
     /// It sets the corrupt flag.
     SetCorrupt,
@@ -36,7 +36,7 @@ pub(crate) enum Running {
 }
 
 /// An actor: what it has counted and taken, and the call that it runs.
-#[derive(Debug, Drop)]
+#[derive(Drop)]
 pub(crate) struct ActorRun {
     // The entries of its ended calls, then those of the running one.
     pub(crate) entries: Vec<Entry>,

@@ -16,7 +16,7 @@ use segment_image::layout::{
 };
 
 /// What an `add` does next.
-#[derive(Debug, Drop)]
+#[derive(Drop)]
 pub(crate) enum AddStage {
     /// It loads the single word.
     LoadingSingle,
@@ -72,7 +72,7 @@ pub(crate) enum AddStage {
 }
 
 /// What a step of an `add` says.
-#[derive(Clone, Copy, Debug, PartialEq, Eq)]
+#[derive(Clone, Copy, PartialEq, Eq)]
 pub(crate) enum AddStep {
     /// It continues.
     More,
@@ -83,7 +83,7 @@ pub(crate) enum AddStep {
 }
 
 /// A running `add`.
-#[derive(Debug, Drop)]
+#[derive(Drop)]
 pub(crate) struct Add {
     pub(crate) shape: Shape,
     pub(crate) version: u64,

@@ -9,7 +9,7 @@ use segment_calls::BatchRefusal;
 use segment_image::layout::HISTOGRAM_SUM;
 
 /// What a step of a `batch` says.
-#[derive(Clone, Copy, Debug, PartialEq, Eq)]
+#[derive(Clone, Copy, PartialEq, Eq)]
 pub(crate) enum BatchStep {
     /// It continues.
     More,
@@ -20,7 +20,7 @@ pub(crate) enum BatchStep {
 }
 
 /// A running `batch`.
-#[derive(Debug, Drop)]
+#[derive(Drop)]
 pub(crate) struct Batch {
     // The histogram's record.
     pub(crate) histogram: u64,

@@ -3,7 +3,7 @@
 use segment_calls::{BatchRefusal, Call, Delta, Refusal, Snapshot};
 
 /// What a call returns.
-#[derive(Debug, Drop)]
+#[derive(Drop)]
 pub enum Answer {
     /// The reference of the histogram's record.
     Hist(u64),
@@ -22,7 +22,7 @@ pub enum Answer {
 }
 
 /// A move of a schedule.
-#[derive(Debug, Drop)]
+#[derive(Drop)]
 pub enum Move {
     /// An actor begins a call.
     Begin(usize, Call),
@@ -31,7 +31,7 @@ pub enum Move {
 }
 
 /// What the begin of a call says.
-#[derive(Debug, Drop)]
+#[derive(Drop)]
 pub enum Begun {
     /// The call runs, one event a step.
     Going,
@@ -40,7 +40,7 @@ pub enum Begun {
 }
 
 /// What a step says.
-#[derive(Debug, Drop)]
+#[derive(Drop)]
 pub enum Stepped {
     /// The call continues.
     More,

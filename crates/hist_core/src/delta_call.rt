@@ -16,7 +16,7 @@ use segment_image::layout::{
 use std::alloc::{AllocError, Global};
 
 /// What a delta does next.
-#[derive(Clone, Copy, Debug, PartialEq, Eq)]
+#[derive(Clone, Copy, PartialEq, Eq)]
 pub(crate) enum DeltaStage {
     /// It loads the single word.
     LoadingSingle,
@@ -65,7 +65,7 @@ pub(crate) enum DeltaStage {
 }
 
 /// What a step of a delta says.
-#[derive(Clone, Copy, Debug, PartialEq, Eq)]
+#[derive(Clone, Copy, PartialEq, Eq)]
 pub(crate) enum DeltaCallStep {
     /// It continues.
     More,
@@ -76,7 +76,7 @@ pub(crate) enum DeltaCallStep {
 }
 
 /// A running delta.
-#[derive(Debug, Drop)]
+#[derive(Drop)]
 pub(crate) struct DeltaCall {
     pub(crate) version: u64,
     // The histogram's record, and the ranges of its buckets.

@@ -2,7 +2,7 @@
 
 /// Units of one key of a histogram, and an amount of its sum: what an accepted call counts. The key of a bucket is its
 /// least value; that of a sparse sample is its value.
-#[derive(Debug, Drop)]
+#[derive(Drop)]
 pub struct Entry {
     /// The name of the histogram.
     pub name: Vec<u8>,
@@ -15,7 +15,7 @@ pub struct Entry {
 }
 
 /// What a delta took; of a running one, what it has taken so far.
-#[derive(Debug, Drop)]
+#[derive(Drop)]
 pub struct Taken {
     /// The name of the histogram.
     pub name: Vec<u8>,

@@ -14,7 +14,7 @@ use segment_image::layout::{BLOCK_HEADER, BLOCK_TYPE, HISTOGRAM_NAME_LENGTH, TYP
 const MOST_WORDS: usize = 1 << 60;
 
 /// A histogram that an actor knows, or asks for.
-#[derive(Debug, Drop)]
+#[derive(Drop)]
 pub(crate) struct KnownHist {
     pub(crate) name: Vec<u8>,
     pub(crate) spec: Spec,
@@ -24,7 +24,7 @@ pub(crate) struct KnownHist {
 }
 
 /// What a `hist` does next.
-#[derive(Debug, Drop)]
+#[derive(Drop)]
 pub(crate) enum HistStage {
     /// It loads the next of the block where the walk is.
     Walking,
@@ -35,7 +35,7 @@ pub(crate) enum HistStage {
 }
 
 /// What a step of a `hist` says.
-#[derive(Clone, Copy, Debug, PartialEq, Eq)]
+#[derive(Clone, Copy, PartialEq, Eq)]
 pub(crate) enum HistStep {
     /// It continues.
     More,
@@ -46,7 +46,7 @@ pub(crate) enum HistStep {
 }
 
 /// A running `hist`.
-#[derive(Debug, Drop)]
+#[derive(Drop)]
 pub(crate) struct Hist {
     pub(crate) shape: Shape,
     pub(crate) asked: KnownHist,

@@ -6,7 +6,7 @@ ghost use Rattle.hist_core.specs.Mounted.{total_at};
 use segment_image::layout::BLOCK_HEADER;
 
 /// The counts of a histogram, as they were found in use.
-#[derive(Clone, Copy, Debug, PartialEq, Eq)]
+#[derive(Clone, Copy, PartialEq, Eq)]
 pub(crate) struct Mounted {
     // Where they are.
     pub(crate) counts: u64,

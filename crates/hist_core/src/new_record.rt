@@ -10,7 +10,7 @@ use segment_image::Shape;
 use segment_image::layout::BLOCK_HEADER;
 
 /// What is done next for a new record.
-#[derive(Debug, Drop)]
+#[derive(Drop)]
 pub(crate) enum NewRecordStage {
     /// It claims the words of the record.
     Allocating { alloc: Alloc },
@@ -21,7 +21,7 @@ pub(crate) enum NewRecordStage {
 }
 
 /// What a step for a new record says.
-#[derive(Clone, Copy, Debug, PartialEq, Eq)]
+#[derive(Clone, Copy, PartialEq, Eq)]
 pub(crate) enum NewRecordStep {
     /// It continues.
     More,
@@ -32,7 +32,7 @@ pub(crate) enum NewRecordStep {
 }
 
 /// A record that is being made. What it is to hold is given at each step.
-#[derive(Debug, Drop)]
+#[derive(Drop)]
 pub(crate) struct NewRecord {
     pub(crate) stage: NewRecordStage,
 }

@@ -14,7 +14,7 @@ use segment_image::layout::{
 };
 
 /// What a search for a sample does next.
-#[derive(Debug, Drop)]
+#[derive(Drop)]
 pub(crate) enum SampleSearchStage {
     /// It loads the next of the block where the walk is.
     Walking,
@@ -29,7 +29,7 @@ pub(crate) enum SampleSearchStage {
 }
 
 /// What a step of a search for a sample says.
-#[derive(Clone, Copy, Debug, PartialEq, Eq)]
+#[derive(Clone, Copy, PartialEq, Eq)]
 pub(crate) enum SampleSearchStep {
     /// It continues.
     More,
@@ -40,7 +40,7 @@ pub(crate) enum SampleSearchStep {
 }
 
 /// A running search for the sample of a value.
-#[derive(Debug, Drop)]
+#[derive(Drop)]
 pub(crate) struct SampleSearch {
     pub(crate) shape: Shape,
     // The histogram's record, and the value.

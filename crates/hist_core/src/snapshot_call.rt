@@ -14,7 +14,7 @@ use segment_image::layout::{
 use std::alloc::{AllocError, Global};
 
 /// What a snapshot does next.
-#[derive(Clone, Copy, Debug, PartialEq, Eq)]
+#[derive(Clone, Copy, PartialEq, Eq)]
 pub(crate) enum SnapshotStage {
     /// It loads the single word.
     LoadingSingle,
@@ -33,7 +33,7 @@ pub(crate) enum SnapshotStage {
 }
 
 /// What a step of a snapshot says.
-#[derive(Clone, Copy, Debug, PartialEq, Eq)]
+#[derive(Clone, Copy, PartialEq, Eq)]
 pub(crate) enum SnapshotCallStep {
     /// It continues.
     More,
@@ -42,7 +42,7 @@ pub(crate) enum SnapshotCallStep {
 }
 
 /// A running snapshot.
-#[derive(Debug, Drop)]
+#[derive(Drop)]
 pub(crate) struct SnapshotCall {
     pub(crate) version: u64,
     // The histogram's record.

@@ -8,7 +8,7 @@ use segment_image::layout::{
 };
 
 /// What a walk does next.
-#[derive(Clone, Copy, Debug, PartialEq, Eq)]
+#[derive(Clone, Copy, PartialEq, Eq)]
 pub(crate) enum SampleWalk {
     /// It loads the next of the histogram's record.
     LoadingFirst,
@@ -23,7 +23,7 @@ pub(crate) enum SampleWalk {
 }
 
 /// What a step of a walk found.
-#[derive(Clone, Copy, Debug, PartialEq, Eq)]
+#[derive(Clone, Copy, PartialEq, Eq)]
 pub(crate) enum Met {
     /// Nothing yet, and it continues.
     Nothing(SampleWalk),

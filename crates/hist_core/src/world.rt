@@ -16,7 +16,7 @@ pub const MAX_ACTORS: usize = 64;
 
 /// A segment with its actors. Each actor runs at most one call, and each step is one event of it. So a world can be
 /// looked at after any event of any interleaving: what it shows is a state that the machine reaches.
-#[derive(Debug, Drop)]
+#[derive(Drop)]
 pub struct World {
     world_state: WorldState,
     ghost reached: { ∥ IsReachable world_state ∥₁ },

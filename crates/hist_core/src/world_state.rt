@@ -12,7 +12,7 @@ use segment_image::{Shape, header, ready_header};
 use std::alloc::{AllocError, Global};
 
 /// The words of a segment, and the actors that call on it.
-#[derive(Debug, Drop)]
+#[derive(Drop)]
 pub(crate) struct WorldState {
     pub(crate) alloc: Global,
     pub(crate) shape: Shape,

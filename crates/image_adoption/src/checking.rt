@@ -16,7 +16,7 @@ use std::alloc::Global;
 pub const MAX_CURSORS: usize = 8;
 
 /// What is known of an image that may be adopted. No record of it is bad, and its list is complete.
-#[derive(Debug, Drop)]
+#[derive(Drop)]
 pub struct Adoptable {
     /// The references of all records on its list, in its order, including those that are passed over.
     pub references: Vec<u64>,

@@ -22,7 +22,7 @@ use segment_image::{SegmentHead, block};
 use std::alloc::{AllocError, Global};
 
 /// Where the units of a record's buckets are, and their marks.
-#[derive(Clone, Copy, Debug)]
+#[derive(Clone, Copy)]
 pub(crate) struct Buckets {
     /// The version of the format.
     version: u64,

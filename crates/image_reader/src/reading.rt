@@ -5,7 +5,7 @@ use bucket_ranges::reading::RecordFault;
 use segment_image::ImageFault;
 
 /// What a histogram of a segment reads as.
-#[derive(Debug, Drop)]
+#[derive(Drop)]
 pub struct HistReading {
     /// The index of the first word of its record.
     pub reference: u64,
@@ -27,7 +27,7 @@ pub struct HistReading {
 }
 
 /// A record that was not read.
-#[derive(Clone, Copy, Debug, PartialEq, Eq)]
+#[derive(Clone, Copy, PartialEq, Eq)]
 pub struct BadRecord {
     /// The index of the first word of the record.
     pub reference: u64,
@@ -36,7 +36,7 @@ pub struct BadRecord {
 }
 
 /// What the words of a segment read as.
-#[derive(Debug, Drop)]
+#[derive(Drop)]
 pub struct Reading {
     /// The segment's id.
     pub id: u64,

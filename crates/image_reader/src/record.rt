@@ -24,7 +24,7 @@ use segment_image::layout::{
 use std::alloc::{AllocError, AllocFailed, Global};
 
 /// Why a record gives no histogram.
-#[derive(Debug, Drop)]
+#[derive(Drop)]
 pub(crate) enum Refusal {
     /// Memory ran out.
     Memory,

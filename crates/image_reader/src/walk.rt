@@ -9,7 +9,7 @@ use segment_image::{ImageFault, SegmentHead, block};
 use std::alloc::{AllocError, Global};
 
 /// The list of a segment's records.
-#[derive(Debug, Drop)]
+#[derive(Drop)]
 pub struct Listed {
     /// The references of all records on the list, in its order.
     pub references: Vec<u64>,

@@ -5,7 +5,7 @@ use segment_image::layout::{BLOCK_NEXT, QUEUE};
 use std::marker::Model;
 
 /// What a cursor does next.
-#[derive(Clone, Copy, Debug, PartialEq, Eq)]
+#[derive(Clone, Copy, PartialEq, Eq)]
 pub(crate) enum CursorStage {
     /// It loads the shared word.
     LoadCursor,
@@ -16,7 +16,7 @@ pub(crate) enum CursorStage {
 }
 
 /// What a step of a cursor says.
-#[derive(Clone, Copy, Debug, PartialEq, Eq)]
+#[derive(Clone, Copy, PartialEq, Eq)]
 pub enum CursorStep {
     /// The cursor continues.
     More,
@@ -31,7 +31,7 @@ pub enum CursorStep {
 /// A cursor along the list (the iterator of Chromium's persistent_memory_allocator that threads share). Cursors share
 /// one word, which names the block that they have reached together: at first 12. A clause sees what the cursor does
 /// next.
-#[derive(Debug, Drop)]
+#[derive(Drop)]
 pub struct Cursor {
     stage: CursorStage,
 }

@@ -7,7 +7,7 @@ use segment_image::layout::{BLOCK_NEXT, QUEUE, TAIL_WORD};
 use std::marker::Model;
 
 /// What a publish does next, or how it has ended.
-#[derive(Clone, Copy, Debug, PartialEq, Eq)]
+#[derive(Clone, Copy, PartialEq, Eq)]
 pub(crate) enum PubStage {
     /// It stores the end of the list in the next of its record.
     StoreOwnNext,
@@ -24,7 +24,7 @@ pub(crate) enum PubStage {
 }
 
 /// What a step of a publish says.
-#[derive(Clone, Copy, Debug, PartialEq, Eq)]
+#[derive(Clone, Copy, PartialEq, Eq)]
 pub enum PubStep {
     /// The publish continues.
     More,
@@ -36,7 +36,7 @@ pub enum PubStep {
 
 /// One publish of a record (the iterable list of Chromium's persistent_memory_allocator). A clause sees the plain record
 /// of it, `Publishing` in `specs/Publish.antt`.
-#[derive(Debug, Drop)]
+#[derive(Drop)]
 pub struct Publish {
     reference: u64,
     stage: PubStage,

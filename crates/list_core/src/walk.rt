@@ -5,7 +5,7 @@ use segment_image::layout::{BLOCK_NEXT, QUEUE};
 use std::marker::Model;
 
 /// What a step of a walk says.
-#[derive(Clone, Copy, Debug, PartialEq, Eq)]
+#[derive(Clone, Copy, PartialEq, Eq)]
 pub enum WalkStep {
     /// The next record of the list.
     Record(u64),
@@ -17,7 +17,7 @@ pub enum WalkStep {
 
 /// A walk along the list (Chromium's persistent_memory_allocator). A clause sees the block where it is: 12, the queue
 /// block, or the record that it gave last.
-#[derive(Debug, Drop)]
+#[derive(Drop)]
 pub struct Walk {
     at: u64,
 }

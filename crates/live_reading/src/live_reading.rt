@@ -12,7 +12,7 @@ use segment_calls::{Refusal, Snapshot};
 use std::alloc::{AllocError, Global};
 
 /// A histogram of a running segment.
-#[derive(Debug, Drop)]
+#[derive(Drop)]
 pub struct LiveHistogram {
     /// Its name.
     pub name: Vec<u8>,
@@ -23,7 +23,7 @@ pub struct LiveHistogram {
 }
 
 /// The histograms of a running segment. They are not of one moment, and have no marks: what deltas took is not known.
-#[derive(Debug, Drop)]
+#[derive(Drop)]
 pub struct LiveReading {
     /// The histograms, in the order of their records on the list.
     pub hists: Vec<LiveHistogram>,

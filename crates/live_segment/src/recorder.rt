@@ -14,7 +14,7 @@ use segment_calls::{Asked, BatchRefusal, Delta, Refusal, Snapshot};
 pub use state::RecorderState;
 
 /// A histogram that a recorder knows: its place in the list of those.
-#[derive(Clone, Copy, Debug, PartialEq, Eq)]
+#[derive(Clone, Copy, PartialEq, Eq)]
 pub struct Hist {
     index: usize,
 }
@@ -29,7 +29,7 @@ impl Hist {
 }
 
 /// A histogram that a `hist` of a recorder returned.
-#[derive(Debug, Drop)]
+#[derive(Drop)]
 pub(crate) struct KnownHistogram {
     pub(crate) name: Vec<u8>,
     pub(crate) spec: Spec,

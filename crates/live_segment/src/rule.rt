@@ -6,7 +6,7 @@ use segment_image::Shape;
 use segment_machine::Actor;
 
 /// What a segment is opened as.
-#[derive(Clone, Copy, Debug, PartialEq, Eq)]
+#[derive(Clone, Copy, PartialEq, Eq)]
 pub(crate) struct Setting {
     pub(crate) shape: Shape,
     pub(crate) version: u64,
@@ -17,7 +17,7 @@ pub(crate) struct Setting {
 }
 
 /// What a segment is opened with: a new one, or an image in which it continues.
-#[derive(Debug, Drop)]
+#[derive(Drop)]
 pub(crate) struct Opening {
     pub(crate) setting: Setting,
     /// The words of its table.
@@ -27,7 +27,7 @@ pub(crate) struct Opening {
 }
 
 /// What a step announces that cannot be seen from its word.
-#[derive(Debug, Drop)]
+#[derive(Drop)]
 pub(crate) enum Announcement {
     /// The units that the next recorder is to have.
     Units(u32),

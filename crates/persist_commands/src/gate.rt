@@ -13,7 +13,7 @@ pub trait Gate {
 }
 
 /// Lets each call be made at once.
-#[derive(Clone, Copy, Debug)]
+#[derive(Clone, Copy)]
 pub struct OpenGate;
 
 impl Gate for OpenGate {

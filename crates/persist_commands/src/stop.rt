@@ -9,7 +9,7 @@ use std::alloc::AllocError;
 
 /// Why nothing is written. If workers stop for several reasons, the first kind of these is reported, and of refusals
 /// that of the record with the least number.
-#[derive(Clone, Copy, Debug, PartialEq, Eq)]
+#[derive(Clone, Copy, PartialEq, Eq)]
 pub(crate) enum Stop {
     /// A worker could not be started.
     NoThread,

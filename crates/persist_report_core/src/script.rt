@@ -14,7 +14,7 @@ pub use reading::{MAX_SCRIPT_BYTES, read_script};
 use segment_image::Shape;
 
 /// What a script asks for.
-#[derive(Debug, Drop)]
+#[derive(Drop)]
 pub struct Script {
     /// The words of the segment and of its pages.
     pub shape: Shape,
@@ -27,7 +27,7 @@ pub struct Script {
 }
 
 /// A `hist` record: a histogram that has to be there before anything is recorded.
-#[derive(Debug, Drop)]
+#[derive(Drop)]
 pub struct ScriptHist {
     /// The bytes of its name, valid or not.
     pub name: Vec<u8>,
@@ -38,7 +38,7 @@ pub struct ScriptHist {
 }
 
 /// An `add` or a `delta` record.
-#[derive(Clone, Copy, Debug, PartialEq, Eq)]
+#[derive(Clone, Copy, PartialEq, Eq)]
 pub struct ScriptCall {
     /// The index of the first `hist` record of its name.
     pub hist: u32,
@@ -49,7 +49,7 @@ pub struct ScriptCall {
 }
 
 /// What an `add` or a `delta` record asks for.
-#[derive(Clone, Copy, Debug, PartialEq, Eq)]
+#[derive(Clone, Copy, PartialEq, Eq)]
 pub enum CallKind {
     /// `count` units of a value are to be recorded.
     Add { value: i32, count: u32 },

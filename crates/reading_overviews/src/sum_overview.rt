@@ -12,7 +12,7 @@ use image_reader::{HistReading, Reading};
 use std::alloc::{AllocError, Global};
 
 /// What a sum says of its inputs, in place of the header of an image.
-#[derive(Clone, Copy, Debug)]
+#[derive(Clone, Copy)]
 pub struct SumHead {
     /// How many images it adds up.
     pub images: u64,

@@ -9,7 +9,7 @@ use image_reader::{HistReading, Reading};
 use std::alloc::{AllocError, Global};
 
 /// Which histograms are shown.
-#[derive(Clone, Copy, Debug)]
+#[derive(Clone, Copy)]
 pub enum Choice<'a> {
     /// All of them.
     All,

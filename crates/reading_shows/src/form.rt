@@ -18,7 +18,7 @@ use std::alloc::{AllocError, Global};
 use text_styles::{ListStyle, Style};
 
 /// The form in which a reading is written.
-#[derive(Clone, Copy, Debug)]
+#[derive(Clone, Copy)]
 pub enum Form<'a> {
     /// Its report, as CSV.
     Report,

@@ -12,7 +12,7 @@ use image_reader::HistReading;
 use reading_texts::{HistRow, is_sparse, units};
 
 // What the rows of a histogram have in common.
-#[derive(Clone, Copy, Debug, PartialEq, Eq)]
+#[derive(Clone, Copy, PartialEq, Eq)]
 pub(crate) struct Frame {
     // How the values of a row are written.
     pub(crate) row_names: RowNames,
@@ -23,7 +23,7 @@ pub(crate) struct Frame {
 }
 
 // How wide the columns of a histogram are.
-#[derive(Clone, Copy, Debug, PartialEq, Eq)]
+#[derive(Clone, Copy, PartialEq, Eq)]
 pub(crate) struct LineColumns {
     // The column of the values.
     pub(crate) values: usize,

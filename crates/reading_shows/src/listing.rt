@@ -37,7 +37,7 @@ pub(crate) struct ListEntry {
 }
 
 // How wide the columns of a list are.
-#[derive(Clone, Copy, Debug, PartialEq, Eq)]
+#[derive(Clone, Copy, PartialEq, Eq)]
 pub(crate) struct ListColumns {
     pub(crate) name: usize,
     pub(crate) kind: usize,

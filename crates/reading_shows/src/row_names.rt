@@ -10,7 +10,7 @@ use reading_texts::{HistRow, put_parts};
 use std::alloc::AllocError;
 
 // How the values of a row are written.
-#[derive(Clone, Copy, Debug, PartialEq, Eq)]
+#[derive(Clone, Copy, PartialEq, Eq)]
 pub(crate) enum RowNames {
     // As one value, in a sparse histogram.
     Value,

@@ -66,7 +66,7 @@ pub(crate) fn put_percent(
 }
 
 // A size with a point before its last digits: the number of these digits, ten to that power, and the size times it.
-#[derive(Clone, Copy, Debug, PartialEq, Eq)]
+#[derive(Clone, Copy, PartialEq, Eq)]
 struct Scaled {
     digits: usize,
     power: u128,

@@ -17,7 +17,7 @@ use std::alloc::{AllocError, Global};
 use std::collections::BTreeMap;
 
 // Whether a text says what came since an earlier reading, and the histograms of that reading.
-#[derive(Clone, Copy, Debug)]
+#[derive(Clone, Copy)]
 pub(crate) struct Since<'a> {
     pub(crate) is_told: bool,
     pub(crate) hists: &'a [HistReading],

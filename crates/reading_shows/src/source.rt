@@ -9,7 +9,7 @@ use reading_overviews::put_number;
 use std::alloc::{AllocError, Global};
 
 /// Where an image, or a sum of images, comes from. Its page names it.
-#[derive(Clone, Copy, Debug)]
+#[derive(Clone, Copy)]
 pub enum Source<'a> {
     /// Standard input.
     Input,

@@ -21,7 +21,7 @@ use std::alloc::{AllocError, Global};
 use std::cmp::Ordering;
 
 /// What the histograms of one name and one spec have together.
-#[derive(Debug, Drop)]
+#[derive(Drop)]
 pub struct HistSum {
     /// The bytes of the name.
     pub name: Vec<u8>,

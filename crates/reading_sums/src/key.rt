@@ -13,7 +13,7 @@ use crate::order::Side;
 use std::alloc::{AllocError, Global};
 
 /// What images have of one key together: of a bucket, or of a value of a sparse histogram.
-#[derive(Clone, Copy, Debug, PartialEq, Eq)]
+#[derive(Clone, Copy, PartialEq, Eq)]
 pub struct KeySum {
     /// The least value of the bucket, or the value.
     pub value: i32,

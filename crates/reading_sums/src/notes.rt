@@ -10,7 +10,7 @@ use crate::fault::SumsFault;
 use image_reader::Reading;
 
 /// What the images of a sum say apart from their histograms.
-#[derive(Clone, Copy, Debug, PartialEq, Eq)]
+#[derive(Clone, Copy, PartialEq, Eq)]
 pub struct Notes {
     /// How many images there are.
     pub images: u64,

@@ -8,7 +8,7 @@ use bucket_ranges::Spec;
 use std::cmp::Ordering;
 
 /// Which of two lists begins with the least.
-#[derive(Clone, Copy, Debug, PartialEq, Eq)]
+#[derive(Clone, Copy, PartialEq, Eq)]
 pub(crate) enum Side {
     Left,
     Right,

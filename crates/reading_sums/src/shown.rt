@@ -14,7 +14,7 @@ use image_reader::HistReading;
 use std::alloc::{AllocError, Global};
 
 /// What a sum has of a name under a spec that is not shown.
-#[derive(Debug, Drop)]
+#[derive(Drop)]
 pub struct OtherSpec {
     /// The bytes of the name.
     pub name: Vec<u8>,

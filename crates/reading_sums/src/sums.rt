@@ -29,7 +29,7 @@ use std::alloc::{AllocError, Global};
 
 /// The sum of any number of images: for each name and spec what the histograms of that name and spec have together, and
 /// what the images say apart from their histograms.
-#[derive(Debug, Drop)]
+#[derive(Drop)]
 pub struct Sums {
     alloc: Global,
     notes: Notes,

@@ -21,7 +21,7 @@ use image_reader::Reading;
 use std::alloc::{AllocError, Global};
 
 /// Why a reading has no text with a family for each histogram.
-#[derive(Debug, PartialEq, Eq, Drop)]
+#[derive(PartialEq, Eq, Drop)]
 pub enum FamilyFault {
     /// Two histograms that cannot both be families, or one that cannot be a family beside one of the segment: both
     /// names.

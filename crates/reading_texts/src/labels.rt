@@ -9,7 +9,7 @@ use std::alloc::{AllocError, Global};
 use std::cmp::Ordering;
 
 /// A label of a metric.
-#[derive(Clone, Copy, Debug)]
+#[derive(Clone, Copy)]
 pub struct Label<'a> {
     /// Its key: an ASCII letter or `_`, then any number of these and of digits.
     pub key: &'a [u8],

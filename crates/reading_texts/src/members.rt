@@ -23,7 +23,7 @@ pub(crate) struct Member<'a> {
 }
 
 /// The names of two histograms that cannot both be families; or the name of one, and that of a family of the segment.
-#[derive(Clone, Copy, Debug)]
+#[derive(Clone, Copy)]
 pub(crate) struct Clash<'a> {
     pub first: &'a [u8],
     pub second: &'a [u8],

@@ -12,7 +12,7 @@ use image_reader::HistReading;
 use std::alloc::{AllocError, Global};
 
 /// A bucket of a histogram, or a value of a sparse one.
-#[derive(Clone, Copy, Debug, PartialEq, Eq)]
+#[derive(Clone, Copy, PartialEq, Eq)]
 pub struct HistRow {
     /// Its least value.
     pub low: i32,

@@ -9,7 +9,7 @@ use crate::named::is_named;
 use std::alloc::{AllocError, Global};
 
 /// What a fold writes in addition to the sum.
-#[derive(Debug, Drop)]
+#[derive(Drop)]
 pub struct Fold {
     /// The segments that the totals name, each a number and an id.
     pub names: Vec<(u64, u64)>,

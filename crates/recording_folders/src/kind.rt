@@ -9,7 +9,7 @@ use crate::name::{DAMAGED, SEGMENT, number_in};
 use std::alloc::{AllocError, Global};
 
 /// Which file of a recording's folder a name is for.
-#[derive(Clone, Copy, Debug, PartialEq, Eq)]
+#[derive(Clone, Copy, PartialEq, Eq)]
 pub enum FileKind {
     /// The segment of a number.
     Segment(u64),

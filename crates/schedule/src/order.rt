@@ -13,7 +13,7 @@ use segment_calls::Call;
 use std::alloc::{AllocError, Global};
 
 /// What a world starts with: the first record.
-#[derive(Debug, Drop)]
+#[derive(Drop)]
 pub enum Opening {
     /// A new segment.
     New(NewWorld),
@@ -22,7 +22,7 @@ pub enum Opening {
 }
 
 /// How a world of a new segment is made.
-#[derive(Clone, Copy, Debug, PartialEq, Eq)]
+#[derive(Clone, Copy, PartialEq, Eq)]
 pub struct NewWorld {
     /// How many words its segment has, valid or not.
     pub size: u64,
@@ -37,7 +37,7 @@ pub struct NewWorld {
 }
 
 /// What an actor is to do, or a load of a look: a later record.
-#[derive(Debug, Drop)]
+#[derive(Drop)]
 pub struct Order {
     /// The number of the actor, from 0, or of the copy that is loaded, from 1; whether there is one or not.
     pub actor: usize,
@@ -46,7 +46,7 @@ pub struct Order {
 }
 
 /// What an actor is to do.
-#[derive(Debug, Drop)]
+#[derive(Drop)]
 pub enum OrderKind {
     /// It begins a call.
     Begin(Call),

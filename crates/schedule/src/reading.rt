@@ -18,7 +18,7 @@ use std::alloc::Global;
 use std::io::Read;
 
 /// What is to be done in a world, in order.
-#[derive(Debug, Drop)]
+#[derive(Drop)]
 pub struct Schedule {
     /// The world: record 1.
     pub opening: Opening,

@@ -1,7 +1,7 @@
 //! What a delta and a snapshot return.
 
 /// What a delta took of a histogram: what was counted since the deltas before it.
-#[derive(Debug, Drop)]
+#[derive(Drop)]
 pub struct Delta {
     /// The keys of which it took units, ascending, each with how many it took.
     pub counts: Vec<(i32, u64)>,
@@ -10,7 +10,7 @@ pub struct Delta {
 }
 
 /// What a snapshot saw of a histogram.
-#[derive(Debug, Drop)]
+#[derive(Drop)]
 pub struct Snapshot {
     /// The key and the units of each bucket, in order; of a sparse histogram the values that have units, ascending.
     pub counts: Vec<(i32, u64)>,

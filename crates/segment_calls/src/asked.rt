@@ -17,7 +17,7 @@ use segment_image::layout::{BLOCK_HEADER, KIND_BOOLEAN, KIND_CUSTOM, KIND_LINEAR
 use std::alloc::{AllocError, Global};
 
 /// What a `hist` asks for.
-#[derive(Debug, Drop)]
+#[derive(Drop)]
 pub struct Asked {
     /// The name.
     pub name: Vec<u8>,

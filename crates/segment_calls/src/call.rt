@@ -3,7 +3,7 @@
 use bucket_ranges::Spec;
 
 /// A call on a segment.
-#[derive(Debug, Drop)]
+#[derive(Drop)]
 pub enum Call {
     /// The histogram of a name and a spec, which is made if there is none.
     Hist(Vec<u8>, Spec),

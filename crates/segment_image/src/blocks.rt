@@ -3,7 +3,7 @@
 use crate::fault::ImageFault;
 
 /// What a block's header says.
-#[derive(Clone, Copy, Debug, PartialEq, Eq)]
+#[derive(Clone, Copy, PartialEq, Eq)]
 pub struct BlockHead {
     /// The words of the block, its header of four included.
     pub size: u64,

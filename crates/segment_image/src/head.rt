@@ -10,7 +10,7 @@ use crate::layout::{
 use crate::shape::Shape;
 
 /// What an image's header says.
-#[derive(Clone, Copy, Debug, PartialEq, Eq)]
+#[derive(Clone, Copy, PartialEq, Eq)]
 pub struct SegmentHead {
     /// The words of the segment and of its pages.
     pub shape: Shape,

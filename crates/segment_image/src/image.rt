@@ -10,7 +10,7 @@ use std::alloc::{AllocError, Global};
 use std::marker::Model;
 
 /// The words of a segment. A clause sees the list of words.
-#[derive(Debug, Drop)]
+#[derive(Drop)]
 pub struct Image {
     words: Vec<u64>,
 }

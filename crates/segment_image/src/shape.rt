@@ -5,7 +5,7 @@ use crate::layout::{MAX_PAGE, MAX_SIZE, MIN_PAGE, PAGE_STEP};
 use std::marker::Model;
 
 /// How many words a segment has, and how many each of its pages has. A clause sees both numbers.
-#[derive(Clone, Copy, Debug, PartialEq, Eq)]
+#[derive(Clone, Copy, PartialEq, Eq)]
 pub struct Shape {
     size: u64,
     page: u64,

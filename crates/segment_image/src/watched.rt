@@ -9,7 +9,7 @@ use std::io::{Read, Write};
 
 /// Passes reads and writes on, and remembers whether one of them failed, and whether a flush succeeded after the last
 /// write.
-#[derive(Debug, Drop)]
+#[derive(Drop)]
 pub struct Watched<T> {
     inner: T,
     failed: bool,

@@ -17,7 +17,7 @@ use segment_calls::{BatchRefusal, Refusal};
 use std::alloc::{AllocError, Global};
 
 /// Why a merge stopped at a histogram.
-#[derive(Debug, Drop)]
+#[derive(Drop)]
 pub struct MergeStop {
     /// The name of the histogram.
     pub name: Vec<u8>,
@@ -28,7 +28,7 @@ pub struct MergeStop {
 }
 
 /// What a merge added.
-#[derive(Debug, Drop)]
+#[derive(Drop)]
 pub struct MergeReport {
     /// The name of each histogram that was reached, in order, each with the units that were added to it.
     pub added: Vec<(Vec<u8>, u64)>,

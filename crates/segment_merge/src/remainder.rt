@@ -8,7 +8,7 @@ use image_reader::HistReading;
 use std::alloc::{AllocError, Global};
 
 /// What deltas have not taken of a histogram.
-#[derive(Debug, Drop)]
+#[derive(Drop)]
 pub struct Remainder {
     /// The keys of which there are units left, in their order, each with how many.
     pub items: Vec<(i32, u32)>,

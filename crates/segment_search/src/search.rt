@@ -15,7 +15,7 @@ use std::io::Read;
 const MOST_WORDS: u64 = 2_305_843_009_213_693_952;
 
 /// A segment that was found.
-#[derive(Debug, Drop)]
+#[derive(Drop)]
 pub struct Found {
     /// The number of words before it.
     pub word: u64,

@@ -10,7 +10,7 @@ use std::alloc::Global;
 pub const SAMPLE_WORDS: u64 = SAMPLE_LEAST as u64;
 
 /// The words of a histogram's blocks, their headers among them.
-#[derive(Clone, Copy, Debug, PartialEq, Eq)]
+#[derive(Clone, Copy, PartialEq, Eq)]
 pub struct Blocks {
     /// The words of its record.
     pub record: u64,

@@ -7,7 +7,7 @@ ghost use Rattle.sum_commands.specs.Kinds.{kind_of as kind_of_bytes};
 pub const FRONT: usize = 16;
 
 /// What an input begins as.
-#[derive(Clone, Copy, Debug, PartialEq, Eq)]
+#[derive(Clone, Copy, PartialEq, Eq)]
 pub enum InputKind {
     /// As an image, or as a mapped file with one.
     Image,

@@ -14,7 +14,7 @@ use reading_sums::{HistSum, Notes};
 use std::alloc::{AllocError, Global};
 
 /// What the lines of a totals say.
-#[derive(Debug, Drop)]
+#[derive(Drop)]
 pub(crate) struct TotalsRead {
     pub(crate) notes: Notes,
     pub(crate) hists: Vec<HistSum>,

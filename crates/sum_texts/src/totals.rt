@@ -3,7 +3,7 @@
 use reading_sums::Sums;
 
 /// A sum, and which segments are in it if a fold made it.
-#[derive(Debug, Drop)]
+#[derive(Drop)]
 pub struct Totals {
     /// The sum.
     pub sums: Sums,

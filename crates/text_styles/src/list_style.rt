@@ -1,7 +1,7 @@
 //! How a list of histograms is written.
 
 /// How a list of histograms is written.
-#[derive(Clone, Copy, Debug, PartialEq, Eq)]
+#[derive(Clone, Copy, PartialEq, Eq)]
 pub struct ListStyle {
     /// The cells of a line, if the numbers leave room for the names.
     pub width: u16,

@@ -1,7 +1,7 @@
 //! How a histogram is drawn.
 
 /// How a histogram is drawn.
-#[derive(Clone, Copy, Debug, PartialEq, Eq)]
+#[derive(Clone, Copy, PartialEq, Eq)]
 pub struct Style {
     /// The cells of a line, if its values and numbers leave room for a bar.
     pub width: u16,

@@ -36,7 +36,7 @@ impl<J: Job<Output = X>, X> Promise<X> for Given<J> {
 }
 
 /// Why not all jobs were run.
-#[derive(Clone, Copy, Debug, PartialEq, Eq)]
+#[derive(Clone, Copy, PartialEq, Eq)]
 pub enum NotRun {
     /// A thread could not be started.
     NoThread,

@@ -12,6 +12,9 @@ check of all of it.
 The processes of 'rt ci' are looked at twice a second; what ended between two looks is reported as being in no line of
 the table. The status is 1 if a step failed. Run it on a clean clone, on a machine that does nothing else.
 
+The same proof takes up to four times as much at one hour as at another, so 'rt ci' is also compared with what the proofs
+of a few crates, the yardstick, took in the same run: that ratio is the figure to compare from day to day.
+
 With --proofs it runs 'rt ci' alone, and writes what that took to FILE. This is how each run of .ci/run reports what it
 takes.
 """
@@ -42,6 +45,8 @@ MARKS = ROOT / "tests" / "support" / "marks.py"
 LANES = ROOT / "tests" / "support" / "lanes.py"
 WIDTH = 120
 MOST_EDITS = 10
+# The crates whose proofs are the yardstick.
+YARDSTICK = ("segment_image", "bucket_ranges", "image_reader", "hist_core", "live_segment")
 
 # A crate and a part of the gate; the number of a process, and when it began; a check: its crate, part and folder.
 Task = tuple[str, str]
@@ -77,6 +82,14 @@ class Costs:
 
     def minutes(self, task: Task) -> float:
         return sum(self.seconds[task].values()) / 60
+
+    def yardsticks(self, minutes: float) -> str:
+        """How many times what the proofs of the yardstick took these minutes are, as a sentence says it. Where a kit
+        keeps what passed, their proofs need not be in this run."""
+        yardstick = sum(self.minutes((crate, "proofs")) for crate in YARDSTICK)
+        if not yardstick:
+            return "the yardstick was not proved in this run"
+        return f"{minutes / yardstick:.1f} times the yardstick of {yardstick:.1f} minutes"
 
     def edits(self) -> Iterator[tuple[float, str]]:
         """The seconds of each edit by its crate and name: a crate's edits are tried in the order of their names, each
@@ -187,7 +200,8 @@ def prove() -> tuple[int, Costs, str]:
     in_lines = sum(sum(ones.values()) for ones in costs.seconds.values()) / 60
     rest = processor_minutes() - before - in_lines
     all_in_all = f"`rt ci` took {taken(start, before)}, {os.environ['RT_JOBS']} checks at a time"
-    return failed, costs, f"{all_in_all}; {rest:.1f} minutes are in no line"
+    ratio = costs.yardsticks(processor_minutes() - before)
+    return failed, costs, f"{all_in_all}, which is {ratio}; {rest:.1f} minutes are in no line"
 
 
 def report(costs: Costs, *sentences: str) -> str:

@@ -5,7 +5,8 @@
 #include <stdio.h>
 #include <stdlib.h>
 
-static bool is_refused(void) {
+static bool is_refused(size_t size) {
+    (void)size;
     return false;
 }
 

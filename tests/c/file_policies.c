@@ -108,7 +108,8 @@ int test_unlink(const char *path) {
 /* Which of the next allocations, from 1 on, is refused; 0 for none. Those of the library go through heap.h. */
 static int allocations, refused_at;
 
-static bool is_refused(void) {
+static bool is_refused(size_t size) {
+    (void)size;
     allocations += 1;
     return allocations == refused_at;
 }
@@ -117,12 +118,12 @@ static bool is_refused(void) {
 
 void *test_malloc(size_t size);
 void *test_malloc(size_t size) {
-    return is_refused() ? NULL : malloc(size);
+    return is_refused(size) ? NULL : malloc(size);
 }
 
 void *test_calloc(size_t count, size_t size);
 void *test_calloc(size_t count, size_t size) {
-    return is_refused() ? NULL : calloc(count, size);
+    return is_refused(count * size) ? NULL : calloc(count, size);
 }
 
 /* ---- Files that were set aside ---- */

@@ -1,4 +1,4 @@
-/* A heap for the library, in place of its own. Before it includes this, a test defines which requests are refused: is_refused(). */
+/* A heap for the library, in place of its own. Before it includes this, a test defines which requests are refused: is_refused(size). */
 #ifndef HEAP_H
 #define HEAP_H
 
@@ -41,7 +41,7 @@ struct tried rattle_alloc(size_t size, size_t align) {
     const struct tried none = {false, (void *)16};
     void *block;
     (void)align;
-    if (is_refused()) return none;
+    if (is_refused(size)) return none;
     block = malloc(FRONT + size);
     if (block == NULL) return none;
     blocks += 1;
@@ -54,7 +54,7 @@ struct tried rattle_realloc(void *at, size_t had, size_t size, size_t align) {
     void *moved;
     (void)had;
     (void)align;
-    if (is_refused()) return none;
+    if (is_refused(size)) return none;
     moved = realloc((char *)at - FRONT, FRONT + size);
     if (moved == NULL) return none;
     kept -= before;

@@ -1,19 +1,23 @@
 /* Each allocation of each call is refused alone: the call reports it, and if it is made once more it returns as if nothing had happened. An
- * add or a batch to a sparse histogram, where an index grows, succeeds nevertheless. Indexes with a limit keep no more than it allows. In
- * the end all blocks have been given back. The library's heap is that of heap.h. */
+ * add or a batch to a sparse histogram, where an index grows, succeeds nevertheless. Calls ask for as many bytes as docs/PERFORMANCE.md
+ * says. In the end all blocks have been given back. The library's heap is that of heap.h. */
+#include <stdarg.h>
 #include <stdlib.h>
 
 #include "checks.h"
 
-enum { WORDS = 1024, MANY_WORDS = 16384, PAGE = 256 };
+enum { WORDS = 1024, PAGE = 256 };
 
 static size_t until_refused = SIZE_MAX;
-/* How often memory was asked for. */
-static size_t requests;
 static int refused;
 
-static bool is_refused(void) {
-    requests += 1;
+/* The run of calls that notes what they ask for, and refuses one request; or none. */
+struct run;
+static struct run *running;
+static bool is_refused_in_run(size_t size);
+
+static bool is_refused(size_t size) {
+    if (running != NULL) return is_refused_in_run(size);
     if (until_refused == SIZE_MAX || until_refused-- > 0) return false;
     until_refused = SIZE_MAX;
     refused += 1;
@@ -155,8 +159,8 @@ struct sparse {
     size_t hist;
 };
 
-static struct sparse made_sparse(uint64_t words) {
-    const struct povundiri_shape shape = {words, PAGE, 7, 0, 2};
+static struct sparse made_sparse(void) {
+    const struct povundiri_shape shape = {WORDS, PAGE, 7, 0, 2};
     struct sparse sparse = {{false, NULL}, {false, NULL}, 0};
     DONE(povundiri_create(shape, &sparse.segment));
     DONE(povundiri_recorder(&sparse.segment, 1000, &sparse.recorder));
@@ -187,7 +191,7 @@ static void second_value(void) {
     bool asked = true;
     size_t number;
     for (number = 0; asked; number += 1) {
-        struct sparse sparse = made_sparse(WORDS);
+        struct sparse sparse = made_sparse();
         DONE(povundiri_add(&sparse.recorder, sparse.hist, -3, 1));
         asked = adds_without(&sparse.recorder, sparse.hist, 5, number);
         DONE(povundiri_add(&sparse.recorder, sparse.hist, 5, 2));
@@ -204,7 +208,7 @@ static void batch_of_values(void) {
     bool asked = true;
     size_t number;
     for (number = 0; asked; number += 1) {
-        struct sparse sparse = made_sparse(WORDS);
+        struct sparse sparse = made_sparse();
         const int before = refused;
         uint32_t status;
         until_refused = number;
@@ -225,7 +229,7 @@ static void second_recorder(void) {
     bool asked = true;
     size_t number;
     for (number = 0; asked; number += 1) {
-        struct sparse sparse = made_sparse(WORDS);
+        struct sparse sparse = made_sparse();
         struct povundiri_handle other = {false, NULL};
         size_t others = 0;
         DONE(povundiri_add(&sparse.recorder, sparse.hist, -3, 1));
@@ -242,150 +246,450 @@ static void second_recorder(void) {
     HOLDS(number > 1 && blocks == 0);
 }
 
-/* How many bytes an index may keep for each entry, and in any case; and that of samples for each sparse histogram. */
-enum { MOST_OF_ENTRY = 80, MOST_BESIDE = 1000, MOST_OF_SPARSE = 110 };
+/* ---- Each request of a run, refused alone ---- */
 
-enum { VALUES_COUNTED = 300, NAMES_ASKED = 200, SPARSE_ASKED = 150 };
+/* Each run makes the same calls, and notes their names, what they ask for and what they return. So one in which a request is refused, and its
+ * call is made once more, has to return what one without returns, to the last word of the image. */
+enum { MOST_CALLS = 256, MOST_REQUESTS = 1024, MOST_SAID = 65536 };
 
-static size_t most_of(size_t entries) {
-    return MOST_BESIDE + MOST_OF_ENTRY * entries;
+struct request {
+    size_t call, bytes;
+};
+
+struct run {
+    const char *calls[MOST_CALLS];
+    struct request requests[MOST_REQUESTS];
+    char said[MOST_SAID];
+    size_t made, asked, length;
+    /* The number of the request that is refused, and whether the later ones of its call are refused too. */
+    size_t refused_at;
+    bool is_lasting, is_refusing;
+    /* How often a call said that memory was refused; the last of these calls, and its status. */
+    size_t refusals, refused_call;
+    uint32_t refused_as;
+};
+
+static struct run plain, other;
+
+/* The calls that take memory. What each says if it is refused: the proved call below it, and for what C takes beside that, which is the
+ * handle of a segment and of a recorder, the values of a custom spec, the items of a batch, and the text of a report. */
+static const struct taker {
+    const char *name;
+    uint32_t below, beside;
+} TAKERS[] = {
+    {"create", POVUNDIRI_OPEN_NO_MEMORY, POVUNDIRI_NO_MEMORY},
+    {"adopt", POVUNDIRI_ADOPT_NO_MEMORY, POVUNDIRI_NO_MEMORY},
+    {"recorder", POVUNDIRI_NO_MEMORY, POVUNDIRI_NO_MEMORY},
+    {"hist", POVUNDIRI_REFUSED_NO_MEMORY, POVUNDIRI_REFUSED_NO_MEMORY},
+    {"custom hist", POVUNDIRI_REFUSED_NO_MEMORY, POVUNDIRI_NO_MEMORY},
+    {"batch", POVUNDIRI_NO_MEMORY, POVUNDIRI_NO_MEMORY},
+    {"sparse batch", POVUNDIRI_NO_MEMORY, POVUNDIRI_NO_MEMORY},
+    {"sparse add", POVUNDIRI_DONE, POVUNDIRI_DONE}, /* it does without */
+    {"snapshot", POVUNDIRI_REFUSED_NO_MEMORY, POVUNDIRI_REFUSED_NO_MEMORY},
+    {"delta", POVUNDIRI_REFUSED_NO_MEMORY, POVUNDIRI_REFUSED_NO_MEMORY},
+    {"records", POVUNDIRI_REFUSED_NO_MEMORY, POVUNDIRI_REFUSED_NO_MEMORY},
+    {"report", POVUNDIRI_IMAGE_NO_MEMORY, POVUNDIRI_NO_MEMORY},
+};
+enum { TAKERS_LENGTH = sizeof TAKERS / sizeof TAKERS[0] };
+
+/* Those that take none: an add to a histogram that is not sparse, and one to a histogram that the recorder does not know. */
+static const char *const TAKING_NONE[] = {"add", "unknown", "units", "outstanding", "next_shared", "set_corrupt", "lend", "join", "close"};
+enum { TAKING_NONE_LENGTH = sizeof TAKING_NONE / sizeof TAKING_NONE[0] };
+
+static bool is_named(const struct run *run, size_t call, const char *name) {
+    return strcmp(run->calls[call], name) == 0;
 }
 
-static void ends(struct sparse *sparse) {
-    DONE(povundiri_join(&sparse->segment, &sparse->recorder));
-    DONE(povundiri_drop(&sparse->segment));
+/* Whether a call does without the growth of an index. */
+static bool is_indexed(const struct run *run, size_t call) {
+    return is_named(run, call, "hist") || is_named(run, call, "custom hist") || is_named(run, call, "sparse add") ||
+           is_named(run, call, "sparse batch");
+}
+
+static bool is_refused_in_run(size_t size) {
+    const struct request request = {running->made - 1, size};
+    const bool is_it = running->asked == running->refused_at;
+    if (running->asked == MOST_REQUESTS) abort();
+    running->requests[running->asked] = request;
+    running->asked += 1;
+    running->is_refusing = running->is_refusing || is_it;
+    return is_it || (running->is_lasting && running->is_refusing);
+}
+
+static void says(const char *format, ...) __attribute__((format(printf, 1, 2)));
+static void says(const char *format, ...) {
+    const size_t room = MOST_SAID - running->length;
+    va_list values;
+    int length;
+    va_start(values, format);
+    length = vsnprintf(running->said + running->length, room, format, values);
+    va_end(values);
+    if (length < 0 || (size_t)length >= room) abort();
+    running->length += (size_t)length;
+}
+
+static void begins(const char *name) {
+    if (running->made == MOST_CALLS) abort();
+    running->calls[running->made] = name;
+    running->made += 1;
+    running->is_refusing = false;
+    says("\n%s", name);
+}
+
+/* Whether a call says that memory was refused. */
+static bool was_refused(uint32_t status) {
+    running->is_refusing = false;
+    if (!is_no_memory(status)) return false;
+    running->refusals += 1;
+    running->refused_call = running->made - 1;
+    running->refused_as = status;
+    return true;
+}
+
+/* Makes a call, and once more if memory is refused. */
+#define TRY(status, name, call)                                             \
+    do {                                                                    \
+        uint32_t came_;                                                     \
+        begins(name);                                                       \
+        came_ = (call);                                                     \
+        if (was_refused(came_)) came_ = (call);                             \
+        check_status(__LINE__, #call, (uint32_t)POVUNDIRI_##status, came_); \
+    } while (0)
+
+static uint32_t units_in(struct povundiri_handle *handle) {
+    uint32_t units = 0;
+    TRY(DONE, "units", povundiri_units(handle, &units));
+    return units;
+}
+
+static const uint32_t BOUNDS[] = {20, 5, 10, 5};
+
+static size_t histogram(struct povundiri_handle *recorder, const char *name, uint32_t kind) {
+    const struct povundiri_spec spec = {kind, 0, 0, 0};
+    const bool is_custom = kind == POVUNDIRI_CUSTOM;
+    size_t hist = SIZE_MAX;
+    TRY(DONE, is_custom ? "custom hist" : "hist", povundiri_hist(recorder, name, strlen(name), spec, BOUNDS, is_custom ? 4 : 0, &hist));
+    says(" %s %zu", name, hist);
+    return hist;
+}
+
+static void says_counts(const struct povundiri_count *counts, struct povundiri_totals totals) {
+    size_t i;
+    says(" %" PRId64 " %" PRIu64, totals.sum, totals.redundant);
+    for (i = 0; i < totals.length; i += 1) says(" %" PRId32 ":%" PRIu64, counts[i].key, counts[i].count);
+}
+
+static void says_words(const uint64_t *words, size_t length) {
+    size_t i;
+    for (i = 0; i < length; i += 1) says(" %" PRIx64, words[i]);
+}
+
+/* All calls that take a histogram: they count 70,010 units. */
+static void count_into(struct povundiri_handle *recorder, const char *name, uint32_t kind) {
+    static const struct povundiri_item items[] = {{0, 1}, {7, 3}};
+    const bool is_sparse = kind == POVUNDIRI_SPARSE;
+    const char *const add = is_sparse ? "sparse add" : "add";
+    const size_t hist = histogram(recorder, name, kind);
+    struct povundiri_count counts[WORDS];
+    struct povundiri_totals totals = {0, 0, 0};
+    size_t added = 0;
+    TRY(DONE, add, povundiri_add(recorder, hist, 1, 2));
+    TRY(DONE, add, povundiri_add(recorder, hist, 12, 70000));
+    TRY(DONE, is_sparse ? "sparse batch" : "batch", povundiri_batch(recorder, hist, items, 2, 5, &added));
+    HOLDS(added == 2);
+    says(" %" PRIu32, units_in(recorder));
+    TRY(DONE, "snapshot", povundiri_snapshot(recorder, hist, counts, WORDS, &totals));
+    says_counts(counts, totals);
+    TRY(DONE, "delta", povundiri_delta(recorder, hist, counts, WORDS, &totals));
+    says_counts(counts, totals);
+    TRY(DONE, add, povundiri_add(recorder, hist, 5, 4));
+    TRY(UNKNOWN, "unknown", povundiri_add(recorder, hist + 100, 5, 4));
+}
+
+/* What is counted: the units of record_all, and the samples that it makes. */
+enum { SPENT = 4 * 70010 + 5, SAMPLES = 10, HISTOGRAMS = 8 };
+
+/* The list of what a recorder knows grows more than once, and the index of its samples too. */
+static void record_all(struct povundiri_handle *recorder) {
+    static const char *const more[HISTOGRAMS - 3] = {"A", "B", "C", "D", "a_name_that_is_longer"};
+    static const struct povundiri_item items[] = {{20, 1}, {21, 1}, {22, 1}, {23, 1}, {24, 1}};
+    uint64_t records[HISTOGRAMS + SAMPLES];
+    size_t i, hist, added = 0, needed = 0;
+    count_into(recorder, "boolean", POVUNDIRI_BOOLEAN);
+    count_into(recorder, "custom", POVUNDIRI_CUSTOM);
+    count_into(recorder, "sparse", POVUNDIRI_SPARSE);
+    count_into(recorder, "custom", POVUNDIRI_CUSTOM);
+    hist = histogram(recorder, "sparse", POVUNDIRI_SPARSE);
+    TRY(DONE, "sparse batch", povundiri_batch(recorder, hist, items, 5, 110, &added));
+    HOLDS(added == 5);
+    for (i = 0; i < HISTOGRAMS - 3; i += 1) histogram(recorder, more[i], POVUNDIRI_BOOLEAN);
+    TRY(DONE, "records", povundiri_records(recorder, records, HISTOGRAMS + SAMPLES, &needed));
+    HOLDS(needed == HISTOGRAMS + SAMPLES);
+    says_words(records, needed);
+}
+
+/* The second recorder takes the first records of the shared cursor. */
+static void follow(struct povundiri_handle *follower) {
+    uint64_t records[2] = {0, 0};
+    TRY(DONE, "next_shared", povundiri_next_shared(follower, 0, &records[0]));
+    TRY(DONE, "next_shared", povundiri_next_shared(follower, 0, &records[1]));
+    HOLDS(records[0] == 16);
+    says_words(records, 2);
+}
+
+static void record_into(struct povundiri_handle *segment, bool spoils) {
+    struct povundiri_handle recorder = {0}, follower = {0};
+    uint32_t outstanding = 0;
+    TRY(DONE, "recorder", povundiri_recorder(segment, 1000000, &recorder));
+    TRY(DONE, "recorder", povundiri_recorder(segment, 0, &follower));
+    record_all(&recorder);
+    follow(&follower);
+    if (spoils) TRY(DONE, "set_corrupt", povundiri_set_corrupt(&recorder));
+    TRY(DONE, "lend", povundiri_lend(segment, &recorder, 5));
+    HOLDS(units_in(&recorder) == 1000000 - SPENT + 5);
+    TRY(DONE, "outstanding", povundiri_outstanding(segment, &outstanding));
+    HOLDS(outstanding == 2);
+    TRY(DONE, "join", povundiri_join(segment, &recorder));
+    TRY(DONE, "join", povundiri_join(segment, &follower));
+    HOLDS(units_in(segment) == UINT32_MAX - SPENT);
+}
+
+static void report_is(const uint64_t *words, bool is_spoiled) {
+    static const char counted[] =
+        "A,total,0,0\nB,total,0,0\nC,total,0,0\nD,total,0,0\na_name_that_is_longer,total,0,0\n"
+        "boolean,boolean,0,1,1\nboolean,boolean,1,2,2\nboolean,boolean,2,2147483647,70007\nboolean,total,70010,840027\n"
+        "custom,custom,0,5,6\ncustom,custom,5,10,14\ncustom,custom,10,20,140000\ncustom,total,140020,1680054\n"
+        "sparse,sparse,0,1,1\nsparse,sparse,1,2,2\nsparse,sparse,5,6,4\nsparse,sparse,7,8,3\nsparse,sparse,12,13,70000\n"
+        "sparse,sparse,20,21,1\nsparse,sparse,21,22,1\nsparse,sparse,22,23,1\nsparse,sparse,23,24,1\nsparse,sparse,24,25,1\n"
+        "sparse,total,70015,840137\n";
+    const char *const flag = is_spoiled ? "!flag,corrupt\n" : "";
+    const size_t length = strlen(counted);
+    char text[4096];
+    size_t needed = 0;
+    TRY(DONE, "report", povundiri_report(words, WORDS, text, sizeof text, &needed));
+    HOLDS(needed == length + strlen(flag) && memcmp(text, counted, length) == 0 && memcmp(text + length, flag, strlen(flag)) == 0);
+}
+
+static void closes(struct povundiri_handle *segment, uint64_t *words) {
+    TRY(DONE, "close", povundiri_close(segment, words, WORDS, NULL));
+    says_words(words, WORDS);
+}
+
+/* Goes on from an image, whose deltas have left 130 of the sum of `sparse`, and seven values. */
+static void adopt_and_record(const uint64_t *image) {
+    struct povundiri_handle segment = {0}, recorder = {0};
+    struct povundiri_count counts[WORDS];
+    struct povundiri_totals totals = {0, 0, 0};
+    uint64_t words[WORDS];
+    size_t hist;
+    TRY(DONE, "adopt", povundiri_adopt(image, WORDS, 1, &segment));
+    HOLDS(units_in(&segment) == UINT32_MAX - SPENT);
+    TRY(DONE, "recorder", povundiri_recorder(&segment, 2, &recorder));
+    hist = histogram(&recorder, "sparse", POVUNDIRI_SPARSE);
+    TRY(DONE, "sparse add", povundiri_add(&recorder, hist, 1, 2));
+    TRY(DONE, "delta", povundiri_delta(&recorder, hist, counts, WORDS, &totals));
+    HOLDS(totals.sum == 20 + 110 + 2 && totals.length == 7 && counts[0].key == 1 && counts[0].count == 2);
+    says_counts(counts, totals);
+    TRY(DONE, "join", povundiri_join(&segment, &recorder));
+    closes(&segment, words);
+}
+
+/* Images that cannot be adopted: this is found when the list is read, or when all else is. */
+static void adopt_changed(uint64_t *words) {
+    enum { TAIL = 8, REDUNDANT = 29 };
+    const uint64_t tail = words[TAIL];
+    struct povundiri_handle segment = {0};
+    TRY(ADOPT_BAD_CURSORS, "adopt", povundiri_adopt(words, WORDS, 9, &segment));
+    words[TAIL] = 13;
+    TRY(ADOPT_DAMAGED, "adopt", povundiri_adopt(words, WORDS, 1, &segment));
+    words[TAIL] = tail;
+    words[REDUNDANT] = (uint64_t)1 << 32;
+    TRY(ADOPT_NO_UNITS, "adopt", povundiri_adopt(words, WORDS, 1, &segment));
+}
+
+/* Makes all calls. An image of version 1, or one that is marked as corrupt, cannot be adopted: so version 1 marks it, and 2 adopts it. */
+static void make_run(struct run *run, uint64_t version, size_t refused_at, bool is_lasting) {
+    const struct povundiri_shape shape = {WORDS, PAGE, 7, 1, version};
+    struct povundiri_handle segment = {0};
+    uint64_t words[WORDS];
+    memset(run, 0, sizeof *run);
+    run->refused_at = refused_at;
+    run->is_lasting = is_lasting;
+    running = run;
+    TRY(DONE, "create", povundiri_create(shape, &segment));
+    HOLDS(units_in(&segment) == UINT32_MAX);
+    record_into(&segment, version == 1);
+    closes(&segment, words);
+    report_is(words, version == 1);
+    if (version == 2) {
+        adopt_and_record(words);
+        adopt_changed(words);
+    }
+    running = NULL;
     HOLDS(blocks == 0 && kept == 0);
 }
 
-/* Each of the values from 0 to the last counts once, and the first twice. */
-static void has_all(struct sparse *sparse, int32_t values) {
-    struct povundiri_count *counts = calloc(MANY_WORDS, sizeof *counts);
-    struct povundiri_totals totals = {0, 0, 0};
-    int32_t value;
-    DONE(povundiri_snapshot(&sparse->recorder, sparse->hist, counts, MANY_WORDS, &totals));
-    HOLDS(totals.length == (size_t)values && totals.redundant == (uint64_t)values + 1 && totals.sum == (int64_t)values * (values - 1) / 2);
-    for (value = 0; value < values; value += 1) HOLDS(counts[value].key == value && counts[value].count == (value == 0 ? 2 : 1));
-    free(counts);
+/* ---- What a run asks for ---- */
+
+/* The bytes that a call of the plain run asks for in all. */
+static size_t bytes_of(size_t call) {
+    size_t i, bytes = 0;
+    for (i = 0; i < plain.asked; i += 1) bytes += plain.requests[i].call == call ? plain.requests[i].bytes : 0;
+    return bytes;
 }
 
-/* What a recorder keeps once it has counted many values, if its indexes may have this many entries. When its index is full, it asks for
- * nothing any more. */
-static size_t kept_of_values(size_t entries) {
-    struct sparse sparse = made_sparse(MANY_WORDS);
-    size_t before = kept, full = 0, found;
-    int32_t value;
-    ASKS_FOR_NONE(povundiri_limit_indexes(&sparse.recorder, entries));
-    for (value = 0; value < VALUES_COUNTED; value += 1) {
-        if ((size_t)value == entries + 2) full = requests;
-        DONE(povundiri_add(&sparse.recorder, sparse.hist, value, 1));
+/* The bytes of each request of the calls of a name, one after the other; returns how many there are. */
+static size_t bytes_each(const char *name, size_t *bytes) {
+    size_t i, length = 0;
+    for (i = 0; i < plain.asked; i += 1) {
+        if (is_named(&plain, plain.requests[i].call, name)) bytes[length++] = plain.requests[i].bytes;
     }
-    DONE(povundiri_add(&sparse.recorder, sparse.hist, 0, 1));
-    HOLDS(entries >= VALUES_COUNTED || requests == full);
-    found = kept - before;
-    has_all(&sparse, VALUES_COUNTED);
-    HOLDS(kept - before == found);
-    ends(&sparse);
-    return found;
+    return length;
 }
 
-static void limited_values(void) {
-    static const size_t limits[] = {1, 2, 9, 10, 18, 19, 36, 37, 100, 145};
-    const size_t all = kept_of_values(VALUES_COUNTED);
+static void asks_for(int line, const char *name, const size_t *wanted, size_t length) {
+    size_t bytes[MOST_REQUESTS];
+    const size_t came = bytes_each(name, bytes);
     size_t i;
-    HOLDS(kept_of_values(0) == 0);
-    HOLDS(all > most_of(100) + MOST_OF_SPARSE && all <= most_of(VALUES_COUNTED) + MOST_OF_SPARSE && kept_of_values(SIZE_MAX - 2) == all);
-    for (i = 0; i < sizeof limits / sizeof limits[0]; i += 1) {
-        const size_t found = kept_of_values(limits[i]);
-        HOLDS(found > 0 && found <= most_of(limits[i]) + MOST_OF_SPARSE);
+    check(line, name, came == length);
+    for (i = 0; i < came && i < length; i += 1) {
+        if (bytes[i] != wanted[i]) printf("request %zu of %s: wanted %zu bytes, came %zu\n", i, name, wanted[i], bytes[i]);
+        check(line, name, bytes[i] == wanted[i]);
     }
 }
 
-/* What a recorder keeps for the samples of many sparse histograms, one of each, if its indexes may have this many entries. */
-static size_t kept_of_sparse(size_t entries) {
-    struct sparse sparse = made_sparse(MANY_WORDS);
-    size_t before, found, hists[SPARSE_ASKED];
-    char name[16];
-    int i;
-    for (i = 0; i < SPARSE_ASKED; i += 1) {
-        snprintf(name, sizeof name, "s%d", i);
-        DONE(povundiri_hist_sparse(&sparse.recorder, name, &hists[i]));
+/* Each call takes memory or takes none, and all of them are made. */
+static void calls_are_right(bool adopts) {
+    size_t i, call, bytes[MOST_REQUESTS], takers = 0, others = 0;
+    for (i = 0; i < TAKERS_LENGTH; i += 1) takers += bytes_each(TAKERS[i].name, bytes) > 0;
+    HOLDS(takers == (adopts ? TAKERS_LENGTH : TAKERS_LENGTH - 1));
+    for (i = 0; i < TAKING_NONE_LENGTH; i += 1) {
+        bool is_made = false;
+        for (call = 0; call < plain.made; call += 1) is_made = is_made || is_named(&plain, call, TAKING_NONE[i]);
+        others += is_made;
+        check(__LINE__, TAKING_NONE[i], bytes_each(TAKING_NONE[i], bytes) == 0);
     }
-    DONE(povundiri_limit_indexes(&sparse.recorder, entries));
-    before = kept;
-    for (i = 0; i < SPARSE_ASKED; i += 1) DONE(povundiri_add(&sparse.recorder, hists[i], i, 1));
-    DONE(povundiri_add(&sparse.recorder, hists[0], 0, 1));
-    found = kept - before;
-    ends(&sparse);
-    return found;
+    HOLDS(others == (adopts ? TAKING_NONE_LENGTH - 1 : TAKING_NONE_LENGTH));
 }
 
-static void limited_sparse(void) {
-    static const size_t limits[] = {1, 2, 9, 10, 18, 19, 36, 37, 72, 73, SPARSE_ASKED};
+/* `delta` and `snapshot` ask for 16 bytes for each key that the histogram may have, of the sparse one for each of its samples; `records`
+ * for 8 for each block of five words that fits. A batch is copied for the proved one, 8 bytes an item. */
+static void lists_are_right(bool adopts) {
+    static const size_t keys[] = {16 * 3, 16 * 4, 16 * 4, 16 * 4, 16 * SAMPLES};
+    static const size_t records[] = {(WORDS - 16) / 5 * 8};
+    static const size_t items[] = {2 * 8, 2 * 8, 2 * 8};
+    asks_for(__LINE__, "snapshot", keys, 4);
+    asks_for(__LINE__, "delta", keys, adopts ? 5 : 4);
+    asks_for(__LINE__, "records", records, 1);
+    asks_for(__LINE__, "batch", items, 3);
+}
+
+/* A `hist` asks for 512 bytes at most, unless the list or an index of its recorder grows: the list of what it knows, the index of that, and
+ * the index of names. The first lets all three grow, and so does that of the adopted segment; of the others two one of them. The values
+ * of a custom spec are copied for the proved one. For a name that the recorder knows, that is all. */
+static void hists_are_right(bool adopts) {
+    enum { MOST_OF_HIST = 512, MOST_OF_GROWTH = 2048 };
+    size_t call, first = 0, growing = 0;
+    for (call = 0; call < plain.made; call += 1) {
+        const bool is_custom = is_named(&plain, call, "custom hist");
+        size_t bytes = bytes_of(call);
+        if (!is_custom && !is_named(&plain, call, "hist")) continue;
+        HOLDS(!is_custom || bytes >= sizeof BOUNDS);
+        bytes -= is_custom ? sizeof BOUNDS : 0;
+        first += bytes > 0;
+        growing += bytes > MOST_OF_HIST;
+        HOLDS(bytes <= MOST_OF_HIST + MOST_OF_GROWTH);
+    }
+    HOLDS(first == (adopts ? HISTOGRAMS + 1 : HISTOGRAMS) && growing <= (adopts ? 4 : 3));
+}
+
+/* The first `add` that visits a sample lets the index of samples grow, by as much as four samples need, and the last `batch` lets the list of
+ * samples grow twice. Beside that a batch takes 8 bytes an item, as above. */
+static void samples_are_right(void) {
+    enum { MOST_OF_ADDS = 1536, MOST_OF_BATCHES = 384, OF_ITEMS = 2 * 8 + 5 * 8 };
+    size_t call, adds = 0, batches = 0;
+    for (call = 0; call < plain.made; call += 1) {
+        if (is_named(&plain, call, "adopt")) break;
+        if (is_named(&plain, call, "sparse add")) adds += bytes_of(call);
+        if (is_named(&plain, call, "sparse batch")) batches += bytes_of(call);
+    }
+    HOLDS(adds > 0 && adds <= MOST_OF_ADDS);
+    HOLDS(batches > OF_ITEMS && batches <= OF_ITEMS + MOST_OF_BATCHES);
+}
+
+/* A recorder takes no memory below C, and C one block for it: that of any handle, which `create` asks for last. */
+static void recorders_are_right(bool adopts) {
+    size_t i, created[MOST_REQUESTS], wanted[3];
+    const size_t length = bytes_each("create", created);
+    for (i = 0; i < 3; i += 1) wanted[i] = length > 0 ? created[length - 1] : 0;
+    asks_for(__LINE__, "recorder", wanted, adopts ? 3 : 2);
+}
+
+/* `adopt` asks twice for the words of the table, 8 bytes for each word, for the cursor and for one more, and for nothing that is larger. */
+static void adoptions_are_right(void) {
+    enum { TABLE = 8 * (WORDS + 2) };
+    size_t i, bytes[MOST_REQUESTS], tables = 0;
+    const size_t length = bytes_each("adopt", bytes);
+    for (i = 0; i < length; i += 1) {
+        tables += bytes[i] == TABLE;
+        HOLDS(bytes[i] <= TABLE);
+    }
+    HOLDS(tables == 2);
+}
+
+/* ---- The runs ---- */
+
+/* Whether a run in which a request was refused is as it has to be: the call says so alone, or does without, and all else is as in the plain
+ * run. */
+static bool is_right(size_t number) {
+    const size_t call = plain.requests[number].call;
     size_t i;
-    HOLDS(kept_of_sparse(0) == 0);
-    for (i = 0; i < sizeof limits / sizeof limits[0]; i += 1) {
-        const size_t found = kept_of_sparse(limits[i]);
-        HOLDS(found > 0 && found <= most_of(limits[i]) + MOST_OF_SPARSE * limits[i]);
+    if (other.length != plain.length || memcmp(other.said, plain.said, plain.length) != 0) return false;
+    if (other.refusals == 0) return is_indexed(&plain, call);
+    if (other.refusals != 1 || other.refused_call != call) return false;
+    for (i = 0; i < TAKERS_LENGTH; i += 1) {
+        if (is_named(&plain, call, TAKERS[i].name)) return other.refused_as == TAKERS[i].below || other.refused_as == TAKERS[i].beside;
     }
-    HOLDS(kept_of_sparse(SPARSE_ASKED) > most_of(SPARSE_ASKED / 2) + MOST_OF_SPARSE * SPARSE_ASKED / 2);
+    return false;
 }
 
-/* What a recorder keeps once it knows many histograms, if its indexes may have this many entries. It finds each again, without memory. */
-static size_t kept_of_names(size_t entries) {
-    struct sparse sparse = made_sparse(MANY_WORDS);
-    size_t before = kept, found, hist = 0;
-    char name[16];
-    int i;
-    ASKS_FOR_NONE(povundiri_limit_indexes(&sparse.recorder, entries));
-    for (i = 0; i < NAMES_ASKED; i += 1) {
-        snprintf(name, sizeof name, "n%d", i);
-        DONE(povundiri_hist_boolean(&sparse.recorder, name, &hist));
-        HOLDS(hist == (size_t)i + 1);
-    }
-    found = kept - before;
-    for (i = 0; i < NAMES_ASKED; i += 1) {
-        snprintf(name, sizeof name, "n%d", i);
-        ASKS_FOR_NONE(povundiri_hist_boolean(&sparse.recorder, name, &hist));
-        HOLDS(hist == (size_t)i + 1);
-    }
-    ends(&sparse);
-    return found;
+/* A call may do with another request in place of the one that was refused; then all later ones are refused too. */
+static void refuse(uint64_t version, size_t number) {
+    const struct request *const one = &plain.requests[number];
+    make_run(&other, version, number, false);
+    if (other.refusals == 0 && other.requests[number + 1].call == one->call && other.asked > number + 1) make_run(&other, version, number, true);
+    if (is_right(number)) return;
+    printf("request %zu, %zu bytes of call %zu, %s\n", number, one->bytes, one->call, plain.calls[one->call]);
+    HOLDS(is_right(number));
 }
 
-/* Two indexes are of names: of those that it knows, and of those on the list. */
-static void limited_names(void) {
-    static const size_t limits[] = {2, 9, 10, 19, 50};
-    const size_t none = kept_of_names(1), all = kept_of_names(NAMES_ASKED + 1);
-    size_t i;
-    HOLDS(all > none + 2 * most_of(50) && all <= none + 2 * most_of(NAMES_ASKED) && kept_of_names(SIZE_MAX) == all);
-    for (i = 0; i < sizeof limits / sizeof limits[0]; i += 1) HOLDS(kept_of_names(limits[i]) <= none + 2 * most_of(limits[i]));
+static void each_request(uint64_t version) {
+    const bool adopts = version == 2;
+    size_t number;
+    make_run(&plain, version, SIZE_MAX, false);
+    HOLDS(plain.refusals == 0);
+    calls_are_right(adopts);
+    lists_are_right(adopts);
+    hists_are_right(adopts);
+    samples_are_right();
+    recorders_are_right(adopts);
+    if (adopts) adoptions_are_right();
+    for (number = 0; number < plain.asked; number += 1) refuse(version, number);
 }
 
-/* What an index has stays when it gets a lower limit, and with a higher one it grows again. */
-static void limits_change(void) {
-    struct sparse sparse = made_sparse(MANY_WORDS);
-    size_t before, full;
-    int32_t value;
-    for (value = 0; value < 30; value += 1) DONE(povundiri_add(&sparse.recorder, sparse.hist, value, 1));
-    before = kept;
-    full = requests;
-    DONE(povundiri_limit_indexes(&sparse.recorder, 1));
-    for (; value < 100; value += 1) DONE(povundiri_add(&sparse.recorder, sparse.hist, value, 1));
-    HOLDS(kept == before && requests == full);
-    DONE(povundiri_limit_indexes(&sparse.recorder, 200));
-    DONE(povundiri_add(&sparse.recorder, sparse.hist, value, 1));
-    HOLDS(kept > before && requests > full);
-    DONE(povundiri_add(&sparse.recorder, sparse.hist, 0, 1));
-    has_all(&sparse, value + 1);
-    ends(&sparse);
+static void each_request_of_version_1(void) {
+    each_request(1);
+}
+
+static void each_request_of_version_2(void) {
+    each_request(2);
 }
 
 int main(void) {
-    return group("each allocation", each_allocation) + group("each allocation of sums", each_of_sums) + group("a second value of a sparse histogram", second_value) +
+    return group("each allocation", each_allocation) + group("each allocation of sums", each_of_sums) +
+           group("a second value of a sparse histogram", second_value) +
            group("a batch of values of a sparse histogram", batch_of_values) +
            group("a second recorder of a sparse histogram", second_recorder) +
-           group("a limit of the entries of samples", limited_values) +
-           group("a limit of the entries of samples of many histograms", limited_sparse) +
-           group("a limit of the entries of names", limited_names) +
-           group("a limit that changes", limits_change);
+           group("each request of a run of version 1", each_request_of_version_1) +
+           group("each request of a run of version 2", each_request_of_version_2);
 }

@@ -32,6 +32,7 @@ CHECKS: tuple[tuple[str, list[str], bool], ...] = (
     ("every_call.cpp", [], False),
     ("every_call.cpp", [NO_EXCEPTIONS], False),
     ("refused_memory.c", [], False),
+    ("limited_indexes.c", [], False),
     ("crossing.cpp", [], False),
     ("crossing_lends.c", [], False),
     ("handed.c", [], False),

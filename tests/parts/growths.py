@@ -1,8 +1,9 @@
 """Each growth of memory is refused in turn, and memory is there again after it.
 
-Of the calls of the libraries, which `trials` makes, each allocation is refused (allocations.py): the call reports it.
-When it is made again, it returns what it always does, and so do all calls after it. If an index of names or of samples
-cannot grow, the call returns what it always does. Calls that take no memory ask for none.
+Of the calls of the libraries that C does not have, which `trials` makes, each allocation is refused (allocations.py):
+the call reports it. When it is made again, it returns what it always does, and so do all calls after it. If an index of
+names or of samples cannot grow, a merge does what it always does. Calls that take no memory ask for none. The calls of
+a segment are tried in the same way by tests/c/refused_memory.c.
 
 The commands and `stepped` report `NoMemory`, with no output but what `stepped` had written before, and OUT unchanged.
 Of them each growth is refused for which the C library asks the system (tracer.py).
@@ -43,66 +44,27 @@ STEPPED_OUT_OF_MEMORY = b"stepped: NoMemory\n"
 
 # The calls that `trials` makes, those that take memory and those that take none.
 BEGINS = tuple(f"begin {kind}" for kind in ("Hist", "Add", "Batch", "Snapshot", "Delta"))
-OF_RECORDERS = ("hist", "delta", "snapshot", "records", "fresh_records")
-TAKING = (
-    "blank", "ranges", "tally", "world", *BEGINS, "run_schedule", "create", *OF_RECORDERS, "add", "batch", "read",
-    "report_of", "report", "merge", "adopt",
-)
-TAKING_NONE = (
-    "begin SetCorrupt", "step", "recorder", "units", "knows", "next_shared", "set_corrupt", "lend", "join", "close",
-)
-# Those that also let an index of names or of samples grow: if that is refused, they continue without it. The first
-# `add` of a sparse histogram that visits a sample takes as much as four samples need. The last `batch` is of five
-# values more, and lets the list of samples grow twice.
-INDEXED = ("hist", "add", "batch", "merge")
+TAKING = ("blank", "ranges", "tally", "fresh_records", "world", *BEGINS, "run_schedule", "read", "report", "merge")
+TAKING_NONE = ("begin SetCorrupt", "step", "knows")
 # How each says that memory was refused.
 NO_MEMORY = "NoMemory"
 OTHER_WORDS = {"tally": "memory allocation failed"}
 
-# What calls ask for (docs/PERFORMANCE.md): `delta` and `snapshot` 16 bytes for each key, of the sparse histogram for
-# each of its samples, which the calls before have made, and `records` and `fresh_records` 8 for each record that fits
-# in the segment.
+# What calls ask for (docs/PERFORMANCE.md): `fresh_records` 8 bytes for each record that fits in the segment.
 SIZE = 1024
 FITTING = (SIZE - 16) // 5
-SAMPLES = 4
-KEYS = (3, 4, SAMPLES, 4)
-ASKED = {
-    "delta": [16 * keys for keys in KEYS],
-    "snapshot": [16 * keys for keys in KEYS],
-    "records": [8 * FITTING],
-    "fresh_records": [8 * FITTING] * 2,
-}
+FRESH = [8 * FITTING] * 2
 # `merge` for all histograms 88 bytes each, then for each of them twice its name and 8 bytes for each of its keys, and
 # then again for all 32 bytes each, before the `hist` of each.
-MERGED = {"boolean": 3, "custom": 4, "sparse": 10, "A": 3, "B": 3, "C": 3, "D": 3, "a_name_that_is_longer": 3}
-# `hist` asks for at most MOST_OF_HIST bytes in all, unless a list or an index of its recorder grows: the list of what
-# it knows, the index of that, and the index of names. The first `hist` lets all three grow, and no more than two others
-# one of them. What these ask for is bounded, and not known to the byte: it is the library's that has lists and maps. So
-# is what the index of samples asks for in the `add` that first visits samples, and in the `batch` where its list of
-# samples grows twice.
-MOST_OF_HIST = 512
-MOST_OF_GROWTH = 2048
-GROWING_HISTS = 3
-MOST_OF_SAMPLES = {"add": 1536, "batch": 384}
-# `adopt` asks twice for the words of the table, 8 bytes for each word, for one more and for the cursor, and for nothing
-# that is larger.
-TABLE = 8 * (SIZE + 2)
-# The histograms that are asked for first: boolean, custom, sparse and five more. Where one is asked for again, with the
-# same spec, its `hist` asks for nothing.
-FIRST_HISTS = 8
-
-
-def name_of(call: str) -> str:
-    """The name of a call that `trials` makes: without what it is passed."""
-    return call.split("(")[0]
+MERGED = {"boolean": 3, "custom": 4, "sparse": 9, "A": 3, "B": 3, "C": 3, "D": 3, "a_name_that_is_longer": 3}
 
 
 def wrong_list(asked: Sequence[allocations.Asked], lines: Sequence[str]) -> str | None:
     """What is wrong with the calls that a run makes in which nothing is refused, or None."""
-    made = {name_of(line[len("try "):]) for line in lines if line.startswith("try ")}
+    made = {line[len("try "):] for line in lines if line.startswith("try ")}
     if made != {*TAKING, *TAKING_NONE}:
         return f"the calls {sorted(made ^ {*TAKING, *TAKING_NONE})} are made or wanted, and not both"
-    takers = {name_of(one.call) for one in asked}
+    takers = {one.call for one in asked}
     if takers != {*TAKING}:
         return f"the calls {sorted(takers ^ {*TAKING})} take memory or are to take some, and not both"
     refused = [line for line in lines if line.startswith("refused ")]
@@ -111,42 +73,18 @@ def wrong_list(asked: Sequence[allocations.Asked], lines: Sequence[str]) -> str 
 
 def wrong_sizes(asked: Sequence[allocations.Asked]) -> str | None:
     """What is wrong with what calls ask for, or None."""
-    sizes = collections.defaultdict(list)
-    hists: collections.Counter[int] = collections.Counter()
-    for one in asked:
-        sizes[name_of(one.call)].append(one.size)
-        if one.call == "hist":
-            hists[one.place] += one.size
-    of_merge = [
-        88 * len(MERGED), *(size for name, keys in MERGED.items() for size in (len(name), len(name), 8 * keys)),
-        32 * len(MERGED),
-    ]
-    for name, right in {**ASKED, "merge": of_merge}.items():
-        came = sizes[name][:len(right)] if name == "merge" else sizes[name]
+    names = [size for name, keys in MERGED.items() for size in (len(name), len(name), 8 * keys)]
+    of_merge = [88 * len(MERGED), *names, 32 * len(MERGED)]
+    fresh = [one.size for one in asked if one.call == "fresh_records"]
+    merged = [one.size for one in asked if one.call == "merge"][:len(of_merge)]
+    for name, came, right in [("fresh_records", fresh, FRESH), ("merge", merged, of_merge)]:
         if came != right:
             return f"{name} asks for {came} bytes, wanted {right}"
-    for name, most in MOST_OF_SAMPLES.items():
-        if not 0 < sum(sizes[name]) <= most:
-            return f"{name} asks for {sum(sizes[name])} bytes, wanted some and {most} at most"
-    largest = sorted(sizes["adopt"])[-3:]
-    if largest[0] >= TABLE or largest[1:] != [TABLE, TABLE]:
-        return f"adopt asks for {largest} bytes, wanted twice {TABLE} and then less"
-    return wrong_hists(list(hists.values()))
-
-
-def wrong_hists(asked: Sequence[int]) -> str | None:
-    """What is wrong with how many bytes each `hist` asks for that asks for some, or None."""
-    if len(asked) != FIRST_HISTS:
-        return f"{len(asked)} hists ask for memory, wanted {FIRST_HISTS}"
-    growing = [size for size in asked if size > MOST_OF_HIST]
-    if len(growing) > GROWING_HISTS or max(asked) > MOST_OF_HIST + MOST_OF_GROWTH:
-        bounds = f"{MOST_OF_HIST} at most but in {GROWING_HISTS}, and there {MOST_OF_GROWTH} more at most"
-        return f"hists ask for {asked} bytes, wanted {bounds}"
     return None
 
 
 def refused_line(name: str) -> str:
-    return f"refused {name.split()[0]} {OTHER_WORDS.get(name, NO_MEMORY)}"
+    return f"refused {name} {OTHER_WORDS.get(name, NO_MEMORY)}"
 
 
 def with_line(lines: Sequence[str], place: int, line: str) -> list[str]:
@@ -157,10 +95,9 @@ def with_line(lines: Sequence[str], place: int, line: str) -> list[str]:
 
 def wrong_refusal(lines: list[str], one: allocations.Asked, came: Answer) -> str | None:
     """What is wrong with a run in which an allocation of a call was refused, or None."""
-    name = name_of(one.call)
-    if name == "merge":
+    if one.call == "merge":
         return wrong_merge(lines, came)
-    right = with_line(lines, one.place, refused_line(name))
+    right = with_line(lines, one.place, refused_line(one.call))
     return difference(Answer("".join(f"{line}\n" for line in right).encode()), came)
 
 
@@ -189,7 +126,7 @@ def stopped_merge(whole: Sequence[str], reached: int) -> list[str]:
     return [
         *(f"added {one} {units}" for one, units in before),
         f"added {name} 0",
-        f"MergeStop {{ name: {name}, items: 0, why: {NO_MEMORY} }}",
+        f"stopped {name} 0 {NO_MEMORY}",
         f"{MOST_UNITS - sum(int(units) for _, units in before)} units",
         *(line for line in whole if line.split(",")[0] in stayed),
     ]
@@ -209,15 +146,11 @@ def wrong_merge(lines: list[str], came: Answer) -> str | None:
 def wrong_allocation(
     program: pathlib.Path, refuser: allocations.Refuser, plain: Answer, place: int, one: allocations.Asked
 ) -> str | None:
-    """What is wrong if an allocation of a call is refused, or None. A call may do with another one in its place; then
-    that is refused too."""
-    lines = plain.output.decode().splitlines()
-    came, asked = refuser.answer(program, ["growths"], place)
-    if came == plain and any(other.place == one.place for other in asked[place + 1:]):
-        came, _ = refuser.answer(program, ["growths"], place, lasting=True)
-    if came == plain and name_of(one.call) in INDEXED:
+    """What is wrong if an allocation of a call is refused, or None. A merge may do without the growth of an index."""
+    came, _ = refuser.answer(program, ["growths"], place)
+    if came == plain and one.call == "merge":
         return None
-    return wrong_refusal(lines, one, came)
+    return wrong_refusal(plain.output.decode().splitlines(), one, came)
 
 
 def library_cases(
@@ -231,8 +164,8 @@ def library_cases(
     yield "what calls ask for", wrong_sizes(asked)
     for place, one in enumerate(asked):
         wrong = wrong_allocation(program, refuser, plain, place, one)
-        refused[name_of(one.call)] += 1
-        yield f"allocation {place}, {one.size} bytes of {name_of(one.call)}", wrong
+        refused[one.call] += 1
+        yield f"allocation {place}, {one.size} bytes of {one.call}", wrong
 
 
 def wrong_command(command: failing.Command, wrong_answer: WrongAnswer) -> tuple[str | None, int]:

@@ -15,7 +15,7 @@ pub(super) fn show_refused(rt: &impl Print, name: &str, why: &impl Display) -> i
 
 /// What a call returns; if it is refused, what it returns when it is made again.
 macro_rules! again {
-    ($rt:expr, $name:literal, $call:expr) => {{
+    ($rt:expr, $name:expr, $call:expr) => {{
         show_try($rt, $name)?;
         match $call {
             Ok(answer) => answer,

@@ -1,4 +1,4 @@
-//! What is made of the words of an image: its reading, its report, and a merge into a new segment.
+//! What is made of the words of an image: its reading, its report as that of a file, and a merge into a new segment.
 
 ghost use Rattle.live_segment.specs.Holders.{IsMadeWith};
 
@@ -9,16 +9,14 @@ use image_reader::{Reading, read};
 use live_segment::{Opener, Segment};
 use persist_report_core::report_of;
 use reading_shows::{Form, write_text};
-use segment_image::{Image, Watched, write_words};
+use segment_image::{Watched, write_words};
 use segment_merge::{MergeReport, merge};
 use std::alloc::Global;
 use std::io;
 use std::io::Write;
 
-// Its report, of words and of the bytes that they are.
-fn show_reports(rt: &impl Print, alloc: Global, words: &[u64]) -> Result<()> {
-    let text = again!(rt, "report_of", report_of(alloc, words));
-    io::writer(rt).write_all(&text)?;
+// The report of the bytes that the words are.
+fn show_report(rt: &impl Print, alloc: Global, words: &[u64]) -> Result<()> {
     let mut file = Watched::new(Vec::new(alloc));
     write_words(&mut file, words)?;
     let bytes = file.into_inner();
@@ -43,7 +41,7 @@ fn show_merged(rt: &impl Print, report: &MergeReport) -> io::Result<bool> {
     match &report.stopped {
         None => Ok(true),
         Some(stop) => {
-            println!(rt; "{stop:?}")?;
+            println!(rt; "stopped {:?} {} {}", stop.name, stop.items, stop.why)?;
             Ok(false)
         }
     }
@@ -73,25 +71,23 @@ fn merge_into(
     Ok(is_whole)
 }
 
-// Merges a reading into a new segment and shows the report of that; its image, and whether it was merged whole.
-fn show_merge(rt: &(impl Print + AllocGlobal), reading: &Reading) -> Result<(Image, bool)> {
+// Merges a reading into a new segment and shows the report of that; whether it was merged whole.
+fn show_merge(rt: &(impl Print + AllocGlobal), reading: &Reading) -> Result<bool> {
     let alloc = rt.alloc();
     let (segment, mut opener) = Segment::create(alloc, 1024, 256, 7, 0, 2)?;
     let is_whole = merge_into(rt, &segment, &mut opener, reading)?;
     let image = segment.close(opener);
     io::writer(rt).write_all(&report_of(alloc, image.words())?)?;
-    Ok((image, is_whole))
+    Ok(is_whole)
 }
 
-/// The image of a segment into which the words of another one are merged.
-pub(super) fn show(rt: &(impl Print + AllocGlobal), words: &[u64]) -> Result<Image> {
+/// Merges words into a new segment; if that stops, into another one.
+pub(super) fn show(rt: &(impl Print + AllocGlobal), words: &[u64]) -> Result<()> {
     let reading = again!(rt, "read", read(rt.alloc(), words));
-    println!(rt; "{reading:?}")?;
-    show_reports(rt, rt.alloc(), words)?;
-    let (image, is_whole) = show_merge(rt, &reading)?;
-    if is_whole {
-        return Ok(image);
+    println!(rt; "{} histograms", reading.hists.len())?;
+    show_report(rt, rt.alloc(), words)?;
+    if !show_merge(rt, &reading)? {
+        show_merge(rt, &reading)?;
     }
-    let (image, _) = show_merge(rt, &reading)?;
-    Ok(image)
+    Ok(())
 }

@@ -30,19 +30,22 @@ pub(super) fn custom(alloc: Global) -> Result<Spec> {
     Ok(Spec::Custom(CustomValues::from(values)))
 }
 
-// The ranges of a spec, and what samples add up to in them.
+// How many buckets a spec has, and what samples add up to in them.
 fn show_ranges(rt: &impl Print, alloc: Global, spec: &Spec) -> Result<()> {
     let ranges = again!(rt, "ranges", Ranges::of(alloc, spec));
-    println!(rt; "{ranges:?}")?;
+    println!(rt; "{} buckets", ranges.len())?;
     let plain = again!(rt, "tally", tally(alloc, &ranges, &SAMPLES));
-    println!(rt; "{plain:?}")?;
+    println!(rt;
+        "{:?} {} units, sum {}",
+        plain.counts, plain.units, plain.sum
+    )?;
     Ok(())
 }
 
 pub(super) fn show(rt: &(impl Print + AllocGlobal)) -> Result<()> {
     let alloc = rt.alloc();
     let image = again!(rt, "blank", Image::blank(alloc, 128, 64, 7));
-    println!(rt; "{image:?}")?;
+    println!(rt; "{:?}", image.words())?;
     let linear = Spec::Linear {
         min: 1,
         max: 10,

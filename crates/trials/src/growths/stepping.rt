@@ -6,37 +6,37 @@ use anyhow::{Context, Result};
 use bucket_ranges::Spec;
 use hist_core::{Answer, Begun, Call, Move, Stepped, World, WorldFault, run_schedule};
 use std::alloc::{AllocError, Global};
+use std::io;
 
 // No call has more events.
-const MOST_EVENTS: u32 = 100;
+const MOST_EVENTS: u32 = 1000;
+
+// With three others they are so many that the list of what a recorder knows grows more than once.
+const MORE: [&str; 5] = ["A", "B", "C", "D", "a_name_that_is_longer"];
 
 fn bytes(alloc: Global, name: &str) -> Result<Vec<u8>, AllocError> {
     Vec::from_slice(alloc, name.as_bytes())
 }
 
-// All that is asked of a histogram.
-fn calls_of(alloc: Global, name: &str, spec: Spec) -> Result<Vec<Call>, AllocError> {
-    let items = Vec::from_slice(alloc, &[(0, 2), (6, 3)])?;
+// All that is asked of a histogram, each with the name of the call. What comes after the delta is left for a merge: of
+// a sparse histogram more values than its index of samples has room for at first.
+fn calls_of(
+    alloc: Global,
+    name: &str,
+    spec: Spec,
+) -> Result<Vec<(&'static str, Call)>, AllocError> {
+    let values = [(0, 2), (6, 3), (20, 1), (21, 1), (22, 1), (23, 1), (24, 1)];
     Ok(vec![in alloc;
-        Call::Hist(bytes(alloc, name)?, spec),
-        Call::Add(bytes(alloc, name)?, 1, 1),
-        Call::Add(bytes(alloc, name)?, 12, 70_000),
-        Call::Batch(bytes(alloc, name)?, items, 9),
-        Call::Snapshot(bytes(alloc, name)?),
-        Call::Delta(bytes(alloc, name)?),
+        ("begin Hist", Call::Hist(bytes(alloc, name)?, spec)),
+        ("begin Add", Call::Add(bytes(alloc, name)?, 1, 1)),
+        ("begin Add", Call::Add(bytes(alloc, name)?, 12, 70_000)),
+        ("begin Delta", Call::Delta(bytes(alloc, name)?)),
+        (
+            "begin Batch",
+            Call::Batch(bytes(alloc, name)?, Vec::from_slice(alloc, &values)?, 128)
+        ),
+        ("begin Snapshot", Call::Snapshot(bytes(alloc, name)?)),
     ]?)
-}
-
-// The actor begins a call, again if it is refused.
-fn begin(rt: &impl Print, world: &mut World, call: &Call) -> Result<Begun> {
-    println!(rt; "try begin {call:?}")?;
-    match world.begin(0, call) {
-        Ok(begun) => Ok(begun),
-        Err(why) => {
-            show_refused(rt, "begin", &why)?;
-            Ok(world.begin(0, call)?)
-        }
-    }
 }
 
 // The actor's call is stepped to its end.
@@ -49,22 +49,57 @@ fn finish(world: &mut World) -> Result<Option<Answer>, WorldFault> {
     Ok(None)
 }
 
-fn show_call(rt: &impl Print, world: &mut World, call: &Call) -> Result<()> {
-    match begin(rt, world, call)? {
-        Begun::Ended(answer) => println!(rt; "{answer:?}")?,
+fn show_answer(rt: &impl Print, answer: &Answer) -> io::Result<()> {
+    match answer {
+        Answer::Hist(reference) => println!(rt; "histogram {reference}"),
+        Answer::Added => println!(rt; "added"),
+        Answer::Delta(delta) => println!(rt; "{:?}, sum {}", delta.counts, delta.sum),
+        Answer::Snapshot(snapshot) => println!(rt;
+            "{:?}, sum {}, redundant {}",
+            snapshot.counts, snapshot.sum, snapshot.redundant
+        ),
+        Answer::Flagged => println!(rt; "flagged"),
+        Answer::Refused(why) => println!(rt; "{why}"),
+        Answer::BatchRefused(refusal) => println!(rt; "{}, {} added", refusal.why, refusal.added),
+    }
+}
+
+// Its words, and how much its first actor has begun, ended and taken.
+fn show_world(rt: &impl Print, world: &World) -> io::Result<()> {
+    println!(rt;
+        "{:?}, {} begun, {} ended, {} taken",
+        world.words(),
+        world.begun(0).len(),
+        world.ended(0).len(),
+        world.taken(0).len()
+    )
+}
+
+// The actor makes a call, and begins it again if it is refused.
+fn show_call(rt: &impl Print, world: &mut World, name: &str, call: &Call) -> Result<()> {
+    let answer = match again!(rt, name, world.begin(0, call)) {
+        Begun::Ended(answer) => answer,
         Begun::Going => {
             show_try(rt, "step")?;
-            let answer = finish(world)?.context("a call has no end")?;
-            println!(rt; "{answer:?}")?;
+            finish(world)?.context("a call has no end")?
         }
+    };
+    show_answer(rt, &answer)?;
+    Ok(show_world(rt, world)?)
+}
+
+fn show_calls(rt: &impl Print, world: &mut World, calls: &[(&'static str, Call)]) -> Result<()> {
+    for (name, call) in calls {
+        show_call(rt, world, name, call)?;
     }
-    println!(rt; "{world:?}")?;
     Ok(())
 }
 
-fn show_calls(rt: &impl Print, world: &mut World, calls: &[Call]) -> Result<()> {
-    for call in calls {
-        show_call(rt, world, call)?;
+// Makes many histograms.
+fn show_more(rt: &(impl Print + AllocGlobal), world: &mut World) -> Result<()> {
+    for i in 0..MORE.len() {
+        let call = Call::Hist(bytes(rt.alloc(), MORE[i])?, Spec::Boolean);
+        show_call(rt, world, "begin Hist", &call)?;
     }
     Ok(())
 }
@@ -77,17 +112,19 @@ fn show_schedule(rt: &impl Print, alloc: Global) -> Result<()> {
         "run_schedule",
         run_schedule(alloc, 128, 64, 7, 2, 1, &moves)
     );
-    println!(rt; "{world:?}")?;
-    Ok(())
+    Ok(show_world(rt, &world)?)
 }
 
-pub(super) fn show(rt: &(impl Print + AllocGlobal)) -> Result<()> {
+/// The world in which all calls were made.
+pub(super) fn show(rt: &(impl Print + AllocGlobal)) -> Result<World> {
     let alloc = rt.alloc();
-    let mut world = again!(rt, "world", World::new(alloc, 256, 64, 7, 2, 2));
-    println!(rt; "{world:?}")?;
+    show_schedule(rt, alloc)?;
+    let mut world = again!(rt, "world", World::new(alloc, 512, 128, 7, 2, 2));
+    show_world(rt, &world)?;
     show_calls(rt, &mut world, &calls_of(alloc, "boolean", Spec::Boolean)?)?;
     show_calls(rt, &mut world, &calls_of(alloc, "custom", custom(alloc)?)?)?;
     show_calls(rt, &mut world, &calls_of(alloc, "sparse", Spec::Sparse)?)?;
-    show_call(rt, &mut world, &Call::SetCorrupt)?;
-    show_schedule(rt, alloc)
+    show_more(rt, &mut world)?;
+    show_call(rt, &mut world, "begin SetCorrupt", &Call::SetCorrupt)?;
+    Ok(world)
 }

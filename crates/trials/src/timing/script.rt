@@ -10,30 +10,12 @@ mod sample;
 use anyhow::{Result, bail};
 use std::rt::Clock;
 
-// How large the script is, how far apart its names are, and how often it is read.
-#[derive(Clone, Copy)]
-struct Parameters {
-    bytes: usize,
-    step: usize,
-    turns: u32,
-}
-
-fn read_parameters(words: &[String]) -> Result<Parameters> {
+/// Measures turns, and prints what the script has and the times of each turn.
+pub(crate) fn run<R: Clock + Print + AllocGlobal>(rt: &R, words: &[String]) -> Result<()> {
     let [bytes, step, turns] = words else {
         bail!("give BYTES STEP TURNS");
     };
-    Ok(Parameters {
-        bytes: bytes.parse::<usize>()?,
-        step: step.parse::<usize>()?,
-        turns: turns.parse::<u32>()?,
-    })
-}
-
-/// Measures turns, and prints what the script has and the times of each turn.
-pub(crate) fn run<R: Clock + Print + AllocGlobal>(rt: &R, words: &[String]) -> Result<()> {
-    let Parameters { bytes, step, turns } = read_parameters(words)?;
-    let script = sample::script(rt.alloc(), bytes, step)?;
+    let script = sample::script(rt.alloc(), bytes.parse::<usize>()?, step.parse::<usize>()?)?;
     reading::show_contents(rt, &script)?;
-    reading::show_times(rt, &script, turns)?;
-    Ok(())
+    reading::show_times(rt, &script, turns.parse::<u32>()?)
 }

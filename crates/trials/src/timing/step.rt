@@ -11,26 +11,12 @@ use anyhow::{Result, bail};
 use std::rt::Clock;
 use turn::Times;
 
-// How many samples are added, and how often.
-#[derive(Clone, Copy)]
-struct Parameters {
-    adds: u32,
-    turns: u32,
-}
-
-fn read_parameters(words: &[String]) -> Result<Parameters> {
+/// Measures turns, and prints how many events a turn takes and the least times.
+pub(crate) fn run<R: Clock + Print + AllocGlobal>(rt: &R, words: &[String]) -> Result<()> {
     let [adds, turns] = words else {
         bail!("give ADDS TURNS");
     };
-    Ok(Parameters {
-        adds: adds.parse::<u32>()?,
-        turns: turns.parse::<u32>()?,
-    })
-}
-
-/// Measures turns, and prints how many events a turn takes and the least times.
-pub(crate) fn run<R: Clock + Print + AllocGlobal>(rt: &R, words: &[String]) -> Result<()> {
-    let Parameters { adds, turns } = read_parameters(words)?;
+    let (adds, turns) = (adds.parse::<u32>()?, turns.parse::<u32>()?);
     let events = turn::count_events(rt.alloc(), adds)?;
     println!(rt; "{adds} adds, {events} events")?;
     let mut least = Times::MOST;

@@ -1,2 +1,0 @@
-mod Cursors
-mod Jobs

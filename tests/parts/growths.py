@@ -56,7 +56,7 @@ FITTING = (SIZE - 16) // 5
 FRESH = [8 * FITTING] * 2
 # `merge` for all histograms 88 bytes each, then for each of them twice its name and 8 bytes for each of its keys, and
 # then again for all 32 bytes each, before the `hist` of each.
-MERGED = {"boolean": 3, "custom": 4, "sparse": 9, "A": 3, "B": 3, "C": 3, "D": 3, "a_name_that_is_longer": 3}
+MERGED = {"custom": 4, "sparse": 9, "boolean": 3, "A": 3, "B": 3, "C": 3, "D": 3, "a_name_that_is_longer": 3}
 
 
 def wrong_list(asked: Sequence[allocations.Asked], lines: Sequence[str]) -> str | None:

@@ -11,8 +11,8 @@ use std::io;
 // No call has more events.
 const MOST_EVENTS: u32 = 1000;
 
-// With three others they are so many that the list of what a recorder knows grows more than once.
-const MORE: [&str; 5] = ["A", "B", "C", "D", "a_name_that_is_longer"];
+// With two others they are so many that the list of what a recorder knows grows more than once.
+const BOOLEAN: [&str; 6] = ["boolean", "A", "B", "C", "D", "a_name_that_is_longer"];
 
 fn bytes(alloc: Global, name: &str) -> Result<Vec<u8>, AllocError> {
     Vec::from_slice(alloc, name.as_bytes())
@@ -88,18 +88,16 @@ fn show_call(rt: &impl Print, world: &mut World, name: &str, call: &Call) -> Res
     Ok(show_world(rt, world)?)
 }
 
-fn show_calls(rt: &impl Print, world: &mut World, calls: &[(&'static str, Call)]) -> Result<()> {
-    for (name, call) in calls {
+// Makes each call for a histogram of this name.
+fn show_histogram(
+    rt: &(impl Print + AllocGlobal),
+    world: &mut World,
+    name: &str,
+    spec: Spec,
+) -> Result<()> {
+    let calls = calls_of(rt.alloc(), name, spec)?;
+    for (name, call) in calls.iter() {
         show_call(rt, world, name, call)?;
-    }
-    Ok(())
-}
-
-// Makes many histograms.
-fn show_more(rt: &(impl Print + AllocGlobal), world: &mut World) -> Result<()> {
-    for i in 0..MORE.len() {
-        let call = Call::Hist(bytes(rt.alloc(), MORE[i])?, Spec::Boolean);
-        show_call(rt, world, "begin Hist", &call)?;
     }
     Ok(())
 }
@@ -121,10 +119,11 @@ pub(super) fn show(rt: &(impl Print + AllocGlobal)) -> Result<World> {
     show_schedule(rt, alloc)?;
     let mut world = again!(rt, "world", World::new(alloc, 512, 128, 7, 2, 2));
     show_world(rt, &world)?;
-    show_calls(rt, &mut world, &calls_of(alloc, "boolean", Spec::Boolean)?)?;
-    show_calls(rt, &mut world, &calls_of(alloc, "custom", custom(alloc)?)?)?;
-    show_calls(rt, &mut world, &calls_of(alloc, "sparse", Spec::Sparse)?)?;
-    show_more(rt, &mut world)?;
+    show_histogram(rt, &mut world, "custom", custom(alloc)?)?;
+    show_histogram(rt, &mut world, "sparse", Spec::Sparse)?;
+    for i in 0..BOOLEAN.len() {
+        show_histogram(rt, &mut world, BOOLEAN[i], Spec::Boolean)?;
+    }
     show_call(rt, &mut world, "begin SetCorrupt", &Call::SetCorrupt)?;
     Ok(world)
 }

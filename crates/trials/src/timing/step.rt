@@ -9,7 +9,6 @@ mod turn;
 
 use anyhow::{Result, bail};
 use std::rt::Clock;
-use turn::Times;
 
 /// Measures turns, and prints how many events a turn takes and the least times.
 pub(crate) fn run<R: Clock + Print + AllocGlobal>(rt: &R, words: &[String]) -> Result<()> {
@@ -19,12 +18,14 @@ pub(crate) fn run<R: Clock + Print + AllocGlobal>(rt: &R, words: &[String]) -> R
     let (adds, turns) = (adds.parse::<u32>()?, turns.parse::<u32>()?);
     let events = turn::count_events(rt.alloc(), adds)?;
     println!(rt; "{adds} adds, {events} events")?;
-    let mut least = Times::MOST;
+    let (mut all, mut first, mut last) = (u128::MAX, u128::MAX, u128::MAX);
     for _ in 0..turns {
-        least = least.least(turn::time(rt, adds)?);
+        let (of_all, of_first, of_last) = turn::time(rt, adds)?;
+        all = all.min(of_all);
+        first = first.min(of_first);
+        last = last.min(of_last);
     }
     if turns > 0 {
-        let Times { all, first, last } = least;
         println!(rt; "{all} {first} {last}")?;
     }
     Ok(())

@@ -91,16 +91,6 @@ fn record(plan: Plan, values: &[i32; VALUES], job: Job) -> Result<(), Refusal> {
     Ok(())
 }
 
-// Whether all threads recorded what they were to.
-fn check(answers: &[Result<(), Refusal>]) -> Result<()> {
-    for answer in answers.iter() {
-        if let Err(why) = answer {
-            bail!("{why}");
-        }
-    }
-    Ok(())
-}
-
 /// The nanoseconds of one burst.
 pub(crate) fn time<R: Threads + Clock + AllocGlobal + Sync>(
     rt: &R,
@@ -115,6 +105,10 @@ pub(crate) fn time<R: Threads + Clock + AllocGlobal + Sync>(
     let start = Instant::now(rt)?;
     let answers = thread::map_vec(rt, jobs, &|job| record(plan, values, job))?;
     let took = start.elapsed(rt)?.as_nanos();
-    check(&answers)?;
+    for answer in answers.iter() {
+        if let Err(why) = answer {
+            bail!("{why}");
+        }
+    }
     Ok(took)
 }

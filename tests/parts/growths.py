@@ -146,8 +146,11 @@ def wrong_merge(lines: list[str], came: Answer) -> str | None:
 def wrong_allocation(
     program: pathlib.Path, refuser: allocations.Refuser, plain: Answer, place: int, one: allocations.Asked
 ) -> str | None:
-    """What is wrong if an allocation of a call is refused, or None. A merge may do without the growth of an index."""
-    came, _ = refuser.answer(program, ["growths"], place)
+    """What is wrong if an allocation of a call is refused, or None. A call may do with another one in its place; then
+    that is refused too. A merge may do without the growth of an index."""
+    came, asked = refuser.answer(program, ["growths"], place)
+    if came == plain and any(other.place == one.place for other in asked[place + 1:]):
+        came, _ = refuser.answer(program, ["growths"], place, lasting=True)
     if came == plain and one.call == "merge":
         return None
     return wrong_refusal(plain.output.decode().splitlines(), one, came)

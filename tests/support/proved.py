@@ -34,7 +34,7 @@ SHORT = 80
 # A crate with more than MOST_LINES lines has a page for each module with more than LARGE.
 MOST_LINES, LARGE = 700, 200
 # Programs of the tests, which promise nothing.
-PROGRAMS_OF_TESTS = ("trials", "worked_lists", "worked_looks", "worked_rows", "worked_sums")
+PROGRAMS_OF_TESTS = ("trials",)
 
 FUNCTION = re.compile(r"^\s*(pub )?(?:const )?(?:unsafe )?(?:extern \"C\" )?fn (\w+)")
 ITEM = re.compile(r"^(?:unsafe )?(?:impl|pub trait)\b(?:<.*?>)? ?(?:(.*?) for )?(.*?)(?:<.*)? \{$")

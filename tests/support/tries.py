@@ -3,11 +3,13 @@ wanted."""
 
 from __future__ import annotations
 
+import concurrent.futures
 import dataclasses
+import os
 import pathlib
 import re
 import subprocess
-from collections.abc import Collection, Iterable, Iterator
+from collections.abc import Collection, Iterable, Iterator, Sequence
 
 from support.program import ROOT, Answer, content, difference
 
@@ -19,6 +21,10 @@ SHOWN = re.compile(rb"^== (\S+)$\n", re.MULTILINE)
 
 # How much is shown of how an output differs.
 MOST_SIGNS = 500
+# For an answer with an error there is no file with the output that is wanted, so it is shown.
+NOT_KNOWN = Answer(error=b"not known")
+# How long one case may take: a machine may have much else to do.
+MOST_SECONDS = 600
 
 
 @dataclasses.dataclass
@@ -33,9 +39,11 @@ class Case:
     written: dict[pathlib.Path, bytes | None] = dataclasses.field(default_factory=dict)
 
 
-def run(crate: str, words: Iterable[str], data: bytes = b"") -> subprocess.CompletedProcess[bytes]:
-    """What `rt try` says in the folder of a crate."""
-    return subprocess.run(["rt", "try", *words], cwd=ROOT / "crates" / crate, input=data, capture_output=True)
+def run(
+    crate: str, words: Iterable[str], data: bytes = b"", root: pathlib.Path = ROOT
+) -> subprocess.CompletedProcess[bytes]:
+    """What `rt try` says in the folder of a crate of a repository."""
+    return subprocess.run(["rt", "try", *words], cwd=root / "crates" / crate, input=data, capture_output=True)
 
 
 def end_of(came: subprocess.CompletedProcess[bytes]) -> str:
@@ -79,14 +87,53 @@ def wrong_of(case: Case, line: tuple[bytes, ...] | None, shown: bytes) -> str | 
     return wrong
 
 
+def parsed(came: subprocess.CompletedProcess[bytes]) -> tuple[dict[bytes, tuple[bytes, ...]], dict[bytes, bytes]]:
+    """The line of each case that was run, by its name, and what it wrote if that is shown."""
+    lines = {name: (told, *found) for told, name, *found in LINE.findall(came.stderr)}
+    _, *parts = SHOWN.split(came.stdout)
+    return lines, dict(zip(parts[::2], parts[1::2]))
+
+
+def answers(
+    crate: str, commands: Sequence[Sequence[str]], folder: pathlib.Path, root: pathlib.Path = ROOT
+) -> list[Answer]:
+    """Builds the program of a crate once and runs it with each of these words: what it answered, in their order.
+
+    `rt try` gives no answer past 1 MiB. The status is that of the program, or -1 if it did not end.
+    """
+    names = [f"{place:05}" for place in range(len(commands))]
+    store((Case(name, list(words), b"", NOT_KNOWN) for name, words in zip(names, commands)), folder)
+    came = run(crate, ["--seconds", str(MOST_SECONDS), "--cases", str(folder)], root=root)
+    lines, shown = parsed(came)
+    missing = [name for name in names if name.encode() not in lines]
+    if missing:
+        raise ValueError(f"the cases {missing} of {crate} were not run: {end_of(came)}")
+    found = [(shown.get(name, b""), *lines[name]) for name in map(str.encode, names)]
+    return [
+        Answer(output, told, int(status)) if ended == b"ended" else Answer(output, told + b"run=" + ended + rest, -1)
+        for output, told, ended, status, rest in found
+    ]
+
+
+def answers_side_by_side(
+    crate: str, commands: Sequence[Sequence[str]], folder: pathlib.Path, root: pathlib.Path = ROOT
+) -> list[Answer]:
+    """The same by as many runs of `rt try` side by side as there are processors, each of which builds the program."""
+    lanes = min(len(os.sched_getaffinity(0)), len(commands))
+    with concurrent.futures.ThreadPoolExecutor(lanes) as pool:
+        lots = [
+            pool.submit(answers, crate, commands[lane::lanes], folder / str(lane), root) for lane in range(lanes)
+        ]
+        found = [iter(lot.result()) for lot in lots]
+    return [next(found[place % lanes]) for place in range(len(commands))]
+
+
 def replay(crate: str, cases: Collection[Case], folder: pathlib.Path) -> Iterator[tuple[str, str | None]]:
     """Builds the program of a crate once and runs it on each case: the name of each, and what is wrong with it, or
     None."""
     store(cases, folder / "cases")
     came = run(crate, ["--cases", str(folder / "cases")])
-    lines = {name: (told, *found) for told, name, *found in LINE.findall(came.stderr)}
-    _, *parts = SHOWN.split(came.stdout)
-    shown = dict(zip(parts[::2], parts[1::2]))
+    lines, shown = parsed(came)
     if not lines:
         yield "build", end_of(came)
         return

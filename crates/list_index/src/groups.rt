@@ -69,18 +69,3 @@ impl Groups {
         numbers.push(number).is_ok() && self.map.insert(group, numbers).is_ok()
     }
 }
-
-#[test]
-fn groups_are_apart(rt: HostRuntime) {
-    let mut groups = Groups::new(rt.alloc());
-    assert!(rt; groups.numbers(7).len() == 0);
-    assert!(rt; groups.enter(7, 16));
-    assert!(rt; groups.enter(8, 40));
-    assert!(rt; groups.enter(7, 50));
-    assert!(rt; groups.numbers(7).len() == 2);
-    assert!(rt; groups.numbers(7)[0] == 16);
-    assert!(rt; groups.numbers(7)[1] == 50);
-    assert!(rt; groups.numbers(8).len() == 1);
-    assert!(rt; group_of(7 * GROUP_KEYS) == 7);
-    assert!(rt; group_of(7 * GROUP_KEYS - 1) == 7);
-}

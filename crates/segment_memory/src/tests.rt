@@ -1,7 +1,8 @@
-//! What no clause says: that blocks are given if there is memory, and that a room comes back.
+//! What no clause says: that a room is handed out, and comes back. Only C makes a room, so these tests make one by parts
+//! of the crate that are private.
 
 use crate::block::Block;
-use crate::memory::{Lender, Memory};
+use crate::memory::Lender;
 use crate::room::Room;
 use std::alloc::{AllocError, Global};
 
@@ -15,16 +16,6 @@ fn room(heap: Global, size: usize) -> Result<Room, AllocError> {
 
 // What threads may share and move compiles here.
 fn crosses<T: Send + Sync>(_: &T) {}
-
-#[test]
-fn the_heap_gives_and_takes(rt: HostRuntime) -> Result<(), AllocError> {
-    let heap = rt.alloc();
-    let numbers = Vec::from_slice(Memory::of_heap(heap), &[7u64; 100])?;
-    assert_eq!(rt; numbers[99], 7);
-    let none: Vec<u64, Memory> = Vec::from_slice(Memory::of_heap(heap), &[])?;
-    assert!(rt; none.is_empty());
-    Ok(())
-}
 
 #[test]
 fn a_room_is_handed_out_once_and_comes_back(rt: HostRuntime) -> Result<(), AllocError> {

@@ -1,4 +1,4 @@
-"""Images are adopted, recorded into and read again, by `trials adopt`.
+"""Images are adopted, recorded into and read again, by a program in Rattle that is built with checks (laid.py).
 
 For each image a plain calculation (plain_adoption.py) says whether it may be adopted, or by which fault it may not. A
 segment that continues with one reads as the plain reader reads the image, and in addition what was recorded: in each of
@@ -24,17 +24,16 @@ from collections.abc import Callable, Iterable, Iterator, Sequence
 from typing import Optional
 
 from parts.schedules import FOLDER, replayed
+from parts.threads import RECORDED, Pairs, pairs
 from parts.threads import SPECS as NEW
-from parts.threads import Pairs, pairs
-from support import forge, forge_adoption, plain_adoption, plain_tally, seeded_schedules, worked_schedules
+from support import forge, forge_adoption, laid, plain_adoption, plain_tally, seeded_schedules, tries, worked_schedules
 from support.layout import FULL, MOST_BYTES, MOST_UNITS
 from support.plain_reader import KINDS, ReadHistogram, Words, words_of
-from support.program import Case, answer, built
+from support.program import Answer, Case, answer
 
-PROGRAM = "trials"
-STEPPED = "stepped"
+PROGRAM = "stepped"
 VERSION = 2
-# How many images one process adopts.
+# How many images one process adopts: an answer of `rt try` has less than 1 MiB.
 TOGETHER = 100
 # Of each of the two kinds of forged images there is one for each 6 of --images. With at least this many of each kind,
 # each fault and each reason has to come into play.
@@ -86,7 +85,7 @@ class Histogram(plain_tally.Histogram):
 
 
 class Going:
-    """A segment that continues with the words of an image, as the lines of `trials adopt` say it does."""
+    """A segment that continues with the words of an image, as the lines of the program say it does."""
 
     def __init__(self, words: Words) -> None:
         read = plain_adoption.Read(words)
@@ -189,12 +188,8 @@ def wrong_image(data: bytes, lines: Sequence[str], seen: Seen) -> str | None:
     return wrong_going(words, lines)
 
 
-def adopted(program: pathlib.Path, folder: pathlib.Path, images: Sequence[bytes]) -> list[list[str]]:
-    """The lines of each image, by its place; `images` has their bytes."""
-    paths = [folder / f"{place}.img" for place in range(len(images))]
-    for path, data in zip(paths, images):
-        path.write_bytes(data)
-    came = answer(program, ["adopt", *paths])
+def lots_of(came: Answer, count: int) -> list[list[str]]:
+    """The lines of each image of an answer, which has this many."""
     lines = came.output.decode().splitlines()
     every: list[list[str]] = []
     for line in lines:
@@ -202,27 +197,35 @@ def adopted(program: pathlib.Path, folder: pathlib.Path, images: Sequence[bytes]
             every.append([])
         else:
             every[-1].append(line)
-    if came.status != 0 or came.error or len(every) != len(images):
+    if came.status != 0 or came.error or len(every) != count:
         raise ValueError(
-            f"status {came.status}, {came.error[:200]!r}, {len(every)} images of {len(images)}, "
-            f"the last lines {lines[-3:]}"
+            f"status {came.status}, {came.error[-500:]!r}, {len(every)} images of {count}, the last lines {lines[-3:]}"
         )
     return every
 
 
-def wrongs_of(program: pathlib.Path, images: Sequence[Image], seen: Seen) -> Iterator[Case]:
-    """What is wrong with each image, or None. `images` has the name and the bytes of each."""
-    for first in range(0, len(images), TOGETHER):
-        some = images[first : first + TOGETHER]
-        with tempfile.TemporaryDirectory() as scratch:
-            every = adopted(program, pathlib.Path(scratch), [data for _, data in some])
-        for (name, data), lines in zip(some, every):
-            wrong = wrong_image(data, lines, seen)
-            if wrong is not None:
-                kept = pathlib.Path("adopted.img").resolve()
-                kept.write_bytes(data)
-                wrong += f"; the image is kept as {kept}"
-            yield name, wrong
+def adopted(images: Sequence[Image]) -> list[list[str]]:
+    """The lines of each image, by its place."""
+    with laid.repository([RECORDED]) as root, tempfile.TemporaryDirectory() as scratch:
+        folder = pathlib.Path(scratch).resolve()
+        paths = [folder / f"{place}.img" for place in range(len(images))]
+        for path, (_, data) in zip(paths, images):
+            path.write_bytes(data)
+        lots = [paths[first : first + TOGETHER] for first in range(0, len(paths), TOGETHER)]
+        commands = [["adopt", *map(str, lot)] for lot in lots]
+        came = tries.answers(RECORDED, commands, folder / "cases", root)
+    return [lines for lot, one in zip(lots, came) for lines in lots_of(one, len(lot))]
+
+
+def wrongs_of(images: Iterable[Image], every: Iterable[Sequence[str]], seen: Seen) -> Iterator[Case]:
+    """What is wrong with the lines of each image, or None."""
+    for (name, data), lines in zip(images, every):
+        wrong = wrong_image(data, lines, seen)
+        if wrong is not None:
+            kept = pathlib.Path("adopted.img").resolve()
+            kept.write_bytes(data)
+            wrong += f"; the image is kept as {kept}"
+        yield name, wrong
 
 
 def stops(stepped: pathlib.Path, path: pathlib.Path, name: str, events: Iterable[int]) -> list[Image]:
@@ -308,17 +311,15 @@ def never_seen(seen: Seen) -> str | None:
     return f"wanted each fault, each reason and each call, came none of: {'; '.join(never)}" if never else None
 
 
-def cases(program: pathlib.Path, options: argparse.Namespace) -> Iterator[Case]:
-    if not built(STEPPED).is_file():
-        yield STEPPED, f"{built(STEPPED)}: no such program; 'rt run' in crates/{STEPPED} builds it"
-        return
-    images = stopped_images(built(STEPPED), options)
-    for (_, data), (name, wrong) in zip(images, wrongs_of(program, images, collections.Counter())):
+def cases(stepped: pathlib.Path, options: argparse.Namespace) -> Iterator[Case]:
+    count = -(-options.images // 6)
+    stopped = stopped_images(stepped, options)
+    others = [*forged_images(options.seed, count), *adoptable_images(options.seed, count)]
+    every = adopted([*stopped, *others])
+    for (_, data), (name, wrong) in zip(stopped, wrongs_of(stopped, every, collections.Counter())):
         yield name, wrong_stopped(data, wrong)
     seen: Seen = collections.Counter()
-    count = -(-options.images // 6)
-    yield from wrongs_of(program, forged_images(options.seed, count), seen)
-    yield from wrongs_of(program, adoptable_images(options.seed, count), seen)
-    print(f"adopted: {len(images)} images of stops; of forged ones {seen[None]} were adopted")
+    yield from wrongs_of(others, every[len(stopped) :], seen)
+    print(f"adopted: {len(stopped)} images of stops; of forged ones {seen[None]} were adopted")
     if count >= ENOUGH_IMAGES:
         yield "faults and reasons in play", never_seen(seen)

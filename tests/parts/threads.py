@@ -2,7 +2,9 @@
 deltas of a histogram, the last among them, add up to it.
 
 The program prints the samples and batches that were accepted, what each delta and snapshot was answered, what threads
-read of the whole segment meanwhile and saw in looks at it, and the report of the image.
+read of the whole segment meanwhile and saw in looks at it, and the report of the image. It is built with checks and
+without any proof (laid.py). Its threads are those of the system: two that share a cursor both have to be given records
+in some round.
 """
 
 from __future__ import annotations
@@ -10,15 +12,22 @@ from __future__ import annotations
 import argparse
 import collections
 import pathlib
+import tempfile
 from collections.abc import Callable, Iterable, Iterator, Sequence
+from typing import NamedTuple
 
-from support import plain_tally
-from support.program import Case, Word, answer
+from support import laid, plain_tally, tries
+from support.program import Answer, Case
 
-PROGRAM = "trials"
+PROGRAM = None
+# The program in Rattle (tests/rattle) that records.
+RECORDED = "recorded"
 THREADS = (2, 3, 4, 8, 16)
 ROUNDS = 200
 RECORDS = 1_000
+# An answer of `rt try` has less than 1 MiB. A round has some 7 KB for each thread, and one of a shared cursor 16 KB.
+MOST_THREADS_TOGETHER = 96
+MOST_WALKS = 40
 # The lines of a run, each of which has to come in some round.
 LINES = {"thread", "sample", "batch", "delta", "snapshot", "read", "look", "histogram", "report"}
 # Keys or values with their units; a name, a value and its count; a name, what is added to the sum, and items.
@@ -209,41 +218,71 @@ def wrong_round(lines: Sequence[str], version: int, threads: int) -> str | None:
     return next(filter(None, (wrong_thread(thread, histograms, version) for thread in done.threads)), None)
 
 
-def rounds(program: pathlib.Path, words: Sequence[Word]) -> tuple[list[list[str]], str | None]:
-    """The lines of each round of a run, or what it said in place of them."""
-    came = answer(program, words)
-    if came.status != 0 or came.error:
-        return [], f"status {came.status}, {came.error[:200]!r}"
-    lines = came.output.decode().splitlines()
-    starts = [place for place, line in enumerate(lines) if line.startswith("round,")]
-    return [lines[start + 1:end] for start, end in zip(starts, [*starts[1:], len(lines)])], None
+class Rounds(NamedTuple):
+    """Rounds that are checked together: of how many threads, from which seed on and how many. With a limit, the indexes
+    of each recorder have at most that many entries."""
+
+    threads: int
+    seed: int
+    number: int = ROUNDS
+    limit: int | None = None
+
+    def commands(self) -> list[list[str]]:
+        """The words that run them, as many of them together as one answer holds."""
+        most = max(1, MOST_THREADS_TOGETHER // self.threads)
+        end = [] if self.limit is None else [self.limit]
+        lots = [(first, min(most, self.number - first)) for first in range(0, self.number, most)]
+        return [["record", *map(str, (self.threads, self.seed, *lot, *end))] for lot in lots]
 
 
-def recorded(
-    program: pathlib.Path, threads: int, seed: int, number: int = ROUNDS, limit: int | None = None
-) -> str | None:
-    """What is wrong with `number` rounds, or None. With a limit, the indexes of each recorder have at most that many
-    entries."""
-    words = [threads, seed, number, *([] if limit is None else [limit])]
-    every, wrong = rounds(program, ["record", *map(str, words)])
+def walks() -> list[list[str]]:
+    """The words that run the rounds of a shared cursor."""
+    lots = [(first, min(MOST_WALKS, ROUNDS - first)) for first in range(0, ROUNDS, MOST_WALKS)]
+    return [["walk", *map(str, (2, RECORDS, *lot))] for lot in lots]
+
+
+def rounds(came: Iterable[Answer]) -> tuple[list[list[str]], str | None]:
+    """The lines of each round, of which the first says its number, or what came in place of them."""
+    every: list[list[str]] = []
+    for one in came:
+        if one.status != 0 or one.error:
+            return [], f"status {one.status}, {one.error[-500:]!r}"
+        lines = one.output.decode().splitlines()
+        starts = [place for place, line in enumerate(lines) if line.startswith("round,")]
+        every += [lines[start:end] for start, end in zip(starts, [*starts[1:], len(lines)])]
+    return every, None
+
+
+def wrong_heads(every: Sequence[Sequence[str]], wanted: Sequence[str]) -> str | None:
+    """What is wrong with the first lines of rounds, or None."""
+    if len(every) != len(wanted):
+        return f"{len(every)} rounds came of {len(wanted)}"
+    pairs = ((lines[0], head) for lines, head in zip(every, wanted))
+    return next((f"a round began with {came}, wanted {head}" for came, head in pairs if came != head), None)
+
+
+def wrong_rounds(asked: Rounds, came: Iterable[Answer]) -> str | None:
+    """What is wrong with rounds, or None. The version follows the number of the round."""
+    every, wrong = rounds(came)
+    wrong = wrong or wrong_heads(every, [f"round,{place},{1 + place % 2}" for place in range(asked.number)])
     if wrong is not None:
         return wrong
-    if len(every) != number:
-        return f"{len(every)} rounds"
     never = LINES - {line.split(",")[0] for lines in every for line in lines}
     if never:
         return f"no round has the lines {sorted(never)}"
-    # The version follows the number of the round.
-    return next(filter(None, (wrong_round(lines, 1 + place % 2, threads) for place, lines in enumerate(every))), None)
+    checked = (wrong_round(lines[1:], 1 + place % 2, asked.threads) for place, lines in enumerate(every))
+    return next(filter(None, checked), None)
 
 
-def shared(program: pathlib.Path) -> str | None:
-    """Two threads that share a cursor are given each record once between them, each in the order of the list."""
-    every, wrong = rounds(program, ["walk", "2", str(RECORDS), str(ROUNDS)])
+def wrong_walks(came: Iterable[Answer]) -> str | None:
+    """What is wrong with rounds of two threads that share a cursor, or None: they are given each record once between
+    them, each in the order of the list."""
+    every, wrong = rounds(came)
+    wrong = wrong or wrong_heads(every, [f"round,{place}" for place in range(ROUNDS)])
     if wrong is not None:
         return wrong
     by_both = 0
-    for lines in every:
+    for _, *lines in every:
         given = [tuple(map(int, line.split(",")[1:])) for line in lines]
         by_both += {thread for thread, _ in given} == {0, 1}
         for thread in (0, 1):
@@ -253,12 +292,20 @@ def shared(program: pathlib.Path) -> str | None:
         # Boolean histograms with names of up to eight bytes take 16 words each.
         if sorted(reference for _, reference in given) != [16 + 16 * i for i in range(RECORDS)]:
             return f"given were {given}"
-    if by_both == 0:
-        return "in no round both threads were given records"
-    return None if len(every) == ROUNDS else f"{len(every)} rounds"
+    return "in no round both threads were given records" if by_both == 0 else None
 
 
-def cases(program: pathlib.Path, options: argparse.Namespace) -> Iterator[Case]:
-    for threads in THREADS:
-        yield f"{threads} threads, {ROUNDS} rounds", recorded(program, threads, options.seed)
-    yield f"a shared cursor, {ROUNDS} rounds", shared(program)
+def answered(lots: Sequence[Sequence[Sequence[str]]]) -> list[list[Answer]]:
+    """What the program answers to each lot of command lines."""
+    every = [words for lot in lots for words in lot]
+    with laid.repository([RECORDED]) as root, tempfile.TemporaryDirectory() as folder:
+        came = iter(tries.answers_side_by_side(RECORDED, every, pathlib.Path(folder).resolve(), root))
+        return [[next(came) for _ in lot] for lot in lots]
+
+
+def cases(_program: None, options: argparse.Namespace) -> Iterator[Case]:
+    asked = [Rounds(threads, options.seed) for threads in THREADS]
+    *came, walked = answered([*(one.commands() for one in asked), walks()])
+    for one, answers in zip(asked, came):
+        yield f"{one.threads} threads, {ROUNDS} rounds", wrong_rounds(one, answers)
+    yield f"a shared cursor, {ROUNDS} rounds", wrong_walks(walked)

@@ -9,14 +9,13 @@ which one index is full and another is not.
 from __future__ import annotations
 
 import argparse
-import pathlib
 import random
 from collections.abc import Iterator
 
 from parts import threads
 from support.program import Case
 
-PROGRAM = "trials"
+PROGRAM = None
 
 # The rounds of a run: one of each version.
 ROUNDS = 2
@@ -33,9 +32,12 @@ def limits(seed: int, number: int) -> list[int]:
     return [*range(SMALL), *(chance.randrange(SMALL, LARGEST) for _ in range(OTHERS))]
 
 
-def cases(program: pathlib.Path, options: argparse.Namespace) -> Iterator[Case]:
-    for number in threads.THREADS:
-        for place, limit in enumerate(limits(options.seed, number)):
-            seed = options.seed + place * ROUNDS
-            wrong = threads.recorded(program, number, seed, ROUNDS, limit)
-            yield f"{number} threads, rounds of the seed {seed}, {limit} entries", wrong
+def cases(_program: None, options: argparse.Namespace) -> Iterator[Case]:
+    asked = [
+        threads.Rounds(number, options.seed + place * ROUNDS, ROUNDS, limit)
+        for number in threads.THREADS
+        for place, limit in enumerate(limits(options.seed, number))
+    ]
+    for one, came in zip(asked, threads.answered([one.commands() for one in asked])):
+        name = f"{one.threads} threads, rounds of the seed {one.seed}, {one.limit} entries"
+        yield name, threads.wrong_rounds(one, came)

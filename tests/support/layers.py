@@ -46,6 +46,11 @@ def way(needs: Needs, crate: str, below: str) -> list[str] | None:
     return next(([crate, *rest] for rest in down if rest), None)
 
 
+def below(needs: Needs, crate: str) -> set[str]:
+    """All crates that one stands on."""
+    return {name for need in needs[crate] for name in (need, *below(needs, need))}
+
+
 def depths(needs: Needs) -> dict[str, int]:
     """The depth of each crate."""
     @functools.cache

@@ -1,0 +1,187 @@
+"""Tries the edits of crates/NAME/wrong/ as the toolchain's script `rt` tries those of must-fail/: by its own
+`must_fail`, each over what the checks of those before it proved. They begin with a copy of what `rt check` kept in
+out/incremental of the crate, so the crate is not proved once more for them."""
+
+from __future__ import annotations
+
+import concurrent.futures
+import functools
+import os
+import pathlib
+import shutil
+import tempfile
+from collections.abc import Iterable, Sequence
+from typing import Any, NamedTuple
+
+from support import edits, lanes, refusals, sources, toolchain
+from support.made import ROOT
+
+ONE_JOB = ["--jobs", "1"]
+KEPT = pathlib.Path("out") / "incremental"
+
+
+class Outcome(NamedTuple):
+    """What came of an edit: the open goal that refused it, or None, and what is to be said."""
+
+    edit: str
+    tried: edits.Tried | None
+    text: str
+
+
+class Kit:
+    """The script, with what its last check of each crate said."""
+
+    def __init__(self) -> None:
+        self.script = toolchain.script()
+        self.said: dict[str, str] = {}
+        self.checked = self.script.checked
+        self.script.checked = self.record
+        # Its first call has to be on the main thread.
+        self.script.rtlib.guarded()
+
+    def record(self, crate: Any, *given: Any) -> Any:
+        ran = self.checked(crate, *given)
+        self.said[crate.name] = ran.stdout
+        return ran
+
+    def is_proved(self, crate: Any, kept: str) -> bool:
+        """Whether the crate itself is proved over what is kept in a folder."""
+        return not self.checked(crate, {}, ONE_JOB, kept).returncode
+
+    def tried(self, crate: Any, edit: pathlib.Path, kept: str | None) -> Outcome:
+        """Tries an edit, over what is kept in a folder or from nothing."""
+        is_refused, text = self.script.must_fail(crate, str(edit), ONE_JOB, kept)
+        name = f"{crate.name}/{edit.name}"
+        goal = refusals.refused_by(self.said[crate.name]) if is_refused else None
+        if not is_refused:
+            return Outcome(edit.name, None, text)
+        if goal is None:
+            return Outcome(edit.name, None, f"{name}: REFUSED FOR NO GOAL, which says nothing of a contract: {text}")
+        note = "" if goal.is_of_contract() else ", which is no goal of a contract"
+        tried = edits.Tried(edits.sum_of(edit), *goal)
+        return Outcome(edit.name, tried, f"{name}: refused by {goal.function} {goal.name}{note}")
+
+
+def proved(crate: Any) -> str | None:
+    """Proves a crate over what is kept in its folder, and keeps more there; what the check said if it is not proved."""
+    with tempfile.TemporaryFile("w+", errors="replace") as crate.out:
+        os.makedirs(f"{crate.folder}/out", exist_ok=True)
+        status = crate.check(ONE_JOB)
+        crate.out.seek(0)
+        return crate.out.read() if status else None
+
+
+def built(library: Any) -> str | None:
+    """Builds a library, if it has changed; what the check said if it is not proved."""
+    with tempfile.TemporaryFile("w+", errors="replace") as library.out:
+        status = library.build_rlib(ONE_JOB, anew=False)
+        library.out.seek(0)
+        return library.out.read() if status else None
+
+
+def over_copy(kit: Kit, crate: Any, chosen: Sequence[pathlib.Path]) -> tuple[list[Outcome], bool]:
+    """What came of each edit over a copy of what is kept, and whether the crate itself is proved over that copy."""
+    with tempfile.TemporaryDirectory(prefix="edits-") as room:
+        kept = str(pathlib.Path(room) / "kept")
+        shutil.copytree(pathlib.Path(crate.folder) / KEPT, kept)
+        outcomes = [kit.tried(crate, edit, kept) for edit in chosen]
+        return outcomes, kit.is_proved(crate, kept)
+
+
+def tried(kit: Kit, crate: Any, chosen: Sequence[pathlib.Path]) -> list[Outcome] | str:
+    """What came of each edit, or what is wrong with the crate. What was not refused is tried again, from nothing."""
+    is_kept = crate.has_kept()
+    outcomes, is_sound = over_copy(kit, crate, chosen) if is_kept else ([], False)
+    if not is_sound:
+        why = "what is kept of it is not whole" if is_kept else "nothing is kept of it"
+        say(f"{crate.name}: {why}, so it is proved first")
+        if (wrong := proved(crate)) is not None:
+            return wrong
+        outcomes, is_sound = over_copy(kit, crate, chosen)
+    return [one if is_sound and one.tried else kit.tried(crate, edit, None) for edit, one in zip(chosen, outcomes)]
+
+
+def say(text: str) -> None:
+    print(text, flush=True)
+
+
+class Work(NamedTuple):
+    """A crate, its sum, and which of its edits are to be tried."""
+
+    crate: Any
+    sum: str
+    chosen: list[pathlib.Path]
+
+
+def work_of(names: Iterable[str], only_changed: bool) -> list[Work]:
+    """What is to be done for these crates, the longest first."""
+    known = {crate.name: crate for crate in toolchain.crates(str(ROOT / "crates"))}
+    found = []
+    for name in names:
+        now = sources.sum_of(name)
+        chosen = edits.changed(name, now) if only_changed else edits.edits_of(name)
+        found.append(Work(known[name], now, chosen))
+    return sorted(found, key=lambda work: -len(work.chosen) * int(work.crate.count(rb"\n")))
+
+
+class Libraries:
+    """The libraries below some crates, built side by side, each after those that it stands on."""
+
+    def __init__(self, pool: concurrent.futures.Executor, crates: Sequence[Any]) -> None:
+        self.built: dict[str, concurrent.futures.Future[str | None]] = {}
+        wanted = {library.name: library for crate in crates for library in crate.below()}
+        # One that waits for others comes after them, so that some task always goes on.
+        for library in sorted(wanted.values(), key=lambda one: len(one.below())):
+            self.built[library.name] = pool.submit(self.build, library)
+
+    def build(self, library: Any) -> str | None:
+        """What is wrong with a library, or None once it is built."""
+        if (wrong := self.wrong_below(library)) is not None or library.is_built():
+            return wrong
+        say(f"{library.name}: it has changed, so it is proved first")
+        return built(library)
+
+    def wrong_below(self, crate: Any) -> str | None:
+        """What is wrong with a library below a crate, once all are built, or None."""
+        found = (self.built[library.name].result() for library in crate.below())
+        return next((wrong for wrong in found if wrong is not None), None)
+
+
+def done(kit: Kit, libraries: Libraries, work: Work) -> tuple[int, int]:
+    """Tries the edits of a crate, says what came of each, and writes it down; how many were refused, and how many
+    not."""
+    name = work.crate.name
+    came: list[Outcome] | str = libraries.wrong_below(work.crate) or []
+    if not came and work.chosen:
+        came = tried(kit, work.crate, work.chosen)
+    if isinstance(came, str):
+        say(f"{came}{name}: NOT PROVED, so no edit of it was tried")
+        return 0, len(work.chosen)
+    say("\n".join([f"{name}: {len(came)} tried", *(one.text for one in came)]))
+    edits.write(name, edits.Record(work.sum, {**untouched(work), **{one.edit: one.tried for one in came if one.tried}}))
+    return sum(one.tried is not None for one in came), sum(one.tried is None for one in came)
+
+
+def untouched(work: Work) -> dict[str, edits.Tried]:
+    """What stands of the edits that are there and are not tried this time."""
+    record, name = edits.recorded(work.crate.name), work.crate.name
+    names = {edit.name for edit in edits.edits_of(name)} - {edit.name for edit in work.chosen}
+    return {edit: one for edit, one in record.edits.items() if edit in names and record.sum == work.sum}
+
+
+def run(names: Sequence[str], only_changed: bool) -> int:
+    """Tries the edits of these crates; the status."""
+    kit = Kit()
+    rtlib = kit.script.rtlib
+    rtlib.Crate.stamp = functools.cache(rtlib.Crate.stamp)
+    listed = work_of(names, only_changed)
+    crates = [work.crate for work in listed if work.chosen]
+    held = rtlib.lock([*crates, *(library for crate in crates for library in crate.below())])
+    with concurrent.futures.ThreadPoolExecutor(lanes.lanes()) as pool:
+        libraries = Libraries(pool, crates)
+        ended = [pool.submit(done, kit, libraries, work) for work in listed]
+        refused, failed = (sum(numbers) for numbers in zip(*(one.result() for one in ended)))
+    for one in held:
+        os.close(one)
+    say(f"{refused} passed, {failed} failed")
+    return 1 if failed else 0

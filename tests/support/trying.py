@@ -51,15 +51,14 @@ class Kit:
     def tried(self, crate: Any, edit: pathlib.Path, kept: str | None) -> Outcome:
         """Tries an edit, over what is kept in a folder or from nothing."""
         is_refused, text = self.script.must_fail(crate, str(edit), ONE_JOB, kept)
-        name = f"{crate.name}/{edit.name}"
         goal = refusals.refused_by(self.said[crate.name]) if is_refused else None
         if not is_refused:
             return Outcome(edit.name, None, text)
-        if goal is None:
-            return Outcome(edit.name, None, f"{name}: REFUSED FOR NO GOAL, which says nothing of a contract: {text}")
-        note = "" if goal.is_of_contract() else ", which is no goal of a contract"
+        if goal is None or not goal.is_of_contract():
+            why = "no open goal was found" if goal is None else f"{goal.function} {goal.name} is none"
+            return Outcome(edit.name, None, f"{crate.name}/{edit.name}: REFUSED FOR NO CONTRACT: {why}: {text}")
         tried = edits.Tried(edits.sum_of(edit), *goal)
-        return Outcome(edit.name, tried, f"{name}: refused by {goal.function} {goal.name}{note}")
+        return Outcome(edit.name, tried, f"{crate.name}/{edit.name}: refused by {goal.function} {goal.name}")
 
 
 def proved(crate: Any) -> str | None:
@@ -151,9 +150,8 @@ def done(kit: Kit, libraries: Libraries, work: Work) -> tuple[int, int]:
     """Tries the edits of a crate, says what came of each, and writes it down; how many were refused, and how many
     not."""
     name = work.crate.name
-    came: list[Outcome] | str = libraries.wrong_below(work.crate) or []
-    if not came and work.chosen:
-        came = tried(kit, work.crate, work.chosen)
+    wrong = libraries.wrong_below(work.crate)
+    came = (tried(kit, work.crate, work.chosen) if work.chosen else []) if wrong is None else wrong
     if isinstance(came, str):
         say(f"{came}{name}: NOT PROVED, so no edit of it was tried")
         return 0, len(work.chosen)

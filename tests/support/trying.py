@@ -21,11 +21,14 @@ KEPT = pathlib.Path("out") / "incremental"
 
 
 class Outcome(NamedTuple):
-    """What came of an edit: the open goal that refused it, or None, and what is to be said."""
+    """What came of an edit: the open goal that refused it, or None if none did."""
 
     edit: str
     tried: edits.Tried | None
-    text: str
+
+
+def say(text: str) -> None:
+    print(text, flush=True)
 
 
 class Kit:
@@ -49,16 +52,17 @@ class Kit:
         return not self.checked(crate, {}, ONE_JOB, kept).returncode
 
     def tried(self, crate: Any, edit: pathlib.Path, kept: str | None) -> Outcome:
-        """Tries an edit, over what is kept in a folder or from nothing."""
+        """Tries an edit, over what is kept in a folder or from nothing, and says what came of it."""
         is_refused, text = self.script.must_fail(crate, str(edit), ONE_JOB, kept)
         goal = refusals.refused_by(self.said[crate.name]) if is_refused else None
-        if not is_refused:
-            return Outcome(edit.name, None, text)
-        if goal is None or not goal.is_of_contract():
-            why = "no open goal was found" if goal is None else f"{goal.function} {goal.name} is none"
-            return Outcome(edit.name, None, f"{crate.name}/{edit.name}: REFUSED FOR NO CONTRACT: {why}: {text}")
-        tried = edits.Tried(edits.sum_of(edit), *goal)
-        return Outcome(edit.name, tried, f"{crate.name}/{edit.name}: refused by {goal.function} {goal.name}")
+        if goal is not None and goal.is_of_contract():
+            say(f"{crate.name}/{edit.name}: refused by {goal.function} {goal.name}")
+            return Outcome(edit.name, edits.Tried(edits.sum_of(edit), *goal))
+        if is_refused:
+            why = f"{goal.function} {goal.name} is open" if goal else "no open goal was found"
+            text = f"{crate.name}/{edit.name}: REFUSED FOR NO CONTRACT, since {why}: {text}"
+        say(text)
+        return Outcome(edit.name, None)
 
 
 def proved(crate: Any) -> str | None:
@@ -98,10 +102,6 @@ def tried(kit: Kit, crate: Any, chosen: Sequence[pathlib.Path]) -> list[Outcome]
             return wrong
         outcomes, is_sound = over_copy(kit, crate, chosen)
     return [one if is_sound and one.tried else kit.tried(crate, edit, None) for edit, one in zip(chosen, outcomes)]
-
-
-def say(text: str) -> None:
-    print(text, flush=True)
 
 
 class Work(NamedTuple):
@@ -147,15 +147,13 @@ class Libraries:
 
 
 def done(kit: Kit, libraries: Libraries, work: Work) -> tuple[int, int]:
-    """Tries the edits of a crate, says what came of each, and writes it down; how many were refused, and how many
-    not."""
+    """Tries the edits of a crate, and writes down what refused each; how many were refused, and how many not."""
     name = work.crate.name
     wrong = libraries.wrong_below(work.crate)
     came = (tried(kit, work.crate, work.chosen) if work.chosen else []) if wrong is None else wrong
     if isinstance(came, str):
         say(f"{came}{name}: NOT PROVED, so no edit of it was tried")
         return 0, len(work.chosen)
-    say("\n".join([f"{name}: {len(came)} tried", *(one.text for one in came)]))
     edits.write(name, edits.Record(work.sum, {**untouched(work), **{one.edit: one.tried for one in came if one.tried}}))
     return sum(one.tried is not None for one in came), sum(one.tried is None for one in came)
 

@@ -1,15 +1,15 @@
 """What a check that refuses a crate says: which goals stay open, of which functions.
 
-    note: src/transfer.rt:26:1: it is not proved that what the function ensures holds when it returns (`returns-clause-end`)
-    fn segment_image::transfer::fill: no proof: expected answers in ..; `search` did not prove `returns-clause-end`
+    note: src/transfer.rt:26:1: it is not proved that what the function ensures holds when it returns (`returns`)
+    fn segment_image::transfer::fill: no proof: expected answers in ..; `search` did not prove `returns`
 
-A goal of a contract is that of a clause. It begins with `returns`: `returns-clause-end` is that of the clause `end`, and
-`returns` that of the only clause; where the function can end in several ways, the goal has the way in it. What follows
-from a contract is an invariant, of a loop or of a type. Other goals, of what a called function requires, of an index, of
-a sum that fits or of a loop that ends, say nothing of the contract.
+A goal of a contract is that of a clause. It begins with `returns`: `returns-clause-end` is that of the clause `end`,
+and `returns` that of the only clause; where the function can end in several ways, the goal has the way in it. What
+follows from a contract is an invariant, of a loop or of a type. Other goals, of what a called function requires, of an
+index, of a sum that fits or of a loop that ends, say nothing of the contract.
 
-A goal with a written answer stays open if the answer is no proof of it any more, or rests on a lemma of its file that is
-none any more. An answer that only names what the edit took away says nothing.
+A goal with a written answer stays open if the answer is no proof of it any more, or rests on a lemma of its file that
+is none any more. An answer that only names what the edit took away says nothing.
 """
 
 from __future__ import annotations
@@ -74,4 +74,4 @@ def goals(said: str) -> Iterator[Goal]:
 
 def refused_by(said: str) -> Goal | None:
     """The first open goal of a contract; if there is none, the first of an invariant, or the first of any kind."""
-    return min(goals(said), key=Goal.rank, default=None)
+    return min(goals(said), key=lambda goal: goal.rank(), default=None)

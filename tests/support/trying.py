@@ -21,9 +21,10 @@ KEPT = pathlib.Path("out") / "incremental"
 
 
 class Outcome(NamedTuple):
-    """What came of an edit: the open goal that refused it, or None if none did."""
+    """What came of an edit: whether the prover refused it, and the open goal of a contract that did, or None."""
 
     edit: str
+    is_refused: bool
     tried: edits.Tried | None
 
 
@@ -57,12 +58,12 @@ class Kit:
         goal = refusals.refused_by(self.said[crate.name]) if is_refused else None
         if goal is not None and goal.is_of_contract():
             say(f"{crate.name}/{edit.name}: refused by {goal.function} {goal.name}")
-            return Outcome(edit.name, edits.Tried(edits.sum_of(edit), *goal))
+            return Outcome(edit.name, True, edits.Tried(edits.sum_of(edit), *goal))
         if is_refused:
             why = f"{goal.function} {goal.name} is open" if goal else "no open goal was found"
             text = f"{crate.name}/{edit.name}: REFUSED FOR NO CONTRACT, since {why}: {text}"
         say(text)
-        return Outcome(edit.name, None)
+        return Outcome(edit.name, is_refused, None)
 
 
 def proved(crate: Any) -> str | None:
@@ -101,7 +102,7 @@ def tried(kit: Kit, crate: Any, chosen: Sequence[pathlib.Path]) -> list[Outcome]
         if (wrong := proved(crate)) is not None:
             return wrong
         outcomes, is_sound = over_copy(kit, crate, chosen)
-    return [one if is_sound and one.tried else kit.tried(crate, edit, None) for edit, one in zip(chosen, outcomes)]
+    return [one if is_sound and one.is_refused else kit.tried(crate, edit, None) for edit, one in zip(chosen, outcomes)]
 
 
 class Work(NamedTuple):

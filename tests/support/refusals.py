@@ -74,4 +74,5 @@ def goals(said: str) -> Iterator[Goal]:
 
 def refused_by(said: str) -> Goal | None:
     """The first open goal of a contract; if there is none, the first of an invariant, or the first of any kind."""
-    return min(goals(said), key=lambda goal: goal.rank(), default=None)
+    found = list(goals(said))
+    return min(found, key=Goal.rank) if found else None

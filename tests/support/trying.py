@@ -8,6 +8,7 @@ import concurrent.futures
 import functools
 import os
 import pathlib
+import re
 import shutil
 import tempfile
 from collections.abc import Iterable, Sequence
@@ -18,6 +19,8 @@ from support.made import ROOT
 
 ONE_JOB = ["--jobs", "1"]
 KEPT = pathlib.Path("out") / "incremental"
+# The last line of a check of some functions, where not all of them are proved.
+NOT_ALL = re.compile(r"^only=(\d+) proved=(?!\1$)\d+\n\Z", re.MULTILINE)
 
 
 class Outcome(NamedTuple):
@@ -47,6 +50,23 @@ class Kit:
         ran = self.checked(crate, *given)
         self.said[crate.name] = ran.stdout
         return ran
+
+    def tried_alone(self, crate: Any, edit: pathlib.Path, function: str, jobs: int) -> Outcome:
+        """Tries an edit by a check of this function alone and those that it calls, from nothing. The last line of such
+        a check counts functions, so `must_fail` is given that of a check that refuses the crate."""
+        flags = ["--jobs", str(jobs), "--only", function]
+        checked = self.script.checked
+
+        def alone(crate: Any, texts: Any, _flags: Any, kept: None) -> Any:
+            ran = checked(crate, texts, flags, kept)
+            ran.stdout = NOT_ALL.sub("logic=not-proved\n", ran.stdout)
+            return ran
+
+        self.script.checked = alone
+        try:
+            return self.tried(crate, edit, None)
+        finally:
+            self.script.checked = checked
 
     def is_proved(self, crate: Any, kept: str) -> bool:
         """Whether the crate itself is proved over what is kept in a folder."""

@@ -1,13 +1,14 @@
 """Documents that are made of the sources are what these say now, links lead to files that are there, README.md is
-short, the crates that read do not depend on the machine, a name of a definition means one thing, and the Python of
-tests/ and bench/ is clean. No program is run."""
+short, the crates that read do not depend on the machine, a name of a definition means one thing, each edit of wrong/ was
+tried over the text that its crate has now, and the Python of tests/ and bench/ is clean. No program of the crates is
+run."""
 
 from __future__ import annotations
 
 import argparse
 from collections.abc import Iterator
 
-from support import definitions, faults, layers, linted, links, names, proved
+from support import cited, definitions, edits, faults, layers, linted, links, names, proved, wrong_records
 from support.program import ROOT, Case
 
 PROGRAM = None
@@ -27,6 +28,10 @@ def cases(_program: None, _options: argparse.Namespace) -> Iterator[Case]:
     yield "each fault of the crates is shown by its name", faults.misnamed()
     yield "what tests/support/proved.py refuses of a made-up file", proved.self_check()
     yield "docs/proved, which tests/support/proved.py --write makes anew", proved.difference()
+    yield "which clauses that README.md cites are exact (tests/support/cited.py)", cited.difference()
+    yield "that this is found where another is", cited.let_through()
+    yield "wrong/tried.txt of the crates, which tests/edits --changed makes anew", edits.difference()
+    yield "that this is found where something has changed", wrong_records.let_through()
     yield "the links of documents", links.broken()
     yield "the length of README.md", too_long()
     yield "crates.txt: no crate that reads depends on the machine (tests/support/layers.py)", layers.difference()

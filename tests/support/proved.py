@@ -44,6 +44,11 @@ BRACKET = re.compile(r"\[(\w+(?:, \w+)*)\]")
 LINK = re.compile(r"\[(`[^`]*`)\](?:\([^)]*\))?")
 CODE = re.compile(r"`[^`]*`")
 NAME = re.compile(r"[^\W\d][\w']*")
+# An equation for what a function returns, or for what an argument is after it; what it says of neither; and what joins
+# two statements.
+EQUATION = re.compile(r"(?:result|\w+\.new) ≡ (.*)")
+AFTERWARDS = re.compile(r"\bresult\b|\.new\b")
+JOINS = re.compile(r"[≡≢×⊎→↔≤<]")
 
 # A definition: the crate, the module and the name there; and which one each name is.
 Definition = tuple[str, str, str]
@@ -66,6 +71,22 @@ class Function(NamedTuple):
 
     def promises(self) -> list[Clause]:
         return [clause for clause in self.clauses if clause.kind == "ensures"]
+
+    def is_exact(self) -> bool:
+        return all(is_equation(clause.text) for clause in self.promises())
+
+
+def is_equation(text: str) -> bool:
+    """Whether a clause says what is returned, or what an argument is afterwards, by what was passed alone."""
+    match = EQUATION.fullmatch(text)
+    return match is not None and not AFTERWARDS.search(match[1]) and not JOINS.search(outermost(match[1]))
+
+
+def outermost(text: str) -> str:
+    """What stands of a text outside of all parentheses and braces."""
+    while (fewer := re.sub(r"\([^()]*\)|\{[^{}]*\}", "", text)) != text:
+        text = fewer
+    return text
 
 
 def imported(lines: Iterable[str]) -> Names:
@@ -252,7 +273,7 @@ def comment_lines(comment: Iterable[str]) -> list[str]:
 def function_lines(function: Function) -> list[str]:
     told: dict[str, str] = {}
     is_law = re.search(r"\(\)$", function.signature) is not None
-    lines = ["", f"### `{function.name}`", ""]
+    lines = ["", f"### `{function.name}`{' (exact)' if function.is_exact() else ''}", ""]
     if not is_law:
         lines += [f"`{function.signature}`", ""]
     lines += [*comment_lines(function.comment), ""]
@@ -382,13 +403,32 @@ FOUND_WRONG = [
 ]
 
 
+# Clauses that are equations for what is returned or left, and clauses that are none.
+EQUATIONS = ["result ≡ x", "self.new ≡ self.old ++ (text_of (λ x. x ≡ 1) x.now)", "to.new ≡ record {at = x → y}"]
+NO_EQUATIONS = [
+    "result ≡ next_of result",
+    "self.new ≡ self.old ++ other.new",
+    "result ≡ true ↔ x ≡ 1",
+    "result ≡ x × y",
+    "result.left ≡ x",
+    "(result ≡ x) × (self.new ≡ y)",
+    "x ≡ 1 → result ≡ x",
+    "IfOk result (λ number. number ≡ x)",
+    "IsRight x result",
+]
+
+
 def self_check() -> str | None:
-    """What is found wrong in a made-up file, if it is not what is wrong there; or None."""
+    """What is found wrong in a made-up file, if it is not what is wrong there, or which clause is taken for an equation
+    or for none; or None."""
     told = {"clamped": "a number within bounds", "untold": ""}
     found = [
         fault for function in functions(MADE_UP) for fault in faults(function, lambda definition: told[definition[2]])
     ]
-    return None if found == FOUND_WRONG else "\n".join(["of a made-up file was found:", *found])
+    if found != FOUND_WRONG:
+        return "\n".join(["of a made-up file was found:", *found])
+    mistaken = [text for text in EQUATIONS + NO_EQUATIONS if is_equation(text) != (text in EQUATIONS)]
+    return "\n".join(["these are taken for equations, or for none:", *mistaken]) if mistaken else None
 
 
 if __name__ == "__main__":

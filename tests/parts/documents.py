@@ -1,7 +1,7 @@
 """Documents that are made of the sources are what these say now, links lead to files that are there, README.md is
-short, the crates that read do not depend on the machine, a name of a definition means one thing, each edit of wrong/ was
-tried over the text that its crate has now, and the Python of tests/ and bench/ is clean. No program of the crates is
-run."""
+short, the crates that read do not depend on the machine, a name of a definition means one thing, each edit of wrong/
+was tried over the text that its crate has now, and the Python of tests/ and bench/ is clean. No program of the crates
+is run."""
 
 from __future__ import annotations
 

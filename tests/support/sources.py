@@ -12,21 +12,25 @@ import functools
 import hashlib
 import pathlib
 import re
-import subprocess
 from collections.abc import Sequence
 
-from support import layers, toolchain
+from support import layers
 from support.made import ROOT
 
-# A token: its kind and its text, as `Code "fn"`.
+# A word, a sign, a number or a text in quotes.
 Token = str
 
-PLACE = re.compile(r"^\d+ \d+ \d+ ", re.MULTILINE)
-NEXT_FILE = re.compile(r"^file \d+\n", re.MULTILINE)
-NAME = re.compile(r'Code "[A-Za-z_]\w*"')
-ENDINGS = (".rt", ".antt")
-OPENING, CLOSING = ('Code "("', 'Code "["'), ('Code ")"', 'Code "]"')
-BLOCK, BLOCK_END, ITEM_END = 'Code "{"', 'Code "}"', 'Code ";"'
+# What files are made of, by their endings. Comments and white space are blank.
+TOKENS = {
+    ".rt": re.compile(
+        r"""(?P<blank>\s+|//[^\n]*|/\*.*?\*/)|b?"(?:\\.|[^"\\])*"|b?'(?:\\'|\\[^']+|[^'\\])'|'?\w+|.""", re.DOTALL
+    ),
+    ".antt": re.compile(r"""(?P<blank>\s+|(?<!\S)--[^\n]*)|"(?:\\.|[^"\\])*"|[^\s(){};"]+|.""", re.DOTALL),
+}
+NAME = re.compile(r"[A-Za-z_]\w*")
+OPENING, CLOSING = ("(", "["), (")", "]")
+BLOCK, BLOCK_END, ITEM_END = "{", "}", ";"
+CLAUSES = ("ensures", "requires")
 
 
 def digest(text: str) -> str:
@@ -34,15 +38,17 @@ def digest(text: str) -> str:
     return hashlib.sha256(text.encode()).hexdigest()[:16]
 
 
-def tokens(folder: pathlib.Path, *parts: str) -> dict[str, str]:
-    """The tokens of each file in these parts of a crate, one on a line and without comments, by its path there."""
-    paths = [path for part in parts for path in sorted((folder / part).glob("**/*")) if path.suffix in ENDINGS]
-    if not paths:
-        return {}
-    said = subprocess.run([toolchain.rattle(), "fmt", "--tokens", *paths], check=True, capture_output=True)
-    texts = NEXT_FILE.split(PLACE.sub("", said.stdout.decode()))[1:]
-    assert len(texts) == len(paths)
-    return {str(path.relative_to(folder)): text for path, text in zip(paths, texts)}
+def tokens_of(text: str, ending: str) -> list[Token]:
+    """The tokens of a file's text, without comments."""
+    return [match[0] for match in TOKENS[ending].finditer(text) if match.lastgroup != "blank"]
+
+
+def tokens(folder: pathlib.Path, *parts: str) -> dict[str, list[Token]]:
+    """The tokens of each file in these parts of a crate, by its path there."""
+    paths = [path for part in parts for path in sorted((folder / part).glob("**/*")) if path.suffix in TOKENS]
+    return {
+        str(path.relative_to(folder)): tokens_of(path.read_text(encoding="utf-8"), path.suffix) for path in paths
+    }
 
 
 def end_of_block(code: Sequence[Token], place: int) -> int:
@@ -60,7 +66,8 @@ def ends_of_function(code: Sequence[Token], place: int) -> tuple[int, int]:
     depth = 0
     while depth or code[place] not in (BLOCK, ITEM_END):
         depth += (code[place] in OPENING) - (code[place] in CLOSING)
-        place += 1
+        is_clause = depth == 0 and code[place] in CLAUSES
+        place = end_of_block(code, code.index(BLOCK, place)) if is_clause else place + 1
     return place, place + 1 if code[place] == ITEM_END else end_of_block(code, place)
 
 
@@ -77,19 +84,20 @@ class Seen:
 
     def is_public(self) -> bool:
         head = self.found[self.start :]
-        place = head.index('Code "pub"') + 1 if 'Code "pub"' in head else 0
+        place = head.index("pub") + 1 if "pub" in head else 0
         return bool(place) and head[place : place + 1] != [OPENING[0]] or self.blocks[-1:] == [True]
 
     def passed(self, place: int) -> int:
         """Takes or leaves the token at a place, or the whole function or line that begins with it; the place behind."""
         token, behind = self.code[place], self.code[place + 1 : place + 3]
-        if token == 'Code "fn"' and behind and NAME.fullmatch(behind[0]):
+        if token == "fn" and behind and NAME.fullmatch(behind[0]):
             head, end = ends_of_function(self.code, place)
             self.ends_with(self.code[place:head] if self.is_public() else None)
             return end
-        if not self.is_public() and (token == 'Code "use"' or token == 'Code "mod"' and behind[1:] == [ITEM_END]):
-            self.ends_with(None)
-            return self.code.index(ITEM_END, place) + 1
+        if token == "use" or token == "mod" and behind[1:] == [ITEM_END]:
+            end = self.code.index(ITEM_END, place) + 1
+            self.ends_with(self.code[place:end] if self.is_public() or "ghost" in self.found[self.start :] else None)
+            return end
         self.take(token)
         return place + 1
 
@@ -104,27 +112,27 @@ class Seen:
         """Takes a token that is none of a body."""
         if token == BLOCK:
             head = self.found[self.start :]
-            self.blocks.append('Code "trait"' in head or 'Code "impl"' in head and 'Code "for"' in head)
+            self.blocks.append("trait" in head or "impl" in head and "for" in head)
         elif token == BLOCK_END:
             self.blocks.pop()
         self.depth += (token in OPENING) - (token in CLOSING)
         self.found.append(token)
-        if self.depth == 0 and (token in (BLOCK, BLOCK_END, ITEM_END) or token.startswith("End ")):
+        if self.depth == 0 and token in (BLOCK, BLOCK_END, ITEM_END):
             self.start = len(self.found)
 
 
-def seen(text: str) -> str:
+def seen(code: Sequence[Token]) -> list[Token]:
     """The tokens of a source that a caller sees."""
-    reader, place = Seen(text.splitlines()), 0
-    while place < len(reader.code):
+    reader, place = Seen(code), 0
+    while place < len(code):
         place = reader.passed(place)
-    return "\n".join(reader.found)
+    return reader.found
 
 
 @functools.cache
 def stated(folder: pathlib.Path) -> str:
     """The sum of what a crate states for those above it."""
-    found = {name: seen(text) for name, text in tokens(folder, "src").items()}
+    found = {name: seen(code) for name, code in tokens(folder, "src").items()}
     return digest(repr({**found, **tokens(folder, "specs")}))
 
 

@@ -16,11 +16,6 @@ def place() -> str:
     return os.path.realpath(shutil.which("rt") or sys.exit("no rt on the PATH"))
 
 
-def rattle() -> str:
-    """Where the program `rattle` of that toolchain is."""
-    return os.path.join(os.path.dirname(place()), "rattle")
-
-
 @functools.cache
 def script() -> Any:
     """The script `rt`, whose attribute `rtlib` is the module beside it."""

@@ -167,11 +167,17 @@ class Libraries:
         return next((wrong for wrong in found if wrong is not None), None)
 
 
+def came_of(kit: Kit, libraries: Libraries, work: Work) -> list[Outcome] | str:
+    """What came of the edits that are to be tried, or what is wrong with their crate or one below it."""
+    if not work.chosen:
+        return []
+    wrong = libraries.wrong_below(work.crate)
+    return tried(kit, work.crate, work.chosen) if wrong is None else wrong
+
+
 def done(kit: Kit, libraries: Libraries, work: Work) -> tuple[int, int]:
     """Tries the edits of a crate, and writes down what refused each; how many were refused, and how many not."""
-    name = work.crate.name
-    wrong = libraries.wrong_below(work.crate)
-    came = (tried(kit, work.crate, work.chosen) if work.chosen else []) if wrong is None else wrong
+    name, came = work.crate.name, came_of(kit, libraries, work)
     if isinstance(came, str):
         say(f"{came}{name}: NOT PROVED, so no edit of it was tried")
         return 0, len(work.chosen)
@@ -193,6 +199,8 @@ def run(names: Sequence[str], only_changed: bool) -> int:
     rtlib.Crate.stamp = functools.cache(rtlib.Crate.stamp)
     listed = work_of(names, only_changed)
     crates = [work.crate for work in listed if work.chosen]
+    if not crates:
+        say("nothing has changed since each edit was tried")
     held = rtlib.lock([*crates, *(library for crate in crates for library in crate.below())])
     with concurrent.futures.ThreadPoolExecutor(lanes.lanes()) as pool:
         libraries = Libraries(pool, crates)

@@ -20,7 +20,7 @@ PROGRAM = None
 def unlisted(names: list[str]) -> str | None:
     """The folders of tests that have no line in the list, or None."""
     others = [path.name for path in sorted(laid.FOLDER.iterdir()) if path.is_dir() and path.name not in names]
-    return f"{laid.LIST} has no line of {', '.join(others)}" if others else None
+    return f"{laid.OURS} has no line of {', '.join(others)}" if others else None
 
 
 def cases(_program: None, _options: argparse.Namespace) -> Iterator[Case]:

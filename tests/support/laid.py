@@ -1,8 +1,9 @@
 """The tests in Rattle, laid out in a repository of their own beside copies of the crates that they call.
 
 `tests/rattle/NAME/src` has the sources of each, with the suffix `.txt`, by which the gate does not take them for a
-crate's: they are not proved. `tests/rattle/crates.txt` has a line for each, as the one at the top of the repository for
-each crate. `rt try` builds them with checks, and stops at a bad index, a sum that wraps or a bad access.
+crate's: they are not proved. `tests/rattle/libraries.txt` has a line for each, as crates.txt has one for each crate; a
+second file of that name would be taken for the list of another repository. `rt try` builds them with checks, and stops
+at a bad index, a sum that wraps or a bad access.
 """
 
 from __future__ import annotations
@@ -19,7 +20,7 @@ from support import tries
 from support.program import ROOT, Case
 
 FOLDER = ROOT / "tests" / "rattle"
-LIST = "crates.txt"
+LIST, OURS = "crates.txt", "libraries.txt"
 SUFFIX = ".txt"
 # A test is a function that is passed the runtime, but for `main`.
 TEST = re.compile(r"^(?:#\[test\]\n)?fn (?!main\b)(\w+)\(rt: HostRuntime\)|^#\[test\]\nfn (\w+)", re.MULTILINE)
@@ -45,7 +46,7 @@ def needed(lines: Mapping[str, str], names: Iterable[str]) -> list[str]:
 
 def crates() -> list[str]:
     """The crates of tests."""
-    return list(lines_of(FOLDER / LIST))
+    return list(lines_of(FOLDER / OURS))
 
 
 def is_program(name: str) -> bool:
@@ -70,7 +71,7 @@ def lay_out_sources(folder: pathlib.Path, name: str) -> None:
 def lay_out(repository: pathlib.Path, names: Iterable[str]) -> None:
     """Makes a repository of crates of tests and of copies of the crates below them, each with its sources alone."""
     ours = lines_of(ROOT / LIST)
-    lines = {**ours, **lines_of(FOLDER / LIST)}
+    lines = {**ours, **lines_of(FOLDER / OURS)}
     every = needed(lines, names)
     for name in every:
         if name in ours:

@@ -12,8 +12,8 @@ check of all of it.
 The processes of 'rt ci' are looked at twice a second; what ended between two looks is reported as being in no line of
 the table. The status is 1 if a step failed. Run it on a clean clone, on a machine that does nothing else.
 
-The same proof takes up to four times as much at one hour as at another, so 'rt ci' is also compared with what the proofs
-of a few crates, the yardstick, took in the same run: that ratio is the figure to compare from day to day.
+The same proof takes up to four times as much at one hour as at another, so 'rt ci' is also compared with what the
+proofs of a few crates, the yardstick, took in the same run: that ratio is the figure to compare from day to day.
 
 With --proofs it runs 'rt ci' alone, and writes what that took to FILE. This is how each run of .ci/run reports what it
 takes.

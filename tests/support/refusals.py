@@ -29,7 +29,8 @@ RESTING = re.compile(
 )
 # As in `must_fail` of the script `rt`.
 TAKEN_AWAY = re.compile(r"has no field|is not in scope|has no `|was not admitted")
-INVARIANT = re.compile(r"loop-|invariant_of|.*-(?:init|preserved)$")
+# Of a type; or that it holds before a loop, or after one more turn of it.
+INVARIANT = re.compile(r"invariant_of|(?!\S*-requires)\S+-(?:init|preserved)(?:-|$)")
 
 
 class Goal(NamedTuple):

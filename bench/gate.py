@@ -89,7 +89,7 @@ class Costs:
         yardstick = sum(self.minutes((crate, "proofs")) for crate in YARDSTICK)
         if not yardstick:
             return "the yardstick was not proved in this run"
-        return f"{minutes / yardstick:.1f} times the yardstick of {yardstick:.1f} minutes"
+        return f"that is {minutes / yardstick:.1f} times the yardstick of {yardstick:.1f} minutes"
 
     def edits(self) -> Iterator[tuple[float, str]]:
         """The seconds of each edit by its crate and name: a crate's edits are tried in the order of their names, each
@@ -201,7 +201,7 @@ def prove() -> tuple[int, Costs, str]:
     rest = processor_minutes() - before - in_lines
     all_in_all = f"`rt ci` took {taken(start, before)}, {os.environ['RT_JOBS']} checks at a time"
     ratio = costs.yardsticks(processor_minutes() - before)
-    return failed, costs, f"{all_in_all}, which is {ratio}; {rest:.1f} minutes are in no line"
+    return failed, costs, f"{all_in_all}; {ratio}; {rest:.1f} minutes are in no line"
 
 
 def report(costs: Costs, *sentences: str) -> str:

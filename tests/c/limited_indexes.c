@@ -16,6 +16,7 @@ static bool is_refused(size_t size) {
 }
 
 #include "heap.h"
+#include "sparse.h"
 
 /* Makes a call that asks for no memory. */
 #define ASKS_FOR_NONE(call)                 \
@@ -24,21 +25,6 @@ static bool is_refused(size_t size) {
         DONE(call);                         \
         HOLDS(requests == before_);         \
     } while (0)
-
-/* A segment in the heap, and a recorder with a sparse histogram in it. */
-struct sparse {
-    struct povundiri_handle segment, recorder;
-    size_t hist;
-};
-
-static struct sparse made_sparse(void) {
-    const struct povundiri_shape shape = {WORDS, PAGE, 7, 0, 2};
-    struct sparse sparse = {{false, NULL}, {false, NULL}, 0};
-    DONE(povundiri_create(shape, &sparse.segment));
-    DONE(povundiri_recorder(&sparse.segment, 1000, &sparse.recorder));
-    DONE(povundiri_hist_sparse(&sparse.recorder, "s", &sparse.hist));
-    return sparse;
-}
 
 /* How many bytes an index may keep for each entry, and in any case; and that of samples for each sparse histogram. */
 enum { MOST_OF_ENTRY = 80, MOST_BESIDE = 1000, MOST_OF_SPARSE = 110 };

@@ -25,6 +25,7 @@ static bool is_refused(size_t size) {
 }
 
 #include "heap.h"
+#include "sparse.h"
 
 static bool is_no_memory(uint32_t status) {
     return status == POVUNDIRI_NO_MEMORY || status == POVUNDIRI_REFUSED_NO_MEMORY || status == POVUNDIRI_OPEN_NO_MEMORY ||
@@ -151,21 +152,6 @@ static void each_of_sums(void) {
     ASKS_FOR_NONE(povundiri_sums_drop(&sums));
     ASKS_FOR_NONE(povundiri_sums_drop(&other));
     HOLDS(blocks == 0);
-}
-
-/* A segment in the heap, and a recorder with a sparse histogram in it. */
-struct sparse {
-    struct povundiri_handle segment, recorder;
-    size_t hist;
-};
-
-static struct sparse made_sparse(void) {
-    const struct povundiri_shape shape = {WORDS, PAGE, 7, 0, 2};
-    struct sparse sparse = {{false, NULL}, {false, NULL}, 0};
-    DONE(povundiri_create(shape, &sparse.segment));
-    DONE(povundiri_recorder(&sparse.segment, 1000, &sparse.recorder));
-    DONE(povundiri_hist_sparse(&sparse.recorder, "s", &sparse.hist));
-    return sparse;
 }
 
 /* Adds with the allocation of this number refused, and checks what is counted. Returns whether there was one of this number. */

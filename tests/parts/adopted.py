@@ -16,7 +16,6 @@ from __future__ import annotations
 import argparse
 import collections
 import concurrent.futures
-import os
 import pathlib
 import random
 import tempfile
@@ -27,6 +26,7 @@ from parts.schedules import FOLDER, replayed
 from parts.threads import RECORDED, Pairs, pairs
 from parts.threads import SPECS as NEW
 from support import forge, forge_adoption, laid, plain_adoption, plain_tally, seeded_schedules, tries, worked_schedules
+from support.lanes import processors
 from support.layout import FULL, MOST_BYTES, MOST_UNITS
 from support.plain_reader import KINDS, ReadHistogram, Words, words_of
 from support.program import Answer, Case, answer
@@ -269,7 +269,7 @@ def known_stops() -> list[Image]:
 
 def stopped_images(stepped: pathlib.Path, options: argparse.Namespace) -> list[Image]:
     """The images of schedules of version 2 where they stop, each with a name."""
-    with tempfile.TemporaryDirectory() as scratch, concurrent.futures.ThreadPoolExecutor(os.cpu_count()) as pool:
+    with tempfile.TemporaryDirectory() as scratch, concurrent.futures.ThreadPoolExecutor(processors()) as pool:
         folder = pathlib.Path(scratch)
         worked = [(one.name, one.schedule) for one in worked_schedules.examples() if one.schedule.version == VERSION]
         every = [pool.submit(worked_stops, stepped, folder, number, *one) for number, one in enumerate(worked)]

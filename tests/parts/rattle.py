@@ -8,10 +8,10 @@ from __future__ import annotations
 
 import argparse
 import concurrent.futures
-import os
 from collections.abc import Iterator
 
 from support import laid
+from support.lanes import processors
 from support.program import Case
 
 PROGRAM = None
@@ -26,7 +26,7 @@ def unlisted(names: list[str]) -> str | None:
 def cases(_program: None, _options: argparse.Namespace) -> Iterator[Case]:
     names = laid.crates()
     yield "each folder has its line", unlisted(names)
-    with laid.repository(names) as root, concurrent.futures.ThreadPoolExecutor(os.cpu_count()) as pool:
+    with laid.repository(names) as root, concurrent.futures.ThreadPoolExecutor(processors()) as pool:
         for found in pool.map(lambda name: list(laid.run_tests(root, name)), names):
             yield from found
     tests = [test for name in names if not laid.is_program(name) for test in laid.tests_of(name)]

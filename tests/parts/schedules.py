@@ -19,7 +19,6 @@ from __future__ import annotations
 import argparse
 import collections
 import concurrent.futures
-import os
 import pathlib
 import random
 import struct
@@ -27,6 +26,7 @@ import tempfile
 from collections.abc import Collection, Iterable, Iterator, Sequence
 
 from support import plain_reader, plain_tally, seeded_schedules, worked_schedules
+from support.lanes import processors
 from support.program import ROOT, Answer, Case, Word, answer, difference
 
 PROGRAM = "stepped"
@@ -328,7 +328,7 @@ def wrong_usage(program: pathlib.Path, words: Sequence[Word], status: int) -> st
 def cases(program: pathlib.Path, options: argparse.Namespace) -> Iterator[Case]:
     for case in sorted(FOLDER.glob("*.csv")):
         yield f"known {case.stem}", wrong_known(program, case)
-    with tempfile.TemporaryDirectory() as scratch, concurrent.futures.ThreadPoolExecutor(os.cpu_count()) as pool:
+    with tempfile.TemporaryDirectory() as scratch, concurrent.futures.ThreadPoolExecutor(processors()) as pool:
         folder = pathlib.Path(scratch)
         for words, device, wanted in valid(folder):
             yield f"{' '.join(map(str, words))} to {device}", wrong_valid(program, words, device, wanted)

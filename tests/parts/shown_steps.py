@@ -10,12 +10,12 @@ from __future__ import annotations
 
 import argparse
 import concurrent.futures
-import os
 import pathlib
 import tempfile
 from collections.abc import Iterator, Sequence
 
 from support import plain_steps
+from support.lanes import processors
 from support.program import ROOT, Answer, Case, answer, difference
 
 PROGRAM = "stepped"
@@ -178,7 +178,7 @@ def wrong_device(program: pathlib.Path) -> str | None:
 
 
 def cases(program: pathlib.Path, options: argparse.Namespace) -> Iterator[Case]:
-    with tempfile.TemporaryDirectory() as scratch, concurrent.futures.ThreadPoolExecutor(os.cpu_count()) as pool:
+    with tempfile.TemporaryDirectory() as scratch, concurrent.futures.ThreadPoolExecutor(processors()) as pool:
         known = sorted(FOLDER.glob("*.csv"))
         yield from zip(
             (f"known {case.stem}" for case in known), pool.map(lambda case: wrong_known(program, case), known)

@@ -14,7 +14,6 @@ from __future__ import annotations
 import argparse
 import collections
 import concurrent.futures
-import os
 import pathlib
 import random
 import struct
@@ -22,6 +21,7 @@ import tempfile
 from collections.abc import Iterator, Sequence
 
 from support import plain_look, plain_reader, plain_steps, seeded_schedules
+from support.lanes import processors
 from support.program import Answer, Case, answer, difference
 
 PROGRAM = "stepped"
@@ -200,7 +200,7 @@ REFUSED = {
 
 
 def cases(program: pathlib.Path, options: argparse.Namespace) -> Iterator[Case]:
-    with tempfile.TemporaryDirectory() as scratch, concurrent.futures.ThreadPoolExecutor(os.cpu_count()) as pool:
+    with tempfile.TemporaryDirectory() as scratch, concurrent.futures.ThreadPoolExecutor(processors()) as pool:
         folder = pathlib.Path(scratch)
         path = folder / "look.csv"
         for name, (text, number) in REFUSED.items():

@@ -24,9 +24,14 @@ def free_bytes() -> int:
     return 0
 
 
+def processors() -> int:
+    """How many processors this process may run on."""
+    return len(os.sched_getaffinity(0))
+
+
 def lanes() -> int:
     """One for each processor that this process may run on, but no more than memory holds, and at least one."""
-    return max(1, min(len(os.sched_getaffinity(0)), free_bytes() // BYTES_FOR_A_CHECK))
+    return max(1, min(processors(), free_bytes() // BYTES_FOR_A_CHECK))
 
 
 if __name__ == "__main__":

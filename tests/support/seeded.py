@@ -4,7 +4,6 @@ workers."""
 from __future__ import annotations
 
 import concurrent.futures
-import os
 import pathlib
 import random
 import string
@@ -12,6 +11,7 @@ import tempfile
 from collections.abc import Callable, Collection, Iterable, Iterator
 from typing import Any
 
+from support.lanes import processors
 from support.layout import GREATEST, LEAST, MOST_UNITS, PAGES
 from support.plain_tally import Histogram, Spec
 from support.program import Case
@@ -177,6 +177,6 @@ def tried(
     seeds: Collection[str], wrong_of: Callable[[str, pathlib.Path], str | None]
 ) -> Iterator[Case]:
     """Each seed with what is wrong with it, or None: tried side by side, in one folder that is gone after the last."""
-    with tempfile.TemporaryDirectory() as scratch, concurrent.futures.ThreadPoolExecutor(os.cpu_count()) as pool:
+    with tempfile.TemporaryDirectory() as scratch, concurrent.futures.ThreadPoolExecutor(processors()) as pool:
         folder = pathlib.Path(scratch)
         yield from zip(seeds, pool.map(lambda seed: wrong_of(seed, folder), seeds))

@@ -5,12 +5,12 @@ from __future__ import annotations
 
 import concurrent.futures
 import dataclasses
-import os
 import pathlib
 import re
 import subprocess
 from collections.abc import Collection, Iterable, Iterator, Sequence
 
+from support.lanes import processors
 from support.program import ROOT, Answer, content, difference
 
 # The line of a case: how it ended, its status if it did, and whether it wrote what was wanted. Before it comes what the
@@ -119,7 +119,7 @@ def answers_side_by_side(
     crate: str, commands: Sequence[Sequence[str]], folder: pathlib.Path, root: pathlib.Path = ROOT
 ) -> list[Answer]:
     """The same by as many runs of `rt try` side by side as there are processors, each of which builds the program."""
-    lanes = min(len(os.sched_getaffinity(0)), len(commands))
+    lanes = min(processors(), len(commands))
     with concurrent.futures.ThreadPoolExecutor(lanes) as pool:
         lots = [
             pool.submit(answers, crate, commands[lane::lanes], folder / str(lane), root) for lane in range(lanes)

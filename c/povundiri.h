@@ -482,7 +482,8 @@ inline uint32_t povundiri_snapshot(struct povundiri_handle *recorder, size_t his
     return povundiri_proved_snapshot(recorder, hist, (struct povundiri_count *)povundiri_address(counts), length, totals);
 }
 
-/* Marks the segment as corrupt for good: no block is claimed in it any more, and its image cannot be adopted.
+/* Marks the segment as corrupt for good: from then on this recorder claims no block, nor does any allocation that loads the flags later,
+ * and the image cannot be adopted.
  * Statuses: NULL, EMPTY, OTHER_KIND.
  * Keep: pointers; handles; turns; process. */
 POVUNDIRI_CHECKED
@@ -528,8 +529,9 @@ inline uint32_t povundiri_next_shared(struct povundiri_handle *recorder, size_t 
  *
  * The words are read three times, each by one load, and put together. The image reads without a fault. Of each bucket it has at least the
  * units of calls that had ended before the look began, and no unit of a call that began after it was done; it has each histogram that was
- * in the segment when the look began. The numbers of different histograms, and of different buckets of one, need not be of one moment. That
- * is tested on running programs; docs/PROVED.md says which of it is proved.
+ * in the segment when the look began. The numbers of different histograms, and of different buckets of one, need not be of one moment. This
+ * is said of looks within one process's use of the segment, each of which begins when the one before it has ended: a look amid which the
+ * process is killed and another one continues is outside. It is tested on running programs; docs/PROVED.md says which of it is proved.
  *
  * `words` are those of the segment, such as those of a mapped file from its byte 8 on: its own, or another process's. `length` is how many
  * may be read: at least as many as the segment has. `needed`, which may be null, is how many words the image has, also on SHORT.

@@ -13,10 +13,10 @@ static size_t words_of(const uint64_t *words, size_t length) {
     return size != 0 && size < length ? (size_t)size : length;
 }
 
-/* Loads each word once. Since each load acquires, whatever is loaded after this is loaded later. */
+/* Loads each word once, in one order with all steps of recorders: each of those is sequentially consistent too. */
 static void copy(uint64_t *to, const uint64_t *words, size_t length) {
     size_t i;
-    for (i = 0; i < length; i += 1) to[i] = __atomic_load_n(words + i, __ATOMIC_ACQUIRE);
+    for (i = 0; i < length; i += 1) to[i] = __atomic_load_n(words + i, __ATOMIC_SEQ_CST);
 }
 
 uint32_t povundiri_look(const uint64_t *words, size_t length, uint64_t *image, size_t image_length, size_t *needed) {

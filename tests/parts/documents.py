@@ -1,14 +1,14 @@
 """Documents that are made of the sources are what these say now, links lead to files that are there, README.md is
-short, the crates that read do not depend on the machine, a name of a definition means one thing, each edit of wrong/
-was tried over the text that its crate has now, and the Python of tests/ and bench/ is clean. No program of the crates
-is run."""
+short, each crate stands on shelves on which it may and those that read do not depend on the machine, a name of a
+definition means one thing, each edit of wrong/ was tried over the text that its crate has now, and the Python of tests/
+and bench/ is clean. No program of the crates is run."""
 
 from __future__ import annotations
 
 import argparse
 from collections.abc import Iterator
 
-from support import cited, definitions, edits, faults, layers, linted, links, names, proved, wrong_records
+from support import architecture, cited, definitions, edits, faults, layers, linted, links, names, proved, wrong_records
 from support.program import ROOT, Case
 
 PROGRAM = None
@@ -34,6 +34,8 @@ def cases(_program: None, _options: argparse.Namespace) -> Iterator[Case]:
     yield "that this is found where something has changed", wrong_records.let_through()
     yield "the links of documents", links.broken()
     yield "the length of README.md", too_long()
+    yield "docs/ARCHITECTURE.md, which tests/support/architecture.py --write makes anew", architecture.difference()
+    yield "that a crate on a wrong shelf of crates.txt is found", architecture.let_through()
     yield "crates.txt: no crate that reads depends on the machine (tests/support/layers.py)", layers.difference()
     yield "that this is found where one does", layers.let_through()
     yield "specs/: a name is defined by one file, but for a table of some (tests/support/names.py)", names.difference()

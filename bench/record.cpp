@@ -58,18 +58,6 @@ struct Known {
     std::vector<std::uint32_t> boundaries;
 };
 
-// The bucket of a value, by halving and without a branch on the value.
-std::size_t bucket_of(const std::vector<std::uint32_t>& boundaries, std::int32_t value) {
-    auto clamped = static_cast<Word>(std::clamp(value, 0, kMostValue));
-    std::size_t low = 0;
-    for (std::size_t count = boundaries.size() - 1; count > 1;) {
-        std::size_t half = count / 2;
-        low += half & static_cast<std::size_t>((Word{boundaries[low + half]} - (clamped + 1)) >> 32);
-        count -= half;
-    }
-    return low;
-}
-
 // Records for one thread.
 class Recorder {
 public:
@@ -77,7 +65,7 @@ public:
 
     bool add(const Known& histogram, std::int32_t value, Word count) {
         if (count == 0 || units_ < count) return false;
-        if (!add_to_bucket(histogram, bucket_of(histogram.boundaries, value), count)) return false;
+        if (!add_to_bucket(histogram, bucket_by_halving(histogram.boundaries, value), count)) return false;
         auto amount = static_cast<std::int64_t>(std::clamp(value, 0, kMostValue)) * static_cast<std::int64_t>(count);
         if (amount != 0) segment_[histogram.reference + kSum].fetch_add(static_cast<Word>(amount));
         segment_[histogram.reference + kRedundant].fetch_add(count);

@@ -9,9 +9,6 @@
 // With `rolls` a thread counts a million samples, one of which begins a segment every MILLISECONDS. It prints, in nanoseconds, what 99.99 %
 // of the samples that begin none take at most, and the slowest of the others; and then how many others there are.
 
-#include <sys/stat.h>
-#include <unistd.h>
-
 #include <algorithm>
 #include <chrono>
 #include <cstdio>
@@ -24,6 +21,7 @@
 #include <vector>
 
 #include "linear_histogram.h"
+#include "scratch_folder.h"
 
 namespace {
 
@@ -34,24 +32,6 @@ constexpr std::size_t kMostPacked = 65'535, kHistograms = 16, kValues = 4096, kM
 struct Options {
     bool packed, shared;
     std::size_t threads;
-};
-
-// A folder that is removed in the end, with what is in it.
-class Folder {
-public:
-    Folder() {
-        if (mkdtemp(path_.data()) == nullptr) std::abort();
-    }
-    Folder(const Folder&) = delete;
-    Folder& operator=(const Folder&) = delete;
-    ~Folder() {
-        const std::string words = "rm -r " + path_;
-        if (std::system(words.c_str()) != 0) std::fputs("the folder stays\n", stderr);
-    }
-    const char* path() const { return path_.c_str(); }
-
-private:
-    std::string path_ = std::string(access("/dev/shm", W_OK) == 0 ? "/dev/shm" : "/tmp") + "/recording_XXXXXX";
 };
 
 using Worker = std::vector<povundiri::Metric>;
@@ -88,7 +68,7 @@ void record(const Worker& worker, std::size_t samples, const std::vector<std::in
 }
 
 // Segments of as many words as those of record.cpp.
-povundiri::Recording recording_in(const Folder& folder) {
+povundiri::Recording recording_in(const plain::Folder& folder) {
     povundiri::RecordingOptions options{};
     options.bytes = 8 * 65'536;
     return povundiri::Recording(folder.path(), options);
@@ -96,7 +76,7 @@ povundiri::Recording recording_in(const Folder& folder) {
 
 // Picoseconds per sample of a thread.
 double burst(const Options& options, const std::vector<std::int32_t>& values) {
-    const Folder folder;
+    const plain::Folder folder;
     povundiri::Recording recording = recording_in(folder);
     std::vector<Worker> workers;
     for (std::size_t i = 0; i < options.threads; ++i) workers.push_back(worker_of(recording, options, i));
@@ -114,7 +94,7 @@ double burst(const Options& options, const std::vector<std::int32_t>& values) {
 // Counts samples. Every now and then one takes nearly all units of a segment, so that the next such sample begins another segment.
 void rolls(std::chrono::milliseconds apart) {
     constexpr std::uint32_t kMost = 4'290'000'000;
-    const Folder folder;
+    const plain::Folder folder;
     povundiri::Recording recording = recording_in(folder);
     const povundiri::Metric metric = recording.linear("h", plain::kLeast, plain::kGreatest, plain::kBuckets);
     const std::vector<std::int32_t> values = values_of(false);

@@ -8,6 +8,7 @@ import os
 import pathlib
 import statistics
 import subprocess
+import time
 from collections.abc import Sequence
 from typing import NamedTuple, Union
 
@@ -53,13 +54,17 @@ class Figures(NamedTuple):
         return statistics.median(turn[one] - turn[other] for turn in self.turns)
 
 
-def by_turns(programs: Sequence[Words], run: Sequence[object], options: argparse.Namespace, threads: int) -> Figures:
+def by_turns(
+    programs: Sequence[Words], run: Sequence[object], options: argparse.Namespace, threads: int, seconds: float = 0
+) -> Figures:
     """What the programs take, each once a turn. If others use the machine too, a processor can be a third slower than
     the next, for seconds: so programs are compared within a turn, which takes less. A single thread has `turns` turns
-    on each processor, and several threads have four times `turns`."""
+    on each processor, and several threads have four times `turns`; more, if these take less than `seconds`."""
     own: list[int | None] = [*sorted(os.sched_getaffinity(0))]
     processors = own if threads == 1 else [None] * 4
-    return Figures([
-        [nanoseconds(program, run, options.bursts, processor) for program in programs]
-        for processor in processors * options.turns
-    ])
+    turns: list[list[float]] = []
+    end = time.perf_counter() + seconds
+    while len(turns) < len(processors) * options.turns or time.perf_counter() < end:
+        processor = processors[len(turns) % len(processors)]
+        turns.append([nanoseconds(program, run, options.bursts, processor) for program in programs])
+    return Figures(turns)

@@ -108,7 +108,9 @@ def direct(needs: layers.Needs, crate: str) -> list[str]:
 
 
 def table(shelf: str, about: str, crates: Sequence[str], needs: layers.Needs) -> Iterator[str]:
-    yield from ("", f"**{shelf.capitalize()}**: {about}", "", "| Crate | Is | Stands on |", "|---|---|---|")
+    """The lines of a shelf's table."""
+    yield from ("", f"**{shelf.capitalize()}**: {about}", "")
+    yield from ("| Crate | What it is or does | Stands on |", "|---|---|---|")
     for crate in crates:
         below = ", ".join(f"`{need}`" for need in direct(needs, crate))
         yield f"| `{crate}` | {first_sentence(crate)} | {below} |".replace("|  |", "| |")

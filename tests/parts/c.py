@@ -9,16 +9,20 @@ from __future__ import annotations
 
 import argparse
 import collections
+import contextlib
 import functools
 import os
 import pathlib
 import re
+import signal
+import subprocess
 import tempfile
-from collections.abc import Callable, Iterator, Sequence
+import threading
+from collections.abc import Callable, Iterator, Mapping, Sequence
 from typing import Any, Optional
 
 from parts import known
-from support import compiling, native, plain_export, plain_reader, plain_show, services
+from support import compiling, native, plain_export, plain_reader, plain_scale, plain_show, readme, services
 from support.program import ROOT, Answer, Case, Path, answer, difference
 
 PROGRAM = "persist_report"
@@ -49,7 +53,7 @@ PREFIX = "my_1"
 WIDTH = 61
 EXAMPLES = ROOT / "examples"
 PAGES = ("README.md", "docs/C.md")
-# What examples/c/record.c and each program of a page record when they are run twice: where each bucket begins and the
+# What examples/c/record.c and each program of C.md record when they are run twice: where each bucket begins and the
 # last one ends, and the units of each.
 ENDS = (0, 1, 126, 251, 376, 501, 625, 750, 875, 1000)
 UNITS = (2, 250, 250, 250, 250, 248, 250, 250, 250)
@@ -57,6 +61,19 @@ RECORDED = (
     "".join(f"latency,linear,{low},{high},{units}\n" for low, high, units in zip(ENDS, ENDS[1:], UNITS))
     + "latency,total,2000,999000\n"
 )
+# The same of the program of README.md, whose histogram has a scale: each value from 0 to 999, twice.
+SCALE = [0, *plain_scale.values(1, 10_000_000, 5)]
+RECORDED_BY_README = (
+    "".join(
+        f"request_us,custom,{low},{high},{2 * (min(high, 1000) - low)}\n"
+        for low, high in zip(SCALE, SCALE[1:])
+        if low < 1000
+    )
+    + "request_us,total,2000,999000\n"
+)
+METRICS = b'\npovundiri_units_count{histogram="request_us"} 2000\n'
+# How long a command that goes on until it is ended is given for its second text.
+MOST_SECONDS = 60
 
 
 def checked(
@@ -193,7 +210,7 @@ def segment_in(home: pathlib.Path) -> pathlib.Path:
 
 
 def recorded_twice(
-    installed: native.Installed, program: pathlib.Path, source: pathlib.Path, home: pathlib.Path
+    installed: native.Installed, program: pathlib.Path, source: pathlib.Path, home: pathlib.Path, wanted: str
 ) -> str | None:
     """A program that records a thousand samples into latency.seg, or into the folder metrics, run twice: the second
     time it continues with what is there."""
@@ -203,7 +220,7 @@ def recorded_twice(
         came = answer(built, ["latency.seg"], cwd=home)
         if came.error or came.status != 0:
             return f"status {came.status}: {came.error[-1500:]!r}"
-    return difference(Answer(RECORDED.encode()), report_in(program, segment_in(home)))
+    return difference(Answer(wanted.encode()), report_in(program, segment_in(home)))
 
 
 def shown_programs(folder: pathlib.Path) -> Iterator[tuple[str, pathlib.Path]]:
@@ -221,37 +238,62 @@ def shown_programs(folder: pathlib.Path) -> Iterator[tuple[str, pathlib.Path]]:
 def examples(installed: native.Installed, program: pathlib.Path, folder: pathlib.Path) -> Iterator[tuple[str, Test]]:
     """The example in C, and what the pages show."""
     record = EXAMPLES / "c" / "record.c"
-    yield "record.c", lambda: recorded_twice(installed, program, record, folder / "record")
+    yield "record.c", lambda: recorded_twice(installed, program, record, folder / "record", RECORDED)
     shown = dict(shown_programs(folder))
     without = [page for page in PAGES if not any(name.endswith(f" of {page}") for name in shown)]
     yield "programs of pages", lambda: f"there is none on {without}" if without else None
     same = any(record.read_text().endswith(source.read_text()) for source in shown.values())
     yield "record.c is shown", lambda: None if same else "no page shows it as it stands"
     for name, source in shown.items():
-        yield name, functools.partial(recorded_twice, installed, program, source, source.with_suffix(""))
-    in_readme = next((source for name, source in shown.items() if name.endswith("README.md")), None)
-    if in_readme is None:
-        yield "the commands of README.md", lambda: "README.md has no program"
-    else:
-        home = folder / "readme"
-        yield "the commands of README.md", functools.partial(wrong_after_program, installed, program, in_readme, home)
+        wanted = RECORDED_BY_README if name.endswith(" of README.md") else RECORDED
+        yield name, functools.partial(recorded_twice, installed, program, source, source.with_suffix(""), wanted)
+    yield "the commands of README.md", lambda: wrong_after_program(program, folder / "readme")
 
 
-def wrong_after_program(
-    installed: native.Installed, program: pathlib.Path, source: pathlib.Path, home: pathlib.Path
-) -> str | None:
-    """What is wrong with the commands that README.md has after its program, or None: they are run as they are, with the
-    library in ~/local."""
+def wrong_after_program(program: pathlib.Path, home: pathlib.Path) -> str | None:
+    """What is wrong with the commands that README.md has after its program, or None: they are run as they are, in a
+    folder that looks like the repository, and install the library in its ~/local."""
     home.mkdir()
-    (home / "local").symlink_to(installed.prefix)
-    (home / "latency.cpp").write_text(source.read_text())
-    blocks = re.findall(r"(?:^ {4}.*\n)+", (ROOT / "README.md").read_text(), re.MULTILINE)
-    commands = next(block for block in blocks if "$(pkg-config" in block)
+    for name in ("c", "crates", "examples"):
+        (home / name).symlink_to(ROOT / name)
+    (home / "latency.cpp").write_text("".join(f"{line}\n" for line in readme.block(readme.PROGRAM)))
     setting = {**os.environ, "HOME": str(home), "PATH": os.pathsep.join([str(program.parent), os.environ["PATH"]])}
-    came = answer("bash", ["-e", "-c", commands], cwd=home, env=setting)
-    if came.error or came.status != 0:
-        return f"status {came.status}: {came.error[-1500:]!r}"
-    return difference(Answer(RECORDED.encode()), answer(program, ["report", segment_in(home)]))
+    native.run(["bash", "-e", "-c", "\n".join(readme.block(readme.INSTALLED))], cwd=home, env=setting)
+    recorded = Answer(RECORDED_BY_README.encode())
+    if wrong := difference(recorded, answer(program, ["report", segment_in(home)])):
+        return wrong
+    exports, *commands = readme.block(readme.SERVICE)
+    for command in commands:
+        line = f"{exports}\n{command}"
+        wrong = wrong_until_ended(line, home, setting) if "--every" in command else wrong_at_once(line, home, setting)
+        if wrong is not None:
+            return f"{command}: {wrong}"
+    if METRICS not in (home / "metrics.prom").read_bytes():
+        return f"metrics.prom has no line {METRICS.strip().decode()}"
+    return difference(recorded, answer(program, ["report", home / "metrics"]))
+
+
+def wrong_at_once(line: str, home: pathlib.Path, setting: Mapping[str, str]) -> str | None:
+    """What is wrong with a command that ends by itself and says no fault, or None."""
+    came = answer("bash", ["-c", line], cwd=home, env=setting)
+    return None if came.status == 0 and not came.error else f"status {came.status}: {came.error[-1500:]!r}"
+
+
+def wrong_until_ended(line: str, home: pathlib.Path, setting: Mapping[str, str]) -> str | None:
+    """What is wrong with a command that shows the histogram again and again until it is ended, or None."""
+    with subprocess.Popen(
+        ["bash", "-c", line], cwd=home, env=setting, stdout=subprocess.PIPE, text=True, start_new_session=True
+    ) as process:
+        assert process.stdout is not None
+        timer = threading.Timer(MOST_SECONDS, os.killpg, (process.pid, signal.SIGKILL))
+        timer.start()
+        texts = 0
+        while texts < 2 and (shown := process.stdout.readline()):
+            texts += shown.startswith("request_us")
+        timer.cancel()
+        with contextlib.suppress(ProcessLookupError):
+            os.killpg(process.pid, signal.SIGTERM)
+    return None if texts == 2 else f"{texts} texts, and then status {process.returncode}"
 
 
 def wrong_of(test: Test) -> str | None:

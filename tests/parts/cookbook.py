@@ -1,11 +1,11 @@
-"""The tasks of docs/COOKBOOK.md: each command there is run, and prints what is below it. And the commands of README.md.
+"""The tasks of docs/COOKBOOK.md: each command there is run, and prints what is below it. And the example of README.md.
 
 A block of the page is code, and the text before it names the file that has it, or commands, each after a `$`. They run
 one after the other in a new folder, which has the examples. What they print, on both streams, is compared line by line;
 `[..]` stands for any lines. If there is no `sqlite3`, the commands that need it are left out, and a line says so.
 
-Each command of README.md that begins with the program succeeds, and prints the lines that are indented below it. The
-part `c` runs those after its program in C++, and `shown_steps` those of `stepped`.
+The command of README.md that shows an example prints the lines below it, among others. Which part runs each other
+command of that page, tests/support/readme.py says.
 """
 
 from __future__ import annotations
@@ -19,20 +19,17 @@ import subprocess
 import tempfile
 from collections.abc import Iterable, Iterator, Mapping, Sequence
 
+from support import readme
 from support.program import ROOT, Case, built
+from support.readme import ANY_LINES, INDENT, PROMPT
 
 PROGRAM = "persist_report"
 STEPPED = "stepped"
 PAGE = ROOT / "docs" / "COOKBOOK.md"
-README = ROOT / "README.md"
-INDENT = "    "
-PROMPT = "$ "
-ANY_LINES = "[..]"
 ENGINE = "sqlite3"
 SECONDS = 120
 # With fewer the page was not read as it should be.
 LEAST_TASKS = 12
-LEAST_IN_README = 6
 
 
 def blocks() -> Iterator[tuple[str, str, list[str]]]:
@@ -88,22 +85,15 @@ def wrong_code(before: str, block: Iterable[str]) -> str | None:
     return None
 
 
-def readme_commands() -> Iterator[tuple[str, list[str]]]:
-    """Each command of README.md, with the lines below it that are indented further."""
-    for block in re.findall(rf"(?:^{INDENT}.*\n)+", README.read_text(), re.MULTILINE):
-        if "pkg-config" not in block:
-            found = re.findall(rf"^{INDENT}({PROGRAM} .*)\n((?:{INDENT} .*\n)*)", block, re.MULTILINE)
-            yield from ((command, [line.strip() for line in shown.splitlines()]) for command, shown in found)
-
-
-def wrong_in_readme(command: str, shown: list[str], folder: pathlib.Path, setting: Mapping[str, str]) -> str | None:
-    """What is wrong with a command of README.md, or None."""
+def wrong_in_readme(folder: pathlib.Path, setting: Mapping[str, str]) -> str | None:
+    """What is wrong with the command of README.md that shows an example, or None."""
+    command, *shown = readme.block(readme.SHOWN)
     came = subprocess.run(["bash", "-c", command], cwd=folder, env=setting, capture_output=True, timeout=SECONDS)
     if came.returncode != 0:
         return f"status {came.returncode}: {came.stderr[:1000]!r}"
     lines = iter([line.strip() for line in came.stdout.decode().splitlines()])
-    missing = [line for line in shown if line not in lines]
-    return f"not printed, or not in this order: {missing}" if missing else None
+    missing = [line for line in shown if line.strip() not in lines]
+    return f"not printed, or not in this order: {missing}" if missing or not shown else None
 
 
 def cases(program: pathlib.Path, _options: argparse.Namespace) -> Iterator[Case]:
@@ -128,7 +118,4 @@ def cases(program: pathlib.Path, _options: argparse.Namespace) -> Iterator[Case]
     with tempfile.TemporaryDirectory() as scratch:
         folder = pathlib.Path(scratch)
         shutil.copytree(ROOT / "examples", folder / "examples")
-        count = 0
-        for count, (command, shown) in enumerate(readme_commands(), 1):
-            yield f"README.md: {command}", wrong_in_readme(command, shown, folder, setting)
-        yield "the commands of README.md", None if count >= LEAST_IN_README else f"only {count}"
+        yield "README.md", wrong_in_readme(folder, setting)

@@ -5,7 +5,8 @@ that names it. `rt run` proves the program and builds it. The libraries are copi
 made, and are proved first if there are none. Then the program is run twice in one folder: the first run prints what
 `stdout` has, and the second continues in the image of the first.
 
-The lines in Rattle of README.md and of the README of live_segment are run too, as functions of a program, by `rt try`.
+The calls that the page begins with and those in the README of live_segment are run too, as functions of a program, by
+`rt try`.
 """
 
 from __future__ import annotations
@@ -27,8 +28,9 @@ PAGE = ROOT / "docs" / "USING.md"
 CLONE = "povundiri"
 HOME = pathlib.Path("crates") / NAME
 CRATES = "crates.txt"
-# The pages that show lines in Rattle, and the crate that is made of them.
-SHOWING = {"of_readme": ROOT / "README.md", "of_crate": ROOT / "crates" / "live_segment" / "README.md"}
+# The pages that show calls, each in its first block that has this one, and the crate that is made of them.
+FIRST_CALL = "Segment::create("
+SHOWING = {"of_page": PAGE, "of_crate": ROOT / "crates" / "live_segment" / "README.md"}
 SHOWN = "shown_lines"
 INDENT = "    "
 # A paragraph, and the block after it.
@@ -118,7 +120,7 @@ def shown_lines() -> str:
     """The lines in Rattle that pages show, each page's as a function of a program."""
     uses, functions = ["use anyhow::Result;", "use std::alloc::Global;"], ""
     for name, page in SHOWING.items():
-        lines = next(block for _, block in blocks(page) if "Segment::create(" in block).splitlines()
+        lines = next(block for _, block in blocks(page) if FIRST_CALL in block).splitlines()
         uses += [line for line in lines if line.startswith("use ") and line not in uses]
         body = "".join(f"    {line}\n" for line in lines if line and not line.startswith("use "))
         functions += f"fn {name}(alloc: Global) -> Result<()> {{\n{body}    Ok(())\n}}\n\n"
@@ -150,4 +152,4 @@ def cases(_program: None, _options: argparse.Namespace) -> Iterator[Case]:
         repository = folder / "repository"
         yield "proved and built", wrong_proof(repository / HOME)
         yield "run twice", wrong_runs(repository / HOME / "out" / NAME, folder / "twice", found[HOME / "stdout"])
-        yield "lines of READMEs", wrong_lines(repository)
+        yield "the calls of pages", wrong_lines(repository)

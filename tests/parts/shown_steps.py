@@ -14,7 +14,7 @@ import pathlib
 import tempfile
 from collections.abc import Iterator, Sequence
 
-from support import plain_steps
+from support import plain_steps, readme
 from support.lanes import processors
 from support.program import ROOT, Answer, Case, answer, difference
 
@@ -23,7 +23,6 @@ FOLDER = ROOT / "tests" / "cases" / "schedules"
 EXAMPLES = ROOT / "examples"
 RACE = EXAMPLES / "race_for_a_name.csv"
 STORED = [RACE, EXAMPLES / "pack_before_disabling.csv"]
-README = ROOT / "README.md"
 FULL = "/dev/full"
 SPARSE = "world,128,64,7,1,2\nhist,0,S,sparse\nstep,0,100\nadd,0,S,-5,2\nstep,0,100\ndelta,0,S\nstep,0,100\n"
 # What the picture of that has to say, by the layout of a sample's record.
@@ -161,8 +160,7 @@ def wrong_loads(program: pathlib.Path, path: pathlib.Path, text: str, said: Sequ
 
 def wrong_readme(program: pathlib.Path) -> str | None:
     """What of the picture in README.md is not in the picture of the race, or None."""
-    block = README.read_text().split("stepped examples/race_for_a_name.csv --show ")[1].split("\n\n")[0]
-    shown = [line[6:] for line in block.splitlines()[1:]]
+    shown = readme.block(readme.RACE)[1:]
     rows = answer(program, [RACE, "--show"]).output.decode().expandtabs(8).splitlines()
     at = 0
     for line in shown:

@@ -13,7 +13,6 @@ from __future__ import annotations
 import os
 import pathlib
 import signal
-import subprocess
 import sys
 import time
 from collections.abc import Mapping, Sequence
@@ -23,7 +22,7 @@ from typing import Any
 sys.dont_write_bytecode = True
 HERE = pathlib.Path(__file__).resolve().parent
 sys.path.insert(0, str(HERE.parent / "tests"))
-from support import lanes, toolchain
+from support import kits, lanes, toolchain
 
 # What rt says of each crate.
 SAID = HERE / "out" / "proofs"
@@ -39,14 +38,6 @@ class Failed(Exception):
 
 def say(text: str) -> None:
     print(text, flush=True)
-
-
-def say_kit() -> None:
-    """Says so if the kit is none of those that proved this, by what README.md names."""
-    version = subprocess.run(["rt", "version"], capture_output=True, text=True).stdout
-    readme = (HERE.parent / "README.md").read_text()
-    if not version.strip() or any(word not in readme for word in version.split()):
-        say(f"This kit, {version.strip() or 'unknown'}, is none of those that proved this, which README.md names.")
 
 
 def prove(crate: Any, jobs: int) -> float:
@@ -107,7 +98,7 @@ def main(folder: str) -> None:
         say(f"The {len(below)} crates below {top.name} are proved already: only {top.name} itself is left.")
         return
     processors = lanes.lanes()
-    say_kit()
+    say(kits.found())
     say(f"First {len(crates)} crates are proved, of {len(below)} below {top.name}, on {processors} processors.")
     # The first call has to be on the main thread; and Ctrl-C has to end what the other threads wait for.
     kit.rtlib.guarded()

@@ -30,7 +30,8 @@ SOURCE = ROOT / "examples" / "cpp" / "demo.cpp"
 MOST_LINES = 40
 THREADS = 4
 HISTOGRAM = b"gap_ns"
-# How a shell says that a process was killed, maybe with more words; and what make says when it is passed a folder.
+# How a shell says that a process was killed, maybe with more words, or not at all if it sees that too late; and what
+# make says when it is passed a folder.
 KILLED = "Killed"
 FOLDERS = re.compile(r"^make(?:\[\d+\])?: (?:Entering|Leaving) directory .*\n", re.MULTILINE)
 START = re.compile(r"^start (\d+): (\d+) samples confirmed <= (\d+) in the folder <= (\d+) begun$", re.MULTILINE)
@@ -50,7 +51,7 @@ def pattern(lines: Sequence[str]) -> str:
         if line == readme.ANY_LINES:
             found += r"(?:.*\n)*"
         elif line == KILLED:
-            found += rf".*{KILLED}.*\n"
+            found += rf"(?:.*{KILLED}.*\n)?"
         else:
             found += (re.sub(r"\d+", r"\\d+", re.escape(line)) if START.match(line) else re.escape(line)) + r"\n"
     return found

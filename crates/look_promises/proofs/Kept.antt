@@ -8,3 +8,7 @@ pub mod Reads
 pub mod Keys
 pub mod Then
 pub mod Openings
+pub mod Sums
+pub mod Added
+pub mod SumsRise
+pub mod Means

@@ -5,3 +5,4 @@ pub mod Words
 pub mod Amounts
 pub mod Kept
 pub mod Looked
+pub mod Lives

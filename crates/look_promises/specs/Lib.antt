@@ -3,3 +3,5 @@ pub mod Looks
 pub mod Images
 pub mod Reading
 pub mod OneMoment
+pub mod Sums
+pub mod Lives

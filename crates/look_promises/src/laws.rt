@@ -7,6 +7,8 @@ ghost use Rattle.look_promises.specs.Looks.{LooksHaveHeaders, LooksFollow, Copie
 ghost use Rattle.look_promises.specs.Images.{LooksShowRecords, LooksShowCounts, LooksHaveSums, LooksCountTotals, LooksBoundMarks, LooksHaveForms, LooksMarkPacked, LooksBoundSamples, LooksCountCalls, LooksCountValues, LooksAreOfOneMoment, LooksRise, LooksKeepHeaders, LooksEndInZeros};
 ghost use Rattle.look_promises.specs.OneMoment.{LoneOpenersCountFirst, OpeningsNoteNoMore, LooksTellTheirMoment, ReadingsTellTheirMoment, ReadingsNoteNoMore};
 ghost use Rattle.look_promises.specs.Reading.{LooksRead, LooksAreAdoptable, ReadingsRise};
+ghost use Rattle.look_promises.specs.Sums.{ReadingsSayTheirSums, ReadingsBoundTheirSums, ReadingsRaiseTheirSums, ReadingsTellTheirMeans};
+ghost use Rattle.look_promises.specs.Lives.{ReadingsRiseToTheStop, ReadingsRiseAcrossRestarts, SumsRiseAcrossRestarts, LivesGoOn};
 
 /// Three copies of the words of a running segment, taken one after the other, have no fault: a look can be made of
 /// them.
@@ -252,4 +254,67 @@ pub fn looks_are_adoptable()
 /// Nothing is required of the other copies: two looks may be taken at the same time.
 pub fn readings_rise()
     ensures { ReadingsRise }
+{}
+
+/// The sum that is read of a histogram of a look is that of all amounts that had been added to it at one moment: when
+/// its word was loaded, in the second copy. It is 0 if its record was not on the list then.
+///
+/// The sum mark and the redundant count are each of one moment too, those of their loads, in the first copy. The units
+/// of a key are each of a moment of their own, so a mean of a look that was taken while samples were recorded may be
+/// that of no moment.
+pub fn readings_say_their_sums()
+    ensures { ReadingsSayTheirSums }
+{}
+
+/// If no amount of its name is negative, the sum that is read of a histogram of a look is at least that of the calls
+/// that had ended at the first moment, and at most that of the calls that had begun at the last.
+pub fn readings_bound_their_sums()
+    ensures { ReadingsBoundTheirSums }
+{}
+
+/// If no amount of its name is negative, a look whose second copy was loaded no earlier than another's has no lesser sum
+/// of a histogram.
+///
+/// Amounts are negative only of values below 0 in a histogram without buckets, and of a batch that gives such a sum.
+pub fn readings_raise_their_sums()
+    ensures { ReadingsRaiseTheirSums }
+{}
+
+/// If no amount of its name is negative, the first copy and the second have the same word of its sum, and its units are
+/// no more than its redundant count, a histogram of a look has the units and the sum of one moment, and so its mean.
+///
+/// A look alone does not have the word of the first copy: this is for a reader who has the copies. It requires what
+/// `readings_tell_their_moment` requires.
+pub fn readings_tell_their_means()
+    ensures { ReadingsTellTheirMeans }
+{}
+
+/// The words that a segment left when it was stopped have all histograms of each look that was taken before, and for
+/// each key no fewer units.
+///
+/// Nothing is required of how it was stopped: its process may have been killed in the middle of calls.
+pub fn readings_rise_to_the_stop()
+    ensures { ReadingsRiseToTheStop }
+{}
+
+/// A segment that was stopped, and opened again by the words that it left, reads in each later look as all histograms
+/// of each look from before, and for each key it has no fewer units. It may have been stopped and opened again many
+/// times.
+///
+/// Each of the two looks is taken within one life. Of a look whose copies were loaded before and after the segment was
+/// opened again nothing is said.
+pub fn readings_rise_across_restarts()
+    ensures { ReadingsRiseAcrossRestarts }
+{}
+
+/// Nor has the later look a lesser sum of a histogram, if no amount of its name is negative.
+pub fn sums_rise_across_restarts()
+    ensures { SumsRiseAcrossRestarts }
+{}
+
+/// The words that a segment left open it again, with any number of shared cursors, unless their corrupt flag is set.
+///
+/// So there are lives that follow each other.
+pub fn lives_go_on()
+    ensures { LivesGoOn }
 {}

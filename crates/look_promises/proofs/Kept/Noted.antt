@@ -139,18 +139,19 @@ noted_counted c so noted = by_flag c.noted refl
         by_counted true none = refl
         by_counted false none = none
 
-module _ (shape : Dimensions) (opened : Anatomy) (state : State) (kept : Invariant shape opened state) (counts : All CountsFirst state.actors) (name : List ℕ) where
-  -- the entries of an actor's log have ended
-  logged_ended : (i : ℕ) (a : Actor) → get_elem? state.actors i ≡ some a → All (λ c. has_ended c ≡ true) a.entries.log
-  logged_ended i a there = ⊎_elim
-      (λ gone. subst (λ (a : Actor). All (λ c. has_ended c ≡ true) a.entries.log) (sym (subst (StandsRight shape kept.anatomy i a) gone (kept.standing i a there)))
-      (All-nil (λ c. has_ended c ≡ true)))
-      (λ alive. (kept.each i a there alive).calls.ended)
-      (spent_or_not a.hand.place)
+-- the entries of an actor's log have ended
+pub logged_ended : (shape : Dimensions) (opened : Anatomy) (state : State) (kept : Invariant shape opened state) (i : ℕ) (a : Actor) → get_elem? state.actors i ≡ some a
+    → All (λ c. has_ended c ≡ true) a.entries.log
+logged_ended shape opened state kept i a there = ⊎_elim
+    (λ gone. subst (λ (a : Actor). All (λ c. has_ended c ≡ true) a.entries.log) (sym (subst (StandsRight shape kept.anatomy i a) gone (kept.standing i a there)))
+    (All-nil (λ c. has_ended c ≡ true)))
+    (λ alive. (kept.each i a there alive).calls.ended)
+    (spent_or_not a.hand.place)
 
+module _ (shape : Dimensions) (opened : Anatomy) (state : State) (kept : Invariant shape opened state) (counts : All CountsFirst state.actors) (name : List ℕ) where
   each_noted : (i : ℕ) (a : Actor) → get_elem? state.actors i ≡ some a → tally_noted a.entries.first name + tally_noted (noted_of a) name ≤ tally_noted (counted_of a) name
   each_noted i a there =
-      let logged = logged_ended i a there in
+      let logged = logged_ended shape opened state kept i a there in
       let running = all_at CountsFirst state.actors i a counts there in
       let less = more_pass name is_noted is_counted (a.entries.log ++ a.entries.running)
       (λ c has noted. ⊎_elim

@@ -131,7 +131,7 @@ module _ (copies : ThreeCopies) (image : List ℕ) (look : IsLook (hd_of copies)
     reads = words_read shape opened image reading whole_kept is
 
     -- the redundant count that is read is no more than what had been counted when it was loaded
-    noted_counted : (x + 13 < shape.size) × (h.redundant ≤ tally_noted (all_counted (at m).actors) h.name)
+    pub noted_counted : (x + 13 < shape.size) × (h.redundant ≤ tally_noted (all_counted (at m).actors) h.name)
     noted_counted =
         let blocks = reads.2 h there in
         let (kind, its, same) = reads.1.given h there in

@@ -1,0 +1,4 @@
+pub mod Grows
+pub mod Beyond
+pub mod Sums
+pub mod GoOn

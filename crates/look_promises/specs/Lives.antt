@@ -4,13 +4,14 @@ use Rattle.std.specs.Prelude.{◌≡◌, false, ℕ, suc, ◌^◌, ◌<◌, ◌�
 use Rattle.std.specs.List.{All, Contains, flat_map}
 use Rattle.segment_image.specs.Head.{head_of}
 use Rattle.segment_image.specs.Shape.{Dimensions}
-use Rattle.bucket_ranges.specs.Reading.{Histogram, Reading, IsReading}
+use Rattle.bucket_ranges.specs.Reading.{Histogram, Reading, IsListed, IsReading, reading_along}
 use Rattle.segment_looks.specs.Looks.{IsLook}
 use Rattle.segment_machine.specs.State.{State}
 use Rattle.segment_invariant.specs.Body.{Anatomy}
 use Rattle.segment_promises.specs.Adoption.{adopted}
-use Rattle.segment_promises.specs.Reads.{begun_of, units_read}
+use Rattle.segment_promises.specs.Reads.{begun_of, noted_at_opening, units_read}
 use Rattle.look_promises.specs.Looks.{head_loaded}
+use Rattle.look_promises.specs.OneMoment.{CountsFirst, all_units_read, units_at_opening}
 use Rattle.look_promises.specs.Runs.{RunsThrough, Moments, AreLoaded}
 use Rattle.look_promises.specs.Sums.{NoneNegative}
 
@@ -67,8 +68,28 @@ abbrev pub ReadingsRiseToTheStop : Type 0
 ReadingsRiseToTheStop = (shape : Dimensions) (life : Life shape) (reading left : Reading)
     → IsReadIn life reading → IsReading (words_left life) (head_of (words_left life)) left → IsBeyond reading left
 
--- The words that a life left open another one, adopted with any number of shared cursors, unless their corrupt flag is set.
+-- ---- adoption
+
+-- A life began with the adoption of the words that another one left, with this number of shared cursors.
+abbrev pub IsAdoptedFrom : {shape : Dimensions} → Life shape → ℕ → Life shape → Type 0
+IsAdoptedFrom life cursors next = (references : List ℕ) × (reading : Reading) × IsListed (words_left life) (head_of (words_left life)) references
+    × (reading ≡ reading_along (words_left life) (head_of (words_left life)) references)
+    × (next.at 0 ≡ adopted (words_left life) references reading cursors)
+
+-- The words that a life left are adopted, unless their corrupt flag is set.
 abbrev pub LivesGoOn : Type 0
 LivesGoOn = (shape : Dimensions) (life : Life shape) (cursors : ℕ) → All (λ word. word < 2 ^ 64) (words_left life)
-    → (head_of (words_left life)).corrupt ≡ false
-    → (next : Life shape) × (references : List ℕ) × (reading : Reading) × (next.at 0 ≡ adopted (words_left life) references reading cursors)
+    → (head_of (words_left life)).corrupt ≡ false → (next : Life shape) × IsAdoptedFrom life cursors next
+
+-- A life tells moments if what is required to tell of which moment the units of a look are (`ReadingsTellTheirMoment`) holds of it: at its
+-- beginning no call had noted what it had not counted, and of no name more units were noted than it was opened with.
+abbrev pub TellsMoments : {shape : Dimensions} → Life shape → Type 0
+TellsMoments life = All CountsFirst (life.at 0).actors
+    × ((name : List ℕ) → noted_at_opening life.opened name ≤ units_at_opening (life.at 0).actors name)
+
+-- If a life tells moments, no histogram of the words that it left is read with a redundant count above its units; and each life that begins
+-- with the adoption of these words tells moments too.
+abbrev pub LivesTellMoments : Type 0
+LivesTellMoments = (shape : Dimensions) (life : Life shape) → TellsMoments life
+    → ((left : Reading) (h : Histogram) → IsReading (words_left life) (head_of (words_left life)) left → Contains left.hists h → h.redundant ≤ all_units_read h)
+    × ((cursors : ℕ) (next : Life shape) → IsAdoptedFrom life cursors next → TellsMoments next)

@@ -8,7 +8,7 @@ ghost use Rattle.look_promises.specs.Images.{LooksShowRecords, LooksShowCounts, 
 ghost use Rattle.look_promises.specs.OneMoment.{LoneOpenersCountFirst, OpeningsNoteNoMore, LooksTellTheirMoment, ReadingsTellTheirMoment, ReadingsNoteNoMore};
 ghost use Rattle.look_promises.specs.Reading.{LooksRead, LooksAreAdoptable, ReadingsRise};
 ghost use Rattle.look_promises.specs.Sums.{ReadingsSayTheirSums, ReadingsBoundTheirSums, ReadingsRaiseTheirSums, ReadingsTellTheirMeans};
-ghost use Rattle.look_promises.specs.Lives.{ReadingsRiseToTheStop, ReadingsRiseAcrossRestarts, SumsRiseAcrossRestarts, LivesGoOn};
+ghost use Rattle.look_promises.specs.Lives.{ReadingsRiseToTheStop, ReadingsRiseAcrossRestarts, SumsRiseAcrossRestarts, LivesGoOn, LivesTellMoments};
 
 /// Three copies of the words of a running segment, taken one after the other, have no fault: a look can be made of
 /// them.
@@ -312,9 +312,17 @@ pub fn sums_rise_across_restarts()
     ensures { SumsRiseAcrossRestarts }
 {}
 
-/// The words that a segment left open it again, with any number of shared cursors, unless their corrupt flag is set.
+/// The words that a segment left are adopted, with any number of shared cursors, unless their corrupt flag is set.
 ///
 /// So there are lives that follow each other.
 pub fn lives_go_on()
     ensures { LivesGoOn }
+{}
+
+/// If what `readings_tell_their_moment` requires holds of a life, no histogram of the words that it left is read with a
+/// redundant count above its units; and it holds of each life that begins with the adoption of these words.
+///
+/// It holds of a new segment, and so in all lives of a segment that was new once, however each was stopped.
+pub fn lives_tell_moments()
+    ensures { LivesTellMoments }
 {}

@@ -1,6 +1,7 @@
 -- Lists of numbers with keys: if one has no more of each key than another, it has no more in all; and if it has no less in all either, both
 -- have the same of each.
-use Rattle.segment_invariant.proofs.Prelude.Std.{◌≡◌, ℕ, zero, suc, ◌+◌, ◌≤◌, Bool, true, false, not, cond, ℤ, List, [], ◌∷◌, length, refl, sym, ap, ◌∙◌, arith, if◌then◌else◌, sum_by, sum_by-cons, filter, int_eq, Decides-int_eq}
+use Rattle.segment_invariant.proofs.Prelude.Std.{◌≡◌, ℕ, zero, suc, ◌+◌, ◌≤◌, Bool, true, false, not, cond, ℤ, List, [], ◌∷◌, length, refl, sym, ap, ◌∙◌, arith, if◌then◌else◌, sum_by, sum_by-cons, filter, int_eq, Decides-int_eq, ◌&&◌}
+use Rattle.segment_invariant.proofs.Prelude.Machine.{Entry, is_of, tally_units}
 
 module _ {X : Type 0} (key : X → ℤ) (weight : X → ℕ) where
   -- what of a list has a key, and all of it
@@ -146,3 +147,19 @@ module _ {X Y : Type 0} (key : X → ℤ) (weight : X → ℕ) (its_key : Y → 
       let its = split its_key its_weight k ys in
       let here = below k in
       omega (arith, others, mine, its, here, most)
+
+-- ---- entries
+
+-- the units of an entry, if it is of a name
+abbrev pub units_named : List ℕ → Entry → ℕ
+units_named name e = if is_of name e then e.units else 0
+
+flip : (b c : Bool) (n : ℕ) → (if c then (if b then n else 0) else 0) ≡ (if b && c then n else 0)
+flip true true n = refl
+flip true false n = refl
+flip false true n = refl
+flip false false n = refl
+
+-- those of a key are its tally
+pub as_tally : (name : List ℕ) (entries : List Entry) (k : ℤ) → held (λ (e : Entry). e.key) (units_named name) entries k ≡ tally_units entries name k
+as_tally name entries k = λ j. sum_by (λ (e : Entry). flip (is_of name e) (int_eq e.key k) e.units j) entries

@@ -36,7 +36,7 @@ use Rattle.look_promises.proofs.Kept.Views.{view}
 use Rattle.look_promises.proofs.Kept.Noted.{first_counted}
 use Rattle.look_promises.proofs.Kept.Certificate.{counts_at, opened_with}
 use Rattle.look_promises.proofs.Moments.Firsts.{first_on, value_on, take_on, first_then}
-use Rattle.look_promises.proofs.Kept.Keys.{held, in_all, same_each}
+use Rattle.look_promises.proofs.Kept.Keys.{held, in_all, same_each, units_named, as_tally}
 
 module _ (copies : ThreeCopies) (image : List ℕ) (look : IsLook (hd_of copies) copies.one copies.two copies.three image) where
   open copies use {run, shape, opened, at, last, moments, one, two, loaded}
@@ -171,19 +171,10 @@ module _ (copies : ThreeCopies) (image : List ℕ) (look : IsLook (hd_of copies)
         )
 
     abbrev weight : Entry → ℕ
-    weight e = if is_of h.name e then e.units else 0
-
-    flip : (b c : Bool) (n : ℕ) → (if c then (if b then n else 0) else 0) ≡ (if b && c then n else 0)
-    flip true true n = refl
-    flip true false n = refl
-    flip false true n = refl
-    flip false false n = refl
+    weight = units_named h.name
 
     abbrev entries : List Entry
     entries = all_counted (at m).actors
-
-    as_tally : (k : ℤ) → held (λ (e : Entry). e.key) weight entries k ≡ tally_units entries h.name k
-    as_tally k = λ j. sum_by (λ (e : Entry). flip (is_of h.name e) (int_eq e.key k) e.units j) entries
 
     -- it has no less of each key than then
     below : (k : ℤ) → held (λ (e : Entry). e.key) weight entries k ≤ units_read h k
@@ -192,7 +183,7 @@ module _ (copies : ThreeCopies) (image : List ℕ) (look : IsLook (hd_of copies)
         let down : m ≤ last = (one_within copies (x + 13) inside).1 in
         let least = counted_least m down (λ j lt. loaded.ordered.second (x + 13) j inside lt) h.name k in
         let units = (reads.2 h there).units k in
-        let tally = as_tally k in
+        let tally = as_tally h.name entries k in
         omega (arith, least, units, tally)
 
     -- so its redundant count is no more than its units
@@ -206,7 +197,7 @@ module _ (copies : ThreeCopies) (image : List ℕ) (look : IsLook (hd_of copies)
     pub of_then : all_units_read h ≤ h.redundant → (key : ℤ) → units_read h key ≡ tally_units entries h.name key
     of_then few key =
         let noted = noted_counted.1 in
-        same_each (λ (e : Entry). e.key) weight (λ (count : ℤ × ℕ). count.0) (λ (count : ℤ × ℕ). count.1) entries h.counts below (omega (arith, noted, few)) key ∙ as_tally key
+        same_each (λ (e : Entry). e.key) weight (λ (count : ℤ × ℕ). count.0) (λ (count : ℤ × ℕ). count.1) entries h.counts below (omega (arith, noted, few)) key ∙ as_tally h.name entries key
 
 pub readings_tell_their_moment : ReadingsTellTheirMoment
 readings_tell_their_moment shape opened at first last moments one two three image reading h key run counts loaded look is there opening few =

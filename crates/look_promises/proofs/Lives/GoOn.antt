@@ -34,7 +34,5 @@ lives_go_on shape life cursors narrow intact =
           goes_on = λ n. started;
         };
       },
-      references,
-      reading_along left.words (head_of left.words) references,
-      refl,
+      (references, reading_along left.words (head_of left.words) references, listed, refl, refl),
     )

@@ -529,9 +529,9 @@ inline uint32_t povundiri_next_shared(struct povundiri_handle *recorder, size_t 
  *
  * The words are read three times, each by one load, and put together. The image reads without a fault. Of each bucket it has at least the
  * units of calls that had ended before the look began, and no unit of a call that began after it was done; it has each histogram that was
- * in the segment when the look began. The numbers of different histograms, and of different buckets of one, need not be of one moment. This
- * is said of looks within one process's use of the segment, each of which begins when the one before it has ended: a look amid which the
- * process is killed and another one continues is outside. It is tested on running programs; docs/PROVED.md says which of it is proved.
+ * in the segment when the look began. The numbers of different histograms, and of different buckets of one, need not be of one moment; the
+ * sum is that of one. A look that begins when another one has ended has no fewer units in a bucket. A look amid which the process is killed
+ * and another one continues is outside of all this. It is tested on running programs; docs/PROVED.md says which of it is proved.
  *
  * `words` are those of the segment, such as those of a mapped file from its byte 8 on: its own, or another process's. `length` is how many
  * may be read: at least as many as the segment has. `needed`, which may be null, is how many words the image has, also on SHORT.

@@ -35,6 +35,8 @@ HISTOGRAM = b"gap_ns"
 KILLED = "Killed"
 FOLDERS = re.compile(r"^make(?:\[\d+\])?: (?:Entering|Leaving) directory .*\n", re.MULTILINE)
 START = re.compile(r"^start (\d+): (\d+) samples confirmed <= (\d+) in the folder <= (\d+) begun$", re.MULTILINE)
+# The same as README.md shows it, with numbers of some run, or with a letter for any number.
+SHOWN_START = re.compile(r"start \d+: (?:\d+|N) samples confirmed <= (?:\d+|N) in the folder <= (?:\d+|N) begun")
 # What the service keeps of itself: how often it called, how much was confirmed, its starts, and what was there at the
 # last of them.
 NOTES = struct.Struct("<4Q")
@@ -45,7 +47,8 @@ MOST_SECONDS = 1800
 
 
 def pattern(lines: Sequence[str]) -> str:
-    """The pattern of what README.md shows, of which some lines stand for any lines, and each number for any number."""
+    """The pattern of what README.md shows, of which some lines stand for any lines, and each number of a start for any
+    number."""
     found = ""
     for line in lines:
         if line == readme.ANY_LINES:
@@ -53,7 +56,8 @@ def pattern(lines: Sequence[str]) -> str:
         elif line == KILLED:
             found += rf"(?:.*{KILLED}.*\n)?"
         else:
-            found += (re.sub(r"\d+", r"\\d+", re.escape(line)) if START.match(line) else re.escape(line)) + r"\n"
+            escaped = re.escape(line)
+            found += (re.sub(r"\b(?:\d+|N)\b", r"\\d+", escaped) if SHOWN_START.fullmatch(line) else escaped) + r"\n"
     return found
 
 
@@ -123,7 +127,7 @@ def wrong_demo(demo: Demo) -> str | None:
         return f"status {status}: {text[-1500:]}"
     if re.fullmatch(pattern(shown), FOLDERS.sub("", text)) is None:
         return f"README.md shows something else than {text}"
-    return wrong_figures("\n".join(shown)) or wrong_figures(text)
+    return wrong_figures(text)
 
 
 def wrong_state(demo: Demo, program: pathlib.Path) -> str | None:

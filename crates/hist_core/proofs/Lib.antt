@@ -2,6 +2,7 @@ mod AddCall
 mod BatchCall
 mod DeltaCall
 mod HistCall
+mod Left
 mod Makes
 mod Parts
 mod SnapshotCall

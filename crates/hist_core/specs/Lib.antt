@@ -6,6 +6,7 @@ pub mod SampleSearch
 pub mod Add
 pub mod Batch
 pub mod ActorRun
+pub mod Left
 pub mod Exchanging
 pub mod Loading
 pub mod Start

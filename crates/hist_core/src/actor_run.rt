@@ -66,6 +66,7 @@ impl ActorRun {
     ghost use Rattle.hist_core.specs.declared.hist.HistStep.TheVariants.{Done};
     ghost use Rattle.hist_core.specs.Batch.{added_of};
     ghost use Rattle.hist_core.specs.Exchanging.{running_attempt};
+    ghost use Rattle.hist_core.specs.Left.{RunningLowers};
     ghost use Rattle.hist_core.specs.Loading.{running_load};
     ghost use Rattle.hist_core.specs.StepsBy.{WalksInOrder};
     ghost use Rattle.hist_core.specs.ActorRun.{IsFreshRun, IsActorRunOf, IsSomeRun, NoneHasName, IsKnownAt, KnowsAt, IsKnownAnswer, BeginsHist, HasRoomForHist, AsksForOne, IsHistAnnounced, IsAddAnnounced, RunsAdd, BeginsAdd, IsBatchAnnounced, BeginsBatch, BeginsSnapshot, BeginsDelta, IsNowShown, TakesOfOne, HasEndedDelta, HasDraftRoom, IsDeltaAnnounced, LooksAtOne, IsSnapshotAnnounced, IsAsItWas, held_by, Advances, Answers};
@@ -424,6 +425,7 @@ impl ActorRun {
         requires stands { ∥ IsSomeRun (length words.old) self.old ∥₁ }
         ensures advances { (shape : Dimensions) (version : ℕ) (a : Actor) → shape.size ≡ length words.old → WalksInOrder a → IsActorRunOf shape version self.old a → Advances shape version self.old words.old self.new words.new result a }
         ensures answers { Answers self.old words.old self.new words.new result }
+        ensures less { RunningLowers self.old.running words.old self.new.running words.new result }
     {
         match &mut self.running {
             Some(Running::SetCorrupt) => {

@@ -105,6 +105,7 @@ impl Add {
     ghost use Rattle.hist_core.specs.ActorRun.{known_of};
     ghost use Rattle.hist_core.specs.StepsBy.{LiesWithin};
     ghost use Rattle.hist_core.specs.Exchanging.{add_attempt};
+    ghost use Rattle.hist_core.specs.Left.{AddLowers};
     ghost use Rattle.hist_core.specs.Loading.{add_load};
     ghost use Rattle.alloc_core.specs.Layout.{IsShape};
     ghost use Rattle.hist_core.specs.declared.add.AddStage.TheVariants.{LoadingSingle, Packing, LoadingCounts, SeekingCounts, Mounting, Purging, LoadingAgain, Disabling, Moving, Counting, Summing, Noting};
@@ -180,6 +181,7 @@ impl Add {
     fn load_single(&mut self, words: &[u64]) -> AddStep
         requires { IsAtStage LoadingSingle (length words.now) self.old }
         ensures steps { AddSteps self.old words.now self.new words.now result }
+        ensures less { AddLowers self.old words.now self.new words.now result }
         ensures same { self.new ≡ record self.old { stage = self.new.stage } }
     {
         let word = words[self.histogram as usize + HISTOGRAM_SINGLE];
@@ -191,6 +193,7 @@ impl Add {
     fn pack(&mut self, words: &mut [u64], old: u64, new: u64) -> AddStep
         requires { IsAtStage (Packing old new) (length words.old) self.old }
         ensures steps { AddSteps self.old words.old self.new words.new result }
+        ensures less { AddLowers self.old words.old self.new words.new result }
         ensures same { self.new ≡ record self.old { stage = self.new.stage } }
     {
         let at = self.histogram as usize + HISTOGRAM_SINGLE;
@@ -206,6 +209,7 @@ impl Add {
     fn load_counts(&mut self, words: &[u64]) -> AddStep
         requires { IsAtStage LoadingCounts (length words.now) self.old }
         ensures steps { AddSteps self.old words.now self.new words.now result }
+        ensures less { AddLowers self.old words.now self.new words.now result }
         ensures same { self.new ≡ record self.old { stage = self.new.stage } }
     {
         let counts = words[self.histogram as usize + HISTOGRAM_COUNTS];
@@ -219,6 +223,7 @@ impl Add {
     fn seek_counts(&mut self, words: &[u64]) -> AddStep
         requires { IsAtStage SeekingCounts (length words.now) self.old }
         ensures steps { AddSteps self.old words.now self.new words.now result }
+        ensures less { AddLowers self.old words.now self.new words.now result }
         ensures same { self.new ≡ record self.old { stage = self.new.stage } }
     {
         let counts = words[self.histogram as usize + HISTOGRAM_COUNTS];
@@ -264,6 +269,7 @@ impl Add {
         requires allocates { IsAllocating self.old.stage }
         requires stands { ∥ IsSomeAdd (length words.old) self.old ∥₁ }
         ensures steps { AddSteps self.old words.old self.new words.new result }
+        ensures less { AddLowers self.old words.old self.new words.new result }
         ensures same { self.new ≡ record self.old { stage = self.new.stage } }
     {
         match &mut self.stage {
@@ -279,6 +285,7 @@ impl Add {
     fn mount(&mut self, words: &mut [u64], at: u64) -> AddStep
         requires { IsAtStage (Mounting at) (length words.old) self.old }
         ensures steps { AddSteps self.old words.old self.new words.new result }
+        ensures less { AddLowers self.old words.old self.new words.new result }
         ensures same { self.new ≡ record self.old { stage = self.new.stage } }
     {
         let reference = self.histogram as usize + HISTOGRAM_COUNTS;
@@ -295,6 +302,7 @@ impl Add {
     fn purge(&mut self, words: &mut [u64], at: u64, counts: u64) -> AddStep
         requires { IsAtStage (Purging at counts) (length words.old) self.old }
         ensures steps { AddSteps self.old words.old self.new words.new result }
+        ensures less { AddLowers self.old words.old self.new words.new result }
         ensures same { self.new ≡ record self.old { stage = self.new.stage } }
     {
         store(words, at as usize + BLOCK_TYPE, TYPE_PURGED);
@@ -314,6 +322,7 @@ impl Add {
     fn load_again(&mut self, words: &[u64], counts: u64) -> AddStep
         requires { IsAtStage (LoadingAgain counts) (length words.now) self.old }
         ensures steps { AddSteps self.old words.now self.new words.now result }
+        ensures less { AddLowers self.old words.now self.new words.now result }
         ensures same { self.new ≡ record self.old { stage = self.new.stage } }
     {
         let old = words[self.histogram as usize + HISTOGRAM_SINGLE];
@@ -349,6 +358,7 @@ impl Add {
     fn disable(&mut self, words: &mut [u64], counts: u64, old: u64) -> AddStep
         requires { IsAtStage (Disabling counts old) (length words.old) self.old }
         ensures steps { AddSteps self.old words.old self.new words.new result }
+        ensures less { AddLowers self.old words.old self.new words.new result }
         ensures same { self.new ≡ record self.old { stage = self.new.stage } }
     {
         let at = self.histogram as usize + HISTOGRAM_SINGLE;
@@ -365,6 +375,7 @@ impl Add {
     fn move_units(&mut self, words: &mut [u64], counts: u64, bucket: usize, units: u64) -> AddStep
         requires { IsAtStage (Moving counts bucket units) (length words.old) self.old }
         ensures steps { AddSteps self.old words.old self.new words.new result }
+        ensures less { AddLowers self.old words.old self.new words.new result }
         ensures same { self.new ≡ record self.old { stage = self.new.stage } }
     {
         fetch_add(words, counts as usize + (BLOCK_HEADER + bucket), units);
@@ -395,6 +406,7 @@ impl Add {
         requires samples { IsSearching self.old.stage }
         requires stands { ∥ IsSomeAdd (length words.old) self.old ∥₁ }
         ensures steps { AddSteps self.old words.old self.new words.new result }
+        ensures less { AddLowers self.old words.old self.new words.new result }
         ensures same { self.new ≡ record self.old { stage = self.new.stage } }
     {
         match &mut self.stage {
@@ -410,6 +422,7 @@ impl Add {
     fn count(&mut self, words: &mut [u64], at: u64) -> AddStep
         requires { IsAtStage (Counting at) (length words.old) self.old }
         ensures steps { AddSteps self.old words.old self.new words.new result }
+        ensures less { AddLowers self.old words.old self.new words.new result }
         ensures same { self.new ≡ record self.old { stage = self.new.stage } }
     {
         fetch_add(words, at as usize, u64::from(self.units));
@@ -421,6 +434,7 @@ impl Add {
     fn sum(&mut self, words: &mut [u64]) -> AddStep
         requires { IsAtStage Summing (length words.old) self.old }
         ensures steps { AddSteps self.old words.old self.new words.new result }
+        ensures less { AddLowers self.old words.old self.new words.new result }
         ensures same { self.new ≡ record self.old { stage = self.new.stage } }
     {
         let at = self.histogram as usize + HISTOGRAM_SUM;
@@ -433,6 +447,7 @@ impl Add {
     fn note(&mut self, words: &mut [u64]) -> AddStep
         requires { IsAtStage Noting (length words.old) self.old }
         ensures steps { AddSteps self.old words.old self.new words.new result }
+        ensures less { AddLowers self.old words.old self.new words.new result }
         ensures same { self.new ≡ record self.old { stage = self.new.stage } }
     {
         let at = self.histogram as usize + HISTOGRAM_REDUNDANT;
@@ -481,6 +496,7 @@ impl Add {
         requires stands { ∥ IsSomeAdd (length words.old) self.old ∥₁ }
         requires inside { LiesWithin (length words.old) self.old.histogram }
         ensures steps { AddSteps self.old words.old self.new words.new result }
+        ensures less { AddLowers self.old words.old self.new words.new result }
         ensures same { self.new ≡ record self.old { stage = self.new.stage } }
     {
         match self.stage {

@@ -38,6 +38,7 @@ impl Batch {
     ghost use Rattle.std.specs.Prelude.{◌<◌, ◌≤◌, vec_len};
     ghost use lib.ListN.{get_elem?};
     ghost use Rattle.hist_core.specs.Exchanging.{item_attempt};
+    ghost use Rattle.hist_core.specs.Left.{BatchLowers};
     ghost use Rattle.hist_core.specs.Loading.{item_load};
     ghost use Rattle.hist_core.specs.declared.batch.BatchStep.TheVariants.{Done};
     ghost use Rattle.hist_core.specs.Batch.{BatchSteps, IsItemSaid, IsRefusedAt, IsSameBatch, IsSomeBatch};
@@ -71,6 +72,7 @@ impl Batch {
         requires near { self.old.added < vec_len self.old.items }
         requires stands { ∥ IsSomeBatch (length words.old) self.old ∥₁ }
         ensures steps { BatchSteps self.old words.old self.new words.new result }
+        ensures less { BatchLowers self.old words.old self.new words.new result }
         ensures same { IsSameBatch self.old self.new }
         ensures refused { IsRefusedAt self.old self.new result }
     {
@@ -85,6 +87,7 @@ impl Batch {
         requires counted { self.old.added ≡ vec_len self.old.items }
         requires stands { ∥ IsSomeBatch (length words.old) self.old ∥₁ }
         ensures steps { BatchSteps self.old words.old self.new words.new result }
+        ensures less { BatchLowers self.old words.old self.new words.new result }
         ensures same { self.new ≡ self.old }
         ensures done { result ≡ Done }
     {
@@ -117,6 +120,7 @@ impl Batch {
     pub(crate) fn step(&mut self, words: &mut [u64]) -> BatchStep
         requires stands { ∥ IsSomeBatch (length words.old) self.old ∥₁ }
         ensures steps { BatchSteps self.old words.old self.new words.new result }
+        ensures less { BatchLowers self.old words.old self.new words.new result }
         ensures same { IsSameBatch self.old self.new }
         ensures refused { IsRefusedAt self.old self.new result }
     {

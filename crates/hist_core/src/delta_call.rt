@@ -92,6 +92,7 @@ impl DeltaCall {
     ghost use Rattle.std.specs.Prelude.{◌≡◌, ◌≤◌, ◌<◌, ◌+◌, length, vec_len, vec_capacity, None, IfOk};
     ghost use Rattle.bucket_ranges.specs.Spec.{spec_fault};
     ghost use Rattle.hist_core.specs.ActorRun.{known_of};
+    ghost use Rattle.hist_core.specs.Left.{DeltaLowers};
     ghost use Rattle.hist_core.specs.Loading.{delta_load};
     ghost use Rattle.hist_core.specs.StepsBy.{LiesWithin};
     ghost use Rattle.hist_core.specs.declared.delta_call.DeltaStage.TheVariants.{LoadingSingle, TakingPacked, LoadingCounts, LoadingCount, Raising, Walking, LoadingSample, RaisingSample, LoadingSum, Swapping};
@@ -156,6 +157,7 @@ impl DeltaCall {
     fn load_single(&mut self, words: &[u64]) -> DeltaCallStep
         requires { IsAtStage LoadingSingle (length words.now) self.old }
         ensures steps { DeltaCallSteps self.old words.now self.new words.now result }
+        ensures less { DeltaLowers self.old words.now self.new words.now result }
         ensures goes { HasGoneOn self.old self.new result }
     {
         let word = words[self.histogram as usize + HISTOGRAM_SINGLE];
@@ -189,6 +191,7 @@ impl DeltaCall {
     fn take_packed(&mut self, words: &mut [u64], bucket: usize, units: u64) -> DeltaCallStep
         requires { IsAtStage (TakingPacked bucket units) (length words.old) self.old }
         ensures steps { DeltaCallSteps self.old words.old self.new words.new result }
+        ensures less { DeltaLowers self.old words.old self.new words.new result }
         ensures goes { HasGoneOn self.old self.new result }
     {
         let at = self.histogram as usize + HISTOGRAM_SINGLE_MARK;
@@ -201,6 +204,7 @@ impl DeltaCall {
     fn load_counts(&mut self, words: &[u64], packed: Option<usize>, kept: u64) -> DeltaCallStep
         requires { IsAtStage (LoadingCounts packed kept) (length words.now) self.old }
         ensures steps { DeltaCallSteps self.old words.now self.new words.now result }
+        ensures less { DeltaLowers self.old words.now self.new words.now result }
         ensures goes { HasGoneOn self.old self.new result }
     {
         let counts = words[self.histogram as usize + HISTOGRAM_COUNTS];
@@ -232,6 +236,7 @@ impl DeltaCall {
     fn load_count(&mut self, words: &[u64], mounted: Mounted, bucket: usize) -> DeltaCallStep
         requires { IsAtStage (LoadingCount mounted bucket) (length words.now) self.old }
         ensures steps { DeltaCallSteps self.old words.now self.new words.now result }
+        ensures less { DeltaLowers self.old words.now self.new words.now result }
         ensures goes { HasGoneOn self.old self.new result }
     {
         let count = words[mounted.counts as usize + (BLOCK_HEADER + bucket)];
@@ -271,6 +276,7 @@ impl DeltaCall {
     ) -> DeltaCallStep
         requires { IsAtStage (Raising mounted bucket total) (length words.old) self.old }
         ensures steps { DeltaCallSteps self.old words.old self.new words.new result }
+        ensures less { DeltaLowers self.old words.old self.new words.new result }
         ensures goes { HasGoneOn self.old self.new result }
     {
         let mark = fetch_max(words, self.mark_of(mounted, bucket), total);
@@ -293,6 +299,7 @@ impl DeltaCall {
     fn walk_on(&mut self, words: &[u64], walk: SampleWalk) -> DeltaCallStep
         requires { IsAtStage (Walking walk) (length words.now) self.old }
         ensures steps { DeltaCallSteps self.old words.now self.new words.now result }
+        ensures less { DeltaLowers self.old words.now self.new words.now result }
         ensures goes { HasGoneOn self.old self.new result }
     {
         let met = walk.step(self.histogram, words);
@@ -317,6 +324,7 @@ impl DeltaCall {
     fn load_sample(&mut self, words: &[u64], at: u64, value: i32) -> DeltaCallStep
         requires { IsAtStage (LoadingSample at value) (length words.now) self.old }
         ensures steps { DeltaCallSteps self.old words.now self.new words.now result }
+        ensures less { DeltaLowers self.old words.now self.new words.now result }
         ensures goes { HasGoneOn self.old self.new result }
     {
         let count = words[at as usize + SAMPLE_COUNT];
@@ -328,6 +336,7 @@ impl DeltaCall {
     fn raise_sample(&mut self, words: &mut [u64], at: u64, value: i32, count: u64) -> DeltaCallStep
         requires { IsAtStage (RaisingSample at value count) (length words.old) self.old }
         ensures steps { DeltaCallSteps self.old words.old self.new words.new result }
+        ensures less { DeltaLowers self.old words.old self.new words.new result }
         ensures goes { HasGoneOn self.old self.new result }
     {
         let mark = fetch_max(words, at as usize + SAMPLE_MARK, count);
@@ -341,6 +350,7 @@ impl DeltaCall {
     fn load_sum(&mut self, words: &[u64]) -> DeltaCallStep
         requires { IsAtStage LoadingSum (length words.now) self.old }
         ensures steps { DeltaCallSteps self.old words.now self.new words.now result }
+        ensures less { DeltaLowers self.old words.now self.new words.now result }
         ensures goes { HasGoneOn self.old self.new result }
     {
         let sum = words[self.histogram as usize + HISTOGRAM_SUM].cast_signed();
@@ -352,6 +362,7 @@ impl DeltaCall {
     fn swap_sum(&mut self, words: &mut [u64], sum: i64) -> DeltaCallStep
         requires { IsAtStage (Swapping sum) (length words.old) self.old }
         ensures steps { DeltaCallSteps self.old words.old self.new words.new result }
+        ensures less { DeltaLowers self.old words.old self.new words.new result }
         ensures goes { HasGoneOn self.old self.new result }
     {
         let at = self.histogram as usize + HISTOGRAM_SUM_MARK;
@@ -380,6 +391,7 @@ impl DeltaCall {
         requires stands { ∥ IsSomeDeltaCall (length words.old) self.old ∥₁ }
         requires inside { LiesWithin (length words.old) self.old.histogram }
         ensures steps { DeltaCallSteps self.old words.old self.new words.new result }
+        ensures less { DeltaLowers self.old words.old self.new words.new result }
         ensures goes { HasGoneOn self.old self.new result }
     {
         match self.stage {

@@ -63,6 +63,7 @@ impl Hist {
     ghost use Rattle.std.specs.Prelude.{◌+◌, ◌-◌, ◌*◌, ◌^◌, vec_len, slice_index};
     ghost use Rattle.segment_machine.specs.declared.actor.Actor.{Actor};
     ghost use Rattle.hist_core.specs.Exchanging.{hist_attempt};
+    ghost use Rattle.hist_core.specs.Left.{HistLowers};
     ghost use Rattle.hist_core.specs.Loading.{compared_load, hist_load};
     ghost use Rattle.hist_core.specs.Hist.{compared_place, compared_index, compared_word, IsHistBegun, IsSomeHist, HistSteps, IsMade, IsMakingRecord, IsMatched, IsDifferent};
     ghost use Rattle.hist_core.specs.declared.hist.HistStage.TheVariants.{Walking, Comparing};
@@ -161,6 +162,7 @@ impl Hist {
         requires compares { self.old.stage ≡ Comparing same }
         requires stands { ∥ IsSomeHist (length words.now) self.old ∥₁ }
         ensures steps { HistSteps self.old words.now self.new words.now result }
+        ensures less { HistLowers self.old words.now self.new words.now result }
         ensures asks { self.new.asked ≡ self.old.asked }
     {
         let found = words[self.reference as usize + self.compared_index(same)];
@@ -176,6 +178,7 @@ impl Hist {
         requires walks { self.old.stage ≡ Walking }
         requires stands { ∥ IsSomeHist (length words.now) self.old ∥₁ }
         ensures steps { HistSteps self.old words.now self.new words.now result }
+        ensures less { HistLowers self.old words.now self.new words.now result }
         ensures asks { self.new.asked ≡ self.old.asked }
     {
         match self.walk.step(words) {
@@ -213,6 +216,7 @@ impl Hist {
         requires makes { IsMakingRecord self.old.stage }
         requires stands { ∥ IsSomeHist (length words.old) self.old ∥₁ }
         ensures steps { HistSteps self.old words.old self.new words.new result }
+        ensures less { HistLowers self.old words.old self.new words.new result }
         ensures asks { self.new.asked ≡ self.old.asked }
     {
         match &mut self.stage {
@@ -261,6 +265,7 @@ impl Hist {
     pub(crate) fn step(&mut self, words: &mut [u64]) -> HistStep
         requires stands { ∥ IsSomeHist (length words.old) self.old ∥₁ }
         ensures steps { HistSteps self.old words.old self.new words.new result }
+        ensures less { HistLowers self.old words.old self.new words.new result }
         ensures asks { self.new.asked ≡ self.old.asked }
     {
         match self.stage {

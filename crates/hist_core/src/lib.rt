@@ -13,6 +13,7 @@ mod entry;
 mod fault;
 mod hist;
 mod keys;
+pub mod laws;
 mod mounted;
 mod new_record;
 mod sample_search;

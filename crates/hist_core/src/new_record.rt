@@ -40,6 +40,7 @@ pub(crate) struct NewRecord {
 impl NewRecord {
     ghost use Rattle.std.specs.Prelude.{◌+◌, ◌≤◌, vec_len};
     ghost use Rattle.hist_core.specs.Exchanging.{new_record_attempt};
+    ghost use Rattle.hist_core.specs.Left.{RecordLowers};
     ghost use Rattle.hist_core.specs.Loading.{new_record_load};
     ghost use Rattle.alloc_core.specs.Layout.{IsShape};
     ghost use Rattle.hist_core.specs.declared.new_record.NewRecordStage.TheVariants.{Filling};
@@ -105,7 +106,8 @@ impl NewRecord {
     fn allocate(&mut self, words: &mut [u64], payload: &[u64]) -> NewRecordStep
         requires allocates { IsAllocating self.old.stage }
         requires stands { ∥ IsSomeNewRecord (length words.old) payload.now self.old ∥₁ }
-        ensures { NewRecordSteps payload.now self.old words.old self.new words.new result }
+        ensures steps { NewRecordSteps payload.now self.old words.old self.new words.new result }
+        ensures less { RecordLowers payload.now self.old words.old self.new words.new result }
     {
         match &mut self.stage {
             NewRecordStage::Allocating { alloc } => {
@@ -120,7 +122,8 @@ impl NewRecord {
     fn fill(&mut self, words: &mut [u64], payload: &[u64], at: u64, index: usize) -> NewRecordStep
         requires fills { self.old.stage ≡ Filling at index }
         requires stands { ∥ IsSomeNewRecord (length words.old) payload.now self.old ∥₁ }
-        ensures { NewRecordSteps payload.now self.old words.old self.new words.new result }
+        ensures steps { NewRecordSteps payload.now self.old words.old self.new words.new result }
+        ensures less { RecordLowers payload.now self.old words.old self.new words.new result }
     {
         store(words, at as usize + (BLOCK_HEADER + index), payload[index]);
         self.filled(payload, at, index + 1);
@@ -142,7 +145,8 @@ impl NewRecord {
     fn publish(&mut self, words: &mut [u64], payload: &[u64]) -> NewRecordStep
         requires publishes { IsPublishing self.old.stage }
         requires stands { ∥ IsSomeNewRecord (length words.old) payload.now self.old ∥₁ }
-        ensures { NewRecordSteps payload.now self.old words.old self.new words.new result }
+        ensures steps { NewRecordSteps payload.now self.old words.old self.new words.new result }
+        ensures less { RecordLowers payload.now self.old words.old self.new words.new result }
     {
         match &mut self.stage {
             NewRecordStage::Publishing { publish } => {
@@ -178,7 +182,8 @@ impl NewRecord {
     // Performs its next event.
     pub(crate) fn step(&mut self, words: &mut [u64], payload: &[u64]) -> NewRecordStep
         requires stands { ∥ IsSomeNewRecord (length words.old) payload.now self.old ∥₁ }
-        ensures { NewRecordSteps payload.now self.old words.old self.new words.new result }
+        ensures steps { NewRecordSteps payload.now self.old words.old self.new words.new result }
+        ensures less { RecordLowers payload.now self.old words.old self.new words.new result }
     {
         match self.stage {
             NewRecordStage::Allocating { .. } => self.allocate(words, payload),

@@ -64,6 +64,7 @@ fn behind_type(at: u64, tag: u64) -> SampleSearchStage
 impl SampleSearch {
     ghost use Rattle.std.specs.Int.{w64, cast_unsigned};
     ghost use Rattle.hist_core.specs.Exchanging.{sample_search_attempt};
+    ghost use Rattle.hist_core.specs.Left.{SearchLowers};
     ghost use Rattle.hist_core.specs.Loading.{sample_search_load};
     ghost use Rattle.hist_core.specs.declared.sample_search.SampleSearchStage.TheVariants.{Walking, LoadingType, LoadingHistogram, LoadingValue};
     ghost use Rattle.hist_core.specs.SampleSearch.{IsSomeSampleSearch, SampleSearchSteps, IsStarted, IsIts, IsMade, IsMakingSample};
@@ -93,6 +94,7 @@ impl SampleSearch {
         requires walks { self.old.stage ≡ Walking }
         requires stands { ∥ IsSomeSampleSearch (length words.now) self.old ∥₁ }
         ensures steps { SampleSearchSteps self.old words.now self.new words.now result }
+        ensures less { SearchLowers self.old words.now self.new words.now result }
         ensures same { self.new ≡ record self.old { walk = self.new.walk; stage = self.new.stage } }
     {
         match self.walk.step(words) {
@@ -112,6 +114,7 @@ impl SampleSearch {
         requires loads { self.old.stage ≡ LoadingType at }
         requires stands { ∥ IsSomeSampleSearch (length words.now) self.old ∥₁ }
         ensures steps { SampleSearchSteps self.old words.now self.new words.now result }
+        ensures less { SearchLowers self.old words.now self.new words.now result }
         ensures same { self.new ≡ record self.old { walk = self.new.walk; stage = self.new.stage } }
     {
         let tag = words[at as usize + BLOCK_TYPE];
@@ -124,6 +127,7 @@ impl SampleSearch {
         requires loads { self.old.stage ≡ LoadingHistogram at }
         requires stands { ∥ IsSomeSampleSearch (length words.now) self.old ∥₁ }
         ensures steps { SampleSearchSteps self.old words.now self.new words.now result }
+        ensures less { SearchLowers self.old words.now self.new words.now result }
         ensures same { self.new ≡ record self.old { walk = self.new.walk; stage = self.new.stage } }
     {
         let of = words[at as usize + SAMPLE_HISTOGRAM];
@@ -143,6 +147,7 @@ impl SampleSearch {
         requires loads { self.old.stage ≡ LoadingValue at of }
         requires stands { ∥ IsSomeSampleSearch (length words.now) self.old ∥₁ }
         ensures steps { SampleSearchSteps self.old words.now self.new words.now result }
+        ensures less { SearchLowers self.old words.now self.new words.now result }
         ensures same { self.new ≡ record self.old { walk = self.new.walk; stage = self.new.stage } }
     {
         let word = words[at as usize + SAMPLE_VALUE];
@@ -172,6 +177,7 @@ impl SampleSearch {
         requires makes { IsMakingSample self.old.stage }
         requires stands { ∥ IsSomeSampleSearch (length words.old) self.old ∥₁ }
         ensures steps { SampleSearchSteps self.old words.old self.new words.new result }
+        ensures less { SearchLowers self.old words.old self.new words.new result }
         ensures same { self.new ≡ record self.old { walk = self.new.walk; stage = self.new.stage } }
     {
         let payload = [self.histogram, self.value_word()];
@@ -215,6 +221,7 @@ impl SampleSearch {
     pub(crate) fn step(&mut self, words: &mut [u64]) -> SampleSearchStep
         requires stands { ∥ IsSomeSampleSearch (length words.old) self.old ∥₁ }
         ensures steps { SampleSearchSteps self.old words.old self.new words.new result }
+        ensures less { SearchLowers self.old words.old self.new words.new result }
         ensures same { self.new ≡ record self.old { walk = self.new.walk; stage = self.new.stage } }
     {
         match self.stage {

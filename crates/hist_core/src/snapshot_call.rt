@@ -58,6 +58,7 @@ impl SnapshotCall {
     ghost use Rattle.bucket_ranges.specs.Ranges.{boundaries_of};
     ghost use Rattle.bucket_ranges.specs.Spec.{spec_fault};
     ghost use Rattle.hist_core.specs.ActorRun.{known_of};
+    ghost use Rattle.hist_core.specs.Left.{SnapshotLowers};
     ghost use Rattle.hist_core.specs.Loading.{snapshot_load};
     ghost use Rattle.hist_core.specs.StepsBy.{LiesWithin};
     ghost use Rattle.hist_core.specs.declared.snapshot_call.SnapshotStage.TheVariants.{LoadingSingle, LoadingCounts, LoadingCount, Walking, LoadingSample, LoadingSum, LoadingRedundant};
@@ -122,6 +123,7 @@ impl SnapshotCall {
     fn load_single(&mut self, words: &[u64]) -> SnapshotCallStep
         requires { IsAtStage LoadingSingle (length words.now) self.old }
         ensures steps { SnapshotCallSteps self.old words.now self.new words.now result }
+        ensures less { SnapshotLowers self.old words.now self.new words.now result }
         ensures of { self.new.histogram ≡ self.old.histogram }
     {
         let word = words[self.histogram as usize + HISTOGRAM_SINGLE];
@@ -133,6 +135,7 @@ impl SnapshotCall {
     fn load_counts(&mut self, words: &[u64], packed: Option<usize>, kept: u64) -> SnapshotCallStep
         requires { IsAtStage (LoadingCounts packed kept) (length words.now) self.old }
         ensures steps { SnapshotCallSteps self.old words.now self.new words.now result }
+        ensures less { SnapshotLowers self.old words.now self.new words.now result }
         ensures of { self.new.histogram ≡ self.old.histogram }
     {
         let counts = words[self.histogram as usize + HISTOGRAM_COUNTS];
@@ -164,6 +167,7 @@ impl SnapshotCall {
     fn load_count(&mut self, words: &[u64], mounted: Mounted, bucket: usize) -> SnapshotCallStep
         requires { IsAtStage (LoadingCount mounted bucket) (length words.now) self.old }
         ensures steps { SnapshotCallSteps self.old words.now self.new words.now result }
+        ensures less { SnapshotLowers self.old words.now self.new words.now result }
         ensures of { self.new.histogram ≡ self.old.histogram }
     {
         let count = words[mounted.counts as usize + (BLOCK_HEADER + bucket)];
@@ -190,6 +194,7 @@ impl SnapshotCall {
     fn walk_on(&mut self, words: &[u64], walk: SampleWalk) -> SnapshotCallStep
         requires { IsAtStage (Walking walk) (length words.now) self.old }
         ensures steps { SnapshotCallSteps self.old words.now self.new words.now result }
+        ensures less { SnapshotLowers self.old words.now self.new words.now result }
         ensures of { self.new.histogram ≡ self.old.histogram }
     {
         let met = walk.step(self.histogram, words);
@@ -211,6 +216,7 @@ impl SnapshotCall {
     fn load_sample(&mut self, words: &[u64], at: u64, value: i32) -> SnapshotCallStep
         requires { IsAtStage (LoadingSample at value) (length words.now) self.old }
         ensures steps { SnapshotCallSteps self.old words.now self.new words.now result }
+        ensures less { SnapshotLowers self.old words.now self.new words.now result }
         ensures of { self.new.histogram ≡ self.old.histogram }
     {
         let count = words[at as usize + SAMPLE_COUNT];
@@ -225,6 +231,7 @@ impl SnapshotCall {
     fn load_sum(&mut self, words: &[u64]) -> SnapshotCallStep
         requires { IsAtStage LoadingSum (length words.now) self.old }
         ensures steps { SnapshotCallSteps self.old words.now self.new words.now result }
+        ensures less { SnapshotLowers self.old words.now self.new words.now result }
         ensures of { self.new.histogram ≡ self.old.histogram }
     {
         let sum = words[self.histogram as usize + HISTOGRAM_SUM].cast_signed();
@@ -236,6 +243,7 @@ impl SnapshotCall {
     fn load_redundant(&mut self, words: &[u64], sum: i64) -> SnapshotCallStep
         requires { IsAtStage (LoadingRedundant sum) (length words.now) self.old }
         ensures steps { SnapshotCallSteps self.old words.now self.new words.now result }
+        ensures less { SnapshotLowers self.old words.now self.new words.now result }
         ensures of { self.new.histogram ≡ self.old.histogram }
     {
         let redundant = words[self.histogram as usize + HISTOGRAM_REDUNDANT];
@@ -267,6 +275,7 @@ impl SnapshotCall {
         requires stands { ∥ IsSomeSnapshotCall (length words.now) self.old ∥₁ }
         requires inside { LiesWithin (length words.now) self.old.histogram }
         ensures steps { SnapshotCallSteps self.old words.now self.new words.now result }
+        ensures less { SnapshotLowers self.old words.now self.new words.now result }
         ensures of { self.new.histogram ≡ self.old.histogram }
     {
         match self.stage {

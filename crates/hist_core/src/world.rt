@@ -37,6 +37,7 @@ impl World {
     ghost use Rattle.hist_core.specs.WorldState.{IsReachedAs, IsReachedFromImage, IsReachedFromNew, IsAdoptedWorldState, IsNewWorldState, BeginsFrom, HoldsNoPointer, StepsTo, IsAsBefore, OthersStay, Says, IsConsistentAs, ReadsBack, MayBeAdopted, AreKnownFirst};
     ghost use Rattle.hist_core.specs.Transit.{MoveTheirOwn};
     ghost use Rattle.hist_core.specs.Exchanging.{next_attempt};
+    ghost use Rattle.hist_core.specs.Left.{LeavesLess};
     ghost use Rattle.hist_core.specs.Loading.{next_load};
     ghost use Rattle.hist_core.specs.Moves.{Makes, MakesAll, FaultsAt, StopsAtMove};
     ghost use Rattle.hist_core.specs.World.{actor_checks, world_checks, IsAdoptFault, begin_checks, TakesMemory, BeginSays, step_checks, ChangesOneWord, ended_of, begun_of, taken_of};
@@ -283,6 +284,11 @@ impl World {
     /// - A histogram that a `Hist` returns is known from then on. `Flagged` has set the corrupt flag.
     /// - A `SetCorrupt` ends with its first event, as `Flagged`, which nothing else does. Only a `Hist` or an `Add`
     ///   ends as `Refused`, and only a `Batch` as `BatchRefused`. No `Snapshot` and no `Delta` is refused.
+    ///
+    /// If the call continues, less is left of it than before the event [less]. What is left are numbers that are read off
+    /// the words and the call: the items of a batch, the stage, the words after the free pointer, the records ahead of a
+    /// walk, and what is left of a part. So only an event of another actor can make it more, by a word that it changes; and
+    /// a call that is stepped alone ends, by the law [`left_ends`](crate::laws::left_ends).
     pub fn step(&mut self, actor: usize) -> Result<Stepped, WorldFault>
         ensures faults { MatchOption (first_fault (step_checks self.old.world_state actor)) (IsOk result) (λ fault. result ≡ Err fault) }
         ensures fault { OnErr result (self.new.world_state ≡ self.old.world_state) }
@@ -290,6 +296,7 @@ impl World {
         ensures others { OnOk result (OthersStay actor self.old.world_state self.new.world_state) }
         ensures word { OnOk result (∥ ChangesOneWord self.old.world_state.words.items self.new.world_state.words.items ∥₁) }
         ensures says { IfOk result (λ said. Says actor self.old.world_state self.new.world_state said) }
+        ensures less { IfOk result (λ said. LeavesLess actor self.old.world_state self.new.world_state said) }
     {
         let Some(actor_run) = self.world_state.run(actor) else {
             return Err(WorldFault::NoActor);

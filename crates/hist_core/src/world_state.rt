@@ -66,6 +66,7 @@ impl WorldState {
     ghost use Rattle.image_adoption.specs.Checking.{IsAdoption};
     ghost use Rattle.hist_core.specs.Start.{Start};
     ghost use Rattle.hist_core.specs.WorldState.{IsAdoptedWorldState, IsNewWorldState, IsReachable, IsReachedAs, StepsTo, IsBusy, KnowsHistAt, IsResting, IsThere, OthersStay, HistBegins, AddBegins, BatchBegins, DeltaBegins, SnapshotBegins, SetCorruptBegins, Says};
+    ghost use Rattle.hist_core.specs.Left.{LeavesLess};
     ghost use Rattle.hist_core.specs.World.{BeginsCall, BeginSays, TakesMemory, name_checks, named_by, rest_checks};
 
     // A new segment with this many actors.
@@ -279,6 +280,7 @@ impl WorldState {
         ensures steps { (start : Start) (state : State) → IsReachedAs start self.old state → StepsTo self.old actor start state self.new result }
         ensures others { OthersStay actor self.old self.new }
         ensures says { Says actor self.old self.new result }
+        ensures less { LeavesLess actor self.old self.new result }
     {
         let actor_run = &mut self.actor_runs[actor];
         let held = actor_run.held();

@@ -5,7 +5,7 @@ use Rattle.std.specs.Prelude.{is_some}
 use Rattle.alloc_core.specs.declared.alloc.AllocStep.{AllocStep}
 use Rattle.alloc_core.specs.declared.alloc.AllocStep.TheVariants as said
 use Rattle.alloc_core.specs.declared.alloc.AllocStage.TheVariants.{Claimed}
-use Rattle.alloc_core.specs.Alloc.{Allocation, IsAimed}
+use Rattle.alloc_core.specs.Alloc.{Allocation, IsAimed, IsLawful}
 use Rattle.alloc_core.specs.Alloc as alloc
 use Rattle.alloc_core.specs.Event as atomic
 use Rattle.segment_machine.specs.declared.actor.Segment.{Segment}
@@ -260,6 +260,10 @@ module _ (shape : Dimensions) (known : Known) (amid : Amid) (add : Add) (a : Act
 
     pub asks_more : is_some (alloc.next_event x) ≡ true
     asks_more = stood_allocating.2.1
+
+    -- it had a valid start
+    pub asks_lawful : IsLawful x
+    asks_lawful = stood_allocating.2.0.lawful
 
   -- ---- it mounts its block
 

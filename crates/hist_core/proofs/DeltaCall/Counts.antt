@@ -1,5 +1,5 @@
 -- A delta loads the counts reference, and the count of each bucket.
-use Rattle.segment_invariant.proofs.Prelude.Std.{◌≡◌, ◌≢◌, ℕ, zero, suc, ℤ, take, slice_index, ◌+◌, ◌-◌, ◌*◌, ◌%◌, ◌^◌, ◌<◌, ◌≤◌, ◌==◌, Bool, true, false, true≢false, if◌then◌else◌, nat_lt, List, [], ◌∷◌, ◌++◌, drop, length, Option, Some, None, inl, inr, ⊎_elim, refl, sym, ap, subst, ◌∙◌, arith, props, ∥∥₁_elim, Contains, eq-eqb, eqb-true, ne_eqb, ltb-true, ltb-false, append-nil, take-append-drop, Contains-append_right, set-get_or, dite, ℕ_discrete}
+use Rattle.segment_invariant.proofs.Prelude.Std.{◌≡◌, ◌≢◌, ℕ, zero, suc, ℤ, take, slice_index, ◌+◌, ◌-◌, ◌*◌, ◌%◌, ◌^◌, ◌<◌, ◌≤◌, ◌==◌, Bool, true, false, true≢false, if◌then◌else◌, nat_lt, List, [], ◌∷◌, ◌++◌, drop, length, Option, Some, None, inl, inr, ⊎_elim, refl, sym, ap, subst, ◌∙◌, arith, props, ∥∥₁_elim, Contains, eq-eqb, eqb-true, ne_eqb, ltb-true, ltb-false, take-append-drop, Contains-append_right, set-get_or, dite, ℕ_discrete}
 use Rattle.segment_invariant.proofs.Prelude.Machine.{boundaries_of, buckets_of, single_of, units_packed, SingleWord, Dimensions, word_at, Actor, Known, Taken, Look, Place, Looking, CountLoaded, Sighting, Buckets, is_bound, word_seen, look_of, sight, sight_counts, load_counts, Event, next, counting_event, taking_event, SawBucket, load_count, Spec}
 use Rattle.std.specs.Prelude.{nat_eq}
 use Rattle.std.specs.Option.{option_eq}
@@ -20,7 +20,7 @@ use Rattle.hist_core.specs.declared.delta_call.DeltaCall.{DeltaCall}
 use Rattle.hist_core.specs.declared.delta_call.DeltaCallStep.TheVariants.{More}
 use Rattle.hist_core.specs.StepsBy.{StepsBy}
 use Rattle.hist_core.specs.Mounted.{AreMounted, HasLoaded, HasWord, look_at, total_at}
-use Rattle.hist_core.specs.DeltaCall.{HasRoomForBuckets, IsSomeDeltaCall, IsDeltaCall, IsUnderWay, StandsAtStage, DeltaCallGives, FrameOfDelta, behind_bucket}
+use Rattle.hist_core.specs.DeltaCall.{HasRoomForBuckets, IsSomeDeltaCall, IsDeltaCall, IsUnderWay, StandsAtStage, DeltaCallGives, behind_bucket}
 use Rattle.hist_core.proofs.DeltaCall.Going.{acts_on, buckets_are, goes_still, knows_it, same_way, split, taking_sees, delta_beside}
 use Rattle.hist_core.proofs.DeltaCall.Sights.{mounted_still}
 use Rattle.hist_core.proofs.DeltaCall.Singles.{none_packed}

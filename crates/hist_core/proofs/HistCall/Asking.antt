@@ -1,6 +1,6 @@
 -- A `hist` of an actor continues, and what its actor knows then.
 use Rattle.segment_invariant.proofs.Prelude.Std.{◌≡◌, ◌≢◌, ◌<◌, ◌+◌, ℕ, zero, suc, ◌≤◌, List, [], ◌∷◌, ◌++◌, length, map, take, drop, All, inl, inr, ⊎_elim, refl, sym, ap, subst, ◌∙◌, vec_len, arith, Option, Some, None, Ok, vec_capacity, map-append, Contains, All-push, Contains-append_cases, Contains-append_right, dite, ℕ_discrete, some, some-injective, some-ne-none, get_elem?}
-use Rattle.segment_invariant.proofs.Prelude.Machine.{Spec, IsShape, Dimensions, Actor, AreNameWords, is_opener, Note, Notes, noted, Refusal}
+use Rattle.segment_invariant.proofs.Prelude.Machine.{Spec, IsShape, Dimensions, Actor, AreNameWords, is_opener, Note, noted, Refusal}
 use Rattle.std.specs.Prelude.{Result, Err}
 use Rattle.std.specs.declared.alloc.AllocError.{AllocError}
 use Rattle.segment_calls.specs.Asked.{payload_words, IsAskedFor}

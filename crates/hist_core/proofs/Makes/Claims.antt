@@ -5,7 +5,7 @@ use Rattle.std.specs.Prelude.{is_some}
 use Rattle.alloc_core.specs.declared.alloc.AllocStep.{AllocStep}
 use Rattle.alloc_core.specs.declared.alloc.AllocStep.TheVariants as said
 use Rattle.alloc_core.specs.declared.alloc.AllocStage.TheVariants.{Claimed}
-use Rattle.alloc_core.specs.Alloc.{Allocation, IsAimed}
+use Rattle.alloc_core.specs.Alloc.{Allocation, IsAimed, IsLawful}
 use Rattle.alloc_core.specs.Alloc as alloc
 use Rattle.alloc_core.specs.Event as atomic
 use Rattle.segment_machine.specs.Actor.{AreOwnBlocksApart}
@@ -138,3 +138,7 @@ module _ (shape : Dimensions) (version : ℕ) (wanted : Wanted) (m : NewRecord) 
 
   pub asks_more : is_some (alloc.next_event x) ≡ true
   asks_more = stands.1
+
+  -- its allocation had a valid start
+  pub asks_lawful : IsLawful x
+  asks_lawful = stands.0.lawful

@@ -170,3 +170,7 @@ module _ (shape : Dimensions) (version : ℕ) (wanted : Wanted) (m : NewRecord) 
     (let ends = stands.3.1 in let enough = is.draft.enough in omega (arith, ends, enough, long)),
     subst (λ (n : ℕ). n ≤ 1048576) (sym long) is.lawful_shape.many,
   )
+
+  -- the block in which it stores is none of the header
+  pub fill_from : 16 ≤ at
+  fill_from = stands.3.0

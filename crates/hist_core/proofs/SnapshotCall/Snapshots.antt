@@ -1,5 +1,5 @@
 -- A snapshot, event by event.
-use Rattle.segment_invariant.proofs.Prelude.Std.{◌≡◌, ◌⊎◌, ℕ, zero, suc, ◌+◌, ◌*◌, ◌<◌, ◌≤◌, ℤ, Bool, true, false, true≢false, if◌then◌else◌, nat_lt, List, [], ◌∷◌, ◌++◌, drop, length, map, slice_index, Option, Some, inl, inr, ⊎_elim, refl, sym, ap, subst, ◌∙◌, arith, All, Contains, range_with_len, cast_signed, w64, props, ∥∥₁_elim, ltb-true, ltb-false, append-nil, drop-append-le, length-append, All-contains, set-get_or, some, get_elem?}
+use Rattle.segment_invariant.proofs.Prelude.Std.{◌≡◌, ◌⊎◌, ℕ, ◌+◌, ◌*◌, ◌<◌, ◌≤◌, ℤ, Bool, true, false, true≢false, if◌then◌else◌, nat_lt, List, [], ◌∷◌, ◌++◌, drop, length, map, Option, Some, inl, inr, ⊎_elim, refl, sym, ap, subst, ◌∙◌, arith, All, Contains, range_with_len, cast_signed, w64, props, ∥∥₁_elim, ltb-true, ltb-false, append-nil, drop-append-le, length-append, All-contains, set-get_or, some, get_elem?}
 use Rattle.segment_invariant.proofs.Prelude.Machine.{buckets_of, boundaries_of, single_of, units_packed, Dimensions, word_at, Actor, Answered, Known, Looking, SumLoaded, IsFirstSample, SawSample, Sparse, Buckets, SawCount, bucket_key, has_buckets, is_bound, is_opener, known_at, MayTurn, look_of, sight, sight_counts, load_counts, Event, next, counting_event, packing_event, taking_event, SawBucket, noted, load_single, load_count, load_redundant, load_sum}
 use Rattle.bucket_ranges.specs.Ranges.{SplitsValues}
 use Rattle.bucket_ranges.proofs.Ascent.{boundaries_of-split}

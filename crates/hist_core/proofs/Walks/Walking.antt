@@ -2,7 +2,6 @@
 use Rattle.segment_invariant.proofs.Prelude.Std.{◌≡◌, ◌≢◌, ℕ, ◌+◌, ◌*◌, ◌<◌, ◌≤◌, ◌==◌, ℤ, Bool, true, false, true≢false, if◌then◌else◌, List, [], ◌∷◌, ◌++◌, length, inl, inr, ⊎_elim, refl, sym, ap, subst, ◌∙◌, arith, eqb-true, eq-eqb, Some, Contains, append-nil, Contains-append_right, set-get_or}
 use Rattle.segment_invariant.proofs.Prelude.Machine.{Dimensions, word_at, Actor, Known, Place, word_seen, MayTurn, sight, Learned, next, walking_event, SawOther, load_next, load_published}
 use Rattle.bucket_ranges.specs.Reading.{is_i32}
-use Rattle.segment_machine.specs.declared.place.Place.TheVariants as place
 use Rattle.segment_machine.specs.Taking.{is_looking}
 use Rattle.segment_machine.specs.Walking.{IsFixed, WalkingEvent, behind}
 use Rattle.segment_promises.proofs.Growing.{extended_grows, grows_not}

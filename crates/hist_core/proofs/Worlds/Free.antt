@@ -1,7 +1,6 @@
 -- Which actor may turn to any other call.
-use Rattle.segment_invariant.proofs.Prelude.Std.{◌≡◌, ℕ, ◌==◌, Bool, true, false, true≢false, refl, ◌||◌, if◌then◌else◌}
+use Rattle.segment_invariant.proofs.Prelude.Std.{◌≡◌, ℕ, Bool, true, false, true≢false, refl, ◌||◌}
 use Rattle.segment_invariant.proofs.Prelude.Machine.{Place, is_bound}
-use Rattle.segment_machine.specs.declared.place.Place.TheVariants as place
 use Rattle.segment_machine.specs.Taking.{is_looking}
 use Rattle.segment_machine.specs.Walking.{behind}
 use Rattle.hist_core.specs.StepsBy.{has_pointer, is_tied}

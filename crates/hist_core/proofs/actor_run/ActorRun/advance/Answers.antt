@@ -1,10 +1,16 @@
 use Rattle.segment_invariant.proofs.Prelude.Std.{◌≤◌, ◌<◌, ◌+◌, take, length, ap, sym, subst, ◌∙◌, refl, arith, rules, vec_len, Some, None, vec_capacity, props, ∥∥₁_elim}
 use Rattle.hist_core.specs.declared.call.Answer.TheVariants.{Flagged}
+use Rattle.hist_core.specs.declared.actor_run.Running.TheVariants as runs
 use Rattle.hist_core.specs.declared.call.Stepped.TheVariants.{Done}
 use Rattle.hist_core.specs.ActorRun.{HasRoomForHist}
 use Rattle.hist_core.proofs.AddCall.Adding.{add_goes, add_answers, some_add}
 use Rattle.hist_core.proofs.BatchCall.Batched.{batch_goes, batch_answers, some_batch, pending_there, added_few}
 use Rattle.hist_core.proofs.HistCall.Asking.{some_hist, some_words, some_room, hist_goes, hist_answers}
+use Rattle.hist_core.proofs.Left.Adds.{add_less}
+use Rattle.hist_core.proofs.Left.Batches.{batch_less}
+use Rattle.hist_core.proofs.Left.Deltas.{delta_less}
+use Rattle.hist_core.proofs.Left.Hists.{hist_less}
+use Rattle.hist_core.proofs.Left.Snapshots.{snapshot_less}
 use Rattle.hist_core.proofs.Worlds.Quiet.{counts_none, some_quiet, some_within, takes_none, takes_not}
 use Rattle.hist_core.proofs.DeltaCall.Deltas.{delta_answers, delta_goes, has_place, some_draft, some_delta_call}
 use Rattle.hist_core.proofs.Worlds.ActorRuns.{sets_corrupt}
@@ -12,6 +18,7 @@ use Rattle.hist_core.proofs.SnapshotCall.Viewing.{snapshot_answers, snapshot_goe
 use Rattle.hist_core.proofs.Worlds.Apart.{looks_not}
 use Rattle.hist_core.proofs.Worlds.Landing.{lands_apart}
 use Rattle.hist_core.specs.Add.{IsSomeAdd}
+use Rattle.hist_core.specs.Left.{RunningLowers}
 use Rattle.hist_core.specs.DeltaCall.{IsSomeDeltaCall}
 use Rattle.hist_core.specs.SnapshotCall.{IsSomeSnapshotCall}
 use Rattle.hist_core.proofs.AddCall.Counts.{lies_within as add_within}
@@ -174,3 +181,43 @@ returns-in-Some-Batch-clause-answers c =
     pending_there shape version c.args.self.now c.in-Some-Batch.batch (c.in-Some-Batch.is ∙ ap Some c.in-Some-Batch.field-0-is) a run) in
     batch_answers c.args.self.now c.in-Some-Batch.batch c.step-said-in-Some-Batch.new.self (c.in-Some-Batch.is ∙ ap Some c.in-Some-Batch.field-0-is) c.step-said-in-Some-Batch.ensures.same
     c.args.words.now c.step-said-in-Some-Batch.new.words c.step-said-in-Some-Batch.result c.after_batch.new.self c.after_batch.result c.step-said-in-Some-Batch.ensures.refused fits c.after_batch.ensures
+
+pub returns-in-Some-Hist-clause-less : goal.returns-in-Some-Hist-clause-less
+returns-in-Some-Hist-clause-less c =
+    subst (λ running. RunningLowers running c.args.words.now c.after_hist.new.self.running c.step-said.new.words c.after_hist.result)
+    (sym (c.in-Some-Hist.is ∙ ap Some c.in-Some-Hist.field-0-is))
+    (hist_less c.in-Some-Hist.hist c.step-said.new.self c.args.self.now c.args.words.now c.step-said.new.words c.step-said.result c.after_hist.new.self c.after_hist.result
+    c.step-said.ensures.less c.after_hist.ensures)
+
+pub returns-in-Some-SetCorrupt-clause-less : goal.returns-in-Some-SetCorrupt-clause-less
+returns-in-Some-SetCorrupt-clause-less c = λ chain has on. tt
+
+pub returns-in-Some-Add-clause-less : goal.returns-in-Some-Add-clause-less
+returns-in-Some-Add-clause-less c =
+    subst (λ running. RunningLowers running c.args.words.now c.after_add.new.self.running c.step-said-in-Some-Add.new.words c.after_add.result)
+    (sym (c.in-Some-Add.is ∙ ap Some c.in-Some-Add.field-0-is))
+    (add_less c.in-Some-Add.add c.step-said-in-Some-Add.new.self c.args.self.now c.args.words.now c.step-said-in-Some-Add.new.words c.step-said-in-Some-Add.result
+    c.after_add.new.self c.after_add.result c.step-said-in-Some-Add.ensures.less c.after_add.ensures)
+
+pub returns-in-Some-Batch-clause-less : goal.returns-in-Some-Batch-clause-less
+returns-in-Some-Batch-clause-less c =
+    subst (λ running. RunningLowers running c.args.words.now c.after_batch.new.self.running c.step-said-in-Some-Batch.new.words c.after_batch.result)
+    (sym (c.in-Some-Batch.is ∙ ap Some c.in-Some-Batch.field-0-is))
+    (batch_less c.in-Some-Batch.batch c.step-said-in-Some-Batch.new.self c.args.self.now c.args.words.now c.step-said-in-Some-Batch.new.words c.step-said-in-Some-Batch.result
+    c.after_batch.new.self c.after_batch.result c.step-said-in-Some-Batch.ensures.less c.after_batch.ensures)
+
+pub returns-in-Some-Snapshot-clause-less : goal.returns-in-Some-Snapshot-clause-less
+returns-in-Some-Snapshot-clause-less c =
+    subst (λ running. RunningLowers running c.args.words.now c.after_snapshot.new.self.running c.args.words.now c.after_snapshot.result)
+    (sym (c.in-Some-Snapshot.is ∙ ap Some c.in-Some-Snapshot.field-0-is))
+    (snapshot_less c.in-Some-Snapshot.snapshot_call c.step-said-in-Some-Snapshot.new.self c.args.self.now c.args.words.now c.step-said-in-Some-Snapshot.result
+    c.after_snapshot.new.self c.after_snapshot.result c.step-said-in-Some-Snapshot.ensures.less c.after_snapshot.ensures)
+
+pub returns-in-Some-Delta-clause-less : goal.returns-in-Some-Delta-clause-less
+returns-in-Some-Delta-clause-less c =
+    subst (λ running. RunningLowers running c.args.words.now c.after_delta.new.self.running c.step-said-in-Some-Delta.new.words c.after_delta.result)
+    (sym (c.in-Some-Delta.is ∙ ap Some c.in-Some-Delta.field-0-is))
+    (delta_less c.in-Some-Delta.delta_call c.step-said-in-Some-Delta.new.self c.in-Some-Delta.field-0-1 c.in-Some-Delta.field-0-1
+    (record c.args.self.now { running = Some (runs.Delta c.step-said-in-Some-Delta.new.self c.in-Some-Delta.field-0-1) }) c.args.words.now c.step-said-in-Some-Delta.new.words
+    c.step-said-in-Some-Delta.result c.after_delta.new.self c.after_delta.result c.step-said-in-Some-Delta.ensures.less
+    (c.after_delta.ensures c.step-said-in-Some-Delta.new.self c.in-Some-Delta.field-0-1 refl))

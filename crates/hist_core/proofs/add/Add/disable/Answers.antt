@@ -4,6 +4,8 @@ use Rattle.hist_core.specs.declared.add.AddStep.TheVariants.{More}
 use Rattle.hist_core.specs.declared.add.AddStage.{AddStage}
 use Rattle.hist_core.specs.StepsBy.{StepsBy}
 use Rattle.hist_core.specs.Add.{StandsAtStage, AddGives}
+use Rattle.hist_core.specs.Left.{AddLowers}
+use Rattle.hist_core.proofs.Left.Adds.{disables_less, late_less}
 use Rattle.hist_core.proofs.AddCall.Moves.{old_on, disables_so}
 use Rattle.hist_core.proofs.AddCall.Packs.{small_bucket}
 use Rattle.hist_core.proofs.add.Add.disable.Goals.{then-exchange-old, else-exchange-old}
@@ -30,4 +32,16 @@ returns-clause-steps c = λ shape known amid a long is.
       | else-exchange-old w ↦ subst gives (sym w.self-is)
           (disables_so shape known amid add a c.args.words.now is c.args.counts c.args.old c.requires.next c.exchange.new.words false
           (ne_eqb _ c.args.old (λ e. w.if-exchange-old.false (c.exchange.ensures.found ∙ e))) are)
+    ]
+
+pub returns-clause-less : goal.returns-clause-less
+returns-clause-less c =
+    let add = c.args.self.now in
+    let gives : AddStage → Type 0 = λ stage. AddLowers add c.args.words.now (record add { stage = stage }) c.exchange.new.words More in
+    elim c.if-exchange-old.branch [
+      | then-exchange-old w ↦ subst gives (sym (w.self-is ∙ w.behind_disabling-self.ensures))
+          (disables_less add c.args.words.now c.exchange.new.words c.args.counts c.args.old c.requires.next)
+      | else-exchange-old w ↦ subst gives (sym w.self-is)
+          (late_less add c.args.words.now c.exchange.new.words c.args.counts c.args.old c.requires.next
+          (ne_eqb _ c.args.old (λ e. w.if-exchange-old.false (c.exchange.ensures.found ∙ e))))
     ]

@@ -4,6 +4,7 @@ use Rattle.hist_core.specs.declared.add.AddStage.{AddStage}
 use Rattle.hist_core.specs.declared.add.AddStage.TheVariants.{Counting}
 use Rattle.hist_core.specs.StepsBy.{StepsBy}
 use Rattle.hist_core.specs.Add.{StandsAtStage, AddGives}
+use Rattle.hist_core.proofs.Left.Adds.{moves_less}
 use Rattle.hist_core.proofs.AddCall.Moves.{moves_so, move_inside}
 use Rattle.hist_core.proofs.AddCall.Packs.{small_bucket}
 use Rattle.hist_core.proofs.add.Add.move_units.Goals as goal
@@ -33,3 +34,7 @@ returns-clause-steps c = λ shape known amid a long is.
     let gives : AddStage → Type 0 = λ stage. StepsBy shape.size add.version a c.args.words.now c.fetch_add.new.words (AddGives shape known amid (record add { stage = stage }) More a) in
     subst gives (ap Counting (sym c.count_in.ensures))
     (moves_so shape known amid add a c.args.words.now is c.args.counts c.args.bucket c.args.units c.requires.next c.fetch_add.new.words c.fetch_add.ensures)
+
+pub returns-clause-less : goal.returns-clause-less
+returns-clause-less c =
+    moves_less c.args.self.now c.args.words.now c.fetch_add.new.words c.args.counts c.args.bucket c.args.units c.count_in.result c.requires.next

@@ -1,5 +1,6 @@
 use Rattle.segment_invariant.proofs.Prelude.Std.{◌≤◌, ◌+◌, ◌*◌, sym, subst, props, ∥∥₁_elim}
 use Rattle.segment_invariant.proofs.Prelude.Machine.{Dimensions, IsShape}
+use Rattle.hist_core.proofs.Left.Adds.{begins_less, seeks_less}
 use Rattle.hist_core.proofs.AddCall.Mounts.{seeks_none, seeks_some}
 use Rattle.hist_core.proofs.add.Add.seek_counts.Goals as goal
 
@@ -17,3 +18,10 @@ returns-then-counts-eq0-clause-steps c = λ shape known amid a long is.
 
 pub returns-clause-steps : goal.returns-clause-steps
 returns-clause-steps c = λ shape known amid a long is. seeks_some shape known amid c.args.self.now a c.args.words.now is c.requires.next c.if-counts-eq0.false
+
+pub returns-then-counts-eq0-clause-less : goal.returns-then-counts-eq0-clause-less
+returns-then-counts-eq0-clause-less c =
+    begins_less c.args.self.now c.args.words.now c.requires.next c.begin_allocating.new.self c.begin_allocating.result c.begin_allocating.ensures
+
+pub returns-clause-less : goal.returns-clause-less
+returns-clause-less c = seeks_less c.args.self.now c.args.words.now 0 c.requires.next

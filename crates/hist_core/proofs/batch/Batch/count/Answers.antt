@@ -1,4 +1,5 @@
-use Rattle.segment_invariant.proofs.Prelude.Std.{length, refl, vec_len, props, ∥∥₁_elim}
+use Rattle.segment_invariant.proofs.Prelude.Std.{◌<◌, arith, length, refl, vec_len, props, ∥∥₁_elim}
+use Rattle.hist_core.proofs.Left.Batches.{counts_less}
 use Rattle.hist_core.proofs.Worlds.WorldStates.{is_there}
 use Rattle.hist_core.proofs.BatchCall.Batching.{adds_there, fits_there, item_on, same_on, refused_on}
 use Rattle.hist_core.specs.Add.{IsSomeAdd}
@@ -34,3 +35,11 @@ returns-clause-same c =
 
 pub returns-clause-refused : goal.returns-clause-refused
 returns-clause-refused c = refused_on c.args.self.now _ c.item_said.new.self c.step-said.result c.index_mut-item.result.now.units c.item_said.result refl refl c.requires.near c.item_said.ensures
+
+pub returns-clause-less : goal.returns-clause-less
+returns-clause-less c =
+    let batch = c.args.self.now in let x = c.index_mut-item.result.now in
+    let at = is_there batch.items.items (vec_len batch.items) batch.added x batch.items.ok.0 c.requires.near c.index_mut-item.ensures.value in
+    let near : batch.added < length batch.items.items = (let ok = batch.items.ok.0 in let less = c.requires.near in omega (arith, ok, less)) in
+    counts_less batch x c.step-said.new.self at near c.args.words.now c.step-said.new.words _ refl refl c.step-said.result c.step-said.ensures.less x.units
+    c.item_said.new.self c.item_said.result c.item_said.ensures

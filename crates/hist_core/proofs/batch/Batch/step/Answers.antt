@@ -11,3 +11,6 @@ add_sum-requires-clause-counted c =
 
 pub returns-else-self-len-clause-refused : goal.returns-else-self-len-clause-refused
 returns-else-self-len-clause-refused c = subst (IsRefusedAt c.args.self.now c.add_sum.new.self) (sym c.add_sum.ensures.done) tt
+
+pub returns-else-self-len-clause-less : goal.returns-else-self-len-clause-less
+returns-else-self-len-clause-less c = c.add_sum.ensures.less

@@ -5,6 +5,8 @@ use Rattle.hist_core.specs.declared.delta_call.DeltaCallStep.TheVariants.{More}
 use Rattle.hist_core.specs.StepsBy.{StepsBy}
 use Rattle.hist_core.specs.DeltaCall.{DeltaCallGives}
 use Rattle.hist_core.specs.Mounted.{total_at}
+use Rattle.hist_core.specs.Left.{DeltaLowers}
+use Rattle.hist_core.proofs.Left.Deltas.{counts_none_less, counts_some_less}
 use Rattle.hist_core.proofs.DeltaCall.Counts.{gives_none, gives_some, some_count}
 use Rattle.hist_core.proofs.DeltaCall.Going.{some_ranges}
 use Rattle.hist_core.proofs.delta_call.DeltaCall.load_count.Goals.{then-total-eq0, else-total-eq0}
@@ -37,4 +39,13 @@ returns-clause-steps c = λ shape known earlier a long order is.
           (gives_none shape known earlier delta_call a c.args.words.now is c.args.mounted c.args.bucket c.requires.next c.total-total.result total_is w.if-total-eq0.true)
       | else-total-eq0 w ↦ subst gives (sym w.self-is)
           (gives_some shape known earlier delta_call a c.args.words.now is c.args.mounted c.args.bucket c.requires.next c.total-total.result total_is w.if-total-eq0.false)
+    ]
+
+pub returns-clause-less : goal.returns-clause-less
+returns-clause-less c =
+    let delta_call = c.args.self.now in
+    let gives : DeltaStage → Type 0 = λ stage. DeltaLowers delta_call c.args.words.now (record delta_call { stage = stage }) c.args.words.now More in
+    elim c.if-total-eq0.branch [
+      | then-total-eq0 w ↦ subst gives (sym (w.self-is ∙ w.behind_bucket-self.ensures)) (counts_none_less delta_call c.args.words.now c.args.mounted c.args.bucket c.requires.next)
+      | else-total-eq0 w ↦ subst gives (sym w.self-is) (counts_some_less delta_call c.args.words.now c.args.mounted c.args.bucket c.total-total.result c.requires.next)
     ]

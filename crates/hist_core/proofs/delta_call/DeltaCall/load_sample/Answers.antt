@@ -4,6 +4,8 @@ use Rattle.hist_core.specs.declared.delta_call.DeltaStage.{DeltaStage}
 use Rattle.hist_core.specs.declared.delta_call.DeltaCallStep.TheVariants.{More}
 use Rattle.hist_core.specs.StepsBy.{StepsBy}
 use Rattle.hist_core.specs.DeltaCall.{HasBegun, DeltaCallGives, behind_sample}
+use Rattle.hist_core.specs.Left.{DeltaLowers}
+use Rattle.hist_core.proofs.Left.Deltas.{samples_less}
 use Rattle.hist_core.proofs.DeltaCall.Samples.{begun_sample, loads_sample, some_sample}
 use Rattle.hist_core.proofs.delta_call.DeltaCall.load_sample.Goals as goal
 
@@ -25,3 +27,9 @@ returns-clause-steps c = λ shape known earlier a long order is.
 
 pub returns-clause-goes : goal.returns-clause-goes
 returns-clause-goes c = record { lists = refl; room = refl; begun = subst HasBegun (sym c.behind_sample-self.ensures) (begun_sample c.args.at _ _); of = refl }
+
+pub returns-clause-less : goal.returns-clause-less
+returns-clause-less c =
+    subst (λ (stage : DeltaStage). DeltaLowers c.args.self.now c.args.words.now (record c.args.self.now { stage = stage }) c.args.words.now More)
+    (sym (c.behind_sample-self.ensures ∙ ap (λ (n : ℤ). behind_sample c.args.at n (word_at c.args.words.now (c.args.at + 6))) (to_z-of_z w32 c.args.value c.ranges.value)))
+    (samples_less c.args.self.now c.args.words.now c.args.at c.args.value c.args.value (word_at c.args.words.now (c.args.at + 6)) c.requires.next)

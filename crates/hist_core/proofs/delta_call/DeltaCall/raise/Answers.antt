@@ -1,7 +1,8 @@
-use Rattle.segment_invariant.proofs.Prelude.Std.{arith, sym, ap, subst, ◌∙◌, ◌<◌, ℕ, length, max, slice_set}
+use Rattle.segment_invariant.proofs.Prelude.Std.{arith, sym, ap, subst, ◌∙◌, ◌<◌, ℕ, length, max, pos, slice_index, slice_set}
 use Rattle.segment_invariant.proofs.Prelude.Machine.{word_at}
 use Rattle.hist_core.specs.declared.delta_call.DeltaStage.{DeltaStage}
 use Rattle.hist_core.specs.DeltaCall.{TakesBucket}
+use Rattle.hist_core.proofs.Left.Deltas.{raises_less}
 use Rattle.hist_core.proofs.DeltaCall.Going.{some_ranges}
 use Rattle.hist_core.proofs.DeltaCall.Marks.{gives_raised, mark_there, some_mark}
 use Rattle.hist_core.proofs.delta_call.DeltaCall.raise.Goals as goal
@@ -42,3 +43,9 @@ returns-clause-steps c = λ shape known earlier a long order is.
     (subst (λ (stage : DeltaStage). TakesBucket c.args.bucket c.args.total c.fetch_max-mark.result (record c.args.self.now { stage = stage }) c.take_bucket.new.self c.take_bucket.result) c.behind_bucket-self.ensures c.take_bucket.ensures)
     (c.fetch_max-mark.ensures.found ∙ ap (word_at c.args.words.now) c.mark_of.ensures) c.fetch_max-mark.new.words
     (c.fetch_max-mark.ensures.words ∙ ap (λ (n : ℕ). slice_set c.args.words.now n (max (word_at c.args.words.now n) c.args.total)) c.mark_of.ensures)
+
+pub returns-clause-less : goal.returns-clause-less
+returns-clause-less c =
+    raises_less c.args.self.now c.args.words.now c.fetch_max-mark.new.words c.args.mounted c.args.bucket c.args.total (pos (slice_index c.args.self.now.ranges c.args.bucket))
+    c.fetch_max-mark.result c.take_bucket.new.self c.take_bucket.result c.requires.next
+    (subst (λ (stage : DeltaStage). TakesBucket c.args.bucket c.args.total c.fetch_max-mark.result (record c.args.self.now { stage = stage }) c.take_bucket.new.self c.take_bucket.result) c.behind_bucket-self.ensures c.take_bucket.ensures)

@@ -2,6 +2,7 @@ use Rattle.segment_invariant.proofs.Prelude.Std.{◌≡◌, ◌≤◌, ◌<◌, 
 use Rattle.hist_core.specs.declared.hist.Hist.{Hist}
 use Rattle.hist_core.specs.declared.hist.HistStage.TheVariants.{Comparing}
 use Rattle.hist_core.specs.Hist.{IsSomeHist, compared_place, compared_index}
+use Rattle.hist_core.proofs.Left.Hists.{differs_less, matches_less}
 use Rattle.hist_core.proofs.Parts.Compares.{matches_so, differs_so, compare_bounds}
 use Rattle.hist_core.proofs.Parts.Sames.{matched_asks, differed_asks}
 use Rattle.hist_core.proofs.hist.Hist.compare.Goals as goal
@@ -74,3 +75,11 @@ returns-then-found-compared_word-clause-asks c = matched_asks c.args.self.now c.
 
 pub returns-else-found-compared_word-clause-asks : goal.returns-else-found-compared_word-clause-asks
 returns-else-found-compared_word-clause-asks c = differed_asks c.args.self.now c.args.same c.differed.new.self c.differed.result c.differed.ensures
+
+pub returns-then-found-compared_word-clause-less : goal.returns-then-found-compared_word-clause-less
+returns-then-found-compared_word-clause-less c =
+    matches_less c.args.self.now c.args.words.now c.args.same c.requires.compares c.matched.new.self c.matched.result c.matched.ensures
+
+pub returns-else-found-compared_word-clause-less : goal.returns-else-found-compared_word-clause-less
+returns-else-found-compared_word-clause-less c =
+    differs_less c.args.self.now c.args.words.now c.args.same c.requires.compares c.differed.new.self c.differed.result c.differed.ensures

@@ -1,6 +1,7 @@
-use Rattle.segment_invariant.proofs.Prelude.Std.{◌≡◌, ◌≤◌, ◌+◌, ℕ, length, true, sym, subst, ◌∙◌, arith, props, ∥∥₁_elim}
+use Rattle.segment_invariant.proofs.Prelude.Std.{◌≡◌, ◌≤◌, ◌+◌, ℕ, length, true, sym, subst, ◌∙◌, arith, props, vec_len, ∥∥₁_elim}
 use Rattle.segment_invariant.proofs.Prelude.Machine.{Dimensions, IsShape, is_reference}
 use Rattle.hist_core.specs.NewRecord.{IsStarted}
+use Rattle.hist_core.proofs.Left.Hists.{ends_less, meets_less, strays_less}
 use Rattle.hist_core.proofs.Parts.Walks.{meets, strays, ends}
 use Rattle.hist_core.proofs.Makes.Drafts.{is_wide}
 use Rattle.hist_core.proofs.hist.Hist.walk_on.Goals as goal
@@ -36,3 +37,17 @@ pub returns-in-Stray-clause-steps : goal.returns-in-Stray-clause-steps
 returns-in-Stray-clause-steps c = λ shape version a long is.
     let did = c.in-Stray.ensures in
     strays shape version c.args.self.now a c.args.words.now long is c.requires.walks c.step.new.self did.says did.stands
+
+pub returns-in-Record-clause-less : goal.returns-in-Record-clause-less
+returns-in-Record-clause-less c =
+    let did = c.in-Record.ensures in
+    meets_less c.args.self.now c.args.words.now c.requires.walks c.in-Record.reference c.step.new.self did.says did.stands
+
+pub returns-in-End-clause-less : goal.returns-in-End-clause-less
+returns-in-End-clause-less c =
+    ends_less c.args.self.now c.args.words.now c.requires.walks c.step.new.self (vec_len c.args.self.now.payload) 1 c.start-new_record.result
+    (subst (λ (n : ℕ). IsStarted c.args.self.now.shape n 1 c.start-new_record.result) c.len-room.ensures c.start-new_record.ensures)
+
+pub returns-in-Stray-clause-less : goal.returns-in-Stray-clause-less
+returns-in-Stray-clause-less c =
+    let did = c.in-Stray.ensures in strays_less c.args.self.now c.args.words.now c.requires.walks c.step.new.self did.says

@@ -1,4 +1,5 @@
 use Rattle.std.proofs.Common.{arith}
+use Rattle.hist_core.proofs.Left.Searches.{histograms_less}
 use Rattle.hist_core.proofs.AddCall.Searches.{histogram_inside, loads_histogram}
 use Rattle.hist_core.proofs.sample_search.SampleSearch.load_histogram.Goals as goal
 
@@ -13,3 +14,6 @@ bounds-words-at c = let inside = histogram_inside c.args.self.now c.args.words.n
 
 pub returns-clause-steps : goal.returns-clause-steps
 returns-clause-steps c = λ shape version a long is. loads_histogram shape version c.args.self.now a c.args.words.now long is c.args.at c.requires.loads
+
+pub returns-clause-less : goal.returns-clause-less
+returns-clause-less c = histograms_less c.args.self.now c.args.words.now c.args.at 0 c.requires.loads

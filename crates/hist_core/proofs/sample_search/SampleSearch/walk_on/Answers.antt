@@ -1,5 +1,6 @@
 use Rattle.segment_invariant.proofs.Prelude.Std.{◌≡◌, ◌≤◌, ℕ, ◌∷◌, ◌++◌, true, sym, subst, arith, props, ∥∥₁_elim}
 use Rattle.segment_invariant.proofs.Prelude.Machine.{Dimensions, IsShape, is_reference}
+use Rattle.hist_core.proofs.Left.Searches.{ends_less, meets_less, strays_less}
 use Rattle.hist_core.proofs.Makes.Drafts.{is_wide}
 use Rattle.hist_core.proofs.AddCall.Searches.{ends, meets, strays}
 use Rattle.hist_core.proofs.sample_search.SampleSearch.walk_on.Goals as goal
@@ -32,3 +33,16 @@ pub returns-in-Stray-clause-steps : goal.returns-in-Stray-clause-steps
 returns-in-Stray-clause-steps c = λ shape version a long is.
     let did = c.in-Stray.ensures in
     strays shape version c.args.self.now a c.args.words.now long is c.requires.walks c.step.new.self did.says did.stands
+
+pub returns-in-Record-clause-less : goal.returns-in-Record-clause-less
+returns-in-Record-clause-less c =
+    let did = c.in-Record.ensures in
+    meets_less c.args.self.now c.args.words.now c.requires.walks c.in-Record.at c.step.new.self did.says did.stands
+
+pub returns-in-End-clause-less : goal.returns-in-End-clause-less
+returns-in-End-clause-less c =
+    ends_less c.args.self.now c.args.words.now c.requires.walks c.step.new.self 4 3 c.start-new_record.result c.start-new_record.ensures
+
+pub returns-in-Stray-clause-less : goal.returns-in-Stray-clause-less
+returns-in-Stray-clause-less c =
+    let did = c.in-Stray.ensures in strays_less c.args.self.now c.args.words.now c.requires.walks c.step.new.self did.says

@@ -2,6 +2,8 @@ use Rattle.segment_invariant.proofs.Prelude.Std.{◌≡◌, ◌+◌, ℕ, List, 
 use Rattle.std.proofs.lemmas.List.{with_items_is}
 use Rattle.hist_core.specs.declared.actor_run.ActorRun.{ActorRun}
 use Rattle.hist_core.specs.ActorRun.{Advances, Answers, held_by, returned_by}
+use Rattle.hist_core.specs.Left.{GoesDown, RunningLowers}
+use Rattle.hist_core.proofs.Left.Places.{goes_down}
 use Rattle.hist_core.proofs.Worlds.WorldStates.{steps, is_there, is_long, some_run, pool_fits}
 use Rattle.hist_core.proofs.world_state.WorldState.step.Goals as goal
 
@@ -46,3 +48,15 @@ returns-clause-says c = λ before behind was is.
 pub overflow_add-self : goal.overflow_add-self
 overflow_add-self c =
     let few = c.held-held.ensures.few in let some = c.returned.ensures.few in let pool = pool_fits c.args.self.now c.requires.reached in omega (arith, few, some, pool)
+
+pub returns-clause-less : goal.returns-clause-less
+returns-clause-less c = λ before behind was is.
+    let old = c.args.self.now in let r = c.index_mut-actor_run.result.now in
+    let at = is_there old.actor_runs.items (vec_len old.actor_runs) c.args.actor r old.actor_runs.ok.0 c.requires.near c.index_mut-actor_run.ensures.value in
+    let stored = with_items_is old.words c.advance-said.new.words (c.advance-said.auto.words ∙ c.deref_mut.ensures.len) in
+    let first = some-injective r before (sym at ∙ was) in
+    let then_is = some-injective c.advance-said.new.self behind (sym (set_here old.actor_runs.items c.args.actor c.advance-said.new.self (let ok = old.actor_runs.ok.0 in omega (arith, ok, c.requires.near))) ∙ is) in
+    let lowers = subst (λ (l : List ℕ). RunningLowers r.running l c.advance-said.new.self.running c.advance-said.new.words c.advance-said.result) c.deref_mut.ensures.value
+    c.advance-said.ensures.less in
+    subst (λ (w : ActorRun × ActorRun × List ℕ). GoesDown w.0.running old.words.items w.1.running w.2 c.advance-said.result) (λ i. (first i, then_is i, sym stored i))
+    (goes_down old c.requires.reached c.args.actor r at c.advance-said.new.self.running c.advance-said.new.words c.advance-said.result lowers)

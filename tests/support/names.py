@@ -81,21 +81,6 @@ LEFT: list[tuple[str, str, str]] = [
         "FoundEnd",
     ),
     (
-        "one condition, of a stepped call and of a live one",
-        "hist_core/ActorRun live_segment/Add/Sample",
-        "LacksBlock",
-    ),
-    (
-        "one condition, of a stepped call and of a live one",
-        "hist_core/Add live_segment/Add/Sample",
-        "NeedsBlock",
-    ),
-    (
-        "one condition, of a stepped call and of a live one",
-        "hist_core/Add live_segment/Add/Progress",
-        "CannotPack",
-    ),
-    (
         "the same, of a stepped actor's histograms and of a live recorder's",
         "hist_core/ActorRun live_segment/Hist/Answer",
         "IsKnownAt NoneHasName",

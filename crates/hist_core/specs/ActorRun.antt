@@ -23,7 +23,7 @@ use Rattle.segment_machine.specs.Seats.{giver}
 use Rattle.segment_machine.specs.declared.actor.Answered.{Answered}
 use Rattle.segment_machine.specs.declared.actor.Known.{Known}
 use Rattle.hist_core.specs.StepsBy.{SharedEffect, DoesOnly, StepsBy, HasMetKnown, IsFree}
-use Rattle.hist_core.specs.Add.{NeedsBlock, IsAdd, alone, block_words, counted_entry, IsStarted}
+use Rattle.hist_core.specs.Add.{SawNeedOfBlock, IsAdd, alone, block_words, counted_entry, IsStarted}
 use Rattle.hist_core.specs.Add.{serves_counted as add_serves}
 use Rattle.hist_core.specs.Batch.{IsBatch, IsSameBatch, counted_entries}
 use Rattle.hist_core.specs.Batch.{serves_counted as batch_serves, sample_of}
@@ -297,17 +297,17 @@ pub record IsTook (histogram : ℕ) (delta : DeltaAnswer) (a : Actor) : Type 0 w
 
 -- Units that are to be counted in the histogram of a record are refused the block that they need there: its counts, or the sample of a
 -- value. Their actor has found no counts, and only a call that has found some moves units of another call: so it has moved nothing.
-abbrev pub LacksBlock : ℕ → ℤ × ℕ → Refusal → Actor → Actor → Type 0
-LacksBlock histogram sample cause a b =
-    (known : Known) × Contains b.answers.names known × (known.reference ≡ histogram) × IsCause cause (block_words known) a b × NeedsBlock known sample b
+abbrev pub SawLackOfBlock : ℕ → ℤ × ℕ → Refusal → Actor → Actor → Type 0
+SawLackOfBlock histogram sample cause a b =
+    (known : Known) × Contains b.answers.names known × (known.reference ≡ histogram) × IsCause cause (block_words known) a b × SawNeedOfBlock known sample b
 
 -- Why a running call is refused, by its last event: the block that it needs is refused, which for a batch is that of its next item; or its
 -- actor has seen that the first record of the name that a `hist` asks for has another spec. No other call is refused.
 abbrev pub IsRefusedBy : Option Running → Refusal → Actor → Actor → Type 0
 IsRefusedBy (Some (Hist hist)) cause a b = IsHistCause hist.asked.name.items hist.asked.spec cause a b
-IsRefusedBy (Some (Add add)) cause a b = LacksBlock add.histogram (add.value, add.units) cause a b
+IsRefusedBy (Some (Add add)) cause a b = SawLackOfBlock add.histogram (add.value, add.units) cause a b
 IsRefusedBy (Some (Batch batch)) cause a b =
-    (sample : ℤ × ℕ) × (get_elem? (map sample_of batch.items.items) batch.added ≡ some sample) × LacksBlock batch.histogram sample cause a b
+    (sample : ℤ × ℕ) × (get_elem? (map sample_of batch.items.items) batch.added ≡ some sample) × SawLackOfBlock batch.histogram sample cause a b
 IsRefusedBy running cause a b = ⊥
 
 -- where an actor lands if its call is refused: it gives back the units that are left of the call

@@ -142,18 +142,18 @@ HasMetNoCounts known a =
     has_buckets known.spec ≡ true → (counts : ℕ) → word_seen a.seen.words (known.reference + HISTOGRAM_COUNTS) ≡ Some counts → counts ≡ 0
 
 -- it has seen a single word that is not off and cannot take units of a value
-abbrev pub CannotPack : Known → ℤ × ℕ → Actor → Type 0
-CannotPack known sample a = (word : ℕ) × HasSeenSingle known a word × (is_off word ≡ false)
+abbrev pub SawNoRoomToPack : Known → ℤ × ℕ → Actor → Type 0
+SawNoRoomToPack known sample a = (word : ℕ) × HasSeenSingle known a word × (is_off word ≡ false)
     × ((bucket packed : ℕ) → IsKeyOfBucket known bucket (key_of (boundaries_of known.spec) sample.0) → IsPacking bucket sample.1 word packed → ⊥)
 
 -- A histogram with buckets needs counts for units of a value: a single word that was seen cannot take them, and a counts reference was
 -- loaded that was 0; no other was found.
 abbrev pub NeedsCounts : Known → ℤ × ℕ → Actor → Type 0
-NeedsCounts known sample a = CannotPack known sample a × Contains a.seen.ends (known.reference + HISTOGRAM_COUNTS) × HasMetNoCounts known a
+NeedsCounts known sample a = SawNoRoomToPack known sample a × Contains a.seen.ends (known.reference + HISTOGRAM_COUNTS) × HasMetNoCounts known a
 
 -- Units of a value need a block: with buckets the counts; of a sparse histogram a sample, when the list was seen to its end with no sample
 -- of the value on it.
-pub record NeedsBlock (known : Known) (sample : ℤ × ℕ) (a : Actor) : Type 0 where
+pub record SawNeedOfBlock (known : Known) (sample : ℤ × ℕ) (a : Actor) : Type 0 where
   pub counts : has_buckets known.spec ≡ true → NeedsCounts known sample a
   pub value : known.spec ≡ spec.Sparse → SawNoSample known.reference sample.0 a.seen
 
@@ -163,7 +163,7 @@ StandsBefore shape known add a LoadingSingle = MayTurn a
 StandsBefore shape known add a (Packing old new) =
     ((counts : ℕ) × Looks known a old counts) × (is_off old ≡ false) × IsPacking add.bucket add.units old new
 StandsBefore shape known add a LoadingCounts = (word counts : ℕ) × Looks known a word counts × HasSeenSingle known a word × (is_off word ≡ true)
-StandsBefore shape known add a SeekingCounts = MayTurn a × CannotPack known (add.value, add.units) a
+StandsBefore shape known add a SeekingCounts = MayTurn a × SawNoRoomToPack known (add.value, add.units) a
 StandsBefore shape known add a (Allocating allocation) =
     FollowsAllocation a allocation × (is_some (alloc.next_event allocation) ≡ true) × (allocation.tag ≡ TYPE_COUNTS)
     × (allocation.size ≡ BLOCK_HEADER + 2 * add.buckets) × NeedsCounts known (add.value, add.units) a
@@ -224,7 +224,7 @@ block_words known = if has_buckets known.spec then BLOCK_HEADER + 2 * buckets_of
 -- what it may do: it links the sample of its value in its histogram, and raises the free pointer for the block that it needs
 abbrev pub serves_counted : Known → Add → Actor → SharedEffect → Type 0
 serves_counted known add a (links made) = made ≡ Sample add.histogram add.value
-serves_counted known add a (raises words) = (words ≡ block_words known) × NeedsBlock known (add.value, add.units) a
+serves_counted known add a (raises words) = (words ≡ block_words known) × SawNeedOfBlock known (add.value, add.units) a
 
 -- while it runs: units and log are unchanged
 abbrev pub StaysOpen : Actor → Actor → Type 0
@@ -237,7 +237,7 @@ AddGives shape known amid new More a b = FrameOfAdd a b × StaysOpen a b × Does
 AddGives shape known amid new Done a b = FrameOfAdd a b × StaysOpen a b × DoesOnly false false (serves_counted known new a) a b × IsFree b × EntryHasEnded known amid new b
 AddGives shape known amid new (Refused cause) a b =
     FrameOfAdd a b × StaysOpen a b × DoesOnly false (is_full cause) (serves_counted known new a) a b × IsFree b × IsCause cause (block_words known) a b
-    × HasEntry known amid new b false false × NeedsBlock known (new.value, new.units) b
+    × HasEntry known amid new b false false × SawNeedOfBlock known (new.value, new.units) b
 
 -- what a step makes of the words, and of any actor that runs the call
 abbrev pub AddSteps : Add → List ℕ → Add → List ℕ → AddStep → Type 0

@@ -22,7 +22,7 @@ use Rattle.hist_core.specs.declared.add.AddStep.TheVariants as said
 use Rattle.hist_core.specs.declared.batch.Batch.{Batch}
 use Rattle.hist_core.specs.declared.batch.BatchStep.{BatchStep}
 use Rattle.hist_core.specs.declared.batch.BatchStep.TheVariants.{More, Done, Refused}
-use Rattle.hist_core.specs.Add.{Amid, IsAdd, IsCounting, FrameOfAdd, NeedsBlock, StaysOpen, block_words, counted_entry, ended_entry, OpensWith}
+use Rattle.hist_core.specs.Add.{Amid, IsAdd, IsCounting, FrameOfAdd, SawNeedOfBlock, StaysOpen, block_words, counted_entry, ended_entry, OpensWith}
 use Rattle.hist_core.specs.NewRecord.{IsCause, is_full}
 use Rattle.hist_core.specs.StepsBy.{SharedEffect, links, raises, DoesOnly, StepsBy, IsFree}
 
@@ -128,11 +128,11 @@ pub record IsCutAt (added : ℕ) (entries : List Entry) (a : Actor) : Type 0 whe
 abbrev pub serves_counted : Known → Batch → Actor → SharedEffect → Type 0
 serves_counted known batch a (links made) = (sample : ℤ × ℕ) × Contains (map sample_of batch.items.items) sample × (made ≡ Sample batch.histogram sample.0)
 serves_counted known batch a (raises words) =
-    (words ≡ block_words known) × ((sample : ℤ × ℕ) × Contains (map sample_of batch.items.items) sample × NeedsBlock known sample a)
+    (words ≡ block_words known) × ((sample : ℤ × ℕ) × Contains (map sample_of batch.items.items) sample × SawNeedOfBlock known sample a)
 
 -- the item after this many needs a block
 abbrev pub NextNeedsBlock : Known → Batch → ℕ → Actor → Type 0
-NextNeedsBlock known batch added a = (sample : ℤ × ℕ) × (get_elem? (map sample_of batch.items.items) added ≡ some sample) × NeedsBlock known sample a
+NextNeedsBlock known batch added a = (sample : ℤ × ℕ) × (get_elem? (map sample_of batch.items.items) added ≡ some sample) × SawNeedOfBlock known sample a
 
 -- What a step says: it continues; all of it is counted; or the block that its next item needs is refused. Its actor may turn to another
 -- call then.

@@ -17,7 +17,7 @@ use Rattle.segment_promises.proofs.Spoilers.{notes_leave}
 use Rattle.hist_core.specs.declared.actor_run.Running.{Running}
 use Rattle.hist_core.specs.declared.actor_run.Running.TheVariants.{Add}
 use Rattle.hist_core.specs.declared.actor_run.ActorRun.{ActorRun}
-use Rattle.hist_core.specs.Add.{Amid, alone, block_words, counted_entry, ended_entry, FrameOfAdd, HasEntry, NeedsBlock, EntryHasEnded, StandsAtStage, IsAdd, IsSomeAdd, AddSteps, AddGives, serves_counted}
+use Rattle.hist_core.specs.Add.{Amid, alone, block_words, counted_entry, ended_entry, FrameOfAdd, HasEntry, SawNeedOfBlock, EntryHasEnded, StandsAtStage, IsAdd, IsSomeAdd, AddSteps, AddGives, serves_counted}
 use Rattle.hist_core.specs.Batch.{RunsEntries, EntriesHaveEnded, IsCutAt}
 use Rattle.hist_core.specs.StepsBy.{SharedEffect, links, raises, DoesOnly, StepsBy}
 use Rattle.hist_core.proofs.Worlds.Landing.{Landing, does_as_said}
@@ -121,7 +121,7 @@ module _ (shape : Dimensions) (version : ℕ) (old : ActorRun) (add : AddCall) (
           )
 
       -- why it is refused
-      refused_by : (first b : Actor) → HasOnlyNoted first a → FrameOfAdd a b → (why : Refusal) → IsCause why (block_words known) a b → NeedsBlock known (add.value, add.units) b
+      refused_by : (first b : Actor) → HasOnlyNoted first a → FrameOfAdd a b → (why : Refusal) → IsCause why (block_words known) a b → SawNeedOfBlock known (add.value, add.units) b
           → IsRefusedBy old.running why first (noted b (refused 0))
       refused_by first b from aside why cause met = subst (λ running. IsRefusedBy running why first (noted b (refused 0))) (sym is) (
         known,

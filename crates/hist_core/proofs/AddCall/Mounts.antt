@@ -22,7 +22,7 @@ use Rattle.hist_core.specs.declared.add.AddStage.{AddStage}
 use Rattle.hist_core.specs.declared.add.AddStage.TheVariants.{SeekingCounts, Allocating, Mounting, Purging, LoadingAgain}
 use Rattle.segment_calls.specs.declared.refusal.Refusal.TheVariants as why
 use Rattle.hist_core.specs.StepsBy.{DoesOnly, FrameOfStep, SeesNoMore, StepsBy, is_tied}
-use Rattle.hist_core.specs.Add.{Amid, HasEntry, HasMetNoCounts, CountsLieWithin, NeedsBlock, NeedsCounts, StandsAtStage, IsAdd, AddGives, BeginsToAllocate, IsAllocated, block_words, serves_counted}
+use Rattle.hist_core.specs.Add.{Amid, HasEntry, HasMetNoCounts, CountsLieWithin, SawNeedOfBlock, NeedsCounts, StandsAtStage, IsAdd, AddGives, BeginsToAllocate, IsAllocated, block_words, serves_counted}
 use Rattle.hist_core.specs.NewRecord.{IsCause}
 use Rattle.hist_core.proofs.AddCall.Counts.{counts_in}
 use Rattle.hist_core.proofs.AddCall.Entries.{counting_of}
@@ -143,7 +143,7 @@ module _ (shape : Dimensions) (known : Known) (amid : Amid) (add : Add) (a : Act
         ∙ (ap (λ (n : ℕ). 4 + 2 * n) is.counting.buckets ∙ ap (λ (t : Bool). if t then 4 + 2 * buckets_of known.spec else 8) (sym stood_allocating.0))
 
     -- it needs it
-    needs_here : NeedsBlock known (add.value, add.units) a
+    needs_here : SawNeedOfBlock known (add.value, add.units) a
     needs_here = record {
       counts = λ bucketed. stood_allocating.2.4;
       value = λ sparse. absurd (true≢false (sym stood_allocating.0 ∙ ap has_buckets sparse));
@@ -169,7 +169,7 @@ module _ (shape : Dimensions) (known : Known) (amid : Amid) (add : Add) (a : Act
             λ bucketed counts seen. met_none bucketed counts (ap (λ (l : List Sighting). word_seen l (known.reference + 8)) (sym same) ∙ seen),
           )
 
-      needs_block : (b : Actor) → b.seen.words ≡ a.seen.words → SeesNoMore a b → NeedsBlock known (add.value, add.units) b
+      needs_block : (b : Actor) → b.seen.words ≡ a.seen.words → SeesNoMore a b → SawNeedOfBlock known (add.value, add.units) b
       needs_block b same list = record {
         counts = λ bucketed. needs_still b same list;
         value = λ sparse. absurd (true≢false (sym stood_allocating.0 ∙ ap has_buckets sparse));
@@ -246,12 +246,12 @@ module _ (shape : Dimensions) (known : Known) (amid : Amid) (add : Add) (a : Act
     allocates_so long y new_words said.Full new result step more (new_is, result_is) =
         subst (λ (r : AddStep). StepsBy shape.size add.version a words new_words (AddGives shape known amid new r a)) (sym result_is)
         (goes_with (claims long y new_words said.Full step) (λ b (beside, does, apart, goes, same, list, ends).
-        refuses shape known amid add new a stood_allocating.1 b beside why.Full (subst (λ (n : Add). DoesOnly false true (serves_counted known n a) a b) (sym new_is) does) (subst (λ (n : Add). NeedsBlock known (n.value, n.units) b) (sym new_is) (needs_block long y new_words said.Full step b same list)) (ap (λ (n : Add). counting_of known n false false) new_is)
+        refuses shape known amid add new a stood_allocating.1 b beside why.Full (subst (λ (n : Add). DoesOnly false true (serves_counted known n a) a b) (sym new_is) does) (subst (λ (n : Add). SawNeedOfBlock known (n.value, n.units) b) (sym new_is) (needs_block long y new_words said.Full step b same list)) (ap (λ (n : Add). counting_of known n false false) new_is)
         (ap is_tied (rests_at b y y.stage (λ e. cc (step.answers ∙ e)) goes.stands)) (needed why.Full b ends)))
     allocates_so long y new_words said.Corrupt new result step more (new_is, result_is) =
         subst (λ (r : AddStep). StepsBy shape.size add.version a words new_words (AddGives shape known amid new r a)) (sym result_is)
         (goes_with (claims long y new_words said.Corrupt step) (λ b (beside, does, apart, goes, same, list, ends).
-        refuses shape known amid add new a stood_allocating.1 b beside why.Corrupt (subst (λ (n : Add). DoesOnly false false (serves_counted known n a) a b) (sym new_is) does) (subst (λ (n : Add). NeedsBlock known (n.value, n.units) b) (sym new_is) (needs_block long y new_words said.Corrupt step b same list)) (ap (λ (n : Add). counting_of known n false false) new_is)
+        refuses shape known amid add new a stood_allocating.1 b beside why.Corrupt (subst (λ (n : Add). DoesOnly false false (serves_counted known n a) a b) (sym new_is) does) (subst (λ (n : Add). SawNeedOfBlock known (n.value, n.units) b) (sym new_is) (needs_block long y new_words said.Corrupt step b same list)) (ap (λ (n : Add). counting_of known n false false) new_is)
         (ap is_tied (rests_at b y y.stage (λ e. cc (step.answers ∙ e)) goes.stands)) (needed why.Corrupt b ends)))
 
     -- what the step of its allocation asks for

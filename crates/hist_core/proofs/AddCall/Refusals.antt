@@ -8,7 +8,7 @@ use Rattle.hist_core.specs.declared.add.Add.{Add}
 use Rattle.hist_core.specs.declared.add.AddStep.TheVariants.{Refused}
 use Rattle.segment_calls.specs.declared.refusal.Refusal.TheVariants as why
 use Rattle.hist_core.specs.StepsBy.{DoesOnly, FrameOfStep, IsFree}
-use Rattle.hist_core.specs.Add.{Amid, HasEntry, NeedsBlock, FrameOfAdd, AddGives, block_words, serves_counted}
+use Rattle.hist_core.specs.Add.{Amid, HasEntry, SawNeedOfBlock, FrameOfAdd, AddGives, block_words, serves_counted}
 use Rattle.hist_core.specs.NewRecord.{IsCause, is_full}
 use Rattle.hist_core.specs.SampleSearch.{SawNoSample}
 use Rattle.hist_core.proofs.AddCall.Entries.{counting_of}
@@ -18,7 +18,7 @@ pub beside_aside : (a b : Actor) → FrameOfStep a b → FrameOfAdd a b
 beside_aside a b beside = record { role = beside.role; segment = beside.segment; deltas = beside.deltas; names = beside.names; chain = beside.chain; words = beside.words }
 
 pub refuses : (shape : Dimensions) (known : Known) (amid : Amid) (add new : Add) (a : Actor) → HasEntry known amid add a false false → (b : Actor) → FrameOfStep a b
-    → (why : Refusal) → DoesOnly false (is_full why) (serves_counted known new a) a b → NeedsBlock known (new.value, new.units) b → counting_of known new false false ≡ counting_of known add false false → IsFree b → IsCause why (block_words known) a b
+    → (why : Refusal) → DoesOnly false (is_full why) (serves_counted known new a) a b → SawNeedOfBlock known (new.value, new.units) b → counting_of known new false false ≡ counting_of known add false false → IsFree b → IsCause why (block_words known) a b
     → AddGives shape known amid new (Refused why) a b
 refuses shape known amid add new a entry b beside why does met same turns cause = (
   beside_aside a b beside,
@@ -31,7 +31,7 @@ refuses shape known amid add new a entry b beside why does met same turns cause 
 )
 
 -- an actor that has seen the same needs the same block
-pub needs_still : (known : Known) (sample : ℤ × ℕ) (a b : Actor) → b.seen ≡ a.seen → NeedsBlock known sample a → NeedsBlock known sample b
+pub needs_still : (known : Known) (sample : ℤ × ℕ) (a b : Actor) → b.seen ≡ a.seen → SawNeedOfBlock known sample a → SawNeedOfBlock known sample b
 needs_still known sample a b seen needs = record {
   counts = λ bucketed.
       let ((word, saw, on, packs), none, met) = needs.counts bucketed in (

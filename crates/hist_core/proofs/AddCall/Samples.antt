@@ -9,7 +9,7 @@ use Rattle.hist_core.specs.declared.add.AddStage.TheVariants as stage
 use Rattle.hist_core.specs.declared.sample_search.SampleSearch.{SampleSearch}
 use Rattle.hist_core.specs.declared.sample_search.SampleSearchStep.{SampleSearchStep}
 use Rattle.hist_core.specs.declared.sample_search.SampleSearchStep.TheVariants as found
-use Rattle.hist_core.specs.Add.{Amid, HasEntry, IsAdd, IsSampled, OpensWith, StandsAtStage, NeedsBlock, StaysOpen, AddGives, block_words, serves_counted}
+use Rattle.hist_core.specs.Add.{Amid, HasEntry, IsAdd, IsSampled, OpensWith, StandsAtStage, SawNeedOfBlock, StaysOpen, AddGives, block_words, serves_counted}
 use Rattle.hist_core.specs.StepsBy.{SharedEffect, links, raises, DoesOnly, FrameOfStep, StepsBy, IsFree}
 use Rattle.hist_core.specs.SampleSearch.{SampleSearchGives, SawNoSample, serves_sample}
 use Rattle.hist_core.specs.NewRecord.{IsCause, is_full}
@@ -70,7 +70,7 @@ module _ (shape : Dimensions) (known : Known) (amid : Amid) (add : Add) (a : Act
 
   -- if it has seen no sample of its value, it needs one
   needs_sample : (x : SampleSearch) → x ≡ record s { walk = x.walk; stage = x.stage } → (b : Actor) → SawNoSample x.histogram x.value b.seen
-      → NeedsBlock known (add.value, add.units) b
+      → SawNeedOfBlock known (add.value, add.units) b
   needs_sample x same b none = record {
     counts = λ bucketed. absurd (true≢false (sym bucketed ∙ ap has_buckets stood_sampling.1));
     value = λ sparse. subst (λ (p : ℕ × ℤ). SawNoSample p.0 p.1 b.seen)
@@ -121,5 +121,5 @@ module _ (shape : Dimensions) (known : Known) (amid : Amid) (add : Add) (a : Act
   samples_so x same new_words (found.Refused cause) new result goes (new_is, result_is) =
       subst (λ (r : AddStep). StepsBy shape.size add.version a words new_words (AddGives shape known amid new r a)) (sym result_is)
       (goes_with goes (λ b (beside, does, free, is_cause, none).
-      refuses shape known amid add new a stood_sampling.0 b beside cause (subst (λ (n : Add). DoesOnly false (is_full cause) (serves_counted known n a) a b) (sym new_is) (serves_it (is_full cause) x same b does)) (subst (λ (n : Add). NeedsBlock known (n.value, n.units) b) (sym new_is) (needs_sample x same b none)) (ap (λ (n : Add). counting_of known n false false) new_is) free
+      refuses shape known amid add new a stood_sampling.0 b beside cause (subst (λ (n : Add). DoesOnly false (is_full cause) (serves_counted known n a) a b) (sym new_is) (serves_it (is_full cause) x same b does)) (subst (λ (n : Add). SawNeedOfBlock known (n.value, n.units) b) (sym new_is) (needs_sample x same b none)) (ap (λ (n : Add). counting_of known n false false) new_is) free
       (subst (λ (n : ℕ). IsCause cause n a b) (sym words_are) is_cause)))

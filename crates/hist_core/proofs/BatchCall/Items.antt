@@ -13,7 +13,7 @@ use Rattle.hist_core.specs.declared.add.AddStage.{AddStage}
 use Rattle.hist_core.specs.declared.batch.Batch.{Batch}
 use Rattle.hist_core.specs.declared.batch.BatchStep.{BatchStep}
 use Rattle.hist_core.specs.declared.batch.BatchStep.TheVariants.{More, Done, Refused}
-use Rattle.hist_core.specs.Add.{IsAdd, FrameOfAdd, NeedsBlock, StaysOpen, HasEntry, EntryHasEnded, AddSteps, AddGives, block_words, counted_entry, ended_entry}
+use Rattle.hist_core.specs.Add.{IsAdd, FrameOfAdd, SawNeedOfBlock, StaysOpen, HasEntry, EntryHasEnded, AddSteps, AddGives, block_words, counted_entry, ended_entry}
 use Rattle.hist_core.specs.Add.{serves_counted as add_serves}
 use Rattle.hist_core.specs.NewRecord.{IsCause, is_full}
 use Rattle.hist_core.specs.Batch.{IsBatch, IsItem, CountsItem, SumsUp, EntriesHaveEnded, BatchGives, IsItemSaid, ItemWaits, amid_of, counted_entries, serves_counted, sample_of, sum_entries, units_among}
@@ -260,7 +260,7 @@ module _ (shape : Dimensions) (known : Known) (batch : Batch) (a : Actor) (is : 
 
     -- it is refused
     pub refused_so : (why : Refusal) → DoesOnly false (is_full why) (add_serves known item a) a b → IsFree b → IsCause why (block_words known) a b → HasEntry known (amid_of known batch c.done c.rest) item b false false
-        → NeedsBlock known (item.value, item.units) b
+        → SawNeedOfBlock known (item.value, item.units) b
         → BatchGives shape known now (Refused (record { added = batch.added; why = why })) a b
     refused_so why does turns cause has met = (
       aside,

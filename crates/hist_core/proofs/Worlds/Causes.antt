@@ -17,12 +17,12 @@ use Rattle.hist_core.specs.WorldState.{IsFlagSet, IsReachedAs}
 use Rattle.hist_core.proofs.Worlds.Starts.{kept_there}
 use Rattle.hist_core.specs.Hist.{HasOtherSpec, SawNoName}
 use Rattle.hist_core.specs.NewRecord.{IsCause}
-use Rattle.hist_core.specs.ActorRun.{IsRefusedBy, LacksBlock}
+use Rattle.hist_core.specs.ActorRun.{IsRefusedBy, SawLackOfBlock}
 use Rattle.hist_core.proofs.AddCall.Refusals.{cause_noted, needs_still}
 
 -- an actor that knows, has done and has seen the same is refused for the same
 module _ (cause : Refusal) (a b c : Actor) (names : c.answers.names ≡ b.answers.names) (done : c.done ≡ b.done) (seen : c.seen ≡ b.seen) where
-  lacks_still : (histogram : ℕ) (sample : ℤ × ℕ) → LacksBlock histogram sample cause a b → LacksBlock histogram sample cause a c
+  lacks_still : (histogram : ℕ) (sample : ℤ × ℕ) → SawLackOfBlock histogram sample cause a b → SawLackOfBlock histogram sample cause a c
   lacks_still histogram sample (known, knows, reference, is, needs) = (
     known,
     subst (λ (l : List Known). Contains l known) (sym names) knows,

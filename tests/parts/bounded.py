@@ -27,7 +27,7 @@ RECORD_WORDS = 16
 # A record that overlaps the next one: its fields from the tenth on are that one's first.
 OVERLAPPING_WORDS = 10
 MOST_TIMES = 10
-MOST_SECONDS = 30
+MOST_SECONDS = 300
 # Where a command is limited: 400 MiB, of which a program that runs takes a few.
 MOST_KILOBYTES = 400 * 1024
 SCRIPT = f"segment,{SIZE},{PAGE},7\n".encode()

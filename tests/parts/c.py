@@ -73,7 +73,7 @@ RECORDED_BY_README = (
 )
 METRICS = b'\npovundiri_units_count{histogram="request_us"} 2000\n'
 # How long a command that goes on until it is ended is given for its second text.
-MOST_SECONDS = 60
+MOST_SECONDS = 300
 
 
 def checked(

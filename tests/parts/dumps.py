@@ -26,7 +26,7 @@ PROGRAM = "persist_report"
 CHAINS = 8
 RUNS = 5
 STOPS = 2
-MOST_SECONDS = 60
+MOST_SECONDS = 300
 # What `extract` prints after the last segment.
 NO_SEGMENT = fault("NoSegment", 3)
 

@@ -80,7 +80,7 @@ FAILING = {
 }
 # A reader reads beside folds until there were this many of both, for at most this many seconds.
 LEAST_READINGS = 100
-MOST_SECONDS = 60
+MOST_SECONDS = 300
 # No segment is begun while this many files are in the folder.
 MOST_FILES = 20
 # How often a reading begins at most, and the call that lists a folder.

@@ -45,7 +45,7 @@ REASONS = ("too_large", "other_spec", "no_space", "rolling", "forked", "ended", 
 MAY_MISS = ("too_large", "rolling")
 # The most units that may be missed as `rolling`, of those that were counted; seen were at most 0.0002.
 MOST_ROLLING = 0.05
-MOST_SECONDS = 100
+MOST_SECONDS = 300
 # In this time a program makes BEGINNINGS calls, also on a busy machine.
 ENOUGH_SECONDS = 60
 

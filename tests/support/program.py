@@ -14,7 +14,8 @@ from support import faults
 ROOT = pathlib.Path(__file__).resolve().parents[2]
 EXAMPLE = ROOT / "examples" / "three_samples.img"
 SCRIPT = ROOT / "examples" / "three_samples.csv"
-MOST_SECONDS = 60
+# Other parts run beside one, on a machine of whatever speed.
+MOST_SECONDS = 300
 UNTRIED = "what can't be tried here"
 
 Path = Union[str, pathlib.Path]

@@ -21,8 +21,9 @@ class Rules:
 
     # While one of these runs, no other command does.
     alone: Collection[str] = ()
-    # Of these, one runs at a time.
+    # Of these, so many run at a time.
     large: Collection[str] = ()
+    large_at_once: int = 1
     # These wait until the command `first` has ended.
     after: Collection[str] = ()
     first: str = ""
@@ -31,7 +32,7 @@ class Rules:
         """Whether a command may begin beside those that run, while these have not begun."""
         if running and (name in self.alone or any(one in self.alone for one in running)):
             return False
-        if name in self.large and any(one in self.large for one in running):
+        if name in self.large and sum(one in self.large for one in running) >= self.large_at_once:
             return False
         return name not in self.after or self.first not in {*running, *waiting}
 

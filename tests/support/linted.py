@@ -1,5 +1,5 @@
-"""What ruff, flake8 and mypy find in the Python of tests/, bench/ and c/, by the settings of pyproject.toml, and the lines
-that are longer than these allow. A tool that is not installed is left out, and a line says so."""
+"""What ruff, flake8 and mypy find in the Python of tests/, bench/ and c/, by the settings of pyproject.toml, and the
+lines that are longer than these allow. A tool that is not installed is left out, and a line says so."""
 
 from __future__ import annotations
 

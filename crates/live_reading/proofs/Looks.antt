@@ -17,12 +17,13 @@ use Rattle.live_segment.specs.declared.recorder.Hist.{Hist}
 use Rattle.live_segment.specs.declared.recorder.state.RecorderState.{RecorderState}
 use Rattle.live_segment.specs.declared.segment.Segment.{Segment}
 use Rattle.live_segment.specs.Delta.Outcome.{AreUnits}
-use Rattle.live_segment.specs.Delta.Owed.{HasEnough}
+use Rattle.live_segment.specs.Delta.Owed.{HasEnough, HasNoMore}
 use Rattle.live_segment.specs.Hist.Opened.{IsHistogramOfRecord, OpensRecord}
 use Rattle.live_segment.specs.Hist.Outcome.{ComesToKnow}
 use Rattle.live_segment.specs.Hist.Search.{HasSearched}
 use Rattle.live_segment.specs.List.Records.{HasWalked}
 use Rattle.live_segment.specs.List.Values.{AreFewKeys}
+use Rattle.live_segment.specs.Holders.{opened_with}
 use Rattle.live_segment.specs.RecorderState.{IsSameRecorder, Knows, KnowsOn, Means, view_of_state}
 use Rattle.live_segment.specs.Snapshot.Outcome.{HasSnapshot}
 use Rattle.live_segment.proofs.lemmas.Steps.Proceeding.{sees_not, sees_on}
@@ -196,11 +197,12 @@ pub read_by : (segment : Segment) (reference : ℕ) (place : Hist) (histogram : 
     → OpensRecord reference (view_of_state a) (Some place) (view_of_state b) → IsSameRecorder b c
     → ((known : Known) → Means b place known → HasSnapshot known (view_of_state b) histogram.snapshot (view_of_state c))
     → ((known : Known) → Means b place known → HasEnough known (view_of_state b) histogram.snapshot (view_of_state c))
+    → ((known : Known) → Means b place known → HasNoMore (opened_with segment) c.seat.id known histogram.snapshot (view_of_state c))
     → ((known : Known) → Means b place known → AreFewKeys segment known histogram.snapshot.counts.items)
     → ((known : Known) → Means b place known → known.spec ≡ Sparse → AreUnits histogram.snapshot.counts.items)
     → ((known : Known) → Means c place known → histogram.name.items ≡ known.name) → ((known : Known) → Means c place known → histogram.spec ≡ known.spec)
     → IsReadOf segment a c reference histogram
-read_by segment reference place histogram a b c on opens same shows enough few values named alike =
+read_by segment reference place histogram a b c on opens same shows enough most few values named alike =
     let (known, means, at) = knows_opened reference place (view_of_state a) (view_of_state b) opens in
     let still : Means c place known = subst (λ (names : List Known). get_elem? names place.index ≡ some known) (sym same.names) means in
     record {
@@ -218,6 +220,7 @@ read_by segment reference place histogram a b c on opens same shows enough few v
       shows = shows known means;
       enough = enough_before known (view_of_state a) (view_of_state b) (looks_opened reference (Some place) (view_of_state a) (view_of_state b) opens)
           (view_of_state c) histogram.snapshot (enough known means);
+      most = most known means;
       few = few known means;
       values = values known means;
       behind = goes_not c;

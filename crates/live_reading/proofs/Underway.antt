@@ -93,6 +93,7 @@ outcome_within segment a b c d first last reference (Some histogram) read = reco
   same = read.same;
   shows = read.shows;
   enough = enough_before read.known (view_of_state a) (view_of_state b) first.looks (view_of_state read.shown) histogram.snapshot read.enough;
+  most = read.most;
   few = read.few;
   values = read.values;
   behind = goes_then read.shown c d read.behind last;

@@ -9,7 +9,7 @@ use Rattle.live_segment.specs.declared.recorder.Hist.{Hist}
 use Rattle.live_segment.specs.declared.recorder.state.RecorderState.{RecorderState}
 use Rattle.live_segment.specs.declared.segment.Segment.{Segment}
 use Rattle.live_segment.specs.Delta.Outcome.{AreUnits}
-use Rattle.live_segment.specs.Delta.Owed.{HasEnough}
+use Rattle.live_segment.specs.Delta.Owed.{HasEnough, HasNoMore}
 use Rattle.live_segment.specs.Hist.Opened.{OpensRecord}
 use Rattle.live_segment.specs.Holders.{opened_with}
 use Rattle.live_segment.specs.List.Records.{HasWalked}
@@ -50,8 +50,8 @@ pub record OpensNone (reference : ℕ) (old new : RecorderState) : Type 0 where
   pub behind : GoesOnLooking opened new
 
 -- `open` of a record returned a histogram, and this one has its name, its spec, and what `snapshot` of it returned: of each key at least
--- what the recorder had accepted or seen before, no more keys than it may have, and of a sparse one values that ascend, each once and with
--- units.
+-- what the recorder had accepted or seen before, and at most what was counted in a state to which the segment came before the call returned;
+-- no more keys than it may have, and of a sparse one values that ascend, each once and with units.
 pub record IsReadOf (segment : Segment) (old new : RecorderState) (reference : ℕ) (histogram : LiveHistogram) : Type 0 where
   pub asked : RecorderState
   pub opened : RecorderState
@@ -66,6 +66,7 @@ pub record IsReadOf (segment : Segment) (old new : RecorderState) (reference : �
   pub same : known.spec ≡ histogram.spec
   pub shows : HasSnapshot known (view_of_state opened) histogram.snapshot (view_of_state shown)
   pub enough : HasEnough known (view_of_state old) histogram.snapshot (view_of_state shown)
+  pub most : HasNoMore (opened_with segment) shown.seat.id known histogram.snapshot (view_of_state shown)
   pub few : AreFewKeys segment known histogram.snapshot.counts.items
   pub values : known.spec ≡ Sparse → AreUnits histogram.snapshot.counts.items
   pub behind : GoesOnLooking shown new

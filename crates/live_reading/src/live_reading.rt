@@ -35,8 +35,9 @@ pub struct LiveReading {
 /// On `Ok` the list had exactly the records that `records` returned first, in a kept state of the segment. For each of
 /// them, in order, the reading has the histogram: its name, its spec, and what a snapshot of it returned, with no more
 /// keys than [`Recorder::most_keys`] says. For each key that is at least what the recorder had accepted, or seen,
-/// before, with the exception that [`Recorder::delta`] has. Or `open` returned none, for one of the reasons that
-/// [`Recorder::open`] has [each]. The recorder knows all of these histograms then, and no two of them have the same
+/// before, with the exception that [`Recorder::delta`] has, and at most what was counted in a kept state to which the
+/// segment came before that snapshot returned. Or `open` returned none, for one of the reasons that [`Recorder::open`]
+/// has [each]. The recorder knows all of these histograms then, and no two of them have the same
 /// name [names].
 ///
 /// The recorder records into the same segment [kept], and still knows each histogram that it knew, at the same place

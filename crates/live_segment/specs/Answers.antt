@@ -25,10 +25,10 @@ use Rattle.live_segment.specs.Hist.Answer.{IsAnsweredWith, IsRefusedWith}
 use Rattle.live_segment.specs.Hist.Opened.{OpensRecord, OpensAs}
 use Rattle.live_segment.specs.Hist.Search.{HasSearched}
 use Rattle.live_segment.specs.Delta.Outcome.{AreUnits, HasTaken}
-use Rattle.live_segment.specs.Delta.Owed.{HasEnough, TookEnough}
+use Rattle.live_segment.specs.Delta.Owed.{HasEnough, HasNoMore, TookEnough}
 use Rattle.live_segment.specs.Snapshot.Outcome.{HasSnapshot}
 use Rattle.live_segment.specs.List.Values.{AreFewKeys, AreMostKeys}
-use Rattle.live_segment.specs.Standing.{HasFirst, HasList, HasShared}
+use Rattle.live_segment.specs.Standing.{HasFirst, HasList, HasShared, Standing}
 use Rattle.live_segment.specs.RecorderState.{GivesFresh, IsSameIfBucketed, Means, view_of_state}
 
 -- ---- `most_keys`
@@ -69,6 +69,13 @@ abbrev pub AnswersOpenAs : List ℕ → Spec → ℕ → RecorderState → Resul
 AnswersOpenAs name spec reference old result new =
     MatchResult result (λ found. OpensAs name spec reference (view_of_state old) found (view_of_state new))
     (λ why. (why ≡ NoMemory) × (view_of_state new ≡ view_of_state old))
+
+-- Unless there was no memory, the segment came to a state in which the recorder has done and seen this; a histogram that is returned is the
+-- first of its name on the list there.
+abbrev pub OpensFirst : Segment → Result (Option Hist) Refusal → RecorderState → Type 0
+OpensFirst segment result new =
+    IfOk result (λ found. MatchOption found (Standing (opened_with segment) new.seat.id (view_of_state new))
+    (λ histogram. (known : Known) → Means new histogram known → HasFirst (opened_with segment) new.seat.id (view_of_state new) known))
 
 -- ---- `add`
 
@@ -115,11 +122,11 @@ abbrev pub TakesFewKeys : Segment → Hist → RecorderState → Result Delta Re
 TakesFewKeys segment histogram old result =
     IfOk result (λ delta. (known : Known) → Means old histogram known → AreFewKeys segment known delta.counts.items)
 
--- all deltas together have taken enough
+-- all deltas together have taken enough, and no more than was counted
 abbrev pub TakesEnough : Segment → Hist → RecorderState → Result Delta Refusal → RecorderState → Type 0
 TakesEnough segment histogram old result new =
-    IfOk result (λ _. (known : Known) → Means old histogram known
-    → TookEnough (opened_with segment) new.seat.id known (view_of_state old) (view_of_state new))
+    IfOk result (λ delta. (known : Known) → Means old histogram known
+    → TookEnough (opened_with segment) new.seat.id known delta.counts.items (view_of_state old) (view_of_state new))
 
 -- ---- `snapshot`
 
@@ -140,6 +147,12 @@ abbrev pub ShowsEnough : Hist → RecorderState → Result Snapshot Refusal → 
 ShowsEnough histogram old result new =
     IfOk result
     (λ snapshot. (known : Known) → Means old histogram known → HasEnough known (view_of_state old) snapshot (view_of_state new))
+
+-- the snapshot has no more than was counted and noted
+abbrev pub ShowsNoMore : Segment → Hist → RecorderState → Result Snapshot Refusal → RecorderState → Type 0
+ShowsNoMore segment histogram old result new =
+    IfOk result
+    (λ snapshot. (known : Known) → Means old histogram known → HasNoMore (opened_with segment) new.seat.id known snapshot (view_of_state new))
 
 -- values of a sparse histogram ascend, each once and with units
 abbrev pub ShowsUnits : Hist → RecorderState → Result Snapshot Refusal → Type 0

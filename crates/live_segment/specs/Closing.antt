@@ -1,24 +1,28 @@
 -- What the image of a closed segment reads as, for the holder of its opener: once all recorders are joined, and whatever is outstanding.
-use Rattle.std.specs.Prelude.{◌≡◌, ℕ, ◌+◌, ◌-◌, ◌≤◌, ◌||◌, ℤ, List, ◌∷◌, ◌++◌, map, sum_by, Ok}
+use Rattle.std.specs.Prelude.{◌≡◌, ℕ, ◌+◌, ◌-◌, ◌<◌, ◌≤◌, ◌||◌, ℤ, List, ◌∷◌, ◌++◌, map, sum_by, IsPermutation, Ok}
 use Rattle.std.specs.List.{Contains, All}
+use Rattle.segment_image.specs.declared.layout.TheConstants.{FREE_WORD}
 use Rattle.segment_image.specs.Head.{header_of, head_of}
+use Rattle.segment_image.specs.Words.{word_at}
 use Rattle.bucket_ranges.specs.Spec.{SameSpec}
 use Rattle.bucket_ranges.specs.Reading.{Histogram, Reading, IsReading}
+use Rattle.list_core.specs.Chain.{IsChain}
 use Rattle.segment_machine.specs.declared.entry.Entry.{Entry}
 use Rattle.segment_machine.specs.declared.actor.Actor.{Actor}
 use Rattle.segment_machine.specs.declared.actor.Answered.{Answered}
 use Rattle.segment_machine.specs.declared.actor.Known.{Known}
 use Rattle.segment_machine.specs.declared.actor.Taken.{Taken}
 use Rattle.segment_machine.specs.Entry.{tally_units, tally_sum, tally_noted}
-use Rattle.segment_machine.specs.Actor.{cost_of, log_of, units_of, units_listed, taken_of, taken_units, taken_sum, IsFinal, made_of}
+use Rattle.segment_machine.specs.Actor.{all_given, cost_of, given_by, outstanding_of, log_of, units_of, units_listed, taken_of, taken_units, taken_sum, IsFinal, made_of}
 use Rattle.segment_machine.specs.State.{State}
 use Rattle.segment_invariant.specs.Body.{Anatomy, Listed}
 use Rattle.segment_invariant.specs.Ledger.{all_moving}
 use Rattle.segment_promises.specs.Deltas.{TookUpTo}
+use Rattle.segment_promises.specs.FreePointer.{raised_by}
 use Rattle.segment_promises.specs.Reads.{units_read, mark_read, noted_at_opening, HasNoFault, ReadsHead, ReadsNames, ReadsUnits, ReadsAmounts, ReadsAnswers}
 use Rattle.live_segment.specs.declared.rule.Opening.{Opening}
 use Rattle.live_segment.specs.declared.rule.Setting.{Setting}
-use Rattle.live_segment.specs.Rule.{Closes}
+use Rattle.live_segment.specs.Rule.{Closes, words_of}
 
 -- ---- the words
 
@@ -29,6 +33,27 @@ pub record IsImageOf (setting : Setting) (words : List ℕ) : Type 0 where
   pub version : (head_of words).version ≡ setting.version
   pub id : (head_of words).id ≡ setting.id
   pub reading : (reading : Reading) × IsReading words (head_of words) reading
+
+-- ---- how far it is used
+
+-- The free pointer of the image is where it was in the words with which the segment was opened, and higher by the rises that the opener and
+-- the recorders that it joined have made; if some are not joined, by theirs too.
+pub record IsRisenBy (opening : Opening) (opener : Actor) (words : List ℕ) : Type 0 where
+  pub least : word_at (words_of opening) FREE_WORD + raised_by opener ≤ word_at words FREE_WORD
+  pub exact : outstanding_of opener.role ≡ 0 → word_at words FREE_WORD ≡ word_at (words_of opening) FREE_WORD + raised_by opener
+
+-- ---- what shared cursors gave
+
+-- these records are those at the front of the list of the words, each once
+pub record IsFrontOf (words given : List ℕ) : Type 0 where
+  pub front : List ℕ
+  pub behind : List ℕ
+  pub list : IsChain words (head_of words) (front ++ behind)
+  pub same : IsPermutation given front
+
+-- what each shared cursor gave the recorders of an opener is a front of the list, each record once
+abbrev pub GaveFronts : Actor → List ℕ → Type 0
+GaveFronts opener words = (cursor : ℕ) → cursor < opener.segment.cursors → IsFrontOf words (given_by cursor opener.done.given)
 
 -- ---- once all recorders are joined
 
@@ -105,9 +130,11 @@ pub record IsStoppedReading (setting : Setting) (opened : Anatomy) (opener : Act
       → tally_units (log_of opener) h.name key ≤ units_read h key + all_moving h.name key state.actors
   pub most : sum_by (units_beyond (log_of opener)) reading.hists ≤ units_out opener
 
--- There is such a state, in which the opener has done and seen this. Its segment was opened with these words: so the records that were
--- listed then are still there with the words that they had, also those of other types and the later ones of a name.
+-- A segment that was opened with these words came to such a state, in which the opener has done and seen this. So the records that were
+-- listed at first are still there with the words that they had, also those of other types and the later ones of a name. What each shared
+-- cursor gave all its recorders is a front of the list, each record once.
 pub record ReadsStopped (opening : Opening) (opener : Actor) (words : List ℕ) : Type 0 where
   pub closed : Closes opening opener words
   pub reads : (reading : Reading) → IsReading words (head_of words) reading
       → IsStoppedReading opening.setting closed.opened opener closed.state closed.kept.anatomy.records reading
+  pub gave : (cursor : ℕ) → cursor < opener.segment.cursors → IsFrontOf words (all_given closed.state.actors cursor)

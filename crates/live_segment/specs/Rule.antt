@@ -10,6 +10,7 @@ use Rattle.bucket_ranges.specs.Reading.{reading_along}
 use Rattle.segment_machine.specs.declared.actor.Actor.{Actor}
 use Rattle.segment_machine.specs.Seats.{opener_of}
 use Rattle.segment_machine.specs.State.{State, memory}
+use Rattle.segment_machine.specs.Reached.{IsReached}
 use Rattle.segment_invariant.specs.Body.{Anatomy}
 use Rattle.segment_invariant.specs.Invariant.{Invariant}
 use Rattle.segment_invariant.specs.Keeps.{IsOpening, opening_of}
@@ -70,11 +71,17 @@ pub record IsKeptOpening (opening : Opening) : Type 0 where
 
 -- ---- from then on
 
--- what holds for its table: the words and the views are those of a kept state of a segment with this opening
+-- what holds for its table: the words and the views are those of a kept state, to which a segment with this opening came
 pub record Runs (opening : Opening) (s : table.State Announcement Actor) : Type 0 where
   pub opened : Anatomy
   pub as_said : IsOpenedAs opening opened
-  pub running : Running Announcement opening.setting.shape opened s
+  pub start : Invariant opening.setting.shape opened (opening_state opening)
+  pub running : Running Announcement opening.setting.shape opened (opening_state opening) s
+
+-- a segment with this opening came to a state: from the one in which it was opened, by steps of its recorders, and with recorders made and
+-- joined and units lent, in any order
+abbrev pub CameTo : Opening → State → Type 0
+CameTo opening state = IsReached opening.setting.version (opening_state opening) state
 
 -- an actor is one of a segment with this setting
 pub record IsOf (setting : Setting) (a : Actor) : Type 0 where
@@ -82,11 +89,13 @@ pub record IsOf (setting : Setting) (a : Actor) : Type 0 where
   pub version : a.segment.version ≡ setting.version
   pub cursors : a.segment.cursors ≡ setting.cursors
 
--- the words of a closed segment with this opening: those of a kept state, in which its opener has done and seen this
+-- the words of a closed segment with this opening: those of a kept state to which it came, in which its opener has done and seen this
 pub record Closes (opening : Opening) (opener : Actor) (words : List ℕ) : Type 0 where
   pub state : State
   pub words_are : words ≡ state.words
   pub opened : Anatomy
   pub as_said : IsOpenedAs opening opened
+  pub start : Invariant opening.setting.shape opened (opening_state opening)
+  pub come : CameTo opening state
   pub kept : Invariant opening.setting.shape opened state
   pub stands : get_elem? state.actors 0 ≡ some opener

@@ -17,15 +17,17 @@ use Rattle.segment_invariant.specs.Body.{Anatomy}
 use Rattle.segment_invariant.specs.Consistent.{IsHistogram}
 use Rattle.segment_invariant.specs.Invariant.{Invariant}
 use Rattle.live_segment.specs.declared.rule.Opening.{Opening}
-use Rattle.live_segment.specs.Rule.{IsOpenedAs}
+use Rattle.live_segment.specs.Rule.{CameTo, IsOpenedAs, opening_state}
 use Rattle.live_segment.specs.Steps.{Sat}
 
--- A state of a segment with this opening. It keeps what holds between any two events, so it is consistent; and in it the holder of the seat
--- of this number has done and seen this.
+-- A state to which a segment with this opening came. It keeps what holds between any two events, so it is consistent; and in it the holder
+-- of the seat of this number has done and seen this.
 pub record Standing (opening : Opening) (number : ℕ) (a : Actor) : Type 0 where
   pub opened : Anatomy
   pub as_said : IsOpenedAs opening opened
+  pub start : Invariant opening.setting.shape opened (opening_state opening)
   pub state : State
+  pub come : CameTo opening state
   pub kept : Invariant opening.setting.shape opened state
   pub stands : get_elem? state.actors number ≡ some a
 

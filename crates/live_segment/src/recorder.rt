@@ -90,7 +90,7 @@ impl<'a> Recorder<'a> {
     ghost use Rattle.live_segment.specs.List.SharedCursors.{AnswersNext, gift};
     ghost use Rattle.live_segment.specs.Holders.{HasCursor, view_of_recorder};
     ghost use Rattle.live_segment.specs.RecorderState.{HasLimit, IsFoundAt, IsKnownName, IsKnownSpec, IsNamed, IsSameRecorder, Knows, KnowsOn};
-    ghost use Rattle.live_segment.specs.Answers.{AreMostKeysOf, AnswersAdd, AnswersBatch, AnswersDelta, AnswersFirst, AnswersFresh, AnswersFront, AnswersHist, AnswersList, AnswersOpen, AnswersRecords, AnswersSnapshot, ClaimsAdd, ClaimsBatch, ClaimsHist, ShowsEnough, ShowsFewKeys, ShowsUnits, TakesEnough, TakesFewKeys};
+    ghost use Rattle.live_segment.specs.Answers.{AreMostKeysOf, AnswersAdd, AnswersBatch, AnswersDelta, AnswersFirst, AnswersFresh, AnswersFront, AnswersHist, AnswersList, AnswersOpen, AnswersRecords, AnswersSnapshot, ClaimsAdd, ClaimsBatch, ClaimsHist, OpensFirst, ShowsEnough, ShowsFewKeys, ShowsNoMore, ShowsUnits, TakesEnough, TakesFewKeys};
 
     /// Returns the units that it may still spend.
     pub fn units(&self) -> u32
@@ -206,11 +206,14 @@ impl<'a> Recorder<'a> {
     /// the list, whose end it has found since; it is not one of a histogram; it has no name or no spec that may be
     /// asked for; or it is not the first of its name: that one is an earlier record or has another spec, or other bytes
     /// than zeros follow the name. `NoMemory` may come after loads. Beyond that it has only looked along the list and
-    /// read the record [answer].
+    /// read the record [answer]. Unless it returned `NoMemory`, the segment came to a kept state in which the recorder's
+    /// seat has done and seen what it has, so what it saw is so there; the histogram of `Some` is the first of its name
+    /// on the whole list there, and has the same spec [first].
     pub fn open(&mut self, reference: u64) -> Result<Option<Hist>, Refusal>
         ensures kept { self.new.segment ≡ self.old.segment }
         ensures same { KnowsOn self.old.state self.new.state }
         ensures answer { AnswersOpen reference self.old.state result self.new.state }
+        ensures first { OpensFirst self.new.segment.now result self.new.state }
     {
         self.state.open(self.segment, reference)
     }
@@ -303,7 +306,8 @@ impl<'a> Recorder<'a> {
     /// recorder's seat has done and seen what it has: for each key at least what was accepted before the call, by the
     /// recorder or before it was made, what it had seen in a single word, and each count that it had seen; in version 2
     /// a count and a single word together. One exception, in version 1: for the packed bucket, if the call found the
-    /// single word off, at least each count that it had seen, and no more is promised [owed].
+    /// single word off, at least each count that it had seen, and no more is promised. For each key they have taken, this
+    /// one among them, at most what is counted in that state [owed].
     ///
     /// It asks for memory for as many keys as the histogram may have, of 16 bytes each: its buckets, or its samples on
     /// the list; and for its index of the samples of sparse histograms, which it lets grow: if memory runs out for
@@ -330,7 +334,9 @@ impl<'a> Recorder<'a> {
     ///
     /// For each key it has at least what the recorder had accepted, or seen, before, with the same exception as for
     /// [`Recorder::delta`]. The redundant count is at least the units that the recorder had accepted, and each
-    /// redundant count that it had seen [owed]. It asks for memory as [`Recorder::delta`] does.
+    /// redundant count that it had seen [owed]. The segment came to a kept state in which the recorder's seat has done
+    /// and seen what it has, and for each key the snapshot has at most what is counted there; its redundant count is at
+    /// most that of the opening and the units that are noted there [most]. It asks for memory as [`Recorder::delta`] does.
     pub fn snapshot(&mut self, histogram: Hist) -> Result<Snapshot, Refusal>
         requires { Knows self.old.state histogram }
         ensures kept { self.new.segment ≡ self.old.segment }
@@ -338,14 +344,16 @@ impl<'a> Recorder<'a> {
         ensures answer { AnswersSnapshot histogram self.old.state result self.new.state }
         ensures few { ShowsFewKeys self.old.segment.now histogram self.old.state result }
         ensures owed { ShowsEnough histogram self.old.state result self.new.state }
+        ensures most { ShowsNoMore self.new.segment.now histogram self.old.state result self.new.state }
         ensures values { ShowsUnits histogram self.old.state result }
     {
         self.state.snapshot(self.segment, histogram)
     }
 
-    /// Marks the segment as corrupt for good: from then on no block is claimed in it. It is never refused. The
-    /// recorder has set the corrupt flag, and nothing else has changed [flag]; it records into the same segment
-    /// [kept] and knows the same histograms [same].
+    /// Marks the segment as corrupt for good, so that no more blocks are claimed: from then on this recorder claims
+    /// none, nor does any allocation that loads the flags later. It is never refused. The recorder has set the corrupt
+    /// flag, and nothing else has changed [flag]; it records into the same segment [kept] and knows the same histograms
+    /// [same].
     pub fn set_corrupt(&mut self)
         ensures kept { self.new.segment ≡ self.old.segment }
         ensures same { IsSameRecorder self.old.state self.new.state }

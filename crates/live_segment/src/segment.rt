@@ -52,7 +52,7 @@ impl Segment {
     ghost use Rattle.segment_machine.specs.Actor.{offered_of};
     ghost use Rattle.segment_machine.specs.Seats.{MayOffer, offering, MaySplit, parent, newcomer, MayFill, lender, purse, MayPour, getter, joined};
     ghost use Rattle.live_segment.specs.Adopted.{MayGoOn};
-    ghost use Rattle.live_segment.specs.Closing.{IsImageOf, ReadsJoined, DeltasAddUp, SnapshotsAgree, ReadsStopped};
+    ghost use Rattle.live_segment.specs.Closing.{IsImageOf, IsRisenBy, ReadsJoined, DeltasAddUp, SnapshotsAgree, GaveFronts, ReadsStopped};
     ghost use Rattle.live_segment.specs.Rule.{IsKeptOpening, opener_for, words_of};
     ghost use Rattle.live_segment.specs.Seated.{IsSeated};
     ghost use Rattle.live_segment.specs.Steps.{IsAtRest, IsSame, Joinable};
@@ -198,12 +198,18 @@ impl Segment {
     ///   what the log before it adds up to [deltas].
     /// - No bucket of any snapshot is above its total; a final snapshot has the totals, the sum and the redundant
     ///   count [snapshots].
+    /// - What each shared cursor gave all recorders is a front of the image's list, each record once [given].
     ///
-    /// Whether all are joined or not, the image is that of a kept state of a segment that was opened with the words of
-    /// this one, in which the opener has done and seen what it had, and its reading is as `stopped_reads` says of that
-    /// state. So words 9 to 11 and the other bits of the flags are those of the opening; and the records that were
-    /// listed then are first on the list, also those of other types and the later ones of a name, with the words that
-    /// they had. Each histogram that a joined recorder knows is read. The total of each key, in version 1 with the
+    /// The free pointer is where it was at the opening, and higher by the rises that the opener and the recorders that
+    /// it joined have noted: exactly that if all are joined, else at least that. So as much room is left as the calls
+    /// have left [risen].
+    ///
+    /// Whether all are joined or not, the image is that of a kept state to which a segment came that was opened with
+    /// the words of this one. In that state the opener has done and seen what it had, and the image's reading is as
+    /// `stopped_reads` says of it. So words 9 to 11 and the other bits of the flags are those of the opening; and the
+    /// records that were listed then are first on the list, also those of other types and the later ones of a name,
+    /// with the words that they had. What each shared cursor gave all recorders of that state is a front of the list.
+    /// Each histogram that a joined recorder knows is read. The total of each key, in version 1 with the
     /// units in transit, is at least what the opener's log has. All units beyond the log are at most those that were
     /// handed out and have not come back. The opener knows the redundant counts of the opening [stopped].
     pub fn close(self, opener: Opener) -> Image
@@ -212,6 +218,8 @@ impl Segment {
         ensures joined { AllJoined opener → ReadsJoined self.setting (view_of_opener opener) result }
         ensures deltas { AllJoined opener → DeltasAddUp (view_of_opener opener) }
         ensures snapshots { AllJoined opener → SnapshotsAgree (view_of_opener opener) }
+        ensures given { AllJoined opener → GaveFronts (view_of_opener opener) result }
+        ensures risen { IsRisenBy (opened_with self) (view_of_opener opener) result }
         ensures stopped { ReadsStopped (opened_with self) (view_of_opener opener) result }
         ensures goes_on { MayGoOn result }
     {

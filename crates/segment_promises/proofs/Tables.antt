@@ -6,7 +6,8 @@ use Rattle.atomic_table.specs.Table as table
 use Rattle.alloc_core.proofs.Layouts.{length_shown}
 use Rattle.segment_machine.specs.Event.{change, after}
 use Rattle.segment_machine.specs.Seats.{offering, parent, newcomer, getter, lender, joined, spent}
-use Rattle.segment_machine.specs.State.{memory}
+use Rattle.segment_machine.specs.State.{memory, IsStep}
+use Rattle.segment_machine.specs.Reached.{IsReached, started, stepped, announced, offered, split, purse_filled, purse_poured, joined_in}
 use Rattle.segment_invariant.proofs.Recorders.Lends.{offers_keep, pours_keep}
 use Rattle.segment_invariant.proofs.Recorders.Purses.{fills_keep}
 use Rattle.segment_invariant.proofs.Recorders.Splits.{splits_keep}
@@ -18,18 +19,18 @@ use Rattle.segment_promises.proofs.Steps.{happens}
 -- ---- opened and closed
 
 pub tables_open : (S : Type 0) → TablesOpen S
-tables_open S shape opened state opener anchor xs kept one =
-    record { anchor = anchor; segment = state; words = refl; views = sym one; kept = kept }
+tables_open S shape opened start opener anchor xs kept one =
+    record { anchor = anchor; segment = start; words = refl; views = sym one; reached = started; kept = kept }
 
 pub tables_close : (S : Type 0) → TablesClose S
-tables_close S shape opened words xs opener final =
+tables_close S shape opened start words xs opener final =
     let (s, (run, first), same, more, homes) = final in
-    (run.anchor, run.segment, sym same ∙ run.words, run.kept, ap (λ list. get_elem? list 0) (sym run.views) ∙ first)
+    (run.anchor, run.segment, sym same ∙ run.words, run.reached, run.kept, ap (λ list. get_elem? list 0) (sym run.views) ∙ first)
 
 -- ---- steps
 
 pub tables_follow : (S : Type 0) → TablesFollow S
-tables_follow S shape opened before event behind slots id me word word_is records may ready goes s run wide mine small =
+tables_follow S shape opened start before event behind slots id me word word_is records may ready goes s run wide mine small =
     let seg : State = run.segment in
     let size : length seg.words ≡ shape.size = length_shown shape seg.words (layout_of run.kept.anatomy) run.kept.shown in
     let at : word ≡ suc (spot (length seg.words) event) = word_is ∙ (ap (λ (n : ℕ). spot n event + 1) (sym size) ∙ omega arith) in
@@ -39,27 +40,46 @@ tables_follow S shape opened before event behind slots id me word word_is record
     let n : ℕ = found_at seg event in
     let last : Actor = noted_by (next first event n) (behind n) in
     let did = happens shape opened seg id me.0 first before event run.kept there records may ready (behind n) last (goes n) in
-    let all = after (length seg.words) opened.version event (memory seg) in (
+    let all = after (length seg.words) opened.version event (memory seg) in
+    let new : State = record { words = take (length seg.words) all; cursors = drop (length seg.words) all; actors = set seg.actors id last } in
+    let long : length new.words ≡ shape.size = length_shown shape new.words (layout_of did.0.anatomy) did.0.shown in
+    let step : IsStep opened.version seg id event new = record {
+      actor = me.0;
+      there = there;
+      is_recorder = records;
+      before = before;
+      at = first;
+      notes_before = may;
+      ready = ready;
+      behind = behind n;
+      then_is = last;
+      notes_behind = goes n did.1;
+      size = long ∙ sym size;
+      memory_is = take-append-drop (length seg.words) all;
+      actors_are = refl;
+    } in (
       last,
       table.keeps,
       tt,
       record {
         anchor = run.anchor;
-        segment = record { words = take (length seg.words) all; cursors = drop (length seg.words) all; actors = set seg.actors id last };
+        segment = new;
         words = (λ i. set (run.words i) (at i) (change opened.version event (found i)))
             ∙ ap (λ list. run.anchor ∷ list) (sym (take-append-drop (length seg.words) all));
         views = ap (λ list. set list id last) run.views;
+        reached = stepped seg new id event run.reached step;
         kept = did.0;
       },
       subst (λ (x : ℕ). GhostNoted before event behind me x (last, me.1)) (sym found) (refl, refl, did.1),
     )
 
 -- A step on the word that never changes changes the view of its seat alone, if what holds is kept.
-module _ (S : Type 0) (shape : Dimensions) (opened : Anatomy) (slots id : ℕ) (me : table.Me S Actor) (becomes : ℕ → ℕ) (same : (n : ℕ) → becomes n ≡ n)
-    (last : Actor) where
-  announced : ((state : State) → Invariant shape opened state → get_elem? state.actors id ≡ some me.0 → Invariant shape opened (with_actor state id last))
-      → table.Allows (Running S shape opened) slots id me 0 becomes (λ found me'. (me'.0 ≡ last) × (me'.1 ≡ me.1))
-  announced keeps s run wide mine small =
+module _ (S : Type 0) (shape : Dimensions) (opened : Anatomy) (start : State) (slots id : ℕ) (me : table.Me S Actor) (becomes : ℕ → ℕ)
+    (same : (n : ℕ) → becomes n ≡ n) (last : Actor) where
+  told : ((state : State) → Invariant shape opened state → get_elem? state.actors id ≡ some me.0 → Invariant shape opened (with_actor state id last))
+      → ((state : State) → IsReached opened.version start state → get_elem? state.actors id ≡ some me.0 → IsReached opened.version start (with_actor state id last))
+      → table.Allows (Running S shape opened start) slots id me 0 becomes (λ found me'. (me'.0 ≡ last) × (me'.1 ≡ me.1))
+  told keeps reaches s run wide mine small =
       let seg : State = run.segment in
       let there : get_elem? seg.actors id ≡ some me.0 = ap (λ list. get_elem? list id) (sym run.views) ∙ mine in (
         last,
@@ -70,27 +90,30 @@ module _ (S : Type 0) (shape : Dimensions) (opened : Anatomy) (slots id : ℕ) (
           segment = with_actor seg id last;
           words = (λ i. set (run.words i) 0 (becomes (get_or (run.words i) 0 0))) ∙ ap (λ (n : ℕ). n ∷ memory seg) (same run.anchor);
           views = ap (λ list. set list id last) run.views;
+          reached = reaches seg run.reached there;
           kept = keeps seg run.kept there;
         },
         (refl, refl),
       )
 
 pub tables_announce : (S : Type 0) → TablesAnnounce S
-tables_announce S shape opened notes slots id me becomes same records may =
+tables_announce S shape opened start notes slots id me becomes same records may =
     let last : Actor = noted_by me.0 notes in
-    announced S shape opened slots id me becomes same last
+    told S shape opened start slots id me becomes same last
     (λ seg kept there. (notes_follow shape opened notes seg id me.0 last kept there records may).0.0)
+    (λ seg reached there. announced seg (with_actor seg id last) id reached (me.0, last, notes, there, records, may, refl))
 
 pub tables_offer : (S : Type 0) → TablesOffer S
-tables_offer S shape opened units slots id me becomes same may =
+tables_offer S shape opened start units slots id me becomes same may =
     let last : Actor = offering me.0 units in
-    announced S shape opened slots id me becomes same last
+    told S shape opened start slots id me becomes same last
     (λ seg kept there. (offers_keep shape opened seg (with_actor seg id last) id units kept (me.0, there, may, refl)).0)
+    (λ seg reached there. offered seg (with_actor seg id last) id units reached (me.0, there, may, refl))
 
 -- ---- seats
 
 pub tables_split : (S : Type 0) → TablesSplit S
-tables_split S shape opened id a may s run mine =
+tables_split S shape opened start id a may s run mine =
     let seg : State = run.segment in
     let both = λ (list : List Actor). set list id (parent a) ++ newcomer a ∷ [] in
     let there : get_elem? seg.actors id ≡ some a = ap (λ list. get_elem? list id) (sym run.views) ∙ mine in record {
@@ -98,11 +121,12 @@ tables_split S shape opened id a may s run mine =
       segment = record seg { actors = both seg.actors };
       words = run.words;
       views = ap both run.views;
+      reached = split seg (record seg { actors = both seg.actors }) id run.reached (a, there, may, refl);
       kept = (splits_keep shape opened seg (record seg { actors = both seg.actors }) id run.kept (a, there, may, refl)).0;
     }
 
 pub tables_join : (S : Type 0) → TablesJoin S
-tables_join S shape opened id other a b may s run mine apart theirs =
+tables_join S shape opened start id other a b may s run mine apart theirs =
     let seg : State = run.segment in
     let all = λ (list : List Actor). set (set list id (joined a b)) other spent in
     let view = λ (k : ℕ). ap (λ (list : List Actor). get_elem? list k) (sym run.views) in
@@ -112,12 +136,13 @@ tables_join S shape opened id other a b may s run mine apart theirs =
       segment = record seg { actors = all seg.actors };
       words = run.words;
       views = ap all run.views;
+      reached = joined_in seg (record seg { actors = all seg.actors }) id other run.reached (a, b, (λ e. apart (sym e)), there, beside, may, refl);
       kept = (joins_keep shape opened seg (record seg { actors = all seg.actors }) id other run.kept
           (a, b, (λ e. apart (sym e)), there, beside, may, refl)).0;
     }
 
 pub tables_fill : (S : Type 0) → TablesFill S
-tables_fill S shape opened id a may s run mine =
+tables_fill S shape opened start id a may s run mine =
     let seg : State = run.segment in
     let both = λ (list : List Actor). set list id (lender a) ++ purse (offered_of a.role) ∷ [] in
     let there : get_elem? seg.actors id ≡ some a = ap (λ list. get_elem? list id) (sym run.views) ∙ mine in record {
@@ -125,11 +150,12 @@ tables_fill S shape opened id a may s run mine =
       segment = record seg { actors = both seg.actors };
       words = run.words;
       views = ap both run.views;
+      reached = purse_filled seg (record seg { actors = both seg.actors }) id run.reached (a, there, may, refl);
       kept = (fills_keep shape opened seg (record seg { actors = both seg.actors }) id run.kept (a, there, may, refl)).0;
     }
 
 pub tables_pour : (S : Type 0) → TablesPour S
-tables_pour S shape opened id other b c may s run mine apart theirs =
+tables_pour S shape opened start id other b c may s run mine apart theirs =
     let seg : State = run.segment in
     let richer : Actor = getter b c.units.share in
     let all = λ (list : List Actor). set (set list id richer) other spent in
@@ -140,6 +166,7 @@ tables_pour S shape opened id other b c may s run mine apart theirs =
       segment = record seg { actors = all seg.actors };
       words = run.words;
       views = ap all run.views;
+      reached = purse_poured seg (record seg { actors = all seg.actors }) id other run.reached (b, c, (λ e. apart (sym e)), there, beside, may, refl);
       kept = (pours_keep shape opened seg (record seg { actors = all seg.actors }) id other run.kept
           (b, c, (λ e. apart (sym e)), there, beside, may, refl)).0;
     }

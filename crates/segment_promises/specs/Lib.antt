@@ -13,3 +13,4 @@ pub mod Onward
 pub mod Values
 pub mod Calls
 pub mod Totals
+pub mod FreePointer

@@ -3,6 +3,7 @@
 //! The functions do nothing. What each promises is a law of the definitions in `specs/`.
 
 ghost use Rattle.segment_promises.specs.States.{ReachedStatesFollow, StatesRise, StatesAreKept, StatesAreConsistent};
+ghost use Rattle.segment_promises.specs.FreePointer.{FreePointerIsRaised};
 ghost use Rattle.segment_promises.specs.Follows.{StepsFollow, TablesOpen, TablesClose, TablesFollow, TablesAnnounce, TablesOffer, TablesSplit, TablesJoin, TablesFill, TablesPour};
 ghost use Rattle.segment_promises.specs.Tallies.{PartsAddUp, TalliesAreCounts};
 ghost use Rattle.segment_promises.specs.Deltas.{FinalDeltasTakeAll, LoneDeltasTakeAll, FinalSnapshotsAreExact, SnapshotsStayBelow, DeltasTakeAccepted, SnapshotsSeeAccepted};
@@ -34,6 +35,12 @@ pub fn reached_states_follow()
 /// - The free pointer is no lower, and a flag that is set stays set.
 pub fn states_rise()
     ensures { StatesRise }
+{}
+
+/// The free pointer of a state is where it was in the kept state from which that is reached, and higher by the rises that
+/// actors have noted since.
+pub fn free_pointer_is_raised()
+    ensures { FreePointerIsRaised }
 {}
 
 /// Every state that is reached from a new segment of version 1 or 2 is kept.

@@ -33,6 +33,7 @@ use Rattle.live_segment.specs.declared.rule.Opening.{Opening}
 use Rattle.live_segment.specs.declared.rule.Setting.{Setting}
 use Rattle.live_segment.specs.Rule.{Closes}
 use Rattle.live_segment.specs.Closing.{units_beyond, units_out, ReadsStopped}
+use Rattle.live_segment.proofs.Closing.Given.{gave_all}
 use Rattle.live_segment.proofs.Closing.Joined.{known, read_there}
 
 -- ---- one histogram
@@ -158,4 +159,5 @@ stopped given opener words closes = record {
         least = least setting closes.opened state kept opener closes.stands rest all reading names units;
         most = most setting closes.opened state kept opener closes.stands rest all reading names units;
       };
+  gave = gave_all given opener words closes;
 }

@@ -19,7 +19,7 @@ use Rattle.segment_machine.specs.declared.actor.Role.TheVariants as role
 use Rattle.segment_machine.specs.Actor.{is_bound, is_opener, made_of, offered_of, outstanding_of, cost_total, units_of}
 use Rattle.segment_machine.specs.Seats.{MayOffer, offering, MaySplit, parent, newcomer, giver, getter, purse, MayFill, lender, MayPour, joined, spent}
 use Rattle.segment_machine.specs.State.{State, memory}
-use Rattle.segment_machine.specs.Reached.{new_state}
+use Rattle.segment_machine.specs.Reached.{new_state, IsReached}
 use Rattle.segment_invariant.specs.Body.{Anatomy, blank, layout_of}
 use Rattle.segment_invariant.specs.Invariant.{Invariant, is_living, RolesAreKept}
 use Rattle.segment_invariant.proofs.Openings.Segments.{opening_is_kept, new_is_opening}
@@ -55,7 +55,8 @@ pub opens : (given : Opening) (words : List ℕ) → IsKeptOpening given → wor
 opens given words is same = record {
   opened = is.opened;
   as_said = is.as_said;
-  running = subst (λ (ws : List ℕ). Running Announcement given.setting.shape is.opened (opening {S = Announcement} ws [] (opener_for given))) (sym (same ∙ is.words))
+  start = is.kept;
+  running = subst (λ (ws : List ℕ). Running Announcement given.setting.shape is.opened (opening_state given) (opening {S = Announcement} ws [] (opener_for given))) (sym (same ∙ is.words))
       (tables_open Announcement given.setting.shape is.opened (opening_state given) (opener_for given) 0 [] is.kept refl);
 }
 
@@ -111,11 +112,13 @@ closes_as : (given : Opening) (words image : List ℕ) (xs : List Announcement) 
     → Final (Seen (Runs given) 0 opener) words xs → image ≡ take given.setting.shape.size (drop 1 words) → Closes given opener image
 closes_as given words image xs opener (s, (run, seen), stands, many, homes) same =
     let shape = given.setting.shape in
-    let (anchor, state, all, kept, first) = tables_close Announcement shape run.opened words xs opener (s, (run.running, seen), stands, many, homes) in record {
+    let (anchor, state, all, reached, kept, first) = tables_close Announcement shape run.opened (opening_state given) words xs opener (s, (run.running, seen), stands, many, homes) in record {
       state = state;
       words_are = same ∙ (ap (λ (ws : List ℕ). take shape.size (drop 1 ws)) all ∙ front_of shape run.opened state kept);
       opened = run.opened;
       as_said = run.as_said;
+      start = run.start;
+      come = subst (λ (version : ℕ). IsReached version (opening_state given) state) run.as_said.version reached;
       kept = kept;
       stands = first;
     }
@@ -142,7 +145,7 @@ module _ (given : Opening) (slots id : ℕ) (me : Sat) where
   offers units may s run wide mine small =
       let (view, act, valid, holds, told) =
       allows given slots id me 0 (λ n. either (n == 0) 0 n) (λ found me'. (me'.0 ≡ offering me.0 units) × (me'.1 ≡ me.1))
-      (λ opened as_said. tables_offer Announcement given.setting.shape opened units slots id me (λ n. either (n == 0) 0 n) nothing_exchanged may) s run wide mine small in
+      (λ opened as_said. tables_offer Announcement given.setting.shape opened (opening_state given) units slots id me (λ n. either (n == 0) 0 n) nothing_exchanged may) s run wide mine small in
       (view, act, valid, holds, λ said e. (told.0 ∙ ap (λ (n : ℕ). offering me.0 n) (same said e), told.1))
     where
       units_said : Announcement → ℕ
@@ -167,15 +170,15 @@ module _ (given : Opening) (slots id : ℕ) (me : Sat) where
       most share costs held few = omega arith
 
 pub splits : (given : Opening) (id : ℕ) (a : Actor) → MaySplit a → Splits (Runs given) id a (parent a) (newcomer a)
-splits given id a may = splits_all given id a (parent a) (newcomer a) (λ opened. tables_split Announcement given.setting.shape opened id a may)
+splits given id a may = splits_all given id a (parent a) (newcomer a) (λ opened. tables_split Announcement given.setting.shape opened (opening_state given) id a may)
 
 pub fills : (given : Opening) (id : ℕ) (a : Actor) → MayFill a → Splits (Runs given) id a (lender a) (purse (offered_of a.role))
 fills given id a may =
-    splits_all given id a (lender a) (purse (offered_of a.role)) (λ opened. tables_fill Announcement given.setting.shape opened id a may)
+    splits_all given id a (lender a) (purse (offered_of a.role)) (λ opened. tables_fill Announcement given.setting.shape opened (opening_state given) id a may)
 
 pub pours : (given : Opening) (id other : ℕ) (b c : Actor) → MayPour b c → Joins (Runs given) id b other c (getter b c.units.share) spent
 pours given id other b c may =
-    joins_all given id other b c (getter b c.units.share) spent (λ opened. tables_pour Announcement given.setting.shape opened id other b c may)
+    joins_all given id other b c (getter b c.units.share) spent (λ opened. tables_pour Announcement given.setting.shape opened (opening_state given) id other b c may)
 
 -- a recorder at rest may get what is in a purse
 pub may_get : (a c : Actor) (units : ℕ) → IsAtRest a → c ≡ purse units → MayPour a c
@@ -212,5 +215,5 @@ joins given id other a b may s run mine apart theirs =
     let (idle, opener, rest) = may in
     let one : 1 ≤ outstanding_of a.role = stands_out seg.actors run.running.kept.roles id other a b there beside opener rest in
     joins_all given id other a b (joined a b) spent
-    (λ opened. tables_join Announcement given.setting.shape opened id other a b
+    (λ opened. tables_join Announcement given.setting.shape opened (opening_state given) id other a b
     (idle, opener, one, rest.free, rest.recorder, rest.holds, rest.runs, rest.takes, rest.owes)) s run mine apart theirs

@@ -8,9 +8,10 @@ use Rattle.atomic_table.specs.Table.{Allows, State, keeps, stepped}
 use Rattle.atomic_table.proofs.Lists.{set_again}
 use Rattle.segment_image.specs.Words.{word_at}
 use Rattle.segment_machine.specs.declared.actor.Actor.{Actor}
+use Rattle.segment_machine.specs.Reached.{IsReached}
 use Rattle.live_segment.specs.declared.rule.Announcement.{Announcement}
 use Rattle.live_segment.specs.declared.rule.Opening.{Opening}
-use Rattle.live_segment.specs.Rule.{Runs}
+use Rattle.live_segment.specs.Rule.{Runs, opening_state}
 use Rattle.live_segment.specs.Standing.{SeesNext, Standing, StandsStill}
 use Rattle.live_segment.specs.Steps.{Pass, Sat}
 
@@ -23,7 +24,9 @@ pub stands_kept : (given : Opening) (s : State Announcement Actor) → Runs give
 stands_kept given s run id a there = record {
   opened = run.opened;
   as_said = run.as_said;
+  start = run.start;
   state = run.running.segment;
+  come = subst (λ (version : ℕ). IsReached version (opening_state given) run.running.segment) run.as_said.version run.running.reached;
   kept = run.running.kept;
   stands = ap (λ list. get_elem? list id) (sym run.running.views) ∙ there;
 }

@@ -5,6 +5,7 @@ pub mod BucketKeys
 pub mod DeltaEnds
 pub mod FewKeys
 pub mod Given
+pub mod NoMore
 pub mod OneBucket
 pub mod OneDelta
 pub mod OneSample

@@ -1,6 +1,6 @@
 -- What a recorder is owed by a delta and a snapshot of a histogram: of each key at least what it had accepted, or seen, before the call.
-use Rattle.std.specs.Prelude.{◌≡◌, ◌≢◌, ◌⊎◌, ℕ, ◌+◌, ◌<◌, ◌≤◌, ℤ, map, Some}
-use Rattle.std.specs.List.{Contains}
+use Rattle.std.specs.Prelude.{◌≡◌, ◌≢◌, ◌⊎◌, ℕ, ◌+◌, ◌<◌, ◌≤◌, ℤ, List, map, Some}
+use Rattle.std.specs.List.{All, Contains}
 use Rattle.segment_image.specs.declared.layout.TheConstants.{BLOCK_HEADER, HISTOGRAM_COUNTS, HISTOGRAM_REDUNDANT, HISTOGRAM_SINGLE, SAMPLE_COUNT}
 use Rattle.bucket_ranges.specs.declared.spec.Spec.TheVariants.{Sparse}
 use Rattle.bucket_ranges.specs.Single.{single_of, packed_bucket, units_packed}
@@ -8,11 +8,12 @@ use Rattle.bucket_ranges.specs.Spec.{buckets_of}
 use Rattle.segment_calls.specs.declared.answer.Snapshot.{Snapshot}
 use Rattle.segment_machine.specs.declared.actor.Actor.{Actor}
 use Rattle.segment_machine.specs.declared.actor.Known.{Known}
-use Rattle.segment_machine.specs.Actor.{SawSingle, accepted_by, bucket_key, units_listed, word_seen}
+use Rattle.segment_machine.specs.Actor.{SawSingle, accepted_by, all_counted, all_noted, bucket_key, units_listed, word_seen}
 use Rattle.segment_machine.specs.Entry.{tally_noted, tally_units}
 use Rattle.segment_machine.specs.Made.{IsFirstSample}
 use Rattle.segment_invariant.specs.Consistent.{units_taken}
 use Rattle.segment_promises.specs.Deltas.{SawOpen}
+use Rattle.segment_promises.specs.Reads.{noted_at_opening}
 use Rattle.live_segment.specs.declared.rule.Opening.{Opening}
 use Rattle.live_segment.specs.Standing.{Standing}
 
@@ -64,10 +65,13 @@ pub record IsEnough (known : Known) (old new : Actor) (units : ℤ → ℕ) : Ty
 
 -- ---- of all deltas
 
--- as a delta ended, all deltas of all recorders of its segment together had taken enough
-pub record TookEnough (opening : Opening) (number : ℕ) (known : Known) (old new : Actor) : Type 0 where
+-- As a delta ended, all deltas of all recorders of its segment together had taken enough, and no more than was counted; this one took no
+-- more than all.
+pub record TookEnough (opening : Opening) (number : ℕ) (known : Known) (delta : List (ℤ × ℕ)) (old new : Actor) : Type 0 where
   pub standing : Standing opening number new
   pub enough : IsEnough known old new (units_taken standing.state.actors known.name)
+  pub most : (key : ℤ) → units_taken standing.state.actors known.name key ≤ tally_units (all_counted standing.state.actors) known.name key
+  pub mine : (key : ℤ) → units_listed delta key ≤ units_taken standing.state.actors known.name key
 
 -- ---- of a snapshot
 
@@ -76,3 +80,10 @@ pub record HasEnough (known : Known) (old : Actor) (snapshot : Snapshot) (new : 
   pub enough : IsEnough known old new (units_listed snapshot.counts.items)
   pub accepted : tally_noted (map (λ c. c.entry) old.entries.log) known.name ≤ snapshot.redundant
   pub redundant : (count : ℕ) → HadRedundant old known count → count ≤ snapshot.redundant
+
+-- As it returned, no total of it was above what was counted of its key, and its redundant count was not above what was noted since the
+-- opening, with what the opening had.
+pub record HasNoMore (opening : Opening) (number : ℕ) (known : Known) (snapshot : Snapshot) (new : Actor) : Type 0 where
+  pub standing : Standing opening number new
+  pub totals : All (λ count. count.1 ≤ tally_units (all_counted standing.state.actors) known.name count.0) snapshot.counts.items
+  pub redundant : snapshot.redundant ≤ noted_at_opening standing.opened known.name + tally_noted (all_noted standing.state.actors) known.name

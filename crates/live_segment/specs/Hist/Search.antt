@@ -1,7 +1,7 @@
 -- What a walk along the list that looks for a name changes in a recorder, and how it ends.
 use Rattle.std.specs.Prelude.{◌≡◌, ℕ, ◌+◌, ◌≤◌, List, length, ⊤}
 use Rattle.std.specs.List.{All, Contains}
-use Rattle.segment_image.specs.declared.layout.TheConstants.{BLOCK_LEAST, HISTOGRAM_NAME}
+use Rattle.segment_image.specs.declared.layout.TheConstants.{HISTOGRAM_NAME}
 use Rattle.bucket_ranges.specs.declared.spec.Spec.{Spec}
 use Rattle.segment_machine.specs.declared.actor.Actor.{Actor}
 use Rattle.segment_machine.specs.declared.actor.Known.{Known}

@@ -49,7 +49,7 @@ fn numbers_of(alloc: Global, words: &[u64]) -> Result<Vec<u32>, AllocError>
 }
 
 impl Segment {
-    ghost use Rattle.live_segment.specs.Hist.Prelude.{AsksFor, HasMetRecord, HasSearched, IsIndexed, IsSame, IsSeated, Name, opened_with, Standing, table_of};
+    ghost use Rattle.live_segment.specs.Hist.Prelude.{AsksFor, HasMetRecord, HasSearched, IsIndexed, IsSame, IsSeated, Name, table_of};
 
     // Walks along the list up to a record. Whether the list has it.
     pub(crate) fn meet(&self, seat: &mut Pass, reference: u64) -> bool
@@ -238,7 +238,6 @@ impl Segment {
         ensures same { IsSame seat.old seat.new }
         ensures indexed { IsIndexed Name self.now.setting.shape.size seat.new.me.0.seen index.new }
         ensures outcome { Recognizes asked reference seat.old.me.0 result seat.new.me.0 }
-        ensures stands { IfSome result (λ _. Standing (opened_with self.now) seat.new.id seat.new.me.0) }
     {
         let found = match self.search(seat, index, &asked) {
             Search::Met(found) => found,
@@ -250,7 +249,6 @@ impl Segment {
         }
         let said = Announcement::Histogram(asked);
         self.know(seat, found, &said);
-        self.stand(seat);
         Some(KnownHistogram::of(said.into_asked(), found))
     }
 }

@@ -46,7 +46,7 @@ impl RecorderState {
     ghost use Rattle.live_segment.specs.List.SharedCursors.{AnswersNext, gift};
     ghost use Rattle.live_segment.specs.Hist.Answer.{IsAnsweredWith, IsKnownAt, IsRefusedWith, NoneHasName};
     ghost use Rattle.live_segment.specs.RecorderState.{given_fresh, HasLimit, IsFoundAt, IsKnownName, IsKnownSpec, IsNamed, IsRecorderSomewhere, IsSameRecorder, Knows, KnowsOn, StaysRecorder, view_of_state};
-    ghost use Rattle.live_segment.specs.Answers.{AreMostKeysOf, AnswersAdd, AnswersBatch, AnswersDelta, AnswersFirst, AnswersFresh, AnswersFront, AnswersHist, AnswersList, AnswersOpen, AnswersOpenAs, AnswersRecords, AnswersSnapshot, ClaimsAdd, ClaimsBatch, ClaimsHist, ShowsEnough, ShowsFewKeys, ShowsUnits, TakesEnough, TakesFewKeys};
+    ghost use Rattle.live_segment.specs.Answers.{AreMostKeysOf, AnswersAdd, AnswersBatch, AnswersDelta, AnswersFirst, AnswersFresh, AnswersFront, AnswersHist, AnswersList, AnswersOpen, AnswersOpenAs, AnswersRecords, AnswersSnapshot, ClaimsAdd, ClaimsBatch, ClaimsHist, OpensFirst, ShowsEnough, ShowsFewKeys, ShowsNoMore, ShowsUnits, TakesEnough, TakesFewKeys};
 
     // That of a recorder that has done nothing, at a seat with these units.
     pub(crate) fn new(alloc: Global, segment: &Segment, seat: Pass, units: u32) -> RecorderState
@@ -259,9 +259,8 @@ impl RecorderState {
         Ok(Some(Hist { index }))
     }
 
-    /// The histogram of a record, as [`Recorder::open`](super::Recorder::open) returns it [same, answer]. It is still the state of a
-    /// recorder at the segment [at].
-    pub fn open(&mut self, segment: &Segment, reference: u64) -> Result<Option<Hist>, Refusal>
+    // The histogram of a record, or none, by what the call has seen.
+    fn find_record(&mut self, segment: &Segment, reference: u64) -> Result<Option<Hist>, Refusal>
         requires { IsRecorderAt segment.now self.old }
         ensures at { IsRecorderAt segment.now self.new }
         ensures same { KnowsOn self.old self.new }
@@ -271,6 +270,20 @@ impl RecorderState {
             return Ok(None);
         };
         self.open_as(segment, &name, &spec, reference)
+    }
+
+    /// The histogram of a record, as [`Recorder::open`](super::Recorder::open) returns it [same, answer, first]. It is
+    /// still the state of a recorder at the segment [at].
+    pub fn open(&mut self, segment: &Segment, reference: u64) -> Result<Option<Hist>, Refusal>
+        requires { IsRecorderAt segment.now self.old }
+        ensures at { IsRecorderAt segment.now self.new }
+        ensures same { KnowsOn self.old self.new }
+        ensures answer { AnswersOpen reference self.old result self.new }
+        ensures first { OpensFirst segment.now result self.new }
+    {
+        let found = self.find_record(segment, reference)?;
+        segment.stand(&mut self.seat);
+        Ok(found)
     }
 
     /// Adds a sample, as [`Recorder::add`](super::Recorder::add) does [same, answer, claims]. It is still the state
@@ -353,7 +366,7 @@ impl RecorderState {
     }
 
     /// Returns what a histogram has, as [`Recorder::snapshot`](super::Recorder::snapshot) does [same, answer, few,
-    /// owed, values]. It is still the state of a recorder at the segment [at].
+    /// owed, most, values]. It is still the state of a recorder at the segment [at].
     pub fn snapshot(&mut self, segment: &Segment, histogram: Hist) -> Result<Snapshot, Refusal>
         requires at { IsRecorderAt segment.now self.old }
         requires knows { Knows self.old histogram }
@@ -362,6 +375,7 @@ impl RecorderState {
         ensures answer { AnswersSnapshot histogram self.old result self.new }
         ensures few { ShowsFewKeys segment.now histogram self.old result }
         ensures owed { ShowsEnough histogram self.old result self.new }
+        ensures most { ShowsNoMore segment.now histogram self.old result self.new }
         ensures values { ShowsUnits histogram self.old result }
     {
         let known = &self.known[histogram.index];

@@ -98,7 +98,7 @@ returns-clause-answer c =
     read_by c.snapshot.new.self.segment.now c.args.reference c.in-Some.histogram
     (record { name = c.in_ok-name.name; spec = c.in_ok-spec.spec; snapshot = c.in_ok-snapshot.snapshot }) old mid new c.in_ok-histogram.ensures.same
     (subst (λ (found : Option Hist). OpensRecord c.args.reference (view_of_state old) found (view_of_state mid)) c.in-Some.is c.in_ok-histogram.ensures.answer)
-    c.in_ok-snapshot.ensures.same c.in_ok-snapshot.ensures.answer c.in_ok-snapshot.ensures.owed
+    c.in_ok-snapshot.ensures.same c.in_ok-snapshot.ensures.answer c.in_ok-snapshot.ensures.owed c.in_ok-snapshot.ensures.most
     (λ known means.
     subst (λ (segment : Segment). AreFewKeys segment known c.in_ok-snapshot.snapshot.counts.items)
     (sym (ap (λ (segment : Bor Segment). segment.now) c.in_ok-snapshot.ensures.kept)) (c.in_ok-snapshot.ensures.few known means))

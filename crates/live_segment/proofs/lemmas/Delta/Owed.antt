@@ -58,6 +58,7 @@ use Rattle.live_segment.specs.Delta.Outcome.{HasTaken}
 use Rattle.live_segment.specs.Delta.Owed.{HadCount, HadPacked, HadSample, HasEnough, IsEnough, IsWhole, TookEnough}
 use Rattle.live_segment.specs.Standing.{Standing}
 use Rattle.live_segment.specs.Snapshot.Outcome.{HasSnapshot}
+use Rattle.live_segment.proofs.lemmas.Delta.NoMore.{took_among}
 use Rattle.live_segment.specs.Steps.Taking.{answered_as}
 
 kind_of : (s : Spec) → (has_buckets s ≡ true) ⊎ (s ≡ spec.Sparse)
@@ -278,7 +279,7 @@ module _ (given : Opening) (number : ℕ) (old new : Actor) (since : new.since �
 
 -- of a delta
 pub took_enough : (given : Opening) (number : ℕ) (known : Known) (delta : List (ℤ × ℕ)) (sum : ℤ) (old new : Actor) → HasTaken known delta sum old new
-    → Contains old.answers.names known → is_opener old.role ≡ false → Standing given number new → TookEnough given number known old new
+    → Contains old.answers.names known → is_opener old.role ≡ false → Standing given number new → TookEnough given number known delta old new
 took_enough given number known delta sum old new taken has records standing =
     let knows = subst (λ (names : List Known). Contains names known) (sym (ap (λ (x : Actor). x.answers.names) taken.same)) has in
     let recorder = ap (λ (x : Actor). is_opener x.role) taken.same ∙ records in
@@ -287,6 +288,8 @@ took_enough given number known delta sum old new taken has records standing =
       enough = is_enough given number old new (ap (λ (x : Actor). x.since) taken.same) (ap (λ (x : Actor). x.segment) taken.same) (ap (λ (x : Actor). x.entries) taken.same)
           taken.seen recorder known knows standing (units_taken standing.state.actors known.name)
           (deltas_take_accepted given.setting.shape opened standing.state number new known standing.kept standing.stands recorder knows taken.all);
+      most = standing.kept.balanced.taken known.name;
+      mine = took_among given number known delta sum old new taken standing;
     }
 
 -- of a snapshot

@@ -1,28 +1,22 @@
 -- A search for a name: what a recorder knows once it has loaded the next of the block where its walk is, and once it has compared the
 -- record that it visited.
-use Rattle.std.proofs.Common.{◌≡◌, ◌≢◌, ℕ, ◌+◌, ◌<◌, ◌≤◌, ◌==◌, Bool, true, false, List, [], ◌∷◌, ◌++◌, length, slice_index, inl, inr, refl, sym, ap, subst, ◌∙◌, arith, ne_eqb, length-append, eq-eqb, map, not}
-use Rattle.std.specs.Prelude.{if◌then◌else◌}
+use Rattle.std.proofs.Common.{◌≡◌, ◌≢◌, ℕ, ◌+◌, ◌<◌, ◌≤◌, ◌==◌, true, false, List, [], ◌∷◌, ◌++◌, length, slice_index, inl, inr, refl, sym, ap, subst, ◌∙◌, arith, map, not}
 use Rattle.std.specs.List.{All, Contains, filter}
 use Rattle.std.proofs.Math.ListN.{get_or}
-use Rattle.std.proofs.lemmas.List.{append-nil, append_assoc, get_or_push, get_or_append_left, length_push}
-use Rattle.std.proofs.lemmas.List.Elements.{All-push, All-contains, Contains-append_left, Contains-append_right}
+use Rattle.std.proofs.lemmas.List.{append-nil, append_assoc}
+use Rattle.std.proofs.lemmas.List.Elements.{All-push, All-contains, Contains-append_left}
 use Rattle.segment_image.specs.Shape.{Dimensions}
-use Rattle.list_core.specs.declared.walk.WalkStep.TheVariants.{Record, End, Stray}
-use Rattle.list_core.specs.Chain.{is_reference, stops}
-use Rattle.list_core.specs.Walk.{IsPrefix, given_after, said_of, stands_behind}
-use Rattle.list_core.proofs.Walks.{place_of}
 use Rattle.segment_machine.specs.declared.actor.Actor.{Actor}
 use Rattle.segment_machine.specs.declared.actor.Given.{Given}
 use Rattle.segment_machine.specs.declared.actor.Published.{Published}
 use Rattle.segment_machine.specs.declared.seen.Sighting.{Sighting}
 use Rattle.segment_machine.specs.declared.actor.Made.TheVariants as made
 use Rattle.segment_machine.specs.declared.seen.Seen.{Seen}
-use Rattle.segment_machine.specs.Actor.{is_bound, is_opener}
-use Rattle.segment_machine.specs.Event.{walking_event, Ready}
+use Rattle.segment_machine.specs.Actor.{is_opener}
+use Rattle.segment_machine.specs.Event.{walking_event}
 use Rattle.segment_machine.specs.Made.{IsFirstNamed, SawName, SawOtherName, SawSpec, SawOtherSpec}
 use Rattle.segment_machine.specs.Stages.{Walks}
-use Rattle.segment_machine.specs.Walking.{load_next, extended, records_met}
-use Rattle.segment_machine.proofs.Stages.Walks.{walks_agree}
+use Rattle.segment_machine.specs.Walking.{load_next, records_met}
 use Rattle.segment_invariant.proofs.Lists.Maps.{contains_map}
 use Rattle.segment_calls.specs.declared.asked.Asked.{Asked}
 use Rattle.live_segment.specs.declared.hist.search.Search.TheVariants as search
@@ -35,13 +29,11 @@ use Rattle.segment_promises.specs.Values.{NoRepeats}
 use Rattle.live_segment.specs.List.Records.{KnowsOwnNames}
 use Rattle.live_segment.specs.Hist.ListSearch.{IsAsked, MayLoadRecord, SeesWords, ShowsName, ShowsSpec}
 use Rattle.live_segment.specs.Hist.Search.{SearchesAt, HasSearched, Searches, HasMadeNone}
-use Rattle.segment_promises.proofs.Growing.{extended_end, reference_behind, grows_on, still}
-use Rattle.segment_promises.proofs.Furthest.{last_of, last_least, last_most, last_stands}
+use Rattle.segment_promises.proofs.Growing.{grows_on, still}
+use Rattle.segment_promises.proofs.Furthest.{last_of}
 use Rattle.live_segment.proofs.lemmas.List.Showing.{sees_on}
 use Rattle.live_segment.proofs.lemmas.List.WalkProgress as way
-use Rattle.live_segment.proofs.lemmas.List.Walked.{all_given}
 use Rattle.live_segment.specs.List.Ends.{SawAllOfList}
-use Rattle.live_segment.specs.List.Walk.{IsWalkProgress}
 
 -- ---- what was seen stays
 

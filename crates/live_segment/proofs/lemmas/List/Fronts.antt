@@ -1,5 +1,5 @@
 -- What is true in a state of a segment in which a call ends: what its list has, which record is the first of a name, and what a shared cursor gave.
-use Rattle.std.proofs.Common.{◌≡◌, ◌≢◌, ℕ, ◌+◌, ◌<◌, ◌≤◌, false, true≢false, List, ◌++◌, length, slice_index, sym, ap, subst, ◌∙◌, length-append, arith, Option, Some, None, Result, Ok, Err, IfOk}
+use Rattle.std.proofs.Common.{◌≡◌, ◌≢◌, ℕ, ◌+◌, ◌<◌, ◌≤◌, false, true≢false, List, ◌++◌, length, slice_index, sym, ap, subst, ◌∙◌, length-append, arith, Option, Some, None, MatchOption, Result, Ok, Err, IfOk}
 use Rattle.std.specs.Prelude.{take, drop}
 use Rattle.std.specs.List.{Contains}
 use mathlib.Core.Option.{some}
@@ -146,3 +146,10 @@ module _ (given : Opening) (number : ℕ) (a : Actor) where
       → IfOk answer (λ histogram. (known : Known) → get_elem? a.answers.names histogram.index ≡ some known → HasFirst given number a known)
   answer_first (Err why) standing = tt
   answer_first (Ok histogram) standing = λ known means. first_there known (contains_at a.answers.names histogram.index known means) standing
+
+  -- and for that of a record, or none
+  pub open_first : (found : Option Hist) → Standing given number a
+      → MatchOption found (Standing given number a)
+      (λ histogram. (known : Known) → get_elem? a.answers.names histogram.index ≡ some known → HasFirst given number a known)
+  open_first None standing = standing
+  open_first (Some histogram) standing = λ known means. first_there known (contains_at a.answers.names histogram.index known means) standing

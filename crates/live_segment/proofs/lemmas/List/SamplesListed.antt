@@ -1,5 +1,5 @@
 -- What a recorder lists of the samples of a sparse histogram that its index has, sample by sample.
-use Rattle.std.proofs.Common.{◌≡◌, ◌≢◌, ℕ, ◌+◌, ◌<◌, ◌≤◌, ℤ, if◌then◌else◌, sum_by, Bool, true, false, List, [], ◌∷◌, ◌++◌, length, zero, suc, true≢false, ◌⊎◌, inl, inr, refl, sym, ap, subst, ◌∙◌, arith}
+use Rattle.std.proofs.Common.{◌≡◌, ◌≢◌, ℕ, ◌<◌, ℤ, Bool, true, false, List, [], ◌∷◌, ◌++◌, length, zero, suc, true≢false, ◌⊎◌, inl, inr, refl, sym, ap, subst, ◌∙◌, arith}
 use Rattle.std.specs.List.{All, AllByRecursion, Contains}
 use Rattle.std.specs.Ordering.{int_eq}
 use mathlib.Core.Logic.{dite}
@@ -8,7 +8,6 @@ use Rattle.std.proofs.Math.ListN.{get_or}
 use Rattle.std.proofs.lemmas.Bool.Decides.{Decides-int_eq}
 use Rattle.std.proofs.lemmas.List.{length_push}
 use Rattle.std.proofs.lemmas.List.Elements.{All-cons, All-nil, All-push, Contains-append_left, Contains-push}
-use Rattle.std.proofs.lemmas.List.Sums.{sum_by-append, sum_by_push}
 use Rattle.segment_machine.specs.declared.actor.Actor.{Actor}
 use Rattle.segment_machine.specs.declared.actor.Known.{Known}
 use Rattle.segment_machine.specs.declared.seen.Seen.{Seen}
@@ -18,7 +17,7 @@ use Rattle.segment_machine.specs.Firsts.{ComesFirst}
 use Rattle.segment_machine.specs.Made.{IsFirstSample, SawOther, SawSample}
 use Rattle.segment_machine.specs.Taking.{IsLaterSample}
 use Rattle.segment_promises.specs.Onward.{Grows}
-use Rattle.segment_promises.specs.Values.{NoKeyRepeats, PassesRecord}
+use Rattle.segment_promises.specs.Values.{PassesRecord}
 use Rattle.segment_promises.proofs.FirstValues.{Shows, not_both, other_value}
 use Rattle.segment_promises.proofs.Growing.{all_push, others_still}
 use Rattle.segment_promises.proofs.ListedValues.{once_then, passes_still, sample_still}

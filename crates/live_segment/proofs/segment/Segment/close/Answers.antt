@@ -6,7 +6,9 @@ use Rattle.live_segment.specs.Closing.{IsImageOf, ReadsJoined}
 use Rattle.live_segment.specs.Holders.{opened_with, view_of_opener}
 use Rattle.live_segment.proofs.Closing.Copies.{copied}
 use Rattle.live_segment.proofs.Seating.Seated.{closes}
+use Rattle.live_segment.proofs.Closing.Given.{gave}
 use Rattle.live_segment.proofs.Closing.Joined.{image_of, joined, deltas, snapshots}
+use Rattle.live_segment.proofs.Closing.Risen.{risen}
 use Rattle.live_segment.proofs.Closing.Stopped.{stopped}
 use Rattle.live_segment.proofs.Closing.Onward.{goes_on}
 use Rattle.live_segment.proofs.segment.Segment.close.Goals as goal
@@ -35,6 +37,8 @@ returns c =
       joined = λ none. subst (λ (setting : Setting). ReadsJoined setting opener c.of.result) c.args.self.keyed (joined given opener _ is none);
       deltas = deltas given opener _ is;
       snapshots = snapshots given opener _ is;
+      given = gave given opener _ is;
+      risen = risen given opener _ is;
       stopped = stopped given opener _ is;
       goes_on = goes_on given opener _ is;
     }

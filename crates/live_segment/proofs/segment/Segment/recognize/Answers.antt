@@ -3,11 +3,8 @@ use Rattle.segment_machine.specs.declared.actor.Actor.{Actor}
 use Rattle.segment_machine.specs.declared.actor.Known.{Known}
 use Rattle.segment_machine.specs.Actor.{is_opener}
 use Rattle.segment_calls.specs.declared.asked.Asked.{Asked}
-use Rattle.live_segment.specs.declared.list.index.KeyKind.TheVariants.{Name}
-use Rattle.live_segment.specs.List.Index.{IsIndexed}
 use Rattle.live_segment.specs.Hist.Search.{asked_at}
 use Rattle.live_segment.specs.Hist.Outcome.{ComesToKnow}
-use Rattle.live_segment.specs.Steps.{IsSame, Pass}
 use Rattle.live_segment.proofs.lemmas.List.Showing.{same_on}
 use Rattle.live_segment.proofs.lemmas.Hist.Blocks.{knows_none}
 use Rattle.live_segment.proofs.lemmas.List.IndexKept.{kept_on}
@@ -24,25 +21,19 @@ know-requires-clause-may c =
       may = may;
     }
 
-pub stand-requires : goal.stand-requires
-stand-requires c =
-    let told = c.know.ensures (asked_at c.args.asked c.in-Met.found) (refl, refl) in
-    told.0.0 ∙ (c.search.ensures.same.0 ∙ c.requires.asks.seated.table)
-
 pub into_asked-requires : goal.into_asked-requires
 into_asked-requires c = (c.args.asked, refl)
 
 pub returns-clause-same : goal.returns-clause-same
 returns-clause-same c =
     let told = c.know.ensures (asked_at c.args.asked c.in-Met.found) (refl, refl) in
-    subst (IsSame c.args.seat.now) (sym c.stand.ensures.same) (same_on c.args.seat.now c.search.new.seat c.know.new.seat c.search.ensures.same told.0)
+    same_on c.args.seat.now c.search.new.seat c.know.new.seat c.search.ensures.same told.0
 
 pub returns-clause-indexed : goal.returns-clause-indexed
 returns-clause-indexed c =
     let told = c.know.ensures (asked_at c.args.asked c.in-Met.found) (refl, refl) in
-    subst (λ (seat : Pass). IsIndexed Name c.args.self.now.setting.shape.size seat.me.0.seen c.search.new.index) (sym c.stand.ensures.same)
-    (kept_on _ _ c.search.new.seat.me.0 c.know.new.seat.me.0
-    (knows_none c.search.new.seat.me.0 c.know.new.seat.me.0 (asked_at c.args.asked c.in-Met.found) told.1) c.search.ensures.indexed)
+    kept_on _ _ c.search.new.seat.me.0 c.know.new.seat.me.0
+    (knows_none c.search.new.seat.me.0 c.know.new.seat.me.0 (asked_at c.args.asked c.in-Met.found) told.1) c.search.ensures.indexed
 
 pub returns-clause-outcome : goal.returns-clause-outcome
 returns-clause-outcome c =
@@ -56,9 +47,7 @@ returns-clause-outcome c =
         ranges = c.of.ensures.ranges ∙ ap (λ (a : Asked). a.ranges) (sym same);
       },
       at ∙ c.if-found-reference.false,
-      subst (λ (seat : Pass). ComesToKnow c.args.asked c.args.reference c.args.seat.now.me.0 seat.me.0) (sym c.stand.ensures.same)
-          (subst (λ (n : ℕ). ComesToKnow c.args.asked n c.args.seat.now.me.0 c.know.new.seat.me.0) c.if-found-reference.false
-          (known_so c.args.asked found c.args.seat.now.me.0 c.search.new.seat.me.0 c.know.new.seat.me.0 looked told.1 told.2)),
-      ap (λ (seat : Pass). seat.me.0.done) c.stand.ensures.same
-          ∙ (ap (λ (a : Actor). a.done) told.1 ∙ ap (λ (a : Actor). a.done) c.search.ensures.view.view),
+      subst (λ (n : ℕ). ComesToKnow c.args.asked n c.args.seat.now.me.0 c.know.new.seat.me.0) c.if-found-reference.false
+          (known_so c.args.asked found c.args.seat.now.me.0 c.search.new.seat.me.0 c.know.new.seat.me.0 looked told.1 told.2),
+      ap (λ (a : Actor). a.done) told.1 ∙ ap (λ (a : Actor). a.done) c.search.ensures.view.view,
     )

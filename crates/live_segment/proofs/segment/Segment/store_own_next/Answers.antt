@@ -1,4 +1,4 @@
-use Rattle.std.proofs.Common.{rules, ℕ, arith}
+use Rattle.std.proofs.Common.{rules, arith}
 use Rattle.segment_machine.specs.Event.{publishing_event}
 use Rattle.segment_machine.specs.Publishing.{store_own_next}
 use Rattle.live_segment.proofs.lemmas.Steps.Allowed.{allows_at}

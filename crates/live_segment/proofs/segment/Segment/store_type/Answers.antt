@@ -1,4 +1,4 @@
-use Rattle.std.proofs.Common.{rules, ℕ, arith}
+use Rattle.std.proofs.Common.{rules, arith}
 use Rattle.segment_machine.specs.Event.{allocating_event}
 use Rattle.segment_machine.specs.Allocating.{store_type}
 use Rattle.live_segment.proofs.lemmas.Steps.Allowed.{allows_at}

@@ -9,6 +9,7 @@ use Rattle.live_segment.proofs.lemmas.Add.Adds.{meant}
 use Rattle.live_segment.proofs.Seating.Recorders.{recorder_still, seat_searched}
 use Rattle.segment_invariant.proofs.Lists.Elements.{contains_at}
 use Rattle.live_segment.proofs.lemmas.Delta.Behind.{answered_behind}
+use Rattle.live_segment.proofs.lemmas.Delta.NoMore.{has_no_more}
 use Rattle.live_segment.proofs.lemmas.Delta.Owed.{has_enough}
 use Rattle.live_segment.proofs.lemmas.Delta.Given.{looked_rests, looked_of, looked_names, looked_share}
 use Rattle.live_segment.proofs.lemmas.List.IndexKept.{seen_on}
@@ -89,3 +90,15 @@ returns-clause-owed c = λ known means.
     (subst (λ (k : Known). HasSnapshot k b c.take_snapshot-snapshot.result c.take_snapshot-snapshot.new.seat.me.0) same
     c.take_snapshot-snapshot.ensures.answer))
     (contains_at a.answers.names c.args.histogram.index known means) c.requires.at.rests.recorder c.take_snapshot-snapshot.ensures.stands
+
+pub returns-clause-most : goal.returns-clause-most
+returns-clause-most c = λ known means.
+    let old = c.args.self.now in
+    let a = old.seat.me.0 in
+    let b = c.look_for_own-has_all.new.seat.me.0 in
+    let same = meant old.known.items a.answers.names c.args.histogram.index c.index-known.result.now known c.requires.at.listed c.index-known.ensures c.requires.knows means in
+    has_no_more (opened_with c.args.segment.now) c.take_snapshot-snapshot.new.seat.id known c.take_snapshot-snapshot.result a c.take_snapshot-snapshot.new.seat.me.0
+    (answered_behind a b c.look_for_own-has_all.ensures.view known c.take_snapshot-snapshot.result c.take_snapshot-snapshot.new.seat.me.0
+    (subst (λ (k : Known). HasSnapshot k b c.take_snapshot-snapshot.result c.take_snapshot-snapshot.new.seat.me.0) same
+    c.take_snapshot-snapshot.ensures.answer))
+    (contains_at a.answers.names c.args.histogram.index known means) c.take_snapshot-snapshot.ensures.stands

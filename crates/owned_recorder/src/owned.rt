@@ -4,7 +4,7 @@ ghost use Rattle.std.specs.Prelude.{◌≡◌, ◌↔◌, ◌<◌, ◌++◌, IsT
 ghost use Rattle.std.specs.Arc.{arc_value};
 ghost use Rattle.std.proofs.Props.{props};
 ghost use Rattle.live_segment.specs.Alloc.Allocation.{spoiled};
-ghost use Rattle.live_segment.specs.Answers.{AreMostKeysOf, AnswersAdd, AnswersBatch, AnswersDelta, AnswersFirst, AnswersFresh, AnswersFront, AnswersHist, AnswersList, AnswersOpen, AnswersRecords, AnswersSnapshot, ClaimsAdd, ClaimsBatch, ClaimsHist, ShowsEnough, ShowsFewKeys, ShowsUnits, TakesEnough, TakesFewKeys};
+ghost use Rattle.live_segment.specs.Answers.{AreMostKeysOf, AnswersAdd, AnswersBatch, AnswersDelta, AnswersFirst, AnswersFresh, AnswersFront, AnswersHist, AnswersList, AnswersOpen, AnswersRecords, AnswersSnapshot, ClaimsAdd, ClaimsBatch, ClaimsHist, OpensFirst, ShowsEnough, ShowsFewKeys, ShowsNoMore, ShowsUnits, TakesEnough, TakesFewKeys};
 ghost use Rattle.live_segment.specs.List.SharedCursors.{AnswersNext, gift};
 ghost use Rattle.live_segment.specs.RecorderState.{HasLimit, IsFoundAt, IsKnownName, IsKnownSpec, IsNamed, IsRecorderAt, IsSameRecorder, Knows, KnowsOn};
 
@@ -104,12 +104,13 @@ impl OwnedRecorder {
         self.state.hist(&self.segment, name, spec)
     }
 
-    /// Returns the histogram of the record that begins at a reference, as [`Recorder::open`] does [same, answer]. It
-    /// keeps its segment [kept].
+    /// Returns the histogram of the record that begins at a reference, as [`Recorder::open`] does [same, answer, first].
+    /// It keeps its segment [kept].
     pub fn open(&mut self, reference: u64) -> Result<Option<Hist>, Refusal>
         ensures kept { self.new.segment ≡ self.old.segment }
         ensures same { KnowsOn self.old.state self.new.state }
         ensures answer { AnswersOpen reference self.old.state result self.new.state }
+        ensures first { OpensFirst (arc_value self.new.segment) result self.new.state }
     {
         self.state.open(&self.segment, reference)
     }
@@ -154,8 +155,8 @@ impl OwnedRecorder {
         self.state.delta(&self.segment, histogram)
     }
 
-    /// Returns what a histogram has, as [`Recorder::snapshot`] does [same, answer, few, owed, values]. It keeps its
-    /// segment [kept].
+    /// Returns what a histogram has, as [`Recorder::snapshot`] does [same, answer, few, owed, most, values]. It keeps
+    /// its segment [kept].
     pub fn snapshot(&mut self, histogram: Hist) -> Result<Snapshot, Refusal>
         requires { Knows self.old.state histogram }
         ensures kept { self.new.segment ≡ self.old.segment }
@@ -163,6 +164,7 @@ impl OwnedRecorder {
         ensures answer { AnswersSnapshot histogram self.old.state result self.new.state }
         ensures few { ShowsFewKeys (arc_value self.old.segment) histogram self.old.state result }
         ensures owed { ShowsEnough histogram self.old.state result self.new.state }
+        ensures most { ShowsNoMore (arc_value self.new.segment) histogram self.old.state result self.new.state }
         ensures values { ShowsUnits histogram self.old.state result }
     {
         self.state.snapshot(&self.segment, histogram)

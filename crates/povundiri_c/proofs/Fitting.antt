@@ -45,7 +45,7 @@ few_of_delta histogram old delta new (answer, is, on, taken, enough, few) known 
 
 pub few_of_snapshot : (histogram : Hist) (old : OwnedRecorder) (snapshot : Snapshot) (new : OwnedRecorder) → TakesSnapshot histogram old (Ok snapshot) new
     → HasFew counts_of_snapshot histogram old snapshot
-few_of_snapshot histogram old snapshot new (answer, is, on, saw, enough, units, few) known means = by answer is few
+few_of_snapshot histogram old snapshot new (answer, is, on, saw, enough, most, units, few) known means = by answer is few
   where
     by : (answer : Result Snapshot Refusal) → Ok snapshot ≡ with_refused answer → ShowsFewKeys (arc_value old.segment) histogram old.state answer
         → AreFewKeys (arc_value old.segment) known snapshot.counts.items

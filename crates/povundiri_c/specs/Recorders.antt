@@ -14,7 +14,7 @@ use Rattle.live_segment.specs.Alloc.Allocation.{spoiled}
 use Rattle.live_segment.specs.List.SharedCursors.{AnswersNext, gift}
 use Rattle.live_segment.specs.List.Values.{AreMostKeys}
 use Rattle.live_segment.specs.declared.recorder.Hist.{Hist}
-use Rattle.live_segment.specs.Answers.{AnswersAdd, AnswersBatch, AnswersDelta, AnswersFirst, AnswersFront, AnswersHist, AnswersList, AnswersRecords, AnswersSnapshot, ClaimsAdd, ClaimsBatch, ClaimsHist, ShowsEnough, ShowsFewKeys, ShowsUnits, TakesEnough, TakesFewKeys}
+use Rattle.live_segment.specs.Answers.{AnswersAdd, AnswersBatch, AnswersDelta, AnswersFirst, AnswersFront, AnswersHist, AnswersList, AnswersRecords, AnswersSnapshot, ClaimsAdd, ClaimsBatch, ClaimsHist, ShowsEnough, ShowsFewKeys, ShowsNoMore, ShowsUnits, TakesEnough, TakesFewKeys}
 use Rattle.live_segment.specs.RecorderState.{HasLimit, IsNamed, IsSameRecorder, KnowsOn, Means, view_of_state}
 use Rattle.owned_recorder.specs.declared.owned.OwnedRecorder.{OwnedRecorder}
 use Rattle.povundiri_c.specs.declared.status.Refused.{Refused}
@@ -125,6 +125,7 @@ abbrev pub TakesSnapshot : Hist → OwnedRecorder → Result Snapshot Refused �
 TakesSnapshot histogram old given new =
     (answer : Result Snapshot Refusal) × (given ≡ with_refused answer) × IsSameOwned old new
     × AnswersSnapshot histogram old.state answer new.state × ShowsEnough histogram old.state answer new.state
+    × ShowsNoMore (arc_value new.segment) histogram old.state answer new.state
     × ShowsUnits histogram old.state answer × ShowsFewKeys (arc_value old.segment) histogram old.state answer
 
 -- ---- other calls

@@ -10,7 +10,7 @@ use Rattle.live_segment.specs.declared.opener.Opener.{Opener}
 use Rattle.live_segment.specs.declared.rule.Setting.{Setting}
 use Rattle.live_segment.specs.declared.segment.Segment.{Segment}
 use Rattle.live_segment.specs.Adopted.{IsAdopted, MayGoOn}
-use Rattle.live_segment.specs.Closing.{DeltasAddUp, IsImageOf, ReadsJoined, ReadsStopped, SnapshotsAgree}
+use Rattle.live_segment.specs.Closing.{DeltasAddUp, GaveFronts, IsImageOf, IsRisenBy, ReadsJoined, ReadsStopped, SnapshotsAgree}
 use Rattle.live_segment.specs.Holders.{IsNew, opened_with, view_of_opener}
 use Rattle.live_segment.specs.Rule.{open_checks}
 use Rattle.povundiri_c.specs.declared.contents.Contents.{Contents}
@@ -77,6 +77,8 @@ pub record IsImageFrom (segment : Segment) (opener : Opener) (image : List ℕ) 
   pub joined : outstanding_of (view_of_opener opener).role ≡ 0 → ReadsJoined segment.setting (view_of_opener opener) image
   pub deltas : outstanding_of (view_of_opener opener).role ≡ 0 → DeltasAddUp (view_of_opener opener)
   pub snapshots : outstanding_of (view_of_opener opener).role ≡ 0 → SnapshotsAgree (view_of_opener opener)
+  pub given : outstanding_of (view_of_opener opener).role ≡ 0 → GaveFronts (view_of_opener opener) image
+  pub risen : IsRisenBy (opened_with segment) (view_of_opener opener) image
   pub stopped : ReadsStopped (opened_with segment) (view_of_opener opener) image
   pub goes_on : MayGoOn image
   pub whole : length image ≡ segment.setting.shape.size

@@ -512,7 +512,7 @@ def wrong_short_out(
 def words(program: pathlib.Path) -> Iterator[Case]:
     """The version, and command lines that ask for nothing that the program does."""
     asked: Sequence[Word]
-    yield "['--version']", difference(Answer(b"persist_report 0.1.0\n"), answer(program, ["--version"]))
+    yield "['--version']", difference(Answer(b"persist_report 0.9.0\n"), answer(program, ["--version"]))
     no_text: list[list[Word]] = [[b"\xc3", "report"], ["report", b"\xff\xfe"]]
     for asked in no_text:
         yield f"{asked}, which is not text", difference(Answer(error=NOT_TEXT, status=2), answer(program, asked))

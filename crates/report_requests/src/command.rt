@@ -72,7 +72,7 @@ fn put_commands<'a>(alloc: Global, commands: &mut Vec<Command<'a>>) -> Result<()
 // The program, without its commands.
 fn program<'a>(alloc: Global) -> Result<Command<'a>, AllocError> {
     Command::new(alloc, "persist_report")
-        .version("0.1.0")
+        .version("0.9.0")
         .about("Show, convert, merge and continue the histograms of a Povundiri segment")
         .after_long_help(EXAMPLES)
         .subcommand_required(true)

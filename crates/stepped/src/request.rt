@@ -133,7 +133,7 @@ fn command<'a>(alloc: Global) -> Result<Command<'a>, AllocError> {
     )
     .long_help("Explain errors: file, line, reason and what to do (on by default in a\nterminal)");
     let command = Command::new(alloc, "stepped")
-        .version("0.1.0")
+        .version("0.9.0")
         .about("Replay a schedule of calls on a segment, one atomic step at a time")
         .long_about(LONG_ABOUT)
         .after_help(SHORT_EXAMPLE)

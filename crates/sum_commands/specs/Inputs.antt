@@ -2,7 +2,9 @@
 use Rattle.std.specs.Prelude.{◌≡◌, ◌⊎◌, ℕ, ◌+◌, ◌≤◌, ◌^◌, List, [], ◌∷◌, ◌++◌, sum_by, ⊤}
 use Rattle.std.specs.List.{Contains}
 use Rattle.bucket_ranges.specs.Reading.{Reading}
+use Rattle.persist_report_core.specs.declared.fault.CliFault.{CliFault}
 use Rattle.persist_report_core.specs.declared.fault.CliFault.TheVariants.{NoMemory}
+use Rattle.persist_report_core.specs.Damage.{damage_of}
 use Rattle.reading_sums.specs.declared.fault.SumsFault.{SumsFault}
 use Rattle.reading_sums.specs.declared.fault.SumsFault.TheVariants as sums
 use Rattle.reading_sums.specs.declared.sums.Sums.{Sums}
@@ -85,6 +87,10 @@ pub record AddsReading (bytes : List ℕ) (before after : Sums) : Type 0 where
   pub behind : AddsAddend (addend_of_reading reading) before after
   pub well_formed : IsWellFormed before → IsWellFormed after
   pub fits : IsWellFormed before → ¬ DoesNotFitBehind before (addend_of_reading reading)
+
+-- what is damaged in the image of these bytes, if something is: what the damage of their reading is
+abbrev pub IsDamageOf : List ℕ → Option CliFault → Type 0
+IsDamageOf bytes damage = (reading : Reading) × IsReadingOf bytes reading × (damage ≡ damage_of reading)
 
 -- a sum gained the readings of another one, after its own
 abbrev pub AddsBehind : Sums → Sums → Sums → Type 0

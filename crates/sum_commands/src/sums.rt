@@ -10,7 +10,7 @@ ghost use Rattle.reading_sums.specs.Totals.{Part};
 ghost use Rattle.reading_sums.specs.Views.{parts_of};
 ghost use Rattle.reading_sums.specs.Whole.{IsWellFormed};
 ghost use Rattle.sum_commands.specs.Sources.{AddsSome, SomeMayNotBeAdded};
-ghost use Rattle.sum_commands.specs.Inputs.{AddsReading, AddsBehind, AddsTotals, DoesNotFitBehind, IsCausedByInput, IsCausedByTotals};
+ghost use Rattle.sum_commands.specs.Inputs.{AddsReading, AddsBehind, AddsTotals, DoesNotFitBehind, IsCausedByInput, IsCausedByTotals, IsDamageOf};
 
 use crate::fault::InputFault;
 use image_reader::Reading;
@@ -62,8 +62,9 @@ pub fn append_next(sums: &mut Sums, more: &Sums) -> Result<(), SumsFault>
 }
 
 /// Adds what the image in the words of an input reads as, a closed image or a mapped file, after the readings of a sum:
-/// a well-formed sum stays well formed, and the reading fits after it [added]. Returns what is damaged in the image, if
-/// something is; the sum has all of it that is valid, so the image is an input that is damaged or not [some].
+/// a well-formed sum stays well formed, and the reading fits after it [added]. Returns what is damaged in the image, as
+/// [`damage_of`] its reading says it, or none if nothing is [damage]; the sum has all of it that is valid, so the image
+/// is an input that is damaged or not [some].
 ///
 /// An input is left out if its bytes are not those of an image, for the first fault of its header, and with `TooMany`
 /// if it does not fit after a well-formed sum [cause]. `NoMemory` is returned if memory runs out. If nothing is added,
@@ -74,6 +75,7 @@ pub fn add_image(
     words: &[u64],
 ) -> Result<Option<CliFault>, InputFault>
     ensures added { OnOk result (AddsReading (bytes_of_words words.now) sums.old sums.new) }
+    ensures damage { IfOk result (IsDamageOf (bytes_of_words words.now)) }
     ensures some { IfOk result (λ damage. AddsSome (is_some damage) sums.old sums.new) }
     ensures cause { IfErr result (IsCausedByInput (bytes_of_words words.now) sums.old) }
     ensures refused { OnErr result (sums.new ≡ sums.old) }

@@ -32,6 +32,9 @@ returns-clause-some c = record {
   well_formed = λ known formed. absurd known;
 }
 
+pub returns-clause-damage : goal.returns-clause-damage
+returns-clause-damage c = (reading_view c.in_ok-reading.reading, c.in_ok-reading.ensures.reading, c.damage_of.ensures.fault)
+
 pub returns-clause-added : goal.returns-clause-added
 returns-clause-added c =
     let reading : Reading = reading_view c.in_ok-reading.reading in

@@ -1,6 +1,8 @@
-//! The program `persist_report`: writes the histograms of an image as a report, as metrics or for people, runs scripts
-//! in new segments and in those of images, merges images, looks at files in use, extracts images from any file, folds
-//! the folders of recordings, prints scales, and explains faults.
+//! The program `persist_report`, which reads images, their sums and recordings, and records scripts.
+//!
+//! It writes the histograms of an image as a report, as metrics or for people, runs scripts in new segments and in those
+//! of images, merges images, looks at files in use, extracts images from any file, folds the folders of recordings,
+//! prints scales, and explains faults.
 #![tactic(auto)]
 
 mod cause;

@@ -1,5 +1,7 @@
-//! A live segment for programs in C and C++: in the heap, or in a room that the program gives, such as a mapped file.
-//! And sums of any number of images.
+//! Running segments and sums of images for programs in C and C++.
+//!
+//! A segment is in the heap, or in a room that the program gives, such as a mapped file. A sum is of any number of
+//! images.
 //!
 //! C holds a segment, a recorder or a sum in a [`Handle`]. Each export returns a status: 0, or the number of what went
 //! wrong (`status`). The header is `c/povundiri.h`; it says call by call what C must keep.

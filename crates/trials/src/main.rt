@@ -1,5 +1,4 @@
-//! Runs that only measurements and one test need: of calls that are timed, and of calls whose memory is refused from
-//! outside.
+//! Runs for measurements and one test: calls that are timed, and calls whose memory is refused from outside.
 //!
 //! `trials time record FORM SHARING THREADS BURSTS`: how long threads take to record samples into a running segment.
 //! `trials time sparse VALUES BURSTS`: how long a thread takes for a sample of a sparse histogram.

@@ -1,5 +1,5 @@
 -- Of which readings a sum of inputs is, and why an input is left out.
-use Rattle.std.specs.Prelude.{◌≡◌, ◌⊎◌, ℕ, ◌+◌, ◌≤◌, ◌^◌, List, [], ◌∷◌, ◌++◌, sum_by, ⊤}
+use Rattle.std.specs.Prelude.{◌≡◌, ◌⊎◌, ℕ, ◌+◌, ◌≤◌, ◌^◌, List, [], ◌∷◌, ◌++◌, sum_by, Option, ⊤}
 use Rattle.std.specs.List.{Contains}
 use Rattle.bucket_ranges.specs.Reading.{Reading}
 use Rattle.persist_report_core.specs.declared.fault.CliFault.{CliFault}

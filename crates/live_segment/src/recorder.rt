@@ -92,6 +92,26 @@ impl<'a> Recorder<'a> {
     ghost use Rattle.live_segment.specs.RecorderState.{HasLimit, IsFoundAt, IsKnownName, IsKnownSpec, IsNamed, IsSameRecorder, Knows, KnowsOn};
     ghost use Rattle.live_segment.specs.Answers.{AreMostKeysOf, AnswersAdd, AnswersBatch, AnswersDelta, AnswersFirst, AnswersFresh, AnswersFront, AnswersHist, AnswersList, AnswersOpen, AnswersRecords, AnswersSnapshot, ClaimsAdd, ClaimsBatch, ClaimsHist, OpensFirst, ShowsEnough, ShowsFewKeys, ShowsNoMore, ShowsUnits, TakesEnough, TakesFewKeys};
 
+    /// Returns the recorder whose state this is, for a caller that kept it with the segment [state]. It records into that
+    /// segment [into].
+    pub fn of_state(segment: &'a Segment, state: RecorderState) -> Recorder<'a>
+        requires { IsRecorderAt segment.now state }
+        ensures into { result.segment ≡ segment.entry }
+        ensures state { result.state ≡ state }
+    {
+        Recorder { segment, state }
+    }
+
+    /// Returns the state of this recorder, for a caller that keeps it with the segment [state]. It is that of a recorder
+    /// at the segment [at].
+    pub fn into_state(self) -> RecorderState
+        ensures at { IsRecorderAt self.entry.segment.now result }
+        ensures state { result ≡ self.entry.state }
+    {
+        let Recorder { state, .. } = self;
+        state
+    }
+
     /// Returns the units that it may still spend.
     pub fn units(&self) -> u32
         ensures { result ≡ (view_of_recorder self.now).units.share }

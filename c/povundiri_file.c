@@ -1,6 +1,6 @@
 #define _GNU_SOURCE /* renameat2, MADV_DONTFORK */
 
-#include "povundiri_file.h"
+#include "povundiri_file_parts.h"
 
 #include <errno.h>
 #include <fcntl.h>
@@ -434,6 +434,12 @@ bool povundiri_file_is_open(const struct povundiri_file *file) {
 
 int povundiri_file_descriptor(const struct povundiri_file *file) {
     return povundiri_file_is_open(file) ? file->mapping->descriptor : -1;
+}
+
+void povundiri_parts_close_descriptor(struct povundiri_file *file) {
+    pthread_mutex_lock(&mutex);
+    if (is_here(file->mapping)) give_up_descriptor(file->mapping);
+    pthread_mutex_unlock(&mutex);
 }
 
 struct povundiri_room povundiri_file_room(const struct povundiri_file *file) {

@@ -44,11 +44,11 @@ bool povundiri_folder_watch(void) {
     return is_watched;
 }
 
-int povundiri_parts_open(struct povundiri_held *held, const char *path, int flags) {
+int povundiri_parts_open_link(struct povundiri_held *held, const char *path, int flags) {
     int fault;
     do {
         pthread_mutex_lock(&mutex);
-        held->descriptor = open(path, flags | O_CLOEXEC | O_NOCTTY | O_NONBLOCK | O_NOFOLLOW, 0600);
+        held->descriptor = open(path, flags | O_CLOEXEC | O_NOCTTY | O_NONBLOCK, 0600);
         fault = held->descriptor < 0 ? errno : 0;
         if (fault == 0) {
             held->next = all;
@@ -57,6 +57,10 @@ int povundiri_parts_open(struct povundiri_held *held, const char *path, int flag
         pthread_mutex_unlock(&mutex);
     } while (fault == EINTR);
     return fault;
+}
+
+int povundiri_parts_open(struct povundiri_held *held, const char *path, int flags) {
+    return povundiri_parts_open_link(held, path, flags | O_NOFOLLOW);
 }
 
 /* In a child that was forked meanwhile it is not there any more. */
@@ -71,7 +75,7 @@ void povundiri_parts_close(struct povundiri_held *held) {
     pthread_mutex_unlock(&mutex);
 }
 
-static int lock(int descriptor) {
+int povundiri_parts_lock(int descriptor) {
     while (flock(descriptor, LOCK_EX | LOCK_NB) != 0) {
         if (errno != EINTR) return errno == EWOULDBLOCK ? EBUSY : errno;
     }
@@ -83,7 +87,7 @@ int povundiri_parts_open_locked(struct povundiri_held *held, const char *path, s
     struct stat named;
     int fault = povundiri_parts_open(held, path, O_RDONLY);
     if (fault != 0) return fault;
-    fault = lock(held->descriptor);
+    fault = povundiri_parts_lock(held->descriptor);
     if (fault == 0 && fstat(held->descriptor, about) != 0) fault = errno;
     if (fault == 0 && fstatat(AT_FDCWD, path, &named, AT_SYMLINK_NOFOLLOW) != 0) fault = errno;
     if (fault == 0 && (named.st_dev != about->st_dev || named.st_ino != about->st_ino)) fault = ENOENT;
@@ -662,7 +666,7 @@ static uint32_t fold_all(const char *folder, uint64_t *folded, int *fault) {
     if (*fault == 0) *fault = povundiri_parts_join(path, folder, "fold.lock");
     if (*fault == 0) *fault = povundiri_parts_open(&held, path, O_RDWR | O_CREAT);
     if (*fault != 0) return status;
-    *fault = lock(held.descriptor);
+    *fault = povundiri_parts_lock(held.descriptor);
     if (*fault == 0) {
         do {
             status = fold_once(folder, &more, &again, fault);

@@ -65,48 +65,6 @@ uint32_t povundiri_folder_fold(const char *folder, uint64_t *folded, int *fault)
  * Keep: pointers; process. */
 int povundiri_folder_count(const char *folder, uint64_t *segments) POVUNDIRI_CHECKED;
 
-/* ---- For povundiri_recording.c alone ---- */
-
-/* A segment in a folder that this process records into. */
-struct povundiri_owned {
-    struct povundiri_owned *next;
-    uint64_t number; /* 0 of a spare */
-    struct povundiri_file file;
-    struct povundiri_handle segment;
-    uint32_t recorders;
-    char path[POVUNDIRI_PATH_BYTES];
-};
-
-/* What a start has found in a folder. */
-struct povundiri_found {
-    struct povundiri_owned *newest;       /* the newest segment, if it is continued, or begun because nothing was begun before; else null */
-    bool is_adopted;                      /* it is continued */
-    uint32_t refused;                     /* what is wrong with the image of the newest; else POVUNDIRI_DONE */
-    char set_aside[POVUNDIRI_PATH_BYTES]; /* the new name of one whose header has a fault; else empty */
-};
-
-/* Watches for forks. False if there is no memory for it. */
-bool povundiri_folder_watch(void);
-
-/* Makes the folder, if it is not there, marks it as a recording's, if it is empty, and removes spares that nobody holds; EEXIST if it is
- * neither empty nor a recording's, and then nothing is changed. *absolute is its path, for free(). 0, or the system's fault. */
-int povundiri_folder_enter(const char *folder, char **absolute);
-
-/* Adopts the newest segment, if it is final, has this shape, units and room, and the totals do not name it; or makes one in its file, if
- * nothing was begun there. No file is made. POVUNDIRI_DONE also if neither is done; POVUNDIRI_NO_MEMORY; POVUNDIRI_SYSTEM and *fault: the
- * folder could not be listed. */
-uint32_t povundiri_folder_adopt(const char *folder, struct povundiri_shape shape, struct povundiri_found *found, int *fault);
-
-/* A spare of this shape. On any but POVUNDIRI_DONE *spare is null; on POVUNDIRI_SYSTEM *fault is the system's. */
-uint32_t povundiri_folder_spare(const char *folder, struct povundiri_shape shape, uint64_t random, struct povundiri_owned **spare,
-                                int *fault);
-
-/* Gives a spare the next number. 0, or the system's fault; then it is a spare still. */
-int povundiri_folder_commit(const char *folder, struct povundiri_owned *spare);
-
-/* Ends what this process has of it. A spare is removed. No recorder is left. */
-void povundiri_folder_release(struct povundiri_owned *owned);
-
 #ifdef __cplusplus
 }
 #endif

@@ -1,9 +1,10 @@
-/* What povundiri_folder.c and povundiri_owned.c have in common. It is not installed. */
+/* What povundiri_folder.c, povundiri_owned.c and povundiri_recording.c have in common. It is not installed. */
 #ifndef POVUNDIRI_FOLDER_PARTS_H
 #define POVUNDIRI_FOLDER_PARTS_H
 
 #include <sys/stat.h>
 
+#include "povundiri_file_parts.h"
 #include "povundiri_folder.h"
 #include "povundiri_layout.h"
 
@@ -49,9 +50,15 @@ struct povundiri_image {
     size_t count;
 };
 
-/* Opens a file, which is closed in a child of fork. 0, or the system's fault. */
+/* ---- Files and names ---- */
+
+/* Opens a file, which is closed in a child of fork, and no link at the end of the path, or one. 0, or the system's fault. */
 int povundiri_parts_open(struct povundiri_held *held, const char *path, int flags);
+int povundiri_parts_open_link(struct povundiri_held *held, const char *path, int flags);
 void povundiri_parts_close(struct povundiri_held *held);
+
+/* Takes the lock of a file. 0; EBUSY if somebody has it; or the system's fault. */
+int povundiri_parts_lock(int descriptor);
 
 /* Opens a regular file and takes its lock: EBUSY if somebody has it; ENOENT if the path leads to another file by now, or to none. */
 int povundiri_parts_open_locked(struct povundiri_held *held, const char *path, struct stat *about);
@@ -78,5 +85,54 @@ int povundiri_parts_image(int descriptor, off_t length, struct povundiri_image *
 
 /* Whether a status is that of a header's fault. */
 bool povundiri_parts_is_fault(uint32_t status);
+
+/* ---- Segments that this process records into ---- */
+
+/* A recording's folder. */
+struct povundiri_place {
+    char *path;       /* absolute, for free() */
+    bool keeps_locks; /* the mapping of a file there keeps its lock, without a descriptor */
+};
+
+/* A segment in a folder that this process records into. */
+struct povundiri_owned {
+    struct povundiri_owned *next;
+    uint64_t number; /* 0 of a spare */
+    struct povundiri_file file;
+    struct povundiri_handle segment;
+    uint32_t recorders;
+    char path[POVUNDIRI_PATH_BYTES];
+};
+
+/* What a start has found in a folder. */
+struct povundiri_found {
+    struct povundiri_owned *newest;       /* the newest segment, if it is continued, or begun because nothing was begun before; else null */
+    bool is_adopted;                      /* it is continued */
+    uint32_t refused;                     /* what is wrong with the image of the newest; else POVUNDIRI_DONE */
+    char set_aside[POVUNDIRI_PATH_BYTES]; /* the new name of one whose header has a fault; else empty */
+};
+
+/* Watches for forks. False if there is no memory for it. */
+bool povundiri_folder_watch(void);
+
+/* Makes the folder, if it is not there, marks it as a recording's, if it is empty, and removes spares that nobody holds; EEXIST if it is
+ * neither empty nor a recording's, and then nothing is changed. 0, or the system's fault, and then `place` has no path. */
+int povundiri_folder_enter(const char *folder, struct povundiri_place *place);
+
+/* Adopts the newest segment, if it is final, has this shape, units and room, and the totals do not name it; or makes one in its file, if
+ * nothing was begun there. No file is made. POVUNDIRI_DONE also if neither is done; POVUNDIRI_NO_MEMORY; POVUNDIRI_SYSTEM and *fault: the
+ * folder could not be listed. */
+uint32_t povundiri_folder_adopt(const struct povundiri_place *place, struct povundiri_shape shape, struct povundiri_found *found,
+                                int *fault);
+
+/* A spare of this shape. On any but POVUNDIRI_DONE *spare is null; on POVUNDIRI_SYSTEM *fault is the system's. */
+uint32_t povundiri_folder_spare(const struct povundiri_place *place, struct povundiri_shape shape, uint64_t random,
+                                struct povundiri_owned **spare, int *fault);
+
+/* Gives a spare the next number. 0, or the system's fault; then it is a spare still. */
+int povundiri_folder_commit(const struct povundiri_place *place, struct povundiri_owned *spare);
+
+/* Ends what this process has of it. A spare is removed. No recorder is left. */
+void povundiri_folder_release(struct povundiri_owned *owned);
 
 #endif

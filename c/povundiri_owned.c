@@ -1,4 +1,4 @@
-#define _GNU_SOURCE /* renameat2 */
+#define _GNU_SOURCE /* renameat2, O_TMPFILE */
 
 #include <errno.h>
 #include <fcntl.h>
@@ -6,6 +6,7 @@
 #include <stdio.h>
 #include <stdlib.h>
 #include <string.h>
+#include <sys/mman.h>
 #include <unistd.h>
 
 #include "povundiri_folder_parts.h"
@@ -63,19 +64,44 @@ static int sweep_name(void *context, const char *name) {
     return 0;
 }
 
-int povundiri_folder_enter(const char *folder, char **absolute) {
-    char place[POVUNDIRI_PATH_BYTES];
+/* Whether a lock is kept by a mapping, when the file's descriptor is closed. So it is on most file systems: the mapping has the open file. It
+ * is not on overlayfs, whose mappings have the file below. A file without a name shows it, whose lock nobody else can take meanwhile. False
+ * where there can be none. */
+static bool keeps_locks(const char *folder) {
+    struct povundiri_held held, other;
+    char link[LONGEST_NAME];
+    void *at = MAP_FAILED;
+    bool keeps = false;
+    if (povundiri_parts_open(&held, folder, O_TMPFILE | O_RDWR) != 0) return false;
+    snprintf(link, sizeof link, "/proc/self/fd/%d", held.descriptor);
+    if (povundiri_parts_open_link(&other, link, O_RDONLY) != 0) {
+        povundiri_parts_close(&held);
+        return false;
+    }
+    if (povundiri_parts_lock(held.descriptor) == 0) at = mmap(NULL, 1, PROT_READ, MAP_SHARED, held.descriptor, 0);
+    povundiri_parts_close(&held);
+    if (at != MAP_FAILED) {
+        keeps = povundiri_parts_lock(other.descriptor) == EBUSY;
+        munmap(at, 1);
+    }
+    povundiri_parts_close(&other);
+    return keeps;
+}
+
+int povundiri_folder_enter(const char *folder, struct povundiri_place *place) {
     int fault;
-    *absolute = NULL;
+    place->path = NULL;
     if (!povundiri_folder_watch()) return ENOMEM;
     if (mkdir(folder, 0700) != 0 && errno != EEXIST) return errno;
-    *absolute = realpath(folder, NULL);
-    if (*absolute == NULL) return errno;
-    fault = strlen(*absolute) + LONGEST_NAME < sizeof place ? mark(*absolute) : ENAMETOOLONG;
-    if (fault == 0) povundiri_parts_each(*absolute, sweep_name, *absolute);
-    if (fault != 0) {
-        free(*absolute);
-        *absolute = NULL;
+    place->path = realpath(folder, NULL);
+    if (place->path == NULL) return errno;
+    fault = strlen(place->path) + LONGEST_NAME < POVUNDIRI_PATH_BYTES ? mark(place->path) : ENAMETOOLONG;
+    if (fault == 0) {
+        povundiri_parts_each(place->path, sweep_name, place->path);
+        place->keeps_locks = keeps_locks(place->path);
+    } else {
+        free(place->path);
+        place->path = NULL;
     }
     return fault;
 }
@@ -144,9 +170,16 @@ static bool is_folded(const char *folder, const struct povundiri_owned *owned, u
     return is;
 }
 
-uint32_t povundiri_folder_adopt(const char *folder, struct povundiri_shape shape, struct povundiri_found *found, int *fault) {
+/* From now on it is a segment that this process records into. It needs its descriptor only where nothing else keeps the lock. */
+static void begin(const struct povundiri_place *place, struct povundiri_owned *owned) {
+    if (place->keeps_locks) povundiri_parts_close_descriptor(&owned->file);
+}
+
+uint32_t povundiri_folder_adopt(const struct povundiri_place *place, struct povundiri_shape shape, struct povundiri_found *found,
+                                int *fault) {
     /* A fold may take it before it is opened: then none is made in its place. */
     static const struct povundiri_file_options existing = {POVUNDIRI_FILE_EXISTING, 0};
+    const char *const folder = place->path;
     struct povundiri_listing listing;
     struct povundiri_opened opened;
     struct povundiri_owned *owned;
@@ -166,6 +199,7 @@ uint32_t povundiri_folder_adopt(const char *folder, struct povundiri_shape shape
     }
     status = povundiri_open(owned->path, shape, POVUNDIRI_ADOPT_OR_FAIL, &existing, &owned->file, &owned->segment, &opened);
     if (status == POVUNDIRI_DONE && !opened.spent && !is_folded(folder, owned, opened.shape.id)) {
+        begin(place, owned);
         found->newest = owned;
         found->is_adopted = opened.outcome == POVUNDIRI_ADOPTED;
         return status;
@@ -176,8 +210,8 @@ uint32_t povundiri_folder_adopt(const char *folder, struct povundiri_shape shape
     return POVUNDIRI_DONE;
 }
 
-uint32_t povundiri_folder_spare(const char *folder, struct povundiri_shape shape, uint64_t random, struct povundiri_owned **spare,
-                                int *fault) {
+uint32_t povundiri_folder_spare(const struct povundiri_place *place, struct povundiri_shape shape, uint64_t random,
+                                struct povundiri_owned **spare, int *fault) {
     struct povundiri_owned *const owned = new_owned();
     struct povundiri_opened opened;
     char name[LONGEST_NAME];
@@ -186,7 +220,7 @@ uint32_t povundiri_folder_spare(const char *folder, struct povundiri_shape shape
     *fault = 0;
     if (owned == NULL) return POVUNDIRI_NO_MEMORY;
     name_spare(name, (long)getpid(), random);
-    *fault = povundiri_parts_join(owned->path, folder, name);
+    *fault = povundiri_parts_join(owned->path, place->path, name);
     status = *fault != 0 ? (uint32_t)POVUNDIRI_SYSTEM
                          : povundiri_open(owned->path, shape, POVUNDIRI_ADOPT_OR_FAIL, NULL, &owned->file, &owned->segment, &opened);
     if (status == POVUNDIRI_DONE) {
@@ -219,13 +253,13 @@ static int next_number(const char *folder, uint64_t *number) {
     return fault;
 }
 
-int povundiri_folder_commit(const char *folder, struct povundiri_owned *spare) {
+int povundiri_folder_commit(const struct povundiri_place *place, struct povundiri_owned *spare) {
     char path[POVUNDIRI_PATH_BYTES];
     uint64_t number = 0;
-    int fault = next_number(folder, &number);
+    int fault = next_number(place->path, &number);
     if (fault != 0) return fault;
     do {
-        fault = povundiri_parts_path(path, folder, number, "seg");
+        fault = povundiri_parts_path(path, place->path, number, "seg");
         if (fault == 0 && link(spare->path, path) != 0) fault = errno;
         if (fault == EEXIST) number += 1;
     } while (fault == EEXIST);
@@ -233,5 +267,6 @@ int povundiri_folder_commit(const char *folder, struct povundiri_owned *spare) {
     unlink(spare->path);
     spare->number = number;
     memcpy(spare->path, path, sizeof path);
+    begin(place, spare);
     return 0;
 }

@@ -5,7 +5,7 @@
 #include <stdlib.h>
 #include <string.h>
 
-#include "povundiri_recording.h"
+#include "povundiri_recording_parts.h"
 
 static const char *const REASONS[POVUNDIRI_MISSED_REASONS] = {"too_large", "other_spec", "no_space", "rolling",
                                                               "forked",    "ended",      "no_memory"};

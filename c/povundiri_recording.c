@@ -10,7 +10,7 @@
 #include <time.h>
 #include <unistd.h>
 
-#include "povundiri_layout.h"
+#include "povundiri_folder_parts.h"
 #include "povundiri_recording_parts.h"
 
 /* How many threads have a recorder of their own in a segment; further ones share one. A segment has at most 256. */
@@ -59,7 +59,7 @@ struct povundiri_recording {
     /* Set once. */
     size_t place;
     struct povundiri_recording *next;
-    char *folder;
+    struct povundiri_place folder;
     struct povundiri_recording_options options;
 
     uint64_t missed[POVUNDIRI_MISSED_REASONS] __attribute__((aligned(LINES)));
@@ -186,7 +186,7 @@ static struct povundiri_owned *new_spare(const struct povundiri_recording *recor
     struct povundiri_owned *spare = NULL;
     uint32_t status;
     shape.id = random_of(recording);
-    status = povundiri_folder_spare(recording->folder, shape, random_of(recording), &spare, fault);
+    status = povundiri_folder_spare(&recording->folder, shape, random_of(recording), &spare, fault);
     if (status != POVUNDIRI_DONE && *fault == 0) *fault = ENOMEM;
     return spare;
 }
@@ -198,7 +198,7 @@ static int begin_next(struct povundiri_recording *recording) {
     if (now() < recording->again_at) return EAGAIN;
     recording->spare = NULL;
     if (next == NULL) next = new_spare(recording, recording->shape, &fault);
-    if (next != NULL) fault = povundiri_folder_commit(recording->folder, next);
+    if (next != NULL) fault = povundiri_folder_commit(&recording->folder, next);
     if (fault != 0) {
         povundiri_folder_release(next);
         recording->again_at = now() + SECOND;
@@ -640,7 +640,7 @@ uint32_t povundiri_recording_scale(struct povundiri_recording *recording, const 
 
 /* ---- For povundiri_recorded.c alone ---- */
 
-const char *povundiri_recording_folder(const struct povundiri_recording *recording) { return recording->folder; }
+const char *povundiri_recording_folder(const struct povundiri_recording *recording) { return recording->folder.path; }
 
 uint64_t povundiri_recording_fold_at(const struct povundiri_recording *recording) { return recording->options.fold_at; }
 
@@ -680,7 +680,7 @@ static void begin_first(struct povundiri_recording *recording, struct povundiri_
     struct povundiri_shape shape = recording->shape;
     struct povundiri_found found;
     shape.id = random_of(recording);
-    if (povundiri_folder_adopt(recording->folder, shape, &found, &began->fault) == POVUNDIRI_DONE && found.newest != NULL) {
+    if (povundiri_folder_adopt(&recording->folder, shape, &found, &began->fault) == POVUNDIRI_DONE && found.newest != NULL) {
         make_current(recording, found.newest, found.is_adopted ? 0 : now());
         began->adopted = found.is_adopted;
     } else {
@@ -725,7 +725,7 @@ uint32_t povundiri_recording_open(const char *folder, const struct povundiri_rec
         *recording = made;
     } else {
         pthread_mutex_destroy(&made->mutex);
-        free(made->folder);
+        free(made->folder.path);
         free(made->shared);
         free(made);
     }

@@ -222,11 +222,6 @@ uint32_t povundiri_recording_show(struct povundiri_recording *recording, uint16_
  * Statuses and what to keep: as there; POVUNDIRI_NULL also if `recording` is null. */
 uint32_t povundiri_recording_fold(struct povundiri_recording *recording, uint64_t *folded, int *fault) POVUNDIRI_CHECKED;
 
-/* ---- For povundiri_recorded.c alone ---- */
-
-const char *povundiri_recording_folder(const struct povundiri_recording *recording);
-uint64_t povundiri_recording_fold_at(const struct povundiri_recording *recording);
-
 #ifdef __cplusplus
 }
 #endif

@@ -1,8 +1,12 @@
-/* What povundiri_recording.c and povundiri_metrics.c have in common: the metrics of a recording. It is not installed. */
+/* What povundiri_recording.c has in common with povundiri_metrics.c, the metrics of a recording, and with povundiri_recorded.c. It is not
+ * installed. */
 #ifndef POVUNDIRI_RECORDING_PARTS_H
 #define POVUNDIRI_RECORDING_PARTS_H
 
-#include "povundiri.h"
+#include "povundiri_recording.h"
+
+const char *povundiri_recording_folder(const struct povundiri_recording *recording);
+uint64_t povundiri_recording_fold_at(const struct povundiri_recording *recording);
 
 /* A histogram that was asked for. */
 struct povundiri_metric {

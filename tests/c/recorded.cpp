@@ -8,11 +8,9 @@
 #include <atomic>
 #include <cerrno>
 #include <chrono>
-#include <condition_variable>
 #include <csignal>
 #include <cstdlib>
 #include <ctime>
-#include <mutex>
 #include <thread>
 #include <vector>
 
@@ -277,29 +275,6 @@ void ended() {
     // The other's segment is final: a fold takes it, and not this one's.
     HOLDS(recording.fold() == 1 && metric.add(1) && units_in(recording.report(), "b") == 4);
 }
-
-// A gate that threads wait at, until all have come and it is opened.
-class Gate {
-   public:
-    void wait() {
-        std::unique_lock<std::mutex> turn(mutex_);
-        ++waiting_;
-        changed_.notify_all();
-        changed_.wait(turn, [this] { return is_open_; });
-    }
-    void open_for(int threads) {
-        std::unique_lock<std::mutex> turn(mutex_);
-        changed_.wait(turn, [this, threads] { return waiting_ == threads; });
-        is_open_ = true;
-        changed_.notify_all();
-    }
-
-   private:
-    std::mutex mutex_;
-    std::condition_variable changed_;
-    int waiting_ = 0;
-    bool is_open_ = false;
-};
 
 // Above 250 threads at once, further ones share a recorder. They count in many histograms, too.
 void many_threads() {

@@ -1,11 +1,19 @@
-// The folders of recordings: whose they are, what a start removes and continues there, and folds with few descriptors: 'recorded_folders
-// FOLDER'. Each group works in a folder of its own below that. It is linked with -Wl,--wrap=open.
+// The folders of recordings: whose they are, what a start removes and continues there, which descriptors a recording keeps, and folds with
+// few: 'recorded_folders FOLDER'. Each group works in a folder of its own below that. It is linked with -Wl,--wrap=open.
 #include <fcntl.h>
+#include <sched.h>
+#include <sys/file.h>
+#include <sys/mount.h>
 #include <sys/resource.h>
 
 #include <cerrno>
+#include <csignal>
 #include <cstdarg>
 #include <cstdio>
+#include <cstring>
+#include <filesystem>
+#include <iterator>
+#include <thread>
 #include <utility>
 #include <vector>
 
@@ -33,7 +41,7 @@ extern "C" int __real_open(const char* path, int flags, ...);
 extern "C" int __wrap_open(const char* path, int flags, ...) {
     va_list more;
     va_start(more, flags);
-    const int mode = (flags & O_CREAT) != 0 ? va_arg(more, int) : 0;
+    const int mode = (flags & O_CREAT) != 0 || (flags & O_TMPFILE) == O_TMPFILE ? va_arg(more, int) : 0;
     va_end(more);
     const bool is_segment = std::string(path).find(".seg") != std::string::npos, is_recorded = (flags & O_ACCMODE) == O_RDWR;
     if (is_segment && is_recorded && !folded_between.empty()) fold_between();
@@ -207,6 +215,93 @@ void no_descriptor() {
     }
 }
 
+std::ptrdiff_t descriptors() {
+    return std::distance(std::filesystem::directory_iterator("/proc/self/fd"), std::filesystem::directory_iterator());
+}
+
+// Whether somebody has the lock of a file.
+bool is_locked(const std::string& path) {
+    const int descriptor = open(path.c_str(), O_RDONLY | O_CLOEXEC);
+    const bool is = descriptor >= 0 && flock(descriptor, LOCK_EX | LOCK_NB) != 0 && errno == EWOULDBLOCK;
+    HOLDS(descriptor >= 0 && close(descriptor) == 0);
+    return is;
+}
+
+std::string segment(const std::string& path, int number) {
+    const std::string digits = std::to_string(number);
+    return path + "/" + std::string(10 - digits.size(), '0') + digits + ".seg";
+}
+
+// Threads that each have a recorder in another segment of a recording, and are idle.
+class Holders {
+   public:
+    Holders(const Metric& metric, int threads) {
+        for (int i = 0; i < threads; ++i) {
+            std::thread([&] { HOLDS(metric.add(1, kMost)); }).join();
+            threads_.emplace_back([this, metric] {
+                HOLDS(metric.add(1));
+                gate_.wait();
+            });
+            gate_.wait_for(i + 1);
+        }
+    }
+    void leave() {
+        gate_.open_for(static_cast<int>(threads_.size()));
+        for (std::thread& thread : threads_) thread.join();
+    }
+
+   private:
+    static constexpr std::uint32_t kMost = 4'200'000'000;
+    Gate gate_;
+    std::vector<std::thread> threads_;
+};
+
+// Each segment that a thread is in is locked, and none that all have left. Returns how many descriptors the segments have.
+std::ptrdiff_t descriptors_of(const std::string& path, int segments) {
+    Recording recording;
+    HOLDS(opens(path, recording, small()));
+    const Metric metric = metric_of(recording, "b");
+    recording.leave();
+    const std::ptrdiff_t before = descriptors();
+    Holders holders(metric, segments);
+    const std::ptrdiff_t after = descriptors();
+    HOLDS(segments_in(path) == static_cast<std::uint64_t>(segments));
+    for (int number = 1; number <= segments; ++number) HOLDS(is_locked(segment(path, number)));
+    HOLDS(recording.fold() == 0);
+    holders.leave();
+    for (int number = 1; number <= segments; ++number) HOLDS(is_locked(segment(path, number)) == (number == segments));
+    HOLDS(recording.fold() == static_cast<std::uint64_t>(segments - 1) && recording.missed() == 0);
+    // A child that lives on has nothing of the present segment, which is final once its process has ended the recording.
+    int ends[2];
+    char byte = 0;
+    HOLDS(pipe(ends) == 0);
+    const pid_t child = fork();
+    if (child == 0) {
+        if (write(ends[1], "x", 1) == 1) pause();
+        _exit(1);
+    }
+    HOLDS(child > 0 && read(ends[0], &byte, 1) == 1);
+    recording.end();
+    HOLDS(!is_locked(segment(path, segments)) && kill(child, SIGKILL) == 0 && waitpid(child, nullptr, 0) == child);
+    HOLDS(close(ends[0]) == 0 && close(ends[1]) == 0);
+    return after - before;
+}
+
+// Threads that are idle in old segments keep no descriptor.
+void few_open() { HOLDS(descriptors_of(folder("few_open"), 20) <= 0); }
+
+// The mapping of a file on overlayfs keeps no lock: so the descriptors stay.
+void overlaid() { HOLDS(descriptors_of(folder("overlay/merged/metrics"), 5) >= 4); }
+
+// Mounts an overlayfs for this process alone.
+bool mounts_overlay() {
+    const std::string top = folder("overlay");
+    for (const char* name : {"", "/lower", "/upper", "/work", "/merged"}) HOLDS(mkdir((top + name).c_str(), 0700) == 0);
+    const std::string words = "lowerdir=" + top + "/lower,upperdir=" + top + "/upper,workdir=" + top + "/work";
+    return unshare(CLONE_NEWNS) == 0 && mount("none", "/", nullptr, MS_REC | MS_PRIVATE, nullptr) == 0 &&
+           mount("overlay", (top + "/merged").c_str(), "overlay", 0, words.c_str()) == 0;
+}
+
 int run() {
     int failed = group("what is no recording's folder", marks);
     failed += group("spares", spares);
@@ -214,6 +309,8 @@ int run() {
     failed += group("a file in which nothing was begun", unmade);
     failed += group("few descriptors", few_descriptors);
     failed += group("no descriptor for a moment", no_descriptor);
+    failed += group("idle threads in old segments", few_open);
+    failed += mounts_overlay() ? group("the same on overlayfs", overlaid) : left_out("the same on overlayfs", std::strerror(errno));
     return failed;
 }
 

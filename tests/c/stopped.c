@@ -44,7 +44,7 @@ int __wrap_open(const char *path, int flags, ...) {
     va_list more;
     int mode = 0;
     va_start(more, flags);
-    if ((flags & O_CREAT) != 0) mode = va_arg(more, int);
+    if ((flags & O_CREAT) != 0 || (flags & O_TMPFILE) == O_TMPFILE) mode = va_arg(more, int);
     va_end(more);
     step();
     return __real_open(path, flags, mode);

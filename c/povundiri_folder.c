@@ -98,17 +98,6 @@ int povundiri_parts_open_locked(struct povundiri_held *held, const char *path, s
 
 /* ---- Bytes ---- */
 
-static int read_all(int descriptor, char *to, size_t bytes, size_t *got) {
-    *got = 0;
-    while (*got < bytes) {
-        const ssize_t more = pread(descriptor, to + *got, bytes - *got, (off_t)*got);
-        if (more < 0 && errno != EINTR) return errno;
-        if (more == 0) break;
-        if (more > 0) *got += (size_t)more;
-    }
-    return 0;
-}
-
 static int write_all(int descriptor, const char *from, size_t bytes) {
     size_t done = 0;
     while (done < bytes) {
@@ -272,7 +261,7 @@ static int read_file(const char *path, char **bytes, size_t *length) {
     if (fault == 0 && !S_ISREG(about.st_mode)) fault = EINVAL;
     if (fault == 0) {
         *bytes = (char *)malloc((size_t)about.st_size + 1);
-        fault = *bytes == NULL ? ENOMEM : read_all(held.descriptor, *bytes, (size_t)about.st_size, length);
+        fault = *bytes == NULL ? ENOMEM : povundiri_parts_read(held.descriptor, *bytes, (size_t)about.st_size, 0, length);
     }
     if (fault == 0) (*bytes)[*length] = 0;
     povundiri_parts_close(&held);
@@ -339,7 +328,7 @@ int povundiri_parts_image(int descriptor, off_t length, struct povundiri_image *
     if (length > MOST_BYTES) return EFBIG;
     image->bytes = (uint64_t *)calloc((size_t)length / WORD + 1 + HEADER_WORDS, WORD);
     if (image->bytes == NULL) return ENOMEM;
-    fault = read_all(descriptor, (char *)image->bytes, (size_t)length, &got);
+    fault = povundiri_parts_read(descriptor, image->bytes, (size_t)length, 0, &got);
     image->words = image->bytes + 1;
     there = got < WORD ? 0 : got / WORD - 1;
     image->count = image->words[SIZE_AT] != 0 && image->words[SIZE_AT] < there ? (size_t)image->words[SIZE_AT] : there;

@@ -4,14 +4,15 @@
  *     recording           a regular file without bytes, which says what the folder is: without it a folder is no recording's
  *     0000000001.seg ..   segments in files (povundiri_file.h), each with an id of its own
  *     0000000004.damaged  what was segment 4, whose header has a fault: for you to look at, and to remove
- *     spare-PID-RANDOM    a segment that is not in use yet, by the process that made it and 16 hexadecimal digits
+ *     spare-PID-RANDOM    a segment that is not in use yet, by the process that made it and 16 hexadecimal digits; only where the system has
+ *                         no files without a name (O_TMPFILE), or no /proc
  *     totals              the sum of segments that were removed (docs/FORMAT.md)
  *     totals.new          totals that a fold writes, or was writing when it was killed
  *     fold.lock           an empty file, whose lock a fold holds
  *
  * THE FOLDER ITSELF HAS NO LOCK. Each process records into segments of its own, whose locks it holds from their making on until its last
- * recorder there has ended. A segment whose lock nobody holds is final. A process begins its next segment by a link from a spare to the next
- * number, and never replaces a file; so several processes share a folder, and a new release starts while the old one ends.
+ * recorder there has ended. A segment whose lock nobody holds is final. A process begins its next segment by a link from a spare, which mostly
+ * has no name, to the next number, and never replaces a file; so several processes share a folder, and a new release starts while the old one ends.
  *
  * PATHS. `folder` is the path of the folder itself: a symbolic link to it is refused with ENOTDIR, unless a slash follows the name.
  *

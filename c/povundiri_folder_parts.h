@@ -90,8 +90,9 @@ bool povundiri_parts_is_fault(uint32_t status);
 
 /* A recording's folder. */
 struct povundiri_place {
-    char *path;       /* absolute, for free() */
-    bool keeps_locks; /* the mapping of a file there keeps its lock, without a descriptor */
+    char *path;        /* absolute, for free() */
+    bool keeps_locks;  /* the mapping of a file there keeps its lock, without a descriptor */
+    bool names_spares; /* a spare has a name, since the system has no others, or does not name them later */
 };
 
 /* A segment in a folder that this process records into. */
@@ -101,7 +102,7 @@ struct povundiri_owned {
     struct povundiri_file file;
     struct povundiri_handle segment;
     uint32_t recorders;
-    char path[POVUNDIRI_PATH_BYTES];
+    char path[POVUNDIRI_PATH_BYTES]; /* empty: it has no name yet */
 };
 
 /* What a start has found in a folder. */
@@ -115,7 +116,7 @@ struct povundiri_found {
 /* Watches for forks. False if there is no memory for it. */
 bool povundiri_folder_watch(void);
 
-/* Makes the folder, if it is not there, marks it as a recording's, if it is empty, and removes spares that nobody holds; EEXIST if it is
+/* Makes the folder, if it is not there, marks it as a recording's, if it is empty, and removes old spares that nobody holds; EEXIST if it is
  * neither empty nor a recording's, and then nothing is changed. 0, or the system's fault, and then `place` has no path. */
 int povundiri_folder_enter(const char *folder, struct povundiri_place *place);
 
@@ -126,11 +127,11 @@ uint32_t povundiri_folder_adopt(const struct povundiri_place *place, struct povu
                                 int *fault);
 
 /* A spare of this shape. On any but POVUNDIRI_DONE *spare is null; on POVUNDIRI_SYSTEM *fault is the system's. */
-uint32_t povundiri_folder_spare(const struct povundiri_place *place, struct povundiri_shape shape, uint64_t random,
+uint32_t povundiri_folder_spare(struct povundiri_place *place, struct povundiri_shape shape, uint64_t random,
                                 struct povundiri_owned **spare, int *fault);
 
-/* Gives a spare the next number. 0, or the system's fault; then it is a spare still. */
-int povundiri_folder_commit(const struct povundiri_place *place, struct povundiri_owned *spare);
+/* Gives a spare the next number. 0, or the system's fault; then it is a spare still. EAGAIN: another spare may get it. */
+int povundiri_folder_commit(struct povundiri_place *place, struct povundiri_owned *spare);
 
 /* Ends what this process has of it. A spare is removed. No recorder is left. */
 void povundiri_folder_release(struct povundiri_owned *owned);

@@ -7,9 +7,13 @@
 #include <stdlib.h>
 #include <string.h>
 #include <sys/mman.h>
+#include <time.h>
 #include <unistd.h>
 
 #include "povundiri_folder_parts.h"
+
+/* How old a named spare is before a start removes it. */
+enum { YOUNG_SECONDS = 60 };
 
 /* ---- Entering a folder ---- */
 
@@ -52,12 +56,13 @@ static bool is_spare(const char *name) {
     return errno == 0 && strcmp(spelled, name) == 0;
 }
 
-/* Removes a spare that nobody holds: the process that made it was killed. */
+/* Removes a spare that nobody holds: the process that made it was killed. A young one may be about to get its lock. */
 static int sweep_name(void *context, const char *name) {
     struct povundiri_held held;
     struct stat about;
     char path[POVUNDIRI_PATH_BYTES];
     if (!is_spare(name) || povundiri_parts_join(path, (const char *)context, name) != 0) return 0;
+    if (fstatat(AT_FDCWD, path, &about, AT_SYMLINK_NOFOLLOW) != 0 || time(NULL) - about.st_mtime <= YOUNG_SECONDS) return 0;
     if (povundiri_parts_open_locked(&held, path, &about) != 0) return 0;
     unlink(path);
     povundiri_parts_close(&held);
@@ -112,7 +117,7 @@ static struct povundiri_owned *new_owned(void) { return (struct povundiri_owned 
 
 void povundiri_folder_release(struct povundiri_owned *owned) {
     if (owned == NULL) return;
-    if (owned->number == 0 && povundiri_file_is_open(&owned->file)) unlink(owned->path);
+    if (owned->number == 0 && owned->path[0] != 0 && povundiri_file_is_open(&owned->file)) unlink(owned->path);
     if (owned->segment.full) povundiri_drop(&owned->segment);
     povundiri_file_close(&owned->file);
     free(owned);
@@ -210,29 +215,52 @@ uint32_t povundiri_folder_adopt(const struct povundiri_place *place, struct povu
     return POVUNDIRI_DONE;
 }
 
-uint32_t povundiri_folder_spare(const struct povundiri_place *place, struct povundiri_shape shape, uint64_t random,
-                                struct povundiri_owned **spare, int *fault) {
-    struct povundiri_owned *const owned = new_owned();
+/* From now on spares there have names. */
+static void name_spares(struct povundiri_place *place) { __atomic_store_n(&place->names_spares, true, __ATOMIC_RELAXED); }
+
+/* A spare without a name. `is_refused` where the system has no such files. */
+static uint32_t open_unnamed(const struct povundiri_place *place, struct povundiri_shape shape, struct povundiri_owned *owned,
+                             int *fault, bool *is_refused) {
+    struct povundiri_opened opened;
+    const uint32_t status = povundiri_parts_open_unnamed(place->path, shape, &owned->file, &owned->segment, &opened);
+    *fault = opened.fault;
+    *is_refused = status == POVUNDIRI_SYSTEM && (*fault == EOPNOTSUPP || *fault == EISDIR || *fault == EINVAL);
+    return status;
+}
+
+static uint32_t open_named(const struct povundiri_place *place, struct povundiri_shape shape, uint64_t random,
+                           struct povundiri_owned *owned, int *fault) {
     struct povundiri_opened opened;
     char name[LONGEST_NAME];
     uint32_t status;
+    name_spare(name, (long)getpid(), random);
+    *fault = povundiri_parts_join(owned->path, place->path, name);
+    if (*fault != 0) return POVUNDIRI_SYSTEM;
+    status = povundiri_open(owned->path, shape, POVUNDIRI_ADOPT_OR_FAIL, NULL, &owned->file, &owned->segment, &opened);
+    *fault = opened.fault;
+    /* It may have been made, and is empty. */
+    if (status != POVUNDIRI_DONE) unlink(owned->path);
+    return status;
+}
+
+uint32_t povundiri_folder_spare(struct povundiri_place *place, struct povundiri_shape shape, uint64_t random,
+                                struct povundiri_owned **spare, int *fault) {
+    struct povundiri_owned *const owned = new_owned();
+    bool is_named = __atomic_load_n(&place->names_spares, __ATOMIC_RELAXED);
+    uint32_t status = POVUNDIRI_DONE;
     *spare = NULL;
     *fault = 0;
     if (owned == NULL) return POVUNDIRI_NO_MEMORY;
-    name_spare(name, (long)getpid(), random);
-    *fault = povundiri_parts_join(owned->path, place->path, name);
-    status = *fault != 0 ? (uint32_t)POVUNDIRI_SYSTEM
-                         : povundiri_open(owned->path, shape, POVUNDIRI_ADOPT_OR_FAIL, NULL, &owned->file, &owned->segment, &opened);
+    if (!is_named) status = open_unnamed(place, shape, owned, fault, &is_named);
+    if (is_named) {
+        name_spares(place);
+        status = open_named(place, shape, random, owned, fault);
+    }
     if (status == POVUNDIRI_DONE) {
         *spare = owned;
-        return status;
+    } else {
+        free(owned);
     }
-    if (*fault == 0) {
-        if (status == POVUNDIRI_SYSTEM) *fault = opened.fault;
-        /* It may have been made, and is empty. */
-        unlink(owned->path);
-    }
-    free(owned);
     return status;
 }
 
@@ -253,18 +281,28 @@ static int next_number(const char *folder, uint64_t *number) {
     return fault;
 }
 
-int povundiri_folder_commit(const struct povundiri_place *place, struct povundiri_owned *spare) {
+/* Gives a spare a name. The next spares have names from the beginning where one without a name gets none: there may be no /proc, or no
+ * right to link what another user of this process has made. */
+static int link_to(struct povundiri_place *place, const struct povundiri_owned *spare, const char *path) {
+    int fault;
+    if (spare->path[0] != 0) return link(spare->path, path) == 0 ? 0 : errno;
+    fault = povundiri_parts_name(&spare->file, path);
+    if (fault != 0 && fault != EEXIST && fault != EBADF && fault != ENOSPC && fault != EDQUOT) name_spares(place);
+    return fault == ENOENT || fault == EACCES ? EAGAIN : fault;
+}
+
+int povundiri_folder_commit(struct povundiri_place *place, struct povundiri_owned *spare) {
     char path[POVUNDIRI_PATH_BYTES];
     uint64_t number = 0;
     int fault = next_number(place->path, &number);
     if (fault != 0) return fault;
     do {
         fault = povundiri_parts_path(path, place->path, number, "seg");
-        if (fault == 0 && link(spare->path, path) != 0) fault = errno;
+        if (fault == 0) fault = link_to(place, spare, path);
         if (fault == EEXIST) number += 1;
     } while (fault == EEXIST);
     if (fault != 0) return fault;
-    unlink(spare->path);
+    if (spare->path[0] != 0) unlink(spare->path);
     spare->number = number;
     memcpy(spare->path, path, sizeof path);
     begin(place, spare);

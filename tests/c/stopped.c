@@ -1,8 +1,9 @@
 /* Linked into a program with the words of `wrapped` (tests/parts/recordings.py): those of its calls to the system that others can see come
  * here first. If the environment has STOP_AT, a number from 1 on, the process kills itself before that one of these calls. If it has
- * STOP_TELLS, the process prints at its end how many there were. */
+ * STOP_TELLS, the process prints at its end how many there were. If it has NO_UNNAMED, the system makes no files without a name. */
 #define _GNU_SOURCE
 
+#include <errno.h>
 #include <fcntl.h>
 #include <signal.h>
 #include <stdarg.h>
@@ -18,6 +19,7 @@ int __real_flock(int descriptor, int how);
 int __real_fsync(int descriptor);
 int __real_ftruncate(int descriptor, off_t length);
 int __real_link(const char *from, const char *to);
+int __real_linkat(int from_folder, const char *from, int to_folder, const char *to, int flags);
 void *__real_mmap(void *at, size_t length, int protection, int flags, int descriptor, off_t offset);
 int __real_posix_fallocate(int descriptor, off_t from, off_t length);
 ssize_t __real_pread(int descriptor, void *to, size_t bytes, off_t at);
@@ -47,6 +49,10 @@ int __wrap_open(const char *path, int flags, ...) {
     if ((flags & O_CREAT) != 0 || (flags & O_TMPFILE) == O_TMPFILE) mode = va_arg(more, int);
     va_end(more);
     step();
+    if ((flags & O_TMPFILE) == O_TMPFILE && getenv("NO_UNNAMED") != NULL) {
+        errno = EOPNOTSUPP;
+        return -1;
+    }
     return __real_open(path, flags, mode);
 }
 
@@ -73,6 +79,11 @@ int __wrap_ftruncate(int descriptor, off_t length) {
 int __wrap_link(const char *from, const char *to) {
     step();
     return __real_link(from, to);
+}
+
+int __wrap_linkat(int from_folder, const char *from, int to_folder, const char *to, int flags) {
+    step();
+    return __real_linkat(from_folder, from, to_folder, to, flags);
 }
 
 void *__wrap_mmap(void *at, size_t length, int protection, int flags, int descriptor, off_t offset) {

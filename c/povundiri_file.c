@@ -235,6 +235,7 @@ static int inspect(int descriptor, off_t length, struct content *content) {
 
 /* What is asked for. */
 struct request {
+    int folder; /* from which on the path is */
     const char *path;
     size_t bytes;
     size_t cursors; /* for which there has to be room after the words of a segment in the file */
@@ -245,6 +246,7 @@ struct request {
 
 static int request_of(struct request *request, const char *path, const struct povundiri_file_options *options) {
     const mode_t mode = options == NULL ? 0 : options->mode;
+    request->folder = AT_FDCWD;
     request->path = path;
     request->is_unnamed = false;
     request->flags = options == NULL ? 0 : options->flags;
@@ -256,7 +258,7 @@ static int request_of(struct request *request, const char *path, const struct po
 
 static int status_at(const struct request *request, struct stat *about) {
     const int flags = (request->flags & POVUNDIRI_FILE_FOLLOW) != 0 ? 0 : AT_SYMLINK_NOFOLLOW;
-    return fstatat(AT_FDCWD, request->path, about, flags) == 0 ? 0 : errno;
+    return fstatat(request->folder, request->path, about, flags) == 0 ? 0 : errno;
 }
 
 /* What is no file is not even opened: opening alone may make a device do something. */
@@ -276,7 +278,7 @@ static int open_descriptor(const struct request *request, struct povundiri_mappi
     if (fault != 0) return fault;
     do {
         pthread_mutex_lock(&mutex);
-        mapping->descriptor = open(request->path, O_RDWR | O_CLOEXEC | O_NOCTTY | O_NONBLOCK | how, request->mode);
+        mapping->descriptor = openat(request->folder, request->path, O_RDWR | O_CLOEXEC | O_NOCTTY | O_NONBLOCK | how, request->mode);
         fault = mapping->descriptor < 0 ? errno : 0;
         pthread_mutex_unlock(&mutex);
     } while (fault == EINTR);
@@ -440,16 +442,26 @@ int povundiri_file_descriptor(const struct povundiri_file *file) {
 
 void povundiri_parts_close_descriptor(struct povundiri_file *file) {
     pthread_mutex_lock(&mutex);
-    if (is_here(file->mapping)) give_up_descriptor(file->mapping);
+    if (is_here(file->mapping)) {
+        if (has_descriptor(file->mapping)) close(file->mapping->descriptor);
+        file->mapping->descriptor = -1;
+    }
     pthread_mutex_unlock(&mutex);
 }
 
-int povundiri_parts_name(const struct povundiri_file *file, const char *path) {
+int povundiri_parts_name(const struct povundiri_file *file, int folder, const char *name) {
     const struct povundiri_mapping *const mapping = file->mapping;
     char open_file[64];
     if (!is_here(mapping) || !has_descriptor(mapping)) return EBADF;
     snprintf(open_file, sizeof open_file, "/proc/self/fd/%d", mapping->descriptor);
-    return linkat(AT_FDCWD, open_file, AT_FDCWD, path, AT_SYMLINK_FOLLOW) == 0 ? 0 : errno;
+    return linkat(AT_FDCWD, open_file, folder, name, AT_SYMLINK_FOLLOW) == 0 ? 0 : errno;
+}
+
+bool povundiri_parts_stands(const struct povundiri_file *file, int folder, const char *name) {
+    const struct povundiri_mapping *const mapping = file->mapping;
+    struct stat about;
+    if (fstatat(folder, name, &about, AT_SYMLINK_NOFOLLOW) != 0) return errno != ENOENT && errno != ENOTDIR;
+    return about.st_dev == mapping->device && about.st_ino == mapping->inode;
 }
 
 struct povundiri_room povundiri_file_room(const struct povundiri_file *file) {
@@ -700,12 +712,15 @@ uint32_t povundiri_open(const char *path, struct povundiri_shape shape, enum pov
     return open_segment(&task, shape, file, segment);
 }
 
-uint32_t povundiri_parts_open_unnamed(const char *folder, struct povundiri_shape shape, struct povundiri_file *file,
-                                      struct povundiri_handle *segment, struct povundiri_opened *opened) {
+uint32_t povundiri_parts_open_in(int folder, const char *name, struct povundiri_shape shape, unsigned flags, struct povundiri_file *file,
+                                 struct povundiri_handle *segment, struct povundiri_opened *opened) {
+    const struct povundiri_file_options options = {flags, 0};
     struct task task;
     memset(opened, 0, sizeof *opened);
-    (void)request_of(&task.request, folder, NULL);
-    task.request.is_unnamed = true;
+    opened->fault = request_of(&task.request, name != NULL ? name : ".", &options);
+    if (opened->fault != 0) return POVUNDIRI_SYSTEM;
+    task.request.folder = folder;
+    task.request.is_unnamed = name == NULL;
     task.policy = POVUNDIRI_ADOPT_OR_FAIL;
     task.opened = opened;
     return open_segment(&task, shape, file, segment);

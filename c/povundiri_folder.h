@@ -1,7 +1,8 @@
 /* The folder of recordings (povundiri_recording.h), for programs that read it or keep it small. Any process of the same user may do that,
  * also while others record.
  *
- *     recording           a regular file without bytes, which says what the folder is: without it a folder is no recording's
+ *     recording           a regular file without bytes, which says what the folder is. Where it is missing, a folder is a recording's all the
+ *                         same if it has a segment, a damaged file or totals, and nothing but these files and those of `history`
  *     0000000001.seg ..   segments in files (povundiri_file.h), each with an id of its own
  *     0000000004.damaged  what was segment 4, whose header has a fault: for you to look at, and to remove
  *     spare-PID-RANDOM    a segment that is not in use yet, by the process that made it and 16 hexadecimal digits; only where the system has

@@ -110,15 +110,14 @@ static uint32_t look_at(int descriptor, uint64_t **image, size_t *length, int *f
     return status;
 }
 
-uint32_t povundiri_file_look(const char *path, uint64_t **image, size_t *length, int *fault) {
+uint32_t povundiri_parts_look(int folder, const char *name, uint64_t **image, size_t *length, int *fault) {
     uint32_t status = POVUNDIRI_SYSTEM;
     int descriptor, state;
-    if (path == NULL || image == NULL || length == NULL || fault == NULL) return POVUNDIRI_NULL;
     *image = NULL;
     *length = 0;
     pthread_setcancelstate(PTHREAD_CANCEL_DISABLE, &state);
     do {
-        descriptor = open(path, O_RDONLY | O_CLOEXEC | O_NOCTTY | O_NONBLOCK);
+        descriptor = openat(folder, name, O_RDONLY | O_CLOEXEC | O_NOCTTY | O_NONBLOCK);
     } while (descriptor < 0 && errno == EINTR);
     *fault = descriptor < 0 ? errno : 0;
     if (descriptor >= 0) {
@@ -132,4 +131,9 @@ uint32_t povundiri_file_look(const char *path, uint64_t **image, size_t *length,
         *length = 0;
     }
     return status;
+}
+
+uint32_t povundiri_file_look(const char *path, uint64_t **image, size_t *length, int *fault) {
+    if (path == NULL || image == NULL || length == NULL || fault == NULL) return POVUNDIRI_NULL;
+    return povundiri_parts_look(AT_FDCWD, path, image, length, fault);
 }

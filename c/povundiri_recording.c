@@ -261,6 +261,7 @@ static void in_child(void) {
         each->state = IS_FORKED;
         each->current = each->spare = each->old = NULL;
         each->is_preparing = false;
+        each->folder.is_open = false;
         set_turn(each, NO_SEGMENT);
         memset(each->missed, 0, sizeof each->missed);
         clear(each->shared);
@@ -293,6 +294,7 @@ static void leave(struct povundiri_recording *recording) {
 static bool add_slowly(struct povundiri_recording *recording, size_t metric, int32_t value, uint32_t count) {
     bool counted = false, wants_spare = false;
     pthread_mutex_lock(&recording->mutex);
+    povundiri_segments_look(recording, false);
     if (recording->state == RECORDS && metric < recording->metrics.count) {
         counted = count == 0 || count_or_miss(recording, metric, value, count);
         wants_spare = recording->spare == NULL;
@@ -407,7 +409,16 @@ uint32_t povundiri_recording_scale(struct povundiri_recording *recording, const 
 
 /* ---- For povundiri_recorded.c alone ---- */
 
-const char *povundiri_recording_folder(const struct povundiri_recording *recording) { return recording->folder.path; }
+int povundiri_recording_folder(struct povundiri_recording *recording, struct povundiri_held *held) {
+    int fault, state;
+    pthread_setcancelstate(PTHREAD_CANCEL_DISABLE, &state);
+    pthread_mutex_lock(&recording->mutex);
+    povundiri_segments_look(recording, true);
+    fault = povundiri_place_copy(&recording->folder, held);
+    pthread_mutex_unlock(&recording->mutex);
+    pthread_setcancelstate(state, NULL);
+    return fault;
+}
 
 uint64_t povundiri_recording_fold_at(const struct povundiri_recording *recording) { return recording->options.fold_at; }
 
@@ -445,7 +456,7 @@ static uint32_t check_shape(struct povundiri_shape shape) {
 static uint32_t open_recording(const char *folder, struct povundiri_recording *recording, struct povundiri_began *began) {
     const uint32_t status = check_shape(recording->shape);
     if (status != POVUNDIRI_DONE) return status;
-    began->fault = povundiri_folder_enter(folder, &recording->folder);
+    began->fault = povundiri_place_enter(&recording->folder, folder);
     if (began->fault != 0) return began->fault == ENOMEM ? POVUNDIRI_NO_MEMORY : POVUNDIRI_SYSTEM;
     povundiri_segments_begin_first(recording, began);
     pthread_mutex_lock(&list_mutex);
@@ -489,11 +500,12 @@ void povundiri_recording_end(struct povundiri_recording *recording) {
     pthread_setcancelstate(PTHREAD_CANCEL_DISABLE, &state);
     pthread_mutex_lock(&recording->mutex);
     if (recording->state == RECORDS) {
+        povundiri_folder_release(&recording->folder, recording->spare);
+        recording->spare = NULL;
         recording->state = HAS_ENDED;
         leave(recording);
-        povundiri_folder_release(recording->spare);
-        recording->spare = NULL;
         povundiri_segments_retire(recording);
+        if (recording->old == NULL) povundiri_place_leave(&recording->folder);
     }
     pthread_mutex_unlock(&recording->mutex);
     pthread_setcancelstate(state, NULL);

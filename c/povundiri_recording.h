@@ -35,6 +35,11 @@
  * user may not read is a fault of each text; so are totals that it may not read, such as those of a fold by root, and then no segment can be
  * begun either. Only users who are trusted like the program itself may write in the folder, or in those that it is in.
  *
+ * THE FOLDER MAY MOVE. A recording keeps a descriptor of it, so it stays with a folder that is renamed, and needs no path to it after setuid or
+ * chroot. If the folder is removed, its path is made again. If somebody removes the present segment, or empties the folder, that is seen by the
+ * next text, and within a second where a sample takes the mutex. Then the next segment is begun, and the units that were in the removed one
+ * when the last thread left it are missed, as REMOVED. A folder that has lost its mark is marked again.
+ *
  * A KILL, exit and _exit lose no sample whose call had returned. Where spares have names (povundiri_folder.h), one may be left, which an open
  * removes a minute later. A crash of the machine may lose what no fold has synced.
  *
@@ -110,7 +115,9 @@ struct povundiri_began {
  *               size, and was begun less than a second before
  *   FORKED      this is a child of fork, and the recording its parent's
  *   ENDED       the recording has ended
- *   NO_MEMORY   there was no memory for what the first samples of a thread or of a histogram take */
+ *   NO_MEMORY   there was no memory for what the first samples of a thread or of a histogram take
+ *   REMOVED     somebody removed the segment from the folder, or the folder: the units that were in it when the last thread left it, also those
+ *               whose povundiri_recording_add was true */
 enum povundiri_missed {
     POVUNDIRI_MISSED_TOO_LARGE = 0,
     POVUNDIRI_MISSED_OTHER_SPEC = 1,
@@ -119,7 +126,8 @@ enum povundiri_missed {
     POVUNDIRI_MISSED_FORKED = 4,
     POVUNDIRI_MISSED_ENDED = 5,
     POVUNDIRI_MISSED_NO_MEMORY = 6,
-    POVUNDIRI_MISSED_REASONS = 7
+    POVUNDIRI_MISSED_REMOVED = 7,
+    POVUNDIRI_MISSED_REASONS = 8
 };
 
 /* ---- Beginning and end ---- */
@@ -209,7 +217,7 @@ uint32_t povundiri_recording_sums(struct povundiri_recording *recording, struct 
  *   show     `missed, REASON: UNITS` for each reason with units
  *
  * A text is of the whole folder, so let one of the processes that record there be scraped. The flag `full` in it says that some segment was
- * full, which is how each one ends. A text takes no mutex of the recording, and reads each segment three times. An export folds first if
+ * full, which is how each one ends. A text takes the mutex for a moment, and reads each segment three times. An export folds first if
  * the folder has `fold_at` segments or more, and then waits for the device; whether that fold is done makes no difference to the text or
  * the status.
  *

@@ -3,9 +3,12 @@
 #ifndef POVUNDIRI_RECORDING_PARTS_H
 #define POVUNDIRI_RECORDING_PARTS_H
 
+#include "povundiri_folder_parts.h"
 #include "povundiri_recording.h"
 
-const char *povundiri_recording_folder(const struct povundiri_recording *recording);
+/* Its folder, by a descriptor of the caller's own, after a look at whether the present segment is there. 0, or the system's fault. */
+int povundiri_recording_folder(struct povundiri_recording *recording, struct povundiri_held *held);
+
 uint64_t povundiri_recording_fold_at(const struct povundiri_recording *recording);
 
 /* A histogram that was asked for. */

@@ -57,9 +57,10 @@ struct povundiri_recording {
     uint64_t refusals;            /* how often a segment was refused since one was made */
     uint64_t again_at;            /* when one may be made again then */
     bool is_preparing;            /* some thread makes a spare */
+    uint64_t looked_at;           /* when it was last seen whether the present one has its name */
 };
 
-static inline void miss(struct povundiri_recording *recording, enum povundiri_missed reason, uint32_t count) {
+static inline void miss(struct povundiri_recording *recording, enum povundiri_missed reason, uint64_t count) {
     __atomic_fetch_add(&recording->missed[reason], count, __ATOMIC_RELAXED);
 }
 
@@ -94,6 +95,9 @@ void povundiri_segments_begin_first(struct povundiri_recording *recording, struc
 
 /* Begins the next segment. The system's fault, or 0; EAGAIN: it was refused before, and is not tried yet. */
 int povundiri_segments_begin_next(struct povundiri_recording *recording);
+
+/* If the present segment has lost its name in the folder, the next one is begun. This is looked at once in a second, or at once. */
+void povundiri_segments_look(struct povundiri_recording *recording, bool at_once);
 
 /* Why the next segment is not begun, or that it was. */
 enum rolled { BEGUN, TOO_SOON, REFUSED };

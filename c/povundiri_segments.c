@@ -51,7 +51,11 @@ static void let_go(struct povundiri_recording *recording, struct povundiri_owned
     if (owned == recording->current || owned->recorders > 0) return;
     while (*link != owned) link = &(*link)->next;
     *link = owned->next;
-    povundiri_folder_release(owned);
+    if (owned->is_gone || !povundiri_folder_stands(&recording->folder, owned)) {
+        miss(recording, POVUNDIRI_MISSED_REMOVED, povundiri_folder_units(owned));
+    }
+    povundiri_folder_release(&recording->folder, owned);
+    if (recording->state == HAS_ENDED && recording->current == NULL && recording->old == NULL) povundiri_place_leave(&recording->folder);
 }
 
 void povundiri_segments_give_back(struct povundiri_recording *recording, struct local *local) {
@@ -87,11 +91,12 @@ static void make_current(struct povundiri_recording *recording, struct povundiri
 }
 
 /* Makes a spare of this shape, with an id of its own. */
-static struct povundiri_owned *new_spare(struct povundiri_recording *recording, struct povundiri_shape shape, int *fault) {
+static struct povundiri_owned *new_spare(const struct povundiri_recording *recording, struct povundiri_place *place,
+                                         struct povundiri_shape shape, int *fault) {
     struct povundiri_owned *spare = NULL;
     uint32_t status;
     shape.id = random_of(recording);
-    status = povundiri_folder_spare(&recording->folder, shape, random_of(recording), &spare, fault);
+    status = povundiri_folder_spare(place, shape, random_of(recording), &spare, fault);
     if (status != POVUNDIRI_DONE && *fault == 0) *fault = ENOMEM;
     return spare;
 }
@@ -108,15 +113,30 @@ static bool is_tried_again(struct povundiri_recording *recording, int fault) {
     return wait == 0;
 }
 
+/* Finds the folder, wherever it is by now. If it was removed, and is another one, nothing that was in it is there. */
+static int look_for_folder(struct povundiri_recording *recording) {
+    struct povundiri_owned *old;
+    bool is_another;
+    const int fault = povundiri_place_look(&recording->folder, &is_another);
+    if (!is_another) return fault;
+    povundiri_folder_release(&recording->folder, recording->spare);
+    recording->spare = NULL;
+    if (recording->current != NULL) recording->current->is_gone = true;
+    for (old = recording->old; old != NULL; old = old->next) old->is_gone = true;
+    return fault;
+}
+
 /* Begins the next segment with the spare, or with a new one. The system's fault, or 0; then there is no spare. */
 static int begin_once(struct povundiri_recording *recording) {
-    struct povundiri_owned *next = recording->spare;
-    int fault = 0;
+    struct povundiri_owned *next;
+    int fault = look_for_folder(recording);
+    if (fault != 0) return fault;
+    next = recording->spare;
     recording->spare = NULL;
-    if (next == NULL) next = new_spare(recording, recording->shape, &fault);
+    if (next == NULL) next = new_spare(recording, &recording->folder, recording->shape, &fault);
     if (next != NULL) fault = povundiri_folder_commit(&recording->folder, next);
     if (fault != 0) {
-        povundiri_folder_release(next);
+        povundiri_folder_release(&recording->folder, next);
         return fault;
     }
     povundiri_segments_retire(recording);
@@ -143,13 +163,13 @@ static int grow(struct povundiri_recording *recording) {
     int fault = 0;
     if (povundiri_segments_now() < recording->again_at) return EAGAIN;
     do {
-        spare = new_spare(recording, shape, &fault);
+        spare = new_spare(recording, &recording->folder, shape, &fault);
     } while (spare == NULL && is_tried_again(recording, fault));
     if (spare == NULL) {
         recording->again_at = povundiri_segments_now() + SECOND;
         return fault;
     }
-    povundiri_folder_release(recording->spare);
+    povundiri_folder_release(&recording->folder, recording->spare);
     recording->spare = spare;
     recording->bytes = bytes;
     recording->shape = shape;
@@ -171,29 +191,53 @@ enum rolled povundiri_segments_roll(struct povundiri_recording *recording, uint3
     return povundiri_segments_begin_next(recording) == 0 ? BEGUN : REFUSED;
 }
 
+/* If the present segment has lost its name, it counts no longer. Then the next one is begun, if the system lets it. */
+void povundiri_segments_look(struct povundiri_recording *recording, bool at_once) {
+    const uint64_t time = povundiri_segments_now();
+    if (recording->state != RECORDS || (!at_once && time - recording->looked_at < SECOND)) return;
+    recording->looked_at = time;
+    if (look_for_folder(recording) != 0 && recording->current != NULL && !recording->current->is_gone) return;
+    if (recording->current == NULL) return;
+    if (!recording->current->is_gone && povundiri_folder_stands(&recording->folder, recording->current)) return;
+    povundiri_segments_retire(recording);
+    (void)povundiri_segments_begin_next(recording);
+}
+
 /* ---- Spares: no mutex is held ---- */
+
+/* What a thread takes with it that makes a spare. False if there is nothing to make. */
+static bool begins_to_prepare(struct povundiri_recording *recording, struct povundiri_place *place, struct povundiri_shape *shape) {
+    bool is_mine;
+    pthread_mutex_lock(&recording->mutex);
+    *shape = recording->shape;
+    *place = recording->folder;
+    is_mine = recording->state == RECORDS && recording->spare == NULL && !recording->is_preparing &&
+              povundiri_segments_now() >= recording->again_at && place->is_open &&
+              povundiri_place_copy(&recording->folder, &place->held) == 0;
+    if (is_mine) recording->is_preparing = true;
+    pthread_mutex_unlock(&recording->mutex);
+    return is_mine;
+}
 
 void povundiri_segments_prepare(struct povundiri_recording *recording) {
     struct povundiri_owned *spare;
+    struct povundiri_place place;
     struct povundiri_shape shape;
-    bool is_mine;
     int fault = 0;
-    pthread_mutex_lock(&recording->mutex);
-    shape = recording->shape;
-    is_mine = recording->state == RECORDS && recording->spare == NULL && !recording->is_preparing && povundiri_segments_now() >= recording->again_at;
-    if (is_mine) recording->is_preparing = true;
-    pthread_mutex_unlock(&recording->mutex);
-    if (!is_mine) return;
-    spare = new_spare(recording, shape, &fault);
+    if (!begins_to_prepare(recording, &place, &shape)) return;
+    spare = new_spare(recording, &place, shape, &fault);
     pthread_mutex_lock(&recording->mutex);
     recording->is_preparing = false;
+    if (place.names_spares) recording->folder.names_spares = true;
     if (spare == NULL) (void)is_tried_again(recording, fault);
-    if (spare != NULL && recording->state == RECORDS && recording->spare == NULL && shape.size == recording->shape.size) {
+    if (spare != NULL && recording->state == RECORDS && recording->spare == NULL && shape.size == recording->shape.size &&
+        place.inode == recording->folder.inode) {
         recording->spare = spare;
         spare = NULL;
     }
     pthread_mutex_unlock(&recording->mutex);
-    povundiri_folder_release(spare);
+    povundiri_folder_release(&place, spare);
+    povundiri_place_leave(&place);
 }
 
 /* ---- Beginning ---- */

@@ -73,13 +73,13 @@ extern "C" int __wrap_flock(int descriptor, int how) {
 
 extern "C" int __real_linkat(int from_folder, const char* from, int to_folder, const char* to, int flags);
 extern "C" int __wrap_linkat(int from_folder, const char* from, int to_folder, const char* to, int flags) {
-    if (unnamed == Unnamed::Named) return __real_linkat(from_folder, from, to_folder, to, flags);
+    if (unnamed == Unnamed::Named || std::strncmp(from, "/proc/", 6) != 0) return __real_linkat(from_folder, from, to_folder, to, flags);
     errno = ENOENT;
     return -1;
 }
 
-extern "C" int __real_open(const char* path, int flags, ...);
-extern "C" int __wrap_open(const char* path, int flags, ...) {
+extern "C" int __real_openat(int in, const char* path, int flags, ...);
+extern "C" int __wrap_openat(int in, const char* path, int flags, ...) {
     va_list more;
     va_start(more, flags);
     const int mode = (flags & O_CREAT) != 0 || (flags & O_TMPFILE) == O_TMPFILE ? va_arg(more, int) : 0;
@@ -90,7 +90,7 @@ extern "C" int __wrap_open(const char* path, int flags, ...) {
     }
     const bool is_segment = std::string(path).find(".seg") != std::string::npos, is_recorded = (flags & O_ACCMODE) == O_RDWR;
     if (is_segment && is_recorded && !folded_between.empty()) fold_between();
-    const int descriptor = __real_open(path, flags, mode);
+    const int descriptor = __real_openat(in, path, flags, mode);
     if (descriptor < 0 || !is_segment || is_recorded || opened_until_fault < 0 || opened_until_fault-- > 0) return descriptor;
     close(descriptor);
     errno = ENFILE;
@@ -202,13 +202,15 @@ std::size_t left_by_kill(const std::string& path) {
 void swept() {
     const std::vector<std::pair<Unnamed, const char*>> ways = {
         {Unnamed::Named, "unnamed"}, {Unnamed::NotMade, "not_made"}, {Unnamed::NotNamed, "not_named"}};
+    RecordingOptions options{};
+    options.apart = 1;
     for (const auto& [way, name] : ways) {
         const std::string path = folder(name);
         Recording recording;
         HOLDS(mkdir(path.c_str(), 0700) == 0);
         unnamed = way;
         opened_between = path;
-        HOLDS(opens(path, recording));
+        HOLDS(opens(path, recording, options));
         opened_between.clear();
         HOLDS(recording.began().fault == 0 && recording.began().number > 0);
         for (int i = 0; i < 3; ++i) HOLDS(metric_of(recording, "b").add(1, 4'000'000'000));

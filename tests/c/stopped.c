@@ -13,18 +13,17 @@
 #include <sys/types.h>
 #include <unistd.h>
 
-int __real_open(const char *path, int flags, ...);
+int __real_openat(int folder, const char *path, int flags, ...);
 int __real_close(int descriptor);
 int __real_flock(int descriptor, int how);
 int __real_fsync(int descriptor);
 int __real_ftruncate(int descriptor, off_t length);
-int __real_link(const char *from, const char *to);
 int __real_linkat(int from_folder, const char *from, int to_folder, const char *to, int flags);
 void *__real_mmap(void *at, size_t length, int protection, int flags, int descriptor, off_t offset);
 int __real_posix_fallocate(int descriptor, off_t from, off_t length);
 ssize_t __real_pread(int descriptor, void *to, size_t bytes, off_t at);
-int __real_rename(const char *from, const char *to);
-int __real_unlink(const char *path);
+int __real_renameat(int from_folder, const char *from, int to_folder, const char *to);
+int __real_unlinkat(int folder, const char *path, int flags);
 ssize_t __real_write(int descriptor, const void *from, size_t bytes);
 
 static long number_of(const char *name) {
@@ -42,7 +41,7 @@ static __attribute__((destructor)) void tell(void) {
     if (getenv("STOP_TELLS") != NULL) fprintf(stderr, "%ld calls\n", __atomic_load_n(&calls, __ATOMIC_RELAXED));
 }
 
-int __wrap_open(const char *path, int flags, ...) {
+int __wrap_openat(int folder, const char *path, int flags, ...) {
     va_list more;
     int mode = 0;
     va_start(more, flags);
@@ -53,7 +52,7 @@ int __wrap_open(const char *path, int flags, ...) {
         errno = EOPNOTSUPP;
         return -1;
     }
-    return __real_open(path, flags, mode);
+    return __real_openat(folder, path, flags, mode);
 }
 
 int __wrap_close(int descriptor) {
@@ -76,11 +75,6 @@ int __wrap_ftruncate(int descriptor, off_t length) {
     return __real_ftruncate(descriptor, length);
 }
 
-int __wrap_link(const char *from, const char *to) {
-    step();
-    return __real_link(from, to);
-}
-
 int __wrap_linkat(int from_folder, const char *from, int to_folder, const char *to, int flags) {
     step();
     return __real_linkat(from_folder, from, to_folder, to, flags);
@@ -101,14 +95,14 @@ ssize_t __wrap_pread(int descriptor, void *to, size_t bytes, off_t at) {
     return __real_pread(descriptor, to, bytes, at);
 }
 
-int __wrap_rename(const char *from, const char *to) {
+int __wrap_renameat(int from_folder, const char *from, int to_folder, const char *to) {
     step();
-    return __real_rename(from, to);
+    return __real_renameat(from_folder, from, to_folder, to);
 }
 
-int __wrap_unlink(const char *path) {
+int __wrap_unlinkat(int folder, const char *path, int flags) {
     step();
-    return __real_unlink(path);
+    return __real_unlinkat(folder, path, flags);
 }
 
 /* Half of the bytes come first, so that a text is cut off. */

@@ -32,16 +32,19 @@ SIZES = ((16_384, 1_000_000), (32_768, 1), (65_536, 1_000_000))
 SMALL = (8_192, 1_000_000)
 # How a program is linked whose calls to the system come to stopped.c first.
 STOPPED = (
-    "open", "close", "flock", "fsync", "ftruncate", "link", "linkat", "mmap", "posix_fallocate", "pread", "rename", "unlink",
-    "write",
+    "openat", "close", "flock", "fsync", "ftruncate", "linkat", "mmap", "posix_fallocate", "pread", "renameat",
+    "unlinkat", "write",
 )
 # A program that begins segments makes this many of these calls within some milliseconds.
 BEGINNINGS = 100
 # The programs that check something, and which calls to the system each of them intercepts.
-CHECKED = {"recorded": ("clock_gettime", "posix_fallocate"), "recorded_folders": ("open", "flock", "linkat")}
+CHECKED = {
+    "recorded": ("clock_gettime", "posix_fallocate"), "recorded_folders": ("openat", "flock", "linkat"),
+    "recorded_removed": (),
+}
 THREADS = "-fsanitize=thread"
 # The reasons for what is missed, in the order of the library; what a run may miss that nothing disturbs.
-REASONS = ("too_large", "other_spec", "no_space", "rolling", "forked", "ended", "no_memory")
+REASONS = ("too_large", "other_spec", "no_space", "rolling", "forked", "ended", "no_memory", "removed")
 MAY_MISS = ("too_large", "rolling")
 # The most units that may be missed as `rolling`, of those that were counted; seen were at most 0.0002.
 MOST_ROLLING = 0.05

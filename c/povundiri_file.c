@@ -1,6 +1,6 @@
-#define _GNU_SOURCE /* renameat2, MADV_DONTFORK */
+#define _GNU_SOURCE /* renameat2, MADV_DONTFORK, O_TMPFILE */
 
-#include "povundiri_file.h"
+#include "povundiri_file_parts.h"
 
 #include <errno.h>
 #include <fcntl.h>
@@ -20,9 +20,6 @@
 /* A segment's file has whole units of 16 bytes. */
 enum { UNIT = 16, MOST_CURSORS = 8 };
 
-/* How often a file in use is read for a look. */
-enum { COPIES = 3 };
-
 /* The flag of a full segment. */
 enum { FULL = 2 };
 
@@ -33,8 +30,6 @@ enum {
     ALL_FLAGS = POVUNDIRI_FILE_GROUP_WRITES | POVUNDIRI_FILE_ANY_OWNER | POVUNDIRI_FILE_FOLLOW | POVUNDIRI_FILE_KEEP_ON_FORK |
                 POVUNDIRI_FILE_EXISTING
 };
-
-static const uint64_t COOKIE = 0x408305DC;
 
 /* The words of a header that are never 0 once it is made. */
 static const size_t NEVER_ZERO[] = {0, 1, 2, 3, 5, 7, 8, 12, 13, 15};
@@ -168,8 +163,7 @@ static void forget(struct povundiri_mapping *mapping) {
 
 /* ---- What a file has ---- */
 
-/* Reads `bytes` bytes, or those up to the end of the file. */
-static int read_at(int descriptor, void *to, size_t bytes, off_t at, size_t *got) {
+int povundiri_parts_read(int descriptor, void *to, size_t bytes, off_t at, size_t *got) {
     *got = 0;
     while (*got < bytes) {
         const ssize_t more = pread(descriptor, (char *)to + *got, bytes - *got, at + (off_t)*got);
@@ -191,7 +185,7 @@ static int look_for_zeros(int descriptor, off_t at, bool *only_zeros) {
     size_t got = BLOCK;
     *only_zeros = true;
     while (got == BLOCK && *only_zeros) {
-        const int fault = read_at(descriptor, block, BLOCK, at, &got);
+        const int fault = povundiri_parts_read(descriptor, block, BLOCK, at, &got);
         if (fault != 0) return fault;
         *only_zeros = are_zeros(block, got);
         at += (off_t)got;
@@ -227,10 +221,10 @@ static int inspect(int descriptor, off_t length, struct content *content) {
     bool begins, only_zeros;
     int fault;
     if (length > (off_t)most_bytes()) return EEXIST;
-    fault = read_at(descriptor, first, sizeof first, 0, &got);
+    fault = povundiri_parts_read(descriptor, first, sizeof first, 0, &got);
     if (fault == 0) fault = look_for_zeros(descriptor, (off_t)sizeof first, &only_zeros);
     if (fault != 0) return fault;
-    begins = got >= 2 * WORD && first[0] == 0 && image[COOKIE_AT] == COOKIE;
+    begins = got >= 2 * WORD && first[0] == 0 && image[COOKIE_AT] == SEGMENT_COOKIE;
     if (!begins && !(only_zeros && are_zeros(first, sizeof first))) return EEXIST;
     content->is_new = only_zeros && !is_made(image);
     content->words = is_made(image) && has_all_words(image[SIZE_AT], length) ? (size_t)image[SIZE_AT] : 0;
@@ -241,16 +235,20 @@ static int inspect(int descriptor, off_t length, struct content *content) {
 
 /* What is asked for. */
 struct request {
+    int folder; /* from which on the path is */
     const char *path;
     size_t bytes;
     size_t cursors; /* for which there has to be room after the words of a segment in the file */
     unsigned flags;
     mode_t mode;
+    bool is_unnamed; /* a new file without a name, in the folder at the path */
 };
 
 static int request_of(struct request *request, const char *path, const struct povundiri_file_options *options) {
     const mode_t mode = options == NULL ? 0 : options->mode;
+    request->folder = AT_FDCWD;
     request->path = path;
+    request->is_unnamed = false;
     request->flags = options == NULL ? 0 : options->flags;
     request->mode = mode == 0 ? 0600 : mode;
     if (path == NULL || (request->flags & ~(unsigned)ALL_FLAGS) != 0) return EINVAL;
@@ -260,21 +258,27 @@ static int request_of(struct request *request, const char *path, const struct po
 
 static int status_at(const struct request *request, struct stat *about) {
     const int flags = (request->flags & POVUNDIRI_FILE_FOLLOW) != 0 ? 0 : AT_SYMLINK_NOFOLLOW;
-    return fstatat(AT_FDCWD, request->path, about, flags) == 0 ? 0 : errno;
+    return fstatat(request->folder, request->path, about, flags) == 0 ? 0 : errno;
 }
 
 /* What is no file is not even opened: opening alone may make a device do something. */
+static int look_for_file(const struct request *request) {
+    struct stat about;
+    const int fault = status_at(request, &about);
+    if (fault != 0) return fault == ENOENT ? 0 : fault;
+    if (S_ISLNK(about.st_mode)) return ELOOP;
+    return S_ISREG(about.st_mode) ? 0 : EINVAL;
+}
+
 static int open_descriptor(const struct request *request, struct povundiri_mapping *mapping) {
     const int no_link = (request->flags & POVUNDIRI_FILE_FOLLOW) != 0 ? 0 : O_NOFOLLOW;
     const int makes = (request->flags & POVUNDIRI_FILE_EXISTING) != 0 ? 0 : O_CREAT;
-    struct stat about;
-    int fault = status_at(request, &about);
-    if (fault != 0 && fault != ENOENT) return fault;
-    if (fault == 0 && S_ISLNK(about.st_mode)) return ELOOP;
-    if (fault == 0 && !S_ISREG(about.st_mode)) return EINVAL;
+    const int how = request->is_unnamed ? O_TMPFILE : makes | no_link;
+    int fault = request->is_unnamed ? 0 : look_for_file(request);
+    if (fault != 0) return fault;
     do {
         pthread_mutex_lock(&mutex);
-        mapping->descriptor = open(request->path, O_RDWR | O_CLOEXEC | O_NOCTTY | O_NONBLOCK | makes | no_link, request->mode);
+        mapping->descriptor = openat(request->folder, request->path, O_RDWR | O_CLOEXEC | O_NOCTTY | O_NONBLOCK | how, request->mode);
         fault = mapping->descriptor < 0 ? errno : 0;
         pthread_mutex_unlock(&mutex);
     } while (fault == EINTR);
@@ -378,7 +382,7 @@ static int open_once(const struct request *request, struct povundiri_mapping *ma
         mapping->inode = about.st_ino;
         fault = lock(mapping->descriptor);
     }
-    if (fault == 0) fault = look_for_name(request, &about);
+    if (fault == 0 && !request->is_unnamed) fault = look_for_name(request, &about);
     if (fault == 0) fault = prepare(request, mapping);
     if (fault != 0) give_up(mapping);
     return fault;
@@ -434,6 +438,30 @@ bool povundiri_file_is_open(const struct povundiri_file *file) {
 
 int povundiri_file_descriptor(const struct povundiri_file *file) {
     return povundiri_file_is_open(file) ? file->mapping->descriptor : -1;
+}
+
+void povundiri_parts_close_descriptor(struct povundiri_file *file) {
+    pthread_mutex_lock(&mutex);
+    if (is_here(file->mapping)) {
+        if (has_descriptor(file->mapping)) close(file->mapping->descriptor);
+        file->mapping->descriptor = -1;
+    }
+    pthread_mutex_unlock(&mutex);
+}
+
+int povundiri_parts_name(const struct povundiri_file *file, int folder, const char *name) {
+    const struct povundiri_mapping *const mapping = file->mapping;
+    char open_file[64];
+    if (!is_here(mapping) || !has_descriptor(mapping)) return EBADF;
+    snprintf(open_file, sizeof open_file, "/proc/self/fd/%d", mapping->descriptor);
+    return linkat(AT_FDCWD, open_file, folder, name, AT_SYMLINK_FOLLOW) == 0 ? 0 : errno;
+}
+
+bool povundiri_parts_stands(const struct povundiri_file *file, int folder, const char *name) {
+    const struct povundiri_mapping *const mapping = file->mapping;
+    struct stat about;
+    if (fstatat(folder, name, &about, AT_SYMLINK_NOFOLLOW) != 0) return errno != ENOENT && errno != ENOTDIR;
+    return about.st_dev == mapping->device && about.st_ino == mapping->inode;
 }
 
 struct povundiri_room povundiri_file_room(const struct povundiri_file *file) {
@@ -651,12 +679,27 @@ static uint32_t check_shape(struct povundiri_shape shape) {
     return status == POVUNDIRI_DONE ? povundiri_drop(&segment) : status;
 }
 
+/* Opens what the task has, in which `request`, `policy` and `opened` are set. */
+static uint32_t open_segment(struct task *task, struct povundiri_shape shape, struct povundiri_file *file,
+                             struct povundiri_handle *segment) {
+    uint32_t status = check_shape(shape);
+    bool again;
+    if (status != POVUNDIRI_DONE) return status;
+    task->request.bytes = povundiri_file_bytes(shape.size, shape.cursors);
+    task->request.cursors = shape.cursors;
+    task->shape = shape;
+    task->file = file;
+    task->segment = segment;
+    do {
+        status = open_one(task, &again);
+    } while (again);
+    return status;
+}
+
 uint32_t povundiri_open(const char *path, struct povundiri_shape shape, enum povundiri_policy policy,
                         const struct povundiri_file_options *options, struct povundiri_file *file, struct povundiri_handle *segment,
                         struct povundiri_opened *opened) {
     struct task task;
-    uint32_t status;
-    bool again;
     int fault;
     if (path == NULL || file == NULL || segment == NULL || opened == NULL) return POVUNDIRI_NULL;
     memset(opened, 0, sizeof *opened);
@@ -664,105 +707,21 @@ uint32_t povundiri_open(const char *path, struct povundiri_shape shape, enum pov
     if (!is_policy(policy)) return POVUNDIRI_BAD_KIND;
     fault = request_of(&task.request, path, options);
     if (fault != 0) return system_fault(opened, fault);
-    status = check_shape(shape);
-    if (status != POVUNDIRI_DONE) return status;
-    task.request.bytes = povundiri_file_bytes(shape.size, shape.cursors);
-    task.request.cursors = shape.cursors;
-    task.shape = shape;
     task.policy = policy;
-    task.file = file;
-    task.segment = segment;
     task.opened = opened;
-    do {
-        status = open_one(&task, &again);
-    } while (again);
-    return status;
+    return open_segment(&task, shape, file, segment);
 }
 
-/* ---- Looks ---- */
-
-/* Three reads of a file, one after the other: at which byte the image begins, how many words are read each time, and how many came. */
-struct reads {
-    off_t at;
-    size_t count;
-    uint64_t *words; /* the words of each read, after those of the read before */
-    size_t got[COPIES];
-};
-
-/* Where the image is, and how many words it has by its header; if the file has fewer, or the header is not valid, all that it has, and one
- * more than the largest image has at most. */
-static int find_image(int descriptor, struct reads *reads) {
-    uint64_t first[1 + HEADER_WORDS] = {0};
-    struct stat about;
-    size_t got, there;
-    uint64_t size;
-    int fault = fstat(descriptor, &about) == 0 ? 0 : errno;
-    if (fault == 0 && !S_ISREG(about.st_mode)) fault = EINVAL;
-    if (fault == 0) fault = read_at(descriptor, first, sizeof first, 0, &got);
-    if (fault != 0) return fault;
-    reads->at = first[0] == 0 && first[1 + COOKIE_AT] == COOKIE ? WORD : 0;
-    size = first[(size_t)reads->at / WORD + SIZE_AT];
-    there = about.st_size < reads->at ? 0 : (size_t)(about.st_size - reads->at) / WORD;
-    if (there > MOST_WORDS + 1) there = MOST_WORDS + 1;
-    reads->count = size != 0 && size < there ? (size_t)size : there;
-    return 0;
-}
-
-static int read_thrice(int descriptor, struct reads *reads) {
-    int fault = 0;
-    size_t i;
-    for (i = 0; i < COPIES && fault == 0; i += 1) {
-        fault = read_at(descriptor, reads->words + i * reads->count, reads->count * WORD, reads->at, &reads->got[i]);
-    }
-    return fault;
-}
-
-/* The image that three reads give, whose words are at most as many as one read has. */
-static uint32_t composed(const struct reads *reads, uint64_t *image, size_t *length) {
-    const uint64_t *words = reads->words;
-    *length = reads->got[2] / WORD;
-    return povundiri_proved_compose(words, reads->got[0] / WORD, words + reads->count, reads->got[1] / WORD, words + 2 * reads->count,
-                                    reads->got[2] / WORD, image, reads->count);
-}
-
-/* Reads the open file three times, into memory that is freed here, and puts the reads together. */
-static uint32_t look_at(int descriptor, uint64_t **image, size_t *length, int *fault) {
-    struct reads reads = {0, 0, NULL, {0, 0, 0}};
-    uint32_t status = POVUNDIRI_SYSTEM;
-    *fault = find_image(descriptor, &reads);
-    if (*fault != 0) return status;
-    reads.words = (uint64_t *)malloc((COPIES * reads.count + 1) * WORD);
-    *image = (uint64_t *)malloc((reads.count + 1) * WORD);
-    if (reads.words == NULL || *image == NULL) {
-        status = POVUNDIRI_NO_MEMORY;
-    } else {
-        *fault = read_thrice(descriptor, &reads);
-        if (*fault == 0) status = composed(&reads, *image, length);
-    }
-    free(reads.words);
-    return status;
-}
-
-uint32_t povundiri_file_look(const char *path, uint64_t **image, size_t *length, int *fault) {
-    uint32_t status = POVUNDIRI_SYSTEM;
-    int descriptor, state;
-    if (path == NULL || image == NULL || length == NULL || fault == NULL) return POVUNDIRI_NULL;
-    *image = NULL;
-    *length = 0;
-    pthread_setcancelstate(PTHREAD_CANCEL_DISABLE, &state);
-    do {
-        descriptor = open(path, O_RDONLY | O_CLOEXEC | O_NOCTTY | O_NONBLOCK);
-    } while (descriptor < 0 && errno == EINTR);
-    *fault = descriptor < 0 ? errno : 0;
-    if (descriptor >= 0) {
-        status = look_at(descriptor, image, length, fault);
-        close(descriptor);
-    }
-    pthread_setcancelstate(state, NULL);
-    if (status != POVUNDIRI_DONE) {
-        free(*image);
-        *image = NULL;
-        *length = 0;
-    }
-    return status;
+uint32_t povundiri_parts_open_in(int folder, const char *name, struct povundiri_shape shape, unsigned flags, struct povundiri_file *file,
+                                 struct povundiri_handle *segment, struct povundiri_opened *opened) {
+    const struct povundiri_file_options options = {flags, 0};
+    struct task task;
+    memset(opened, 0, sizeof *opened);
+    opened->fault = request_of(&task.request, name != NULL ? name : ".", &options);
+    if (opened->fault != 0) return POVUNDIRI_SYSTEM;
+    task.request.folder = folder;
+    task.request.is_unnamed = name == NULL;
+    task.policy = POVUNDIRI_ADOPT_OR_FAIL;
+    task.opened = opened;
+    return open_segment(&task, shape, file, segment);
 }

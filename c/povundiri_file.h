@@ -21,7 +21,8 @@
  *
  * THE LOCK is flock(2), exclusive, on the whole file, from open to close or to the end of the process, however it ends. It excludes other
  * processes, other threads, and a second open in this process. It is not lost if another descriptor of the file is closed, nor if a
- * daemon closes all its descriptors. It works among the processes of one machine that take it.
+ * daemon closes all its descriptors, since the mapping keeps it; but on overlayfs, as in most containers, a mapping does not, and the lock
+ * ends with the descriptor. It works among the processes of one machine that take it.
  *
  * FORK. A child of fork(2) does not have the file: its descriptor is closed there and its memory is not mapped, so the lock ends with the
  * parent, however long the child lives. In the child povundiri_file_is_open is false, povundiri_file_close only forgets the

@@ -44,34 +44,63 @@ bool povundiri_folder_watch(void) {
     return is_watched;
 }
 
-int povundiri_parts_open(struct povundiri_held *held, const char *path, int flags) {
+/* What a call has opened, or its fault. The mutex is held. */
+static int hold(struct povundiri_held *held, int descriptor) {
+    held->descriptor = descriptor;
+    if (descriptor < 0) return errno;
+    held->next = all;
+    all = held;
+    return 0;
+}
+
+int povundiri_parts_open_link(struct povundiri_held *held, int folder, const char *name, int flags) {
     int fault;
     do {
         pthread_mutex_lock(&mutex);
-        held->descriptor = open(path, flags | O_CLOEXEC | O_NOCTTY | O_NONBLOCK | O_NOFOLLOW, 0600);
-        fault = held->descriptor < 0 ? errno : 0;
-        if (fault == 0) {
-            held->next = all;
-            all = held;
-        }
+        fault = hold(held, openat(folder, name, flags | O_CLOEXEC | O_NOCTTY | O_NONBLOCK, 0600));
         pthread_mutex_unlock(&mutex);
     } while (fault == EINTR);
     return fault;
 }
 
-/* In a child that was forked meanwhile it is not there any more. */
-void povundiri_parts_close(struct povundiri_held *held) {
-    struct povundiri_held **link;
+int povundiri_parts_open(struct povundiri_held *held, int folder, const char *name, int flags) {
+    return povundiri_parts_open_link(held, folder, name, flags | O_NOFOLLOW);
+}
+
+int povundiri_parts_open_folder(struct povundiri_held *held, const char *path) {
+    return povundiri_parts_open(held, AT_FDCWD, path, O_RDONLY | O_DIRECTORY);
+}
+
+int povundiri_parts_copy(struct povundiri_held *held, int descriptor) {
+    int fault;
     pthread_mutex_lock(&mutex);
+    fault = hold(held, fcntl(descriptor, F_DUPFD_CLOEXEC, 0));
+    pthread_mutex_unlock(&mutex);
+    return fault;
+}
+
+/* Whether it was there: in a child that was forked meanwhile it is not any more. The mutex is held. */
+static bool is_forgotten(struct povundiri_held *held) {
+    struct povundiri_held **link;
     for (link = &all; *link != NULL && *link != held;) link = &(*link)->next;
-    if (*link == held) {
-        *link = held->next;
-        close(held->descriptor);
-    }
+    if (*link == NULL) return false;
+    *link = held->next;
+    return true;
+}
+
+void povundiri_parts_close(struct povundiri_held *held) {
+    pthread_mutex_lock(&mutex);
+    if (is_forgotten(held)) close(held->descriptor);
     pthread_mutex_unlock(&mutex);
 }
 
-static int lock(int descriptor) {
+void povundiri_parts_forget(struct povundiri_held *held) {
+    pthread_mutex_lock(&mutex);
+    (void)is_forgotten(held);
+    pthread_mutex_unlock(&mutex);
+}
+
+int povundiri_parts_lock(int descriptor) {
     while (flock(descriptor, LOCK_EX | LOCK_NB) != 0) {
         if (errno != EINTR) return errno == EWOULDBLOCK ? EBUSY : errno;
     }
@@ -79,13 +108,13 @@ static int lock(int descriptor) {
 }
 
 /* Opens a regular file and takes its lock: EBUSY if somebody has it; ENOENT if the path leads to another file by now, or to none. */
-int povundiri_parts_open_locked(struct povundiri_held *held, const char *path, struct stat *about) {
+int povundiri_parts_open_locked(struct povundiri_held *held, int folder, const char *name, struct stat *about) {
     struct stat named;
-    int fault = povundiri_parts_open(held, path, O_RDONLY);
+    int fault = povundiri_parts_open(held, folder, name, O_RDONLY);
     if (fault != 0) return fault;
-    fault = lock(held->descriptor);
+    fault = povundiri_parts_lock(held->descriptor);
     if (fault == 0 && fstat(held->descriptor, about) != 0) fault = errno;
-    if (fault == 0 && fstatat(AT_FDCWD, path, &named, AT_SYMLINK_NOFOLLOW) != 0) fault = errno;
+    if (fault == 0 && fstatat(folder, name, &named, AT_SYMLINK_NOFOLLOW) != 0) fault = errno;
     if (fault == 0 && (named.st_dev != about->st_dev || named.st_ino != about->st_ino)) fault = ENOENT;
     if (fault == 0 && !S_ISREG(about->st_mode)) fault = EINVAL;
     if (fault != 0) povundiri_parts_close(held);
@@ -93,17 +122,6 @@ int povundiri_parts_open_locked(struct povundiri_held *held, const char *path, s
 }
 
 /* ---- Bytes ---- */
-
-static int read_all(int descriptor, char *to, size_t bytes, size_t *got) {
-    *got = 0;
-    while (*got < bytes) {
-        const ssize_t more = pread(descriptor, to + *got, bytes - *got, (off_t)*got);
-        if (more < 0 && errno != EINTR) return errno;
-        if (more == 0) break;
-        if (more > 0) *got += (size_t)more;
-    }
-    return 0;
-}
 
 static int write_all(int descriptor, const char *from, size_t bytes) {
     size_t done = 0;
@@ -122,15 +140,6 @@ static int sync_descriptor(int descriptor) {
     return 0;
 }
 
-static int sync_folder(const char *folder) {
-    struct povundiri_held held;
-    int fault = povundiri_parts_open(&held, folder, O_RDONLY | O_DIRECTORY);
-    if (fault != 0) return fault;
-    fault = sync_descriptor(held.descriptor);
-    povundiri_parts_close(&held);
-    return fault;
-}
-
 /* ---- Names ---- */
 
 int povundiri_parts_join(char *path, const char *folder, const char *name) {
@@ -138,12 +147,8 @@ int povundiri_parts_join(char *path, const char *folder, const char *name) {
     return length < 0 || length >= POVUNDIRI_PATH_BYTES ? ENAMETOOLONG : 0;
 }
 
-static void name_of(char *name, uint64_t number, const char *kind) { snprintf(name, LONGEST_NAME, "%010" PRIu64 ".%s", number, kind); }
-
-int povundiri_parts_path(char *path, const char *folder, uint64_t number, const char *kind) {
-    char name[LONGEST_NAME];
-    name_of(name, number, kind);
-    return povundiri_parts_join(path, folder, name);
+void povundiri_parts_name_of(char *name, uint64_t number, const char *kind) {
+    snprintf(name, LONGEST_NAME, "%010" PRIu64 ".%s", number, kind);
 }
 
 /* The number of a file of this kind, as it is spelled; 0 if it is none. */
@@ -155,17 +160,17 @@ static uint64_t number_of(const char *name, const char *kind) {
     errno = 0;
     number = strtoull(name, &end, 10);
     if (errno != 0 || number == 0 || *end != '.') return 0;
-    name_of(spelled, number, kind);
+    povundiri_parts_name_of(spelled, number, kind);
     return strcmp(spelled, name) == 0 ? number : 0;
 }
 
 /* ---- What is in a folder ---- */
 
-int povundiri_parts_each(const char *folder, povundiri_each_name *call, void *context) {
+int povundiri_parts_each(int folder, povundiri_each_name *call, void *context) {
     struct povundiri_held held;
     const struct dirent *entry;
     DIR *names;
-    int fault = povundiri_parts_open(&held, folder, O_RDONLY | O_DIRECTORY), copy;
+    int fault = povundiri_parts_open(&held, folder, ".", O_RDONLY | O_DIRECTORY), copy;
     if (fault != 0) return fault;
     /* The stream has a descriptor of its own, without a lock. */
     copy = fcntl(held.descriptor, F_DUPFD_CLOEXEC, 0);
@@ -190,11 +195,42 @@ int povundiri_parts_each(const char *folder, povundiri_each_name *call, void *co
     return fault;
 }
 
+void povundiri_parts_name_spare(char *name, long process, uint64_t random) {
+    snprintf(name, LONGEST_NAME, "spare-%ld-%016" PRIx64, process, random);
+}
+
+bool povundiri_parts_is_spare(const char *name) {
+    char spelled[LONGEST_NAME];
+    char *end;
+    long process;
+    uint64_t random;
+    if (strncmp(name, "spare-", 6) != 0) return false;
+    errno = 0;
+    process = strtol(name + 6, &end, 10);
+    if (errno != 0 || process <= 0 || *end != '-') return false;
+    random = strtoull(end + 1, NULL, 16);
+    povundiri_parts_name_spare(spelled, process, random);
+    return errno == 0 && strcmp(spelled, name) == 0;
+}
+
+/* Whether a recording's folder may have a file of this name, which is no segment's. */
+static bool is_in_table(const char *name) {
+    static const char *const NAMES[] = {"recording", "totals",      "totals.new",   "fold.lock",
+                                        "history",   "history.new", "history.lock", "history.damaged"};
+    size_t i;
+    for (i = 0; i < sizeof NAMES / sizeof NAMES[0]; i += 1) {
+        if (strcmp(name, NAMES[i]) == 0) return true;
+    }
+    return povundiri_parts_is_spare(name);
+}
+
 static int list_name(void *context, const char *name) {
     struct povundiri_listing *listing = (struct povundiri_listing *)context;
     const uint64_t number = number_of(name, "seg"), damaged = number_of(name, "damaged");
     listing->is_empty = false;
     if (strcmp(name, "recording") == 0) listing->is_marked = true;
+    if (number > 0 || damaged > 0 || strcmp(name, "totals") == 0) listing->has_any = true;
+    if (number == 0 && damaged == 0 && !is_in_table(name)) listing->has_others = true;
     if (number > listing->last) listing->last = number;
     if (damaged > listing->last) listing->last = damaged;
     if (number == 0) return 0;
@@ -215,37 +251,72 @@ static int ascending(const void *one, const void *other) {
     return (a > b) - (a < b);
 }
 
-int povundiri_parts_mark(const char *folder, bool *is_marked) {
+int povundiri_parts_mark(int folder, bool *is_marked) {
     struct stat about;
-    char path[POVUNDIRI_PATH_BYTES];
-    int fault = povundiri_parts_join(path, folder, "recording");
+    const int fault = fstatat(folder, "recording", &about, AT_SYMLINK_NOFOLLOW) == 0 ? 0 : errno;
     *is_marked = false;
-    if (fault == 0 && fstatat(AT_FDCWD, path, &about, AT_SYMLINK_NOFOLLOW) != 0) fault = errno;
     if (fault == 0) *is_marked = S_ISREG(about.st_mode) && about.st_size == 0;
     return fault == ENOENT ? 0 : fault;
 }
 
 /* `numbers` are for free(), also after a fault. */
-int povundiri_parts_list(const char *folder, struct povundiri_listing *listing) {
-    const struct povundiri_listing none = {NULL, 0, 0, 0, false, true};
+int povundiri_parts_list(int folder, struct povundiri_listing *listing) {
+    const struct povundiri_listing none = {NULL, 0, 0, 0, false, true, false, false};
     int fault;
     *listing = none;
     fault = povundiri_parts_each(folder, list_name, listing);
-    if (fault == 0 && listing->is_marked) fault = povundiri_parts_mark(folder, &listing->is_marked);
+    if (fault == 0 && listing->is_marked) {
+        fault = povundiri_parts_mark(folder, &listing->is_marked);
+        if (!listing->is_marked) listing->has_others = true;
+    }
     if (listing->count > 1) qsort(listing->numbers, listing->count, sizeof *listing->numbers, ascending);
     return fault;
 }
 
-int povundiri_folder_count(const char *folder, uint64_t *segments) {
+bool povundiri_parts_is_recordings(const struct povundiri_listing *listing) {
+    return listing->is_marked || (listing->has_any && !listing->has_others);
+}
+
+int povundiri_parts_make_mark(int folder) {
     struct povundiri_listing listing;
+    struct povundiri_held held;
+    bool is_marked;
+    int fault = povundiri_parts_mark(folder, &is_marked);
+    if (fault != 0 || is_marked) return fault;
+    fault = povundiri_parts_list(folder, &listing);
+    free(listing.numbers);
+    if (fault != 0 || listing.is_marked) return fault;
+    if (!listing.is_empty && !povundiri_parts_is_recordings(&listing)) {
+        /* Another process may have marked it, and begun, after the list was read. */
+        fault = povundiri_parts_mark(folder, &is_marked);
+        return fault == 0 && !is_marked ? EEXIST : fault;
+    }
+    fault = povundiri_parts_open(&held, folder, "recording", O_WRONLY | O_CREAT);
+    if (fault == 0) povundiri_parts_close(&held);
+    return fault;
+}
+
+int povundiri_parts_count(int folder, uint64_t *segments) {
+    struct povundiri_listing listing;
+    const int fault = povundiri_parts_list(folder, &listing);
+    *segments = listing.count;
+    free(listing.numbers);
+    return fault;
+}
+
+int povundiri_folder_count(const char *folder, uint64_t *segments) {
+    struct povundiri_held held;
     int fault, state;
     if (folder == NULL || segments == NULL) return EINVAL;
     if (!povundiri_folder_watch()) return ENOMEM;
+    *segments = 0;
     pthread_setcancelstate(PTHREAD_CANCEL_DISABLE, &state);
-    fault = povundiri_parts_list(folder, &listing);
+    fault = povundiri_parts_open_folder(&held, folder);
+    if (fault == 0) {
+        fault = povundiri_parts_count(held.descriptor, segments);
+        povundiri_parts_close(&held);
+    }
     pthread_setcancelstate(state, NULL);
-    *segments = listing.count;
-    free(listing.numbers);
     return fault;
 }
 
@@ -257,10 +328,10 @@ void povundiri_parts_free(struct povundiri_totals_file *totals) {
 }
 
 /* Reads a file whole, with a zero after it. It is for free(). */
-static int read_file(const char *path, char **bytes, size_t *length) {
+static int read_file(int folder, const char *name, char **bytes, size_t *length) {
     struct povundiri_held held;
     struct stat about;
-    int fault = povundiri_parts_open(&held, path, O_RDONLY);
+    int fault = povundiri_parts_open(&held, folder, name, O_RDONLY);
     *bytes = NULL;
     *length = 0;
     if (fault != 0) return fault;
@@ -268,7 +339,7 @@ static int read_file(const char *path, char **bytes, size_t *length) {
     if (fault == 0 && !S_ISREG(about.st_mode)) fault = EINVAL;
     if (fault == 0) {
         *bytes = (char *)malloc((size_t)about.st_size + 1);
-        fault = *bytes == NULL ? ENOMEM : read_all(held.descriptor, *bytes, (size_t)about.st_size, length);
+        fault = *bytes == NULL ? ENOMEM : povundiri_parts_read(held.descriptor, *bytes, (size_t)about.st_size, 0, length);
     }
     if (fault == 0) (*bytes)[*length] = 0;
     povundiri_parts_close(&held);
@@ -298,12 +369,11 @@ static int parse_totals(struct povundiri_totals_file *totals) {
 }
 
 /* No file is a totals without text. */
-int povundiri_parts_totals(const char *folder, struct povundiri_totals_file *totals) {
+int povundiri_parts_totals(int folder, struct povundiri_totals_file *totals) {
     const struct povundiri_totals_file none = {NULL, 0, NULL, 0, 0};
-    char path[POVUNDIRI_PATH_BYTES];
-    int fault = povundiri_parts_join(path, folder, "totals");
+    int fault;
     *totals = none;
-    if (fault == 0) fault = read_file(path, &totals->text, &totals->length);
+    fault = read_file(folder, "totals", &totals->text, &totals->length);
     if (fault == ENOENT) return 0;
     return fault == 0 ? parse_totals(totals) : fault;
 }
@@ -335,7 +405,7 @@ int povundiri_parts_image(int descriptor, off_t length, struct povundiri_image *
     if (length > MOST_BYTES) return EFBIG;
     image->bytes = (uint64_t *)calloc((size_t)length / WORD + 1 + HEADER_WORDS, WORD);
     if (image->bytes == NULL) return ENOMEM;
-    fault = read_all(descriptor, (char *)image->bytes, (size_t)length, &got);
+    fault = povundiri_parts_read(descriptor, image->bytes, (size_t)length, 0, &got);
     image->words = image->bytes + 1;
     there = got < WORD ? 0 : got / WORD - 1;
     image->count = image->words[SIZE_AT] != 0 && image->words[SIZE_AT] < there ? (size_t)image->words[SIZE_AT] : there;
@@ -347,11 +417,14 @@ bool povundiri_parts_is_fault(uint32_t status) { return status >= POVUNDIRI_IMAG
 /* ---- The sum of a folder ---- */
 
 /* Adds a look at a segment, if the totals do not name it. */
-static uint32_t add_look(const char *path, uint64_t number, const struct povundiri_totals_file *totals, struct povundiri_handle *sums,
+static uint32_t add_look(int folder, uint64_t number, const struct povundiri_totals_file *totals, struct povundiri_handle *sums,
                          uint64_t *left, int *fault) {
     uint64_t *words = NULL;
     size_t length = 0;
-    uint32_t status = povundiri_file_look(path, &words, &length, fault);
+    char name[LONGEST_NAME];
+    uint32_t status;
+    povundiri_parts_name_of(name, number, "seg");
+    status = povundiri_parts_look(folder, name, &words, &length, fault);
     if (povundiri_parts_is_fault(status) || status == POVUNDIRI_ADOPT_OLD_VERSION) {
         *left += 1;
         return POVUNDIRI_DONE;
@@ -363,21 +436,19 @@ static uint32_t add_look(const char *path, uint64_t number, const struct povundi
     return status;
 }
 
-static uint32_t add_looks(const char *folder, const struct povundiri_listing *listing, const struct povundiri_totals_file *totals,
+static uint32_t add_looks(int folder, const struct povundiri_listing *listing, const struct povundiri_totals_file *totals,
                           struct povundiri_handle *sums, uint64_t *left, int *fault) {
     uint32_t status = POVUNDIRI_DONE;
-    char path[POVUNDIRI_PATH_BYTES];
     size_t i;
     *left = 0;
     for (i = 0; i < listing->count && status == POVUNDIRI_DONE; i += 1) {
-        *fault = povundiri_parts_path(path, folder, listing->numbers[i], "seg");
-        status = *fault != 0 ? (uint32_t)POVUNDIRI_SYSTEM : add_look(path, listing->numbers[i], totals, sums, left, fault);
+        status = add_look(folder, listing->numbers[i], totals, sums, left, fault);
     }
     return status;
 }
 
 /* Whether a fold has ended since these totals were read. */
-static int look_for_fold(const char *folder, const struct povundiri_totals_file *totals, bool *has_ended) {
+static int look_for_fold(int folder, const struct povundiri_totals_file *totals, bool *has_ended) {
     struct povundiri_totals_file now;
     const int fault = povundiri_parts_totals(folder, &now);
     *has_ended = fault == 0 && (now.serial != totals->serial || (now.text == NULL) != (totals->text == NULL));
@@ -386,17 +457,17 @@ static int look_for_fold(const char *folder, const struct povundiri_totals_file 
 }
 
 /* Once; `again` if a fold ended meanwhile: then nothing is in the handle. */
-static uint32_t sums_once(const char *folder, struct povundiri_handle *sums, uint64_t *left, int *fault, bool *again) {
+static uint32_t sums_once(int folder, struct povundiri_handle *sums, uint64_t *left, int *fault, bool *again) {
     struct povundiri_totals_file totals;
-    struct povundiri_listing listing = {NULL, 0, 0, 0, false, true};
+    struct povundiri_listing listing = {NULL, 0, 0, 0, false, true, false, false};
     uint32_t status = POVUNDIRI_SYSTEM;
     *again = false;
     *fault = povundiri_parts_totals(folder, &totals);
     if (*fault == 0) *fault = povundiri_parts_list(folder, &listing);
-    if (*fault == 0 && !listing.is_marked) *fault = EINVAL;
+    if (*fault == 0 && !povundiri_parts_is_recordings(&listing)) *fault = EINVAL;
     if (*fault == 0) status = begin_sums(&totals, sums);
     if (status == POVUNDIRI_DONE) status = add_looks(folder, &listing, &totals, sums, left, fault);
-    if (status == POVUNDIRI_SYSTEM && *fault == ENOENT && listing.is_marked) *again = true;
+    if (status == POVUNDIRI_SYSTEM && *fault == ENOENT && sums->full) *again = true;
     if (status == POVUNDIRI_DONE) {
         *fault = look_for_fold(folder, &totals, again);
         if (*fault != 0) status = POVUNDIRI_SYSTEM;
@@ -407,22 +478,32 @@ static uint32_t sums_once(const char *folder, struct povundiri_handle *sums, uin
     return status == POVUNDIRI_SYSTEM && *fault == ENOMEM ? (uint32_t)POVUNDIRI_NO_MEMORY : status;
 }
 
-uint32_t povundiri_folder_sums(const char *folder, struct povundiri_handle *sums, uint64_t *left, int *fault) {
-    uint64_t own = 0;
+uint32_t povundiri_parts_sums(int folder, struct povundiri_handle *sums, uint64_t *left, int *fault) {
     uint32_t status = POVUNDIRI_BUSY;
     bool again = true;
-    int times, state;
+    int times;
+    for (times = 0; times < MOST_TIMES && again; times += 1) status = sums_once(folder, sums, left, fault, &again);
+    if (again) status = POVUNDIRI_BUSY;
+    if (status != POVUNDIRI_SYSTEM) *fault = 0;
+    return status;
+}
+
+uint32_t povundiri_folder_sums(const char *folder, struct povundiri_handle *sums, uint64_t *left, int *fault) {
+    struct povundiri_held held;
+    uint64_t own = 0;
+    uint32_t status = POVUNDIRI_SYSTEM;
+    int state;
     if (folder == NULL || sums == NULL || fault == NULL) return POVUNDIRI_NULL;
     if (sums->full) return POVUNDIRI_NOT_EMPTY;
     *fault = 0;
     if (!povundiri_folder_watch()) return POVUNDIRI_NO_MEMORY;
     pthread_setcancelstate(PTHREAD_CANCEL_DISABLE, &state);
-    for (times = 0; times < MOST_TIMES && again; times += 1) {
-        status = sums_once(folder, sums, left != NULL ? left : &own, fault, &again);
+    *fault = povundiri_parts_open_folder(&held, folder);
+    if (*fault == 0) {
+        status = povundiri_parts_sums(held.descriptor, sums, left != NULL ? left : &own, fault);
+        povundiri_parts_close(&held);
     }
     pthread_setcancelstate(state, NULL);
-    if (again) status = POVUNDIRI_BUSY;
-    if (status != POVUNDIRI_SYSTEM) *fault = 0;
     return status;
 }
 
@@ -436,30 +517,31 @@ struct final {
 
 /* What is known of a fold. */
 struct fold {
-    const char *folder;
+    int folder;
     struct povundiri_totals_file totals; /* of the segments that they name at last only such as still stand, and the greatest */
     struct povundiri_listing listing;
     struct povundiri_handle sums;
     struct final *finals; /* that are added */
     size_t count;
-    bool is_cut;                      /* others come after them, for the next round */
-    bool is_writing;                  /* what follows is open */
-    struct povundiri_held place, new; /* the folder, and totals.new */
+    bool is_cut;               /* others come after them, for the next round */
+    bool is_writing;           /* what follows is open */
+    struct povundiri_held new; /* totals.new */
 };
 
 /* Removes a file that the totals name, under its lock. False if it is still there. */
-static bool is_removed(const char *folder, const struct povundiri_named *named) {
+static bool is_removed(int folder, const struct povundiri_named *named) {
     struct povundiri_held held;
     struct stat about;
     struct povundiri_image image;
-    char path[POVUNDIRI_PATH_BYTES];
+    char name[LONGEST_NAME];
     bool removed;
-    int fault = povundiri_parts_path(path, folder, named->number, "seg");
-    if (fault == 0) fault = povundiri_parts_open_locked(&held, path, &about);
+    int fault;
+    povundiri_parts_name_of(name, named->number, "seg");
+    fault = povundiri_parts_open_locked(&held, folder, name, &about);
     if (fault == ENOENT) return true;
     if (fault != 0) return false;
     /* Another segment of that number stays: it is not in the totals. */
-    removed = povundiri_parts_image(held.descriptor, about.st_size, &image) == 0 && (image.words[ID_AT] != named->id || unlink(path) == 0);
+    removed = povundiri_parts_image(held.descriptor, about.st_size, &image) == 0 && (image.words[ID_AT] != named->id || unlinkat(folder, name, 0) == 0);
     free(image.bytes);
     povundiri_parts_close(&held);
     return removed;
@@ -482,7 +564,7 @@ static int remove_named(struct fold *fold) {
         kept += 1;
     }
     totals->count = kept;
-    return sync_folder(fold->folder);
+    return sync_descriptor(fold->folder);
 }
 
 /* Adds a segment, if it is final and the totals do not name it, and keeps its lock. */
@@ -490,10 +572,10 @@ static uint32_t add_final(struct fold *fold, uint64_t number, int *fault) {
     struct final *const final = &fold->finals[fold->count];
     struct povundiri_image image = {NULL, NULL, 0};
     struct stat about;
-    char path[POVUNDIRI_PATH_BYTES];
+    char name[LONGEST_NAME];
     uint32_t status = POVUNDIRI_DONE;
-    *fault = povundiri_parts_path(path, fold->folder, number, "seg");
-    if (*fault == 0) *fault = povundiri_parts_open_locked(&final->held, path, &about);
+    povundiri_parts_name_of(name, number, "seg");
+    *fault = povundiri_parts_open_locked(&final->held, fold->folder, name, &about);
     if (*fault == EBUSY || *fault == ENOENT || *fault == EINVAL || *fault == EACCES || *fault == ELOOP) {
         *fault = 0;
         return POVUNDIRI_DONE;
@@ -513,15 +595,10 @@ static uint32_t add_final(struct fold *fold, uint64_t number, int *fault) {
     return povundiri_parts_is_fault(status) || status == POVUNDIRI_TOO_MANY ? (uint32_t)POVUNDIRI_DONE : status;
 }
 
-/* Opens what the totals are written with, as soon as there is a segment to add: no later one takes the last descriptor from it. */
+/* Opens what the totals are written to, as soon as there is a segment to add: no later one takes the last descriptor from it. */
 static uint32_t begin_writing(struct fold *fold, int *fault) {
-    char path[POVUNDIRI_PATH_BYTES];
-    *fault = povundiri_parts_join(path, fold->folder, "totals.new");
-    if (*fault == 0) *fault = povundiri_parts_open(&fold->place, fold->folder, O_RDONLY | O_DIRECTORY);
-    if (*fault != 0) return POVUNDIRI_SYSTEM;
-    *fault = povundiri_parts_open(&fold->new, path, O_WRONLY | O_CREAT | O_TRUNC);
+    *fault = povundiri_parts_open(&fold->new, fold->folder, "totals.new", O_WRONLY | O_CREAT | O_TRUNC);
     fold->is_writing = *fault == 0;
-    if (*fault != 0) povundiri_parts_close(&fold->place);
     return *fault == 0 ? POVUNDIRI_DONE : POVUNDIRI_SYSTEM;
 }
 
@@ -577,32 +654,28 @@ static int check_limit(size_t length) {
 
 /* Writes the new totals, syncs them, and gives them their place. Only the process that has the lock of folds comes here. */
 static int put_totals(const struct fold *fold, const char *text, size_t length) {
-    char path[POVUNDIRI_PATH_BYTES], place[POVUNDIRI_PATH_BYTES];
     int fault = check_limit(length);
-    if (fault == 0) fault = povundiri_parts_join(path, fold->folder, "totals.new");
-    if (fault == 0) fault = povundiri_parts_join(place, fold->folder, "totals");
     if (fault == 0) fault = write_all(fold->new.descriptor, text, length);
     if (fault == 0) fault = sync_descriptor(fold->new.descriptor);
-    if (fault == 0 && rename(path, place) != 0) fault = errno;
-    return fault == 0 ? sync_descriptor(fold->place.descriptor) : fault;
+    if (fault == 0 && renameat(fold->folder, "totals.new", fold->folder, "totals") != 0) fault = errno;
+    return fault == 0 ? sync_descriptor(fold->folder) : fault;
 }
 
 /* Closes what was opened for it. The name of totals that have not got their place is removed: the others have lost it. */
 static void end_writing(struct fold *fold) {
-    char path[POVUNDIRI_PATH_BYTES];
     if (!fold->is_writing) return;
-    if (povundiri_parts_join(path, fold->folder, "totals.new") == 0) unlink(path);
+    unlinkat(fold->folder, "totals.new", 0);
     povundiri_parts_close(&fold->new);
-    povundiri_parts_close(&fold->place);
     fold->is_writing = false;
 }
 
 /* The totals are in their place: what is in them is removed. */
 static void remove_finals(const struct fold *fold) {
-    char path[POVUNDIRI_PATH_BYTES];
+    char name[LONGEST_NAME];
     size_t i;
     for (i = 0; i < fold->count; i += 1) {
-        if (povundiri_parts_path(path, fold->folder, fold->finals[i].named.number, "seg") == 0) unlink(path);
+        povundiri_parts_name_of(name, fold->finals[i].named.number, "seg");
+        unlinkat(fold->folder, name, 0);
     }
 }
 
@@ -630,7 +703,7 @@ static uint32_t fold_locked(struct fold *fold, int *fault) {
 }
 
 /* One round: `again` if there are others after those that it added. */
-static uint32_t fold_once(const char *folder, uint64_t *folded, bool *again, int *fault) {
+static uint32_t fold_once(int folder, uint64_t *folded, bool *again, int *fault) {
     struct fold fold;
     uint32_t status;
     size_t i;
@@ -649,20 +722,19 @@ static uint32_t fold_once(const char *folder, uint64_t *folded, bool *again, int
     return status == POVUNDIRI_SYSTEM && *fault == ENOMEM ? (uint32_t)POVUNDIRI_NO_MEMORY : status;
 }
 
-static uint32_t fold_all(const char *folder, uint64_t *folded, int *fault) {
+uint32_t povundiri_parts_fold(int folder, uint64_t *folded, int *fault) {
     struct povundiri_held held;
     struct povundiri_listing listing;
-    char path[POVUNDIRI_PATH_BYTES];
     uint64_t more = 0;
     uint32_t status = POVUNDIRI_SYSTEM;
     bool again = false;
     *fault = povundiri_parts_list(folder, &listing);
     free(listing.numbers);
-    if (*fault == 0 && !listing.is_marked) *fault = EINVAL;
-    if (*fault == 0) *fault = povundiri_parts_join(path, folder, "fold.lock");
-    if (*fault == 0) *fault = povundiri_parts_open(&held, path, O_RDWR | O_CREAT);
+    if (*fault == 0 && !povundiri_parts_is_recordings(&listing)) *fault = EINVAL;
+    if (*fault == 0) *fault = povundiri_parts_make_mark(folder);
+    if (*fault == 0) *fault = povundiri_parts_open(&held, folder, "fold.lock", O_RDWR | O_CREAT);
     if (*fault != 0) return status;
-    *fault = lock(held.descriptor);
+    *fault = povundiri_parts_lock(held.descriptor);
     if (*fault == 0) {
         do {
             status = fold_once(folder, &more, &again, fault);
@@ -670,12 +742,15 @@ static uint32_t fold_all(const char *folder, uint64_t *folded, int *fault) {
         } while (again);
     }
     povundiri_parts_close(&held);
-    return *fault == EBUSY ? (uint32_t)POVUNDIRI_BUSY : status;
+    if (*fault == EBUSY) status = POVUNDIRI_BUSY;
+    if (status != POVUNDIRI_SYSTEM) *fault = 0;
+    return status;
 }
 
 uint32_t povundiri_folder_fold(const char *folder, uint64_t *folded, int *fault) {
+    struct povundiri_held held;
     uint64_t own = 0;
-    uint32_t status;
+    uint32_t status = POVUNDIRI_SYSTEM;
     int state;
     if (folder == NULL || fault == NULL) return POVUNDIRI_NULL;
     *fault = 0;
@@ -683,8 +758,11 @@ uint32_t povundiri_folder_fold(const char *folder, uint64_t *folded, int *fault)
     if (folded == NULL) folded = &own;
     *folded = 0;
     pthread_setcancelstate(PTHREAD_CANCEL_DISABLE, &state);
-    status = fold_all(folder, folded, fault);
+    *fault = povundiri_parts_open_folder(&held, folder);
+    if (*fault == 0) {
+        status = povundiri_parts_fold(held.descriptor, folded, fault);
+        povundiri_parts_close(&held);
+    }
     pthread_setcancelstate(state, NULL);
-    if (status != POVUNDIRI_SYSTEM) *fault = 0;
     return status;
 }

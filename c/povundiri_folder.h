@@ -1,17 +1,19 @@
 /* The folder of recordings (povundiri_recording.h), for programs that read it or keep it small. Any process of the same user may do that,
  * also while others record.
  *
- *     recording           a regular file without bytes, which says what the folder is: without it a folder is no recording's
+ *     recording           a regular file without bytes, which says what the folder is. Where it is missing, a folder is a recording's all the
+ *                         same if it has a segment, a damaged file or totals, and nothing but these files and those of `history`
  *     0000000001.seg ..   segments in files (povundiri_file.h), each with an id of its own
  *     0000000004.damaged  what was segment 4, whose header has a fault: for you to look at, and to remove
- *     spare-PID-RANDOM    a segment that is not in use yet, by the process that made it and 16 hexadecimal digits
+ *     spare-PID-RANDOM    a segment that is not in use yet, by the process that made it and 16 hexadecimal digits; only where the system has
+ *                         no files without a name (O_TMPFILE), or no /proc
  *     totals              the sum of segments that were removed (docs/FORMAT.md)
  *     totals.new          totals that a fold writes, or was writing when it was killed
  *     fold.lock           an empty file, whose lock a fold holds
  *
  * THE FOLDER ITSELF HAS NO LOCK. Each process records into segments of its own, whose locks it holds from their making on until its last
- * recorder there has ended. A segment whose lock nobody holds is final. A process begins its next segment by a link from a spare to the next
- * number, and never replaces a file; so several processes share a folder, and a new release starts while the old one ends.
+ * recorder there has ended. A segment whose lock nobody holds is final. A process begins its next segment by a link from a spare, which mostly
+ * has no name, to the next number, and never replaces a file; so several processes share a folder, and a new release starts while the old one ends.
  *
  * PATHS. `folder` is the path of the folder itself: a symbolic link to it is refused with ENOTDIR, unless a slash follows the name.
  *
@@ -64,48 +66,6 @@ uint32_t povundiri_folder_fold(const char *folder, uint64_t *folded, int *fault)
  * (errno.h), which is EINVAL for a null; then *segments is of no use.
  * Keep: pointers; process. */
 int povundiri_folder_count(const char *folder, uint64_t *segments) POVUNDIRI_CHECKED;
-
-/* ---- For povundiri_recording.c alone ---- */
-
-/* A segment in a folder that this process records into. */
-struct povundiri_owned {
-    struct povundiri_owned *next;
-    uint64_t number; /* 0 of a spare */
-    struct povundiri_file file;
-    struct povundiri_handle segment;
-    uint32_t recorders;
-    char path[POVUNDIRI_PATH_BYTES];
-};
-
-/* What a start has found in a folder. */
-struct povundiri_found {
-    struct povundiri_owned *newest;       /* the newest segment, if it is continued, or begun because nothing was begun before; else null */
-    bool is_adopted;                      /* it is continued */
-    uint32_t refused;                     /* what is wrong with the image of the newest; else POVUNDIRI_DONE */
-    char set_aside[POVUNDIRI_PATH_BYTES]; /* the new name of one whose header has a fault; else empty */
-};
-
-/* Watches for forks. False if there is no memory for it. */
-bool povundiri_folder_watch(void);
-
-/* Makes the folder, if it is not there, marks it as a recording's, if it is empty, and removes spares that nobody holds; EEXIST if it is
- * neither empty nor a recording's, and then nothing is changed. *absolute is its path, for free(). 0, or the system's fault. */
-int povundiri_folder_enter(const char *folder, char **absolute);
-
-/* Adopts the newest segment, if it is final, has this shape, units and room, and the totals do not name it; or makes one in its file, if
- * nothing was begun there. No file is made. POVUNDIRI_DONE also if neither is done; POVUNDIRI_NO_MEMORY; POVUNDIRI_SYSTEM and *fault: the
- * folder could not be listed. */
-uint32_t povundiri_folder_adopt(const char *folder, struct povundiri_shape shape, struct povundiri_found *found, int *fault);
-
-/* A spare of this shape. On any but POVUNDIRI_DONE *spare is null; on POVUNDIRI_SYSTEM *fault is the system's. */
-uint32_t povundiri_folder_spare(const char *folder, struct povundiri_shape shape, uint64_t random, struct povundiri_owned **spare,
-                                int *fault);
-
-/* Gives a spare the next number. 0, or the system's fault; then it is a spare still. */
-int povundiri_folder_commit(const char *folder, struct povundiri_owned *spare);
-
-/* Ends what this process has of it. A spare is removed. No recorder is left. */
-void povundiri_folder_release(struct povundiri_owned *owned);
 
 #ifdef __cplusplus
 }

@@ -1,9 +1,10 @@
-/* What povundiri_folder.c and povundiri_owned.c have in common. It is not installed. */
+/* What povundiri_folder.c, povundiri_owned.c and povundiri_recording.c have in common. It is not installed. */
 #ifndef POVUNDIRI_FOLDER_PARTS_H
 #define POVUNDIRI_FOLDER_PARTS_H
 
 #include <sys/stat.h>
 
+#include "povundiri_file_parts.h"
 #include "povundiri_folder.h"
 #include "povundiri_layout.h"
 
@@ -23,6 +24,8 @@ struct povundiri_listing {
     uint64_t last;     /* the greatest number of a segment or of a damaged file; 0: there is none */
     bool is_marked;    /* as a recording's: `recording` is a regular file without bytes */
     bool is_empty;
+    bool has_any;    /* a segment, a damaged file, or totals */
+    bool has_others; /* a name that no recording gives, or a `recording` of another kind */
 };
 
 /* What is done with each name. A fault ends it. */
@@ -49,27 +52,55 @@ struct povundiri_image {
     size_t count;
 };
 
-/* Opens a file, which is closed in a child of fork. 0, or the system's fault. */
-int povundiri_parts_open(struct povundiri_held *held, const char *path, int flags);
+/* ---- Files and names ---- */
+
+/* Opens a file of a folder, which is closed in a child of fork, and no link, or one. 0, or the system's fault. */
+int povundiri_parts_open(struct povundiri_held *held, int folder, const char *name, int flags);
+int povundiri_parts_open_link(struct povundiri_held *held, int folder, const char *name, int flags);
+int povundiri_parts_open_folder(struct povundiri_held *held, const char *path);
+
+/* The same file by another descriptor. */
+int povundiri_parts_copy(struct povundiri_held *held, int descriptor);
+
+/* Closes it; or forgets it, since its number is another file's by now. */
 void povundiri_parts_close(struct povundiri_held *held);
+void povundiri_parts_forget(struct povundiri_held *held);
 
-/* Opens a regular file and takes its lock: EBUSY if somebody has it; ENOENT if the path leads to another file by now, or to none. */
-int povundiri_parts_open_locked(struct povundiri_held *held, const char *path, struct stat *about);
+/* Takes the lock of a file. 0; EBUSY if somebody has it; or the system's fault. */
+int povundiri_parts_lock(int descriptor);
 
-/* Paths of a folder: of a name, and of a number and a kind. ENAMETOOLONG if they are too long. */
+/* Opens a regular file and takes its lock: EBUSY if somebody has it; ENOENT if the name leads to another file by now, or to none. */
+int povundiri_parts_open_locked(struct povundiri_held *held, int folder, const char *name, struct stat *about);
+
+/* A name by number and kind; that of a spare, and whether it is one, as it is spelled. */
+void povundiri_parts_name_of(char *name, uint64_t number, const char *kind);
+void povundiri_parts_name_spare(char *name, long process, uint64_t random);
+bool povundiri_parts_is_spare(const char *name);
+
+/* The path of a name. ENAMETOOLONG if it is too long. */
 int povundiri_parts_join(char *path, const char *folder, const char *name);
-int povundiri_parts_path(char *path, const char *folder, uint64_t number, const char *kind);
 
-int povundiri_parts_each(const char *folder, povundiri_each_name *call, void *context);
+int povundiri_parts_each(int folder, povundiri_each_name *call, void *context);
 
-/* Whether the folder is a recording's. 0, or the system's fault. */
-int povundiri_parts_mark(const char *folder, bool *is_marked);
+/* Whether the folder is marked as a recording's. 0, or the system's fault. */
+int povundiri_parts_mark(int folder, bool *is_marked);
+
+/* Marks it, if it is empty or a recording's. EEXIST if it is another one. */
+int povundiri_parts_make_mark(int folder);
 
 /* `numbers` are for free(), also after a fault. */
-int povundiri_parts_list(const char *folder, struct povundiri_listing *listing);
+int povundiri_parts_list(int folder, struct povundiri_listing *listing);
+
+/* Whether it is a recording's folder: it is marked, or has something of one and nothing else. */
+bool povundiri_parts_is_recordings(const struct povundiri_listing *listing);
+
+/* povundiri_folder_count, _sums and _fold of an open folder. */
+int povundiri_parts_count(int folder, uint64_t *segments);
+uint32_t povundiri_parts_sums(int folder, struct povundiri_handle *sums, uint64_t *left, int *fault);
+uint32_t povundiri_parts_fold(int folder, uint64_t *folded, int *fault);
 
 /* The file `totals`, for povundiri_parts_free. No file is a totals without text. */
-int povundiri_parts_totals(const char *folder, struct povundiri_totals_file *totals);
+int povundiri_parts_totals(int folder, struct povundiri_totals_file *totals);
 void povundiri_parts_free(struct povundiri_totals_file *totals);
 bool povundiri_parts_names(const struct povundiri_totals_file *totals, uint64_t number, uint64_t id);
 
@@ -78,5 +109,76 @@ int povundiri_parts_image(int descriptor, off_t length, struct povundiri_image *
 
 /* Whether a status is that of a header's fault. */
 bool povundiri_parts_is_fault(uint32_t status);
+
+/* ---- Segments that this process records into ---- */
+
+/* A recording's folder. */
+struct povundiri_place {
+    char *path;                 /* absolute, for free() */
+    struct povundiri_held held; /* the folder, if it is open; the process may have closed it since */
+    bool is_open;
+    dev_t device; /* with the inode, of the folder */
+    ino_t inode;
+    bool keeps_locks;  /* the mapping of a file there keeps its lock, without a descriptor */
+    bool names_spares; /* a spare has a name, since the system has no others, or does not name them later */
+};
+
+/* A segment in a folder that this process records into. */
+struct povundiri_owned {
+    struct povundiri_owned *next;
+    uint64_t number; /* 0 of a spare */
+    struct povundiri_file file;
+    struct povundiri_handle segment;
+    uint32_t recorders;
+    bool is_gone;            /* its folder is */
+    char name[LONGEST_NAME]; /* empty: it has none yet */
+};
+
+/* What a start has found in a folder. */
+struct povundiri_found {
+    struct povundiri_owned *newest;       /* the newest segment, if it is continued, or begun because nothing was begun before; else null */
+    bool is_adopted;                      /* it is continued */
+    uint32_t refused;                     /* what is wrong with the image of the newest; else POVUNDIRI_DONE */
+    char set_aside[POVUNDIRI_PATH_BYTES]; /* the new name of one whose header has a fault; else empty */
+};
+
+/* Watches for forks. False if there is no memory for it. */
+bool povundiri_folder_watch(void);
+
+/* Makes the folder, if it is not there, marks it as a recording's, if it is empty or is one without a mark, opens it, and removes old spares
+ * that nobody holds; EEXIST if it is neither empty nor a recording's, and then nothing is changed. 0, or the system's fault, and then
+ * `place` has no path. */
+int povundiri_place_enter(struct povundiri_place *place, const char *folder);
+
+/* Opens the folder anew, if its descriptor was closed; if the folder was removed, or another one has its path and the descriptor was closed, it
+ * is made and marked again: *is_another. 0, or the system's fault, and then it is not open. */
+int povundiri_place_look(struct povundiri_place *place, bool *is_another);
+
+/* The folder by another descriptor, or what its path leads to by now. */
+int povundiri_place_copy(const struct povundiri_place *place, struct povundiri_held *held);
+
+void povundiri_place_leave(struct povundiri_place *place);
+
+/* Adopts the newest segment, if it is final, has this shape, units and room, and the totals do not name it; or makes one in its file, if
+ * nothing was begun there. No file is made. POVUNDIRI_DONE also if neither is done; POVUNDIRI_NO_MEMORY; POVUNDIRI_SYSTEM and *fault: the
+ * folder could not be listed. */
+uint32_t povundiri_folder_adopt(const struct povundiri_place *place, struct povundiri_shape shape, struct povundiri_found *found,
+                                int *fault);
+
+/* A spare of this shape. On any but POVUNDIRI_DONE *spare is null; on POVUNDIRI_SYSTEM *fault is the system's. */
+uint32_t povundiri_folder_spare(struct povundiri_place *place, struct povundiri_shape shape, uint64_t random,
+                                struct povundiri_owned **spare, int *fault);
+
+/* Gives a spare the next number. 0, or the system's fault; then it is a spare still. EAGAIN: another spare may get it. */
+int povundiri_folder_commit(struct povundiri_place *place, struct povundiri_owned *spare);
+
+/* Whether the segment has its name still. So too where the system does not say. */
+bool povundiri_folder_stands(const struct povundiri_place *place, const struct povundiri_owned *owned);
+
+/* The units that are in it. */
+uint64_t povundiri_folder_units(struct povundiri_owned *owned);
+
+/* Ends what this process has of it. A spare is removed. No recorder is left. */
+void povundiri_folder_release(const struct povundiri_place *place, struct povundiri_owned *owned);
 
 #endif

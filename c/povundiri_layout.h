@@ -5,6 +5,9 @@
 /* Words have 64 bits. A file begins with a word of zeros, and then the image. */
 enum { WORD = 8, HEADER_WORDS = 16, MOST_WORDS = 1048576 };
 
+/* What an image begins with. */
+enum { SEGMENT_COOKIE = 0x408305DC };
+
 /* The words of a header. */
 enum { COOKIE_AT = 0, VERSION_AT = 1, SIZE_AT = 2, PAGE_AT = 3, ID_AT = 4, FLAGS_AT = 6 };
 

@@ -1,8 +1,8 @@
+/* The segments that this process records into. */
 #define _GNU_SOURCE /* renameat2 */
 
 #include <errno.h>
 #include <fcntl.h>
-#include <inttypes.h>
 #include <stdio.h>
 #include <stdlib.h>
 #include <string.h>
@@ -10,83 +10,52 @@
 
 #include "povundiri_folder_parts.h"
 
-/* ---- Entering a folder ---- */
-
-/* Marks an empty folder as a recording's. EEXIST if it is another one. */
-static int mark(const char *folder) {
-    struct povundiri_listing listing;
-    struct povundiri_held held;
-    char path[POVUNDIRI_PATH_BYTES];
-    int fault = povundiri_parts_list(folder, &listing);
-    free(listing.numbers);
-    if (fault != 0 || listing.is_marked) return fault;
-    fault = povundiri_parts_join(path, folder, "recording");
-    if (fault != 0) return fault;
-    if (!listing.is_empty) {
-        /* Another process may have marked it, and begun, after the list was read. */
-        fault = povundiri_parts_mark(folder, &listing.is_marked);
-        return fault == 0 && !listing.is_marked ? EEXIST : fault;
-    }
-    fault = povundiri_parts_open(&held, path, O_WRONLY | O_CREAT);
-    if (fault == 0) povundiri_parts_close(&held);
-    return fault;
-}
-
-static void name_spare(char *name, long process, uint64_t random) {
-    snprintf(name, LONGEST_NAME, "spare-%ld-%016" PRIx64, process, random);
-}
-
-/* Whether this is a spare's name, as it is spelled. */
-static bool is_spare(const char *name) {
-    char spelled[LONGEST_NAME];
-    char *end;
-    long process;
-    uint64_t random;
-    if (strncmp(name, "spare-", 6) != 0) return false;
-    errno = 0;
-    process = strtol(name + 6, &end, 10);
-    if (errno != 0 || process <= 0 || *end != '-') return false;
-    random = strtoull(end + 1, NULL, 16);
-    name_spare(spelled, process, random);
-    return errno == 0 && strcmp(spelled, name) == 0;
-}
-
-/* Removes a spare that nobody holds: the process that made it was killed. */
-static int sweep_name(void *context, const char *name) {
-    struct povundiri_held held;
-    struct stat about;
-    char path[POVUNDIRI_PATH_BYTES];
-    if (!is_spare(name) || povundiri_parts_join(path, (const char *)context, name) != 0) return 0;
-    if (povundiri_parts_open_locked(&held, path, &about) != 0) return 0;
-    unlink(path);
-    povundiri_parts_close(&held);
-    return 0;
-}
-
-int povundiri_folder_enter(const char *folder, char **absolute) {
-    char place[POVUNDIRI_PATH_BYTES];
-    int fault;
-    *absolute = NULL;
-    if (!povundiri_folder_watch()) return ENOMEM;
-    if (mkdir(folder, 0700) != 0 && errno != EEXIST) return errno;
-    *absolute = realpath(folder, NULL);
-    if (*absolute == NULL) return errno;
-    fault = strlen(*absolute) + LONGEST_NAME < sizeof place ? mark(*absolute) : ENAMETOOLONG;
-    if (fault == 0) povundiri_parts_each(*absolute, sweep_name, *absolute);
-    if (fault != 0) {
-        free(*absolute);
-        *absolute = NULL;
-    }
-    return fault;
-}
-
-/* ---- Segments of this process ---- */
-
 static struct povundiri_owned *new_owned(void) { return (struct povundiri_owned *)calloc(1, sizeof(struct povundiri_owned)); }
 
-void povundiri_folder_release(struct povundiri_owned *owned) {
+static int folder_of(const struct povundiri_place *place) { return place->is_open ? place->held.descriptor : -1; }
+
+bool povundiri_folder_stands(const struct povundiri_place *place, const struct povundiri_owned *owned) {
+    return povundiri_parts_stands(&owned->file, folder_of(place), owned->name);
+}
+
+/* The units in a report: the third field of each line NAME,total,UNITS. */
+static uint64_t units_in(const char *report) {
+    static const char TOTAL[] = ",total,";
+    const char *line = report, *end = report;
+    uint64_t units = 0;
+    for (; end != NULL && *line != 0; line = end + 1) {
+        const char *const comma = strchr(line, ',');
+        end = strchr(line, '\n');
+        if (*line == '!' || comma == NULL || strncmp(comma, TOTAL, sizeof TOTAL - 1) != 0) continue;
+        units += strtoull(comma + sizeof TOTAL - 1, NULL, 10);
+    }
+    return units;
+}
+
+uint64_t povundiri_folder_units(struct povundiri_owned *owned) {
+    uint64_t *const words = (uint64_t *)malloc(MOST_WORDS * sizeof *words);
+    size_t length = 0, needed = 0;
+    uint32_t left = 0;
+    uint64_t units = 0;
+    char *text = NULL;
+    /* Without memory, what it has spent. */
+    if (povundiri_units(&owned->segment, &left) == POVUNDIRI_DONE) units = UINT32_MAX - left;
+    if (words != NULL && povundiri_segment_look(&owned->segment, words, MOST_WORDS, &length) == POVUNDIRI_DONE &&
+        povundiri_report(words, length, NULL, 0, &needed) == POVUNDIRI_SHORT) {
+        text = (char *)malloc(needed + 1);
+    }
+    if (text != NULL && povundiri_report(words, length, text, needed, &needed) == POVUNDIRI_DONE) {
+        text[needed] = 0;
+        units = units_in(text);
+    }
+    free(text);
+    free(words);
+    return units;
+}
+
+void povundiri_folder_release(const struct povundiri_place *place, struct povundiri_owned *owned) {
     if (owned == NULL) return;
-    if (owned->number == 0 && povundiri_file_is_open(&owned->file)) unlink(owned->path);
+    if (owned->number == 0 && owned->name[0] != 0 && povundiri_folder_stands(place, owned)) unlinkat(folder_of(place), owned->name, 0);
     if (owned->segment.full) povundiri_drop(&owned->segment);
     povundiri_file_close(&owned->file);
     free(owned);
@@ -102,30 +71,37 @@ static bool is_unmade(const struct povundiri_image *image) {
 }
 
 /* Never over another file. */
-static int set_aside(const char *folder, const char *path, uint64_t number, char *name) {
-    int fault = povundiri_parts_path(name, folder, number, "damaged");
-    if (fault == 0 && renameat2(AT_FDCWD, path, AT_FDCWD, name, RENAME_NOREPLACE) != 0) {
-        fault = errno == EINVAL || errno == ENOSYS ? (link(path, name) == 0 && unlink(path) == 0 ? 0 : errno) : errno;
+static void set_aside(const struct povundiri_place *place, const struct povundiri_owned *owned, char *path) {
+    const int folder = folder_of(place);
+    char name[LONGEST_NAME];
+    int fault;
+    povundiri_parts_name_of(name, owned->number, "damaged");
+    fault = povundiri_parts_join(path, place->path, name);
+    if (fault == 0 && renameat2(folder, owned->name, folder, name, RENAME_NOREPLACE) != 0) {
+        fault = errno;
+        if (fault == EINVAL || fault == ENOSYS) {
+            fault = linkat(folder, owned->name, folder, name, 0) == 0 && unlinkat(folder, owned->name, 0) == 0 ? 0 : errno;
+        }
     }
-    if (fault != 0) name[0] = 0;
-    return fault;
+    if (fault != 0) path[0] = 0;
 }
 
 /* Whether the newest may be opened as a segment of this shape: it is final, and has it, or nothing was begun there. One whose header has a
  * fault gets another name. */
-static bool may_adopt(const char *folder, uint64_t number, const char *path, struct povundiri_shape shape, struct povundiri_found *found) {
+static bool may_adopt(const struct povundiri_place *place, const struct povundiri_owned *owned, struct povundiri_shape shape,
+                      struct povundiri_found *found) {
     struct povundiri_held held;
     struct stat about;
     struct povundiri_image image;
     bool may = false;
-    if (povundiri_parts_open_locked(&held, path, &about) != 0) return false;
+    if (povundiri_parts_open_locked(&held, folder_of(place), owned->name, &about) != 0) return false;
     if (povundiri_parts_image(held.descriptor, about.st_size, &image) == 0) {
         const uint32_t status = povundiri_report_bounded(image.words, image.count, NULL, 0, NULL, 0);
         if (is_unmade(&image)) {
             may = true;
         } else if (povundiri_parts_is_fault(status)) {
             found->refused = status;
-            set_aside(folder, path, number, found->set_aside);
+            set_aside(place, owned, found->set_aside);
         } else {
             may = image.words[SIZE_AT] == shape.size && image.words[PAGE_AT] == shape.page && image.words[VERSION_AT] == shape.version;
         }
@@ -137,16 +113,21 @@ static bool may_adopt(const char *folder, uint64_t number, const char *path, str
 
 /* Whether the totals have what is in a segment: the process that folded it was killed before it removed it. Its lock is held, so no fold
  * adds it meanwhile. */
-static bool is_folded(const char *folder, const struct povundiri_owned *owned, uint64_t id) {
+static bool is_folded(int folder, const struct povundiri_owned *owned, uint64_t id) {
     struct povundiri_totals_file totals;
     const bool is = povundiri_parts_totals(folder, &totals) != 0 || povundiri_parts_names(&totals, owned->number, id);
     povundiri_parts_free(&totals);
     return is;
 }
 
-uint32_t povundiri_folder_adopt(const char *folder, struct povundiri_shape shape, struct povundiri_found *found, int *fault) {
-    /* A fold may take it before it is opened: then none is made in its place. */
-    static const struct povundiri_file_options existing = {POVUNDIRI_FILE_EXISTING, 0};
+/* From now on it is a segment that this process records into. It needs its descriptor only where nothing else keeps the lock. */
+static void begin(const struct povundiri_place *place, struct povundiri_owned *owned) {
+    if (place->keeps_locks) povundiri_parts_close_descriptor(&owned->file);
+}
+
+uint32_t povundiri_folder_adopt(const struct povundiri_place *place, struct povundiri_shape shape, struct povundiri_found *found,
+                                int *fault) {
+    const int folder = folder_of(place);
     struct povundiri_listing listing;
     struct povundiri_opened opened;
     struct povundiri_owned *owned;
@@ -160,50 +141,70 @@ uint32_t povundiri_folder_adopt(const char *folder, struct povundiri_shape shape
     owned = number == 0 ? NULL : new_owned();
     if (owned == NULL) return number == 0 ? POVUNDIRI_DONE : POVUNDIRI_NO_MEMORY;
     owned->number = number;
-    if (povundiri_parts_path(owned->path, folder, number, "seg") != 0 || !may_adopt(folder, number, owned->path, shape, found)) {
+    povundiri_parts_name_of(owned->name, number, "seg");
+    if (!may_adopt(place, owned, shape, found)) {
         free(owned);
         return POVUNDIRI_DONE;
     }
-    status = povundiri_open(owned->path, shape, POVUNDIRI_ADOPT_OR_FAIL, &existing, &owned->file, &owned->segment, &opened);
+    /* A fold may take it before it is opened: then none is made in its place. */
+    status = povundiri_parts_open_in(folder, owned->name, shape, POVUNDIRI_FILE_EXISTING, &owned->file, &owned->segment, &opened);
     if (status == POVUNDIRI_DONE && !opened.spent && !is_folded(folder, owned, opened.shape.id)) {
+        begin(place, owned);
         found->newest = owned;
         found->is_adopted = opened.outcome == POVUNDIRI_ADOPTED;
         return status;
     }
     /* It stays under its name, and is read like any other. */
     found->refused = opened.refused;
-    povundiri_folder_release(owned);
+    povundiri_folder_release(place, owned);
     return POVUNDIRI_DONE;
 }
 
-uint32_t povundiri_folder_spare(const char *folder, struct povundiri_shape shape, uint64_t random, struct povundiri_owned **spare,
-                                int *fault) {
-    struct povundiri_owned *const owned = new_owned();
+/* A spare without a name. `is_refused` where the system has no such files. */
+static uint32_t open_unnamed(const struct povundiri_place *place, struct povundiri_shape shape, struct povundiri_owned *owned,
+                             int *fault, bool *is_refused) {
     struct povundiri_opened opened;
-    char name[LONGEST_NAME];
+    const uint32_t status = povundiri_parts_open_in(folder_of(place), NULL, shape, 0, &owned->file, &owned->segment, &opened);
+    *fault = opened.fault;
+    *is_refused = status == POVUNDIRI_SYSTEM && (*fault == EOPNOTSUPP || *fault == EISDIR || *fault == EINVAL);
+    return status;
+}
+
+static uint32_t open_named(const struct povundiri_place *place, struct povundiri_shape shape, uint64_t random,
+                           struct povundiri_owned *owned, int *fault) {
+    struct povundiri_opened opened;
     uint32_t status;
+    povundiri_parts_name_spare(owned->name, (long)getpid(), random);
+    status = povundiri_parts_open_in(folder_of(place), owned->name, shape, 0, &owned->file, &owned->segment, &opened);
+    *fault = opened.fault;
+    /* It may have been made, and is empty. */
+    if (status != POVUNDIRI_DONE) unlinkat(folder_of(place), owned->name, 0);
+    return status;
+}
+
+uint32_t povundiri_folder_spare(struct povundiri_place *place, struct povundiri_shape shape, uint64_t random,
+                                struct povundiri_owned **spare, int *fault) {
+    struct povundiri_owned *const owned = new_owned();
+    bool is_named = place->names_spares;
+    uint32_t status = POVUNDIRI_DONE;
     *spare = NULL;
     *fault = 0;
     if (owned == NULL) return POVUNDIRI_NO_MEMORY;
-    name_spare(name, (long)getpid(), random);
-    *fault = povundiri_parts_join(owned->path, folder, name);
-    status = *fault != 0 ? (uint32_t)POVUNDIRI_SYSTEM
-                         : povundiri_open(owned->path, shape, POVUNDIRI_ADOPT_OR_FAIL, NULL, &owned->file, &owned->segment, &opened);
+    if (!is_named) status = open_unnamed(place, shape, owned, fault, &is_named);
+    if (is_named) {
+        place->names_spares = true;
+        status = open_named(place, shape, random, owned, fault);
+    }
     if (status == POVUNDIRI_DONE) {
         *spare = owned;
-        return status;
+    } else {
+        free(owned);
     }
-    if (*fault == 0) {
-        if (status == POVUNDIRI_SYSTEM) *fault = opened.fault;
-        /* It may have been made, and is empty. */
-        unlink(owned->path);
-    }
-    free(owned);
     return status;
 }
 
 /* The number after those of all segments that are there, and of all that the totals name. */
-static int next_number(const char *folder, uint64_t *number) {
+static int next_number(int folder, uint64_t *number) {
     struct povundiri_listing listing;
     struct povundiri_totals_file totals;
     size_t i;
@@ -219,19 +220,32 @@ static int next_number(const char *folder, uint64_t *number) {
     return fault;
 }
 
-int povundiri_folder_commit(const char *folder, struct povundiri_owned *spare) {
-    char path[POVUNDIRI_PATH_BYTES];
+/* Gives a spare a name. The next spares have names from the beginning where one without a name gets none: there may be no /proc, or no
+ * right to link what another user of this process has made. */
+static int link_to(struct povundiri_place *place, const struct povundiri_owned *spare, const char *name) {
+    const int folder = folder_of(place);
+    int fault;
+    if (spare->name[0] != 0) return linkat(folder, spare->name, folder, name, 0) == 0 ? 0 : errno;
+    fault = povundiri_parts_name(&spare->file, folder, name);
+    if (fault == 0 || fault == EEXIST || fault == EBADF || fault == EXDEV || fault == ENOSPC || fault == EDQUOT) return fault;
+    place->names_spares = true;
+    return fault == ENOENT || fault == EACCES ? EAGAIN : fault;
+}
+
+int povundiri_folder_commit(struct povundiri_place *place, struct povundiri_owned *spare) {
+    char name[LONGEST_NAME];
     uint64_t number = 0;
-    int fault = next_number(folder, &number);
+    int fault = next_number(folder_of(place), &number);
     if (fault != 0) return fault;
     do {
-        fault = povundiri_parts_path(path, folder, number, "seg");
-        if (fault == 0 && link(spare->path, path) != 0) fault = errno;
+        povundiri_parts_name_of(name, number, "seg");
+        fault = link_to(place, spare, name);
         if (fault == EEXIST) number += 1;
     } while (fault == EEXIST);
     if (fault != 0) return fault;
-    unlink(spare->path);
+    if (spare->name[0] != 0) unlinkat(folder_of(place), spare->name, 0);
     spare->number = number;
-    memcpy(spare->path, path, sizeof path);
+    memcpy(spare->name, name, sizeof name);
+    begin(place, spare);
     return 0;
 }

@@ -1,21 +1,57 @@
 /* What a recording's folder has, as texts, followed by what this process has missed. */
 
+#define _GNU_SOURCE
+
 #include <inttypes.h>
+#include <pthread.h>
 #include <stdio.h>
 #include <stdlib.h>
 #include <string.h>
 
-#include "povundiri_recording.h"
+#include "povundiri_recording_parts.h"
 
-static const char *const REASONS[POVUNDIRI_MISSED_REASONS] = {"too_large", "other_spec", "no_space", "rolling",
-                                                              "forked",    "ended",      "no_memory"};
+static const char *const REASONS[POVUNDIRI_MISSED_REASONS] = {"too_large", "other_spec", "no_space",  "rolling",
+                                                              "forked",    "ended",      "no_memory", "removed"};
 
 uint32_t povundiri_recording_sums(struct povundiri_recording *recording, struct povundiri_handle *sums, uint64_t *left, int *fault) {
-    return recording == NULL ? (uint32_t)POVUNDIRI_NULL : povundiri_folder_sums(povundiri_recording_folder(recording), sums, left, fault);
+    struct povundiri_held folder;
+    uint64_t own = 0;
+    uint32_t status = POVUNDIRI_SYSTEM;
+    int state;
+    if (recording == NULL || sums == NULL || fault == NULL) return POVUNDIRI_NULL;
+    if (sums->full) return POVUNDIRI_NOT_EMPTY;
+    pthread_setcancelstate(PTHREAD_CANCEL_DISABLE, &state);
+    *fault = povundiri_recording_folder(recording, &folder);
+    if (*fault == 0) {
+        status = povundiri_parts_sums(folder.descriptor, sums, left != NULL ? left : &own, fault);
+        povundiri_parts_close(&folder);
+    }
+    pthread_setcancelstate(state, NULL);
+    return status;
+}
+
+/* Folds, if there are `least` segments or more. */
+static uint32_t fold(struct povundiri_recording *recording, uint64_t least, uint64_t *folded, int *fault) {
+    struct povundiri_held folder;
+    uint64_t segments = 0;
+    uint32_t status = POVUNDIRI_SYSTEM;
+    int state;
+    *folded = 0;
+    pthread_setcancelstate(PTHREAD_CANCEL_DISABLE, &state);
+    *fault = povundiri_recording_folder(recording, &folder);
+    if (*fault == 0) {
+        if (least > 0) *fault = povundiri_parts_count(folder.descriptor, &segments);
+        if (*fault == 0) status = segments < least ? (uint32_t)POVUNDIRI_DONE : povundiri_parts_fold(folder.descriptor, folded, fault);
+        povundiri_parts_close(&folder);
+    }
+    pthread_setcancelstate(state, NULL);
+    return status;
 }
 
 uint32_t povundiri_recording_fold(struct povundiri_recording *recording, uint64_t *folded, int *fault) {
-    return recording == NULL ? (uint32_t)POVUNDIRI_NULL : povundiri_folder_fold(povundiri_recording_folder(recording), folded, fault);
+    uint64_t own = 0;
+    if (recording == NULL || fault == NULL) return POVUNDIRI_NULL;
+    return fold(recording, 0, folded != NULL ? folded : &own, fault);
 }
 
 /* Which text, and what is asked of it. */
@@ -79,7 +115,7 @@ static uint32_t text(struct povundiri_recording *recording, const struct asked *
     if (recording == NULL || text_at == NULL || length == NULL || fault == NULL) return POVUNDIRI_NULL;
     *text_at = NULL;
     *length = 0;
-    status = povundiri_folder_sums(povundiri_recording_folder(recording), &sums, &left, fault);
+    status = povundiri_recording_sums(recording, &sums, &left, fault);
     if (status == POVUNDIRI_DONE) status = text_of(recording, &sums, asked, left, text_at, length);
     if (sums.full) povundiri_sums_drop(&sums);
     return status;
@@ -98,11 +134,8 @@ uint32_t povundiri_recording_show(struct povundiri_recording *recording, uint16_
 /* It folds first, where there are many segments; whether that is done makes no difference to the text. */
 uint32_t povundiri_recording_export(struct povundiri_recording *recording, const char *prefix, char **text_at, size_t *length, int *fault) {
     const struct asked asked = {EXPORT, prefix, 0};
-    uint64_t segments = 0, folded = 0;
+    uint64_t folded = 0;
     int of_fold = 0;
-    if (recording != NULL && povundiri_folder_count(povundiri_recording_folder(recording), &segments) == 0 &&
-        segments >= povundiri_recording_fold_at(recording)) {
-        (void)!povundiri_folder_fold(povundiri_recording_folder(recording), &folded, &of_fold);
-    }
+    if (recording != NULL) (void)fold(recording, povundiri_recording_fold_at(recording), &folded, &of_fold);
     return text(recording, &asked, text_at, length, fault);
 }

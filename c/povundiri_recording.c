@@ -1,4 +1,4 @@
-#define _GNU_SOURCE /* getrandom */
+#define _GNU_SOURCE /* posix_memalign and the like */
 
 #include "povundiri_recording.h"
 
@@ -6,12 +6,8 @@
 #include <pthread.h>
 #include <stdlib.h>
 #include <string.h>
-#include <sys/random.h>
-#include <time.h>
-#include <unistd.h>
 
-#include "povundiri_layout.h"
-#include "povundiri_recording_parts.h"
+#include "povundiri_recording_state.h"
 
 /* How many threads have a recorder of their own in a segment; further ones share one. A segment has at most 256. */
 enum { MOST_RECORDERS = 250 };
@@ -19,63 +15,12 @@ enum { MOST_RECORDERS = 250 };
 /* How many units a thread borrows at once; how often a sample is tried again in a new segment. */
 enum { LEASE = 1 << 20, MOST_TRIES = 8 };
 
-/* What a thread reads for each sample is on lines of the cache that nobody else writes: processors fetch them two at a time. */
-enum { LINES = 128 };
-
-static const uint64_t SECOND = 1000000000, USUAL_APART = 1000000, USUAL_BYTES = 1 << 20, LARGEST = 8 << 20, USUAL_FOLD_AT = 64;
-
-/* The turn of a thread that has no recorder, and that of a recording that has no segment. No segment has either. */
-#define NO_RECORDER UINT64_MAX
-static const uint64_t NO_SEGMENT = 0;
-
-/* In place of the number of a histogram that was not asked for in this segment. No recorder knows it. */
-static const size_t NOT_ASKED = SIZE_MAX;
-
-/* What a thread has of a recording; or what the threads above the most share. */
-struct local {
-    uint64_t turn; /* that of the segment which its recorder is of */
-    size_t known;  /* how many metrics `hists` has room for */
-    struct povundiri_handle recorder;
-    struct povundiri_owned *owned;
-    struct povundiri_recording *recording;
-    size_t hists[]; /* by metric */
-};
+static const uint64_t USUAL_APART = 1000000, USUAL_BYTES = 1 << 20, USUAL_FOLD_AT = 64;
 
 /* What a thread has of all. */
 struct table {
     struct local **locals; /* by the recording's place; some are null */
     size_t count;
-};
-
-enum state { RECORDS, HAS_ENDED, IS_FORKED };
-
-/* Whether all that is in use fits in a segment, as far as is known: it was full within a second; and the system refused a larger one. */
-enum fit { FITS, IS_TOO_SMALL, MAY_NOT_GROW };
-
-struct povundiri_recording {
-    /* The number of the present segment, counted from 1 on in this process, over all recordings. Each sample reads it, without the mutex. */
-    uint64_t turn;
-
-    /* Set once. */
-    size_t place;
-    struct povundiri_recording *next;
-    char *folder;
-    struct povundiri_recording_options options;
-
-    uint64_t missed[POVUNDIRI_MISSED_REASONS] __attribute__((aligned(LINES)));
-
-    pthread_mutex_t mutex; /* for all that follows */
-    enum state state;
-    struct povundiri_owned *current, *spare, *old;
-    struct local *shared;
-    struct povundiri_metrics metrics;
-    uint64_t bytes;               /* of the next segment, and of the spare */
-    struct povundiri_shape shape; /* of a segment of that size */
-    uint64_t turns;               /* how many segments it had */
-    uint64_t began_at;            /* when the present one was begun, in nanoseconds; 0: by another process */
-    enum fit fit;                 /* of the present one */
-    uint64_t again_at;            /* when a segment may be made again, after that was refused */
-    bool is_preparing;            /* some thread makes a spare */
 };
 
 /* The recordings, and how many there were. They are never freed. The mutex is taken before any recording's. */
@@ -87,9 +32,6 @@ static pthread_once_t once = PTHREAD_ONCE_INIT;
 static pthread_key_t key;
 static bool is_ready;
 
-/* The number of the segment that was begun last in this process. */
-static uint64_t last_turn;
-
 /* The state of this thread, found by one load also in a shared object: that of the recording which it counted in last, `none` before, and
  * all. A thread that has ended its state shares a recorder from then on. */
 static struct local none = {NO_RECORDER, 0, {false, NULL}, NULL, NULL};
@@ -98,137 +40,6 @@ OWN struct local *latest = &none;
 OWN struct table *own;
 OWN bool is_ending;
 #undef OWN
-
-/* ---- Time and chance ---- */
-
-static uint64_t now(void) {
-    struct timespec time;
-    clock_gettime(CLOCK_MONOTONIC, &time);
-    return (uint64_t)time.tv_sec * SECOND + (uint64_t)time.tv_nsec;
-}
-
-/* A number for an id, or for a name. */
-static uint64_t random_of(const struct povundiri_recording *recording) {
-    static uint64_t last;
-    uint64_t number = 0;
-    if (recording->options.random != NULL) return recording->options.random(recording->options.context);
-    if (getrandom(&number, sizeof number, GRND_NONBLOCK) == (ssize_t)sizeof number) return number;
-    /* Early at the start of the machine there is no chance yet. */
-    return (now() * 0x9E3779B97F4A7C15U) ^ ((uint64_t)getpid() << 32) ^ __atomic_add_fetch(&last, 1, __ATOMIC_RELAXED);
-}
-
-/* The shape of segments in `bytes` bytes, as povundiri::shape_for has it. */
-static struct povundiri_shape shape_for(uint64_t bytes) {
-    const uint64_t words = bytes / 8, pages = words / 4096 + (words % 4096 != 0), page = pages == 0 ? 0 : words / pages / 16 * 16;
-    const struct povundiri_shape shape = {words > MOST_WORDS ? words : pages * page, page, 0, 0, 2};
-    return shape;
-}
-
-static void miss(struct povundiri_recording *recording, enum povundiri_missed reason, uint32_t count) {
-    __atomic_fetch_add(&recording->missed[reason], count, __ATOMIC_RELAXED);
-}
-
-/* ---- Segments: the mutex is held ---- */
-
-static void set_turn(struct povundiri_recording *recording, uint64_t turn) { __atomic_store_n(&recording->turn, turn, __ATOMIC_RELAXED); }
-
-/* Gives up an old segment that has no recorder of this process any more: so it is final. */
-static void let_go(struct povundiri_recording *recording, struct povundiri_owned *owned) {
-    struct povundiri_owned **link = &recording->old;
-    if (owned == recording->current || owned->recorders > 0) return;
-    while (*link != owned) link = &(*link)->next;
-    *link = owned->next;
-    povundiri_folder_release(owned);
-}
-
-static void clear(struct local *local) {
-    size_t i;
-    local->turn = NO_RECORDER;
-    local->owned = NULL;
-    for (i = 0; i < local->known; i += 1) local->hists[i] = NOT_ASKED;
-}
-
-/* Gives back its recorder, if it has one. */
-static void give_back(struct povundiri_recording *recording, struct local *local) {
-    struct povundiri_owned *const owned = local->owned;
-    if (owned == NULL) return;
-    if (povundiri_join(&owned->segment, &local->recorder) != POVUNDIRI_DONE) povundiri_drop(&local->recorder);
-    owned->recorders -= 1;
-    clear(local);
-    let_go(recording, owned);
-}
-
-/* The present segment is an old one from now on. The recorder that is shared leaves it: nobody else would have it do so. */
-static void retire(struct povundiri_recording *recording) {
-    struct povundiri_owned *const owned = recording->current;
-    recording->current = NULL;
-    set_turn(recording, NO_SEGMENT);
-    if (owned == NULL) return;
-    owned->next = recording->old;
-    recording->old = owned;
-    if (recording->shared->owned == owned) {
-        give_back(recording, recording->shared);
-    } else {
-        let_go(recording, owned);
-    }
-}
-
-static void make_current(struct povundiri_recording *recording, struct povundiri_owned *owned, uint64_t began_at) {
-    recording->current = owned;
-    recording->began_at = began_at;
-    recording->fit = FITS;
-    recording->turns += 1;
-    set_turn(recording, __atomic_add_fetch(&last_turn, 1, __ATOMIC_RELAXED));
-}
-
-/* Makes a spare of this shape, with an id of its own. After it was refused none is made before a second has passed. */
-static struct povundiri_owned *new_spare(const struct povundiri_recording *recording, struct povundiri_shape shape, int *fault) {
-    struct povundiri_owned *spare = NULL;
-    uint32_t status;
-    shape.id = random_of(recording);
-    status = povundiri_folder_spare(recording->folder, shape, random_of(recording), &spare, fault);
-    if (status != POVUNDIRI_DONE && *fault == 0) *fault = ENOMEM;
-    return spare;
-}
-
-/* Begins the next segment. The system's fault, or 0. */
-static int begin_next(struct povundiri_recording *recording) {
-    struct povundiri_owned *next = recording->spare;
-    int fault = 0;
-    if (now() < recording->again_at) return EAGAIN;
-    recording->spare = NULL;
-    if (next == NULL) next = new_spare(recording, recording->shape, &fault);
-    if (next != NULL) fault = povundiri_folder_commit(recording->folder, next);
-    if (fault != 0) {
-        povundiri_folder_release(next);
-        recording->again_at = now() + SECOND;
-        return fault;
-    }
-    retire(recording);
-    make_current(recording, next, now());
-    return 0;
-}
-
-/* Makes a spare that is twice as large, or of the largest size, in place of the one that is there; later ones are as large. The system's
- * fault, or 0. */
-static int grow(struct povundiri_recording *recording) {
-    const uint64_t bytes = recording->bytes < LARGEST / 2 ? 2 * recording->bytes : LARGEST;
-    const struct povundiri_shape shape = shape_for(bytes);
-    struct povundiri_owned *spare;
-    int fault = 0;
-    if (now() < recording->again_at) return EAGAIN;
-    spare = new_spare(recording, shape, &fault);
-    if (spare == NULL) {
-        recording->again_at = now() + SECOND;
-        return fault;
-    }
-    povundiri_folder_release(recording->spare);
-    recording->spare = spare;
-    recording->bytes = bytes;
-    recording->shape = shape;
-    povundiri_metrics_judge_again(&recording->metrics, shape);
-    return 0;
-}
 
 /* ---- Recorders: the mutex is held ---- */
 
@@ -242,7 +53,7 @@ static uint32_t lease_of(uint32_t left, uint64_t needed) {
 static uint32_t join_in(struct povundiri_recording *recording, struct local *local, uint32_t count) {
     struct povundiri_owned *const current = recording->current;
     uint32_t left = 0, status;
-    give_back(recording, local);
+    povundiri_segments_give_back(recording, local);
     status = povundiri_units(&current->segment, &left);
     if (status == POVUNDIRI_DONE) status = povundiri_recorder(&current->segment, lease_of(left, count), &local->recorder);
     if (status != POVUNDIRI_DONE) return status;
@@ -324,7 +135,7 @@ static uint32_t local_in(struct povundiri_recording *recording, uint32_t count, 
         const uint32_t status = join_in(recording, *local, count);
         if (status != POVUNDIRI_REFUSED_TOO_MANY) return status;
     }
-    if (*local != NULL) give_back(recording, *local);
+    if (*local != NULL) povundiri_segments_give_back(recording, *local);
     *local = recording->shared;
     return (*local)->turn == recording->turn ? (uint32_t)POVUNDIRI_DONE : join_in(recording, *local, count);
 }
@@ -374,24 +185,6 @@ static enum povundiri_missed reason_of(uint32_t status) {
     }
 }
 
-/* Why the next segment is not begun, or that it was. */
-enum rolled { BEGUN, TOO_SOON, REFUSED };
-
-/* Begins the next segment, since the present one has refused a sample. The next one is larger where this one is too small; where that is
- * refused, it is as large as this one, and comes a second later. */
-static enum rolled roll(struct povundiri_recording *recording, uint32_t status) {
-    const uint64_t age = recording->began_at == 0 ? UINT64_MAX : now() - recording->began_at;
-    const bool is_full_early = status == POVUNDIRI_REFUSED_FULL && age < SECOND;
-    if (is_full_early && recording->fit == FITS) recording->fit = IS_TOO_SMALL;
-    if (recording->turns > 1 && age < recording->options.apart) return TOO_SOON;
-    if (recording->bytes == LARGEST && is_full_early) return TOO_SOON;
-    if (recording->fit == IS_TOO_SMALL && recording->bytes < LARGEST && grow(recording) != 0) {
-        recording->fit = MAY_NOT_GROW;
-        return REFUSED;
-    }
-    return begin_next(recording) == 0 ? BEGUN : REFUSED;
-}
-
 /* Counts a sample in the present segment, or in one that is begun for it; or misses it. */
 static bool count_or_miss(struct povundiri_recording *recording, size_t metric, int32_t value, uint32_t count) {
     struct local *local = NULL;
@@ -399,7 +192,7 @@ static bool count_or_miss(struct povundiri_recording *recording, size_t metric, 
     int tries;
     for (tries = 0; tries < MOST_TRIES; tries += 1) {
         enum rolled rolled;
-        if (recording->current == NULL && begin_next(recording) != 0) {
+        if (recording->current == NULL && povundiri_segments_begin_next(recording) != 0) {
             miss(recording, POVUNDIRI_MISSED_NO_SPACE, count);
             return false;
         }
@@ -414,7 +207,7 @@ static bool count_or_miss(struct povundiri_recording *recording, size_t metric, 
             miss(recording, POVUNDIRI_MISSED_TOO_LARGE, count);
             return false;
         }
-        rolled = roll(recording, status);
+        rolled = povundiri_segments_roll(recording, status);
         if (rolled != BEGUN) {
             miss(recording, rolled == TOO_SOON ? POVUNDIRI_MISSED_ROLLING : POVUNDIRI_MISSED_NO_SPACE, count);
             return false;
@@ -422,32 +215,6 @@ static bool count_or_miss(struct povundiri_recording *recording, size_t metric, 
     }
     miss(recording, POVUNDIRI_MISSED_ROLLING, count);
     return false;
-}
-
-/* ---- Spares: no mutex is held ---- */
-
-/* Makes the next spare, if there is none and nobody else makes it. */
-static void prepare(struct povundiri_recording *recording) {
-    struct povundiri_owned *spare;
-    struct povundiri_shape shape;
-    bool is_mine;
-    int fault = 0;
-    pthread_mutex_lock(&recording->mutex);
-    shape = recording->shape;
-    is_mine = recording->state == RECORDS && recording->spare == NULL && !recording->is_preparing && now() >= recording->again_at;
-    if (is_mine) recording->is_preparing = true;
-    pthread_mutex_unlock(&recording->mutex);
-    if (!is_mine) return;
-    spare = new_spare(recording, shape, &fault);
-    pthread_mutex_lock(&recording->mutex);
-    recording->is_preparing = false;
-    if (spare == NULL) recording->again_at = now() + SECOND;
-    if (spare != NULL && recording->state == RECORDS && recording->spare == NULL && shape.size == recording->shape.size) {
-        recording->spare = spare;
-        spare = NULL;
-    }
-    pthread_mutex_unlock(&recording->mutex);
-    povundiri_folder_release(spare);
 }
 
 /* ---- Threads and forks ---- */
@@ -464,7 +231,7 @@ static void thread_ends(void *at) {
         struct local *const local = table->locals[i];
         if (local == NULL) continue;
         pthread_mutex_lock(&local->recording->mutex);
-        if (local->recording->state != IS_FORKED) give_back(local->recording, local);
+        if (local->recording->state != IS_FORKED) povundiri_segments_give_back(local->recording, local);
         pthread_mutex_unlock(&local->recording->mutex);
         free(local);
     }
@@ -494,6 +261,7 @@ static void in_child(void) {
         each->state = IS_FORKED;
         each->current = each->spare = each->old = NULL;
         each->is_preparing = false;
+        each->folder.is_open = false;
         set_turn(each, NO_SEGMENT);
         memset(each->missed, 0, sizeof each->missed);
         clear(each->shared);
@@ -519,13 +287,14 @@ static struct local *found_local(const struct povundiri_recording *recording) {
 
 static void leave(struct povundiri_recording *recording) {
     struct local *const local = found_local(recording);
-    if (local != NULL) give_back(recording, local);
+    if (local != NULL) povundiri_segments_give_back(recording, local);
 }
 
 /* What the usual sample is not: the mutex is taken. */
 static bool add_slowly(struct povundiri_recording *recording, size_t metric, int32_t value, uint32_t count) {
     bool counted = false, wants_spare = false;
     pthread_mutex_lock(&recording->mutex);
+    povundiri_segments_look(recording, false);
     if (recording->state == RECORDS && metric < recording->metrics.count) {
         counted = count == 0 || count_or_miss(recording, metric, value, count);
         wants_spare = recording->spare == NULL;
@@ -534,7 +303,7 @@ static bool add_slowly(struct povundiri_recording *recording, size_t metric, int
         miss(recording, recording->state == IS_FORKED ? POVUNDIRI_MISSED_FORKED : POVUNDIRI_MISSED_ENDED, count);
     }
     pthread_mutex_unlock(&recording->mutex);
-    if (wants_spare) prepare(recording);
+    if (wants_spare) povundiri_segments_prepare(recording);
     return counted;
 }
 
@@ -640,7 +409,16 @@ uint32_t povundiri_recording_scale(struct povundiri_recording *recording, const 
 
 /* ---- For povundiri_recorded.c alone ---- */
 
-const char *povundiri_recording_folder(const struct povundiri_recording *recording) { return recording->folder; }
+int povundiri_recording_folder(struct povundiri_recording *recording, struct povundiri_held *held) {
+    int fault, state;
+    pthread_setcancelstate(PTHREAD_CANCEL_DISABLE, &state);
+    pthread_mutex_lock(&recording->mutex);
+    povundiri_segments_look(recording, true);
+    fault = povundiri_place_copy(&recording->folder, held);
+    pthread_mutex_unlock(&recording->mutex);
+    pthread_setcancelstate(state, NULL);
+    return fault;
+}
 
 uint64_t povundiri_recording_fold_at(const struct povundiri_recording *recording) { return recording->options.fold_at; }
 
@@ -662,7 +440,7 @@ static struct povundiri_recording *new_recording(const struct povundiri_recordin
     if (recording->options.fold_at == 0) recording->options.fold_at = USUAL_FOLD_AT;
     if (recording->options.apart == 0) recording->options.apart = USUAL_APART;
     recording->bytes = recording->options.bytes;
-    recording->shape = shape_for(recording->bytes);
+    recording->shape = povundiri_segments_shape_for(recording->bytes);
     recording->turn = NO_SEGMENT;
     pthread_mutex_init(&recording->mutex, NULL);
     return recording;
@@ -675,28 +453,12 @@ static uint32_t check_shape(struct povundiri_shape shape) {
     return status == POVUNDIRI_DONE ? povundiri_drop(&segment) : status;
 }
 
-/* The first segment: the newest of the folder, or a new one; or none, and it is tried again. */
-static void begin_first(struct povundiri_recording *recording, struct povundiri_began *began) {
-    struct povundiri_shape shape = recording->shape;
-    struct povundiri_found found;
-    shape.id = random_of(recording);
-    if (povundiri_folder_adopt(recording->folder, shape, &found, &began->fault) == POVUNDIRI_DONE && found.newest != NULL) {
-        make_current(recording, found.newest, found.is_adopted ? 0 : now());
-        began->adopted = found.is_adopted;
-    } else {
-        began->fault = begin_next(recording);
-    }
-    began->refused = found.refused;
-    memcpy(began->set_aside, found.set_aside, sizeof found.set_aside);
-    if (recording->current != NULL) began->number = recording->current->number;
-}
-
 static uint32_t open_recording(const char *folder, struct povundiri_recording *recording, struct povundiri_began *began) {
     const uint32_t status = check_shape(recording->shape);
     if (status != POVUNDIRI_DONE) return status;
-    began->fault = povundiri_folder_enter(folder, &recording->folder);
+    began->fault = povundiri_place_enter(&recording->folder, folder);
     if (began->fault != 0) return began->fault == ENOMEM ? POVUNDIRI_NO_MEMORY : POVUNDIRI_SYSTEM;
-    begin_first(recording, began);
+    povundiri_segments_begin_first(recording, began);
     pthread_mutex_lock(&list_mutex);
     recording->place = places;
     places += 1;
@@ -719,13 +481,13 @@ uint32_t povundiri_recording_open(const char *folder, const struct povundiri_rec
     if (made == NULL) return POVUNDIRI_NO_MEMORY;
     pthread_setcancelstate(PTHREAD_CANCEL_DISABLE, &state);
     status = open_recording(folder, made, began);
-    if (status == POVUNDIRI_DONE) prepare(made);
+    if (status == POVUNDIRI_DONE) povundiri_segments_prepare(made);
     pthread_setcancelstate(state, NULL);
     if (status == POVUNDIRI_DONE) {
         *recording = made;
     } else {
         pthread_mutex_destroy(&made->mutex);
-        free(made->folder);
+        free(made->folder.path);
         free(made->shared);
         free(made);
     }
@@ -738,11 +500,12 @@ void povundiri_recording_end(struct povundiri_recording *recording) {
     pthread_setcancelstate(PTHREAD_CANCEL_DISABLE, &state);
     pthread_mutex_lock(&recording->mutex);
     if (recording->state == RECORDS) {
+        povundiri_folder_release(&recording->folder, recording->spare);
+        recording->spare = NULL;
         recording->state = HAS_ENDED;
         leave(recording);
-        povundiri_folder_release(recording->spare);
-        recording->spare = NULL;
-        retire(recording);
+        povundiri_segments_retire(recording);
+        if (recording->old == NULL) povundiri_place_leave(&recording->folder);
     }
     pthread_mutex_unlock(&recording->mutex);
     pthread_setcancelstate(state, NULL);

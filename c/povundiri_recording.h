@@ -35,8 +35,17 @@
  * user may not read is a fault of each text; so are totals that it may not read, such as those of a fold by root, and then no segment can be
  * begun either. Only users who are trusted like the program itself may write in the folder, or in those that it is in.
  *
- * A KILL, exit and _exit lose no sample whose call had returned; a spare may be left, which the next open removes. A crash of the machine may
- * lose what no fold has synced.
+ * THE FOLDER MAY MOVE. A recording keeps a descriptor of it, so it stays with a folder that is renamed, and needs no path to it after setuid or
+ * chroot. If the folder is removed, its path is made again. If somebody removes the present segment, or empties the folder, that is seen by the
+ * next text, and within a second where a sample takes the mutex. Then the next segment is begun, and the units that were in the removed one
+ * when the last thread left it are missed, as REMOVED. A folder that has lost its mark is marked again.
+ *
+ * A KILL, exit and _exit lose no sample whose call had returned. Where spares have names (povundiri_folder.h), one may be left, which an open
+ * removes a minute later. A crash of the machine may lose what no fold has synced.
+ *
+ * A SEGMENT THAT THE SYSTEM REFUSES is tried five times more at once, then after 10 ms, and then after twice as long each time, up to a second;
+ * but after a second at once if the device or a quota is full, or the folder is read-only, gone or closed to this user (ENOSPC, EDQUOT, EROFS,
+ * EACCES, ENOENT).
  *
  * FORK. A child of fork has no part in the recordings of its parent: there each sample is missed, as FORKED, and povundiri_recording_end and
  * _leave do nothing. To count, the child opens a recording of its own, which may be in the same folder, and asks that for its
@@ -81,7 +90,7 @@ struct povundiri_recording_options {
 };
 
 /* How a recording began.
- *   number     that of its segment; 0: there is none yet, since none could be made. A sample tries again, a second later at the earliest
+ *   number     that of its segment; 0: there is none yet, since none could be made. A sample tries again
  *   adopted    whether that segment was in the folder before, and is continued
  *   refused    what is wrong with the image of the folder's newest segment, so that it is not continued (povundiri_adopt, povundiri_report);
  *              else POVUNDIRI_DONE, also if that segment is in use, full, or of another size or user
@@ -100,13 +109,15 @@ struct povundiri_began {
  *   OTHER_SPEC  the present segment has a histogram of that name with another spec: it is continued from another release, or this program
  *               asks for the name with both
  *   NO_SPACE    the present segment has no room or too few units, or there is none, and the system refused the next one, or a larger one, now
- *               or less than a second before: the device is full, a limit is reached, there is no memory, the folder is gone or may not be
- *               written. A second later the next one has the size of the present one
+ *               or up to a second before: the device is full, a limit is reached, there is no memory, the folder is gone or may not be
+ *               written. Where a larger one was refused, one of the size of the present one follows a second later
  *   ROLLING     the present segment has no room or too few units, and was begun less than `apart` before; or it has no room, is of the largest
  *               size, and was begun less than a second before
  *   FORKED      this is a child of fork, and the recording its parent's
  *   ENDED       the recording has ended
- *   NO_MEMORY   there was no memory for what the first samples of a thread or of a histogram take */
+ *   NO_MEMORY   there was no memory for what the first samples of a thread or of a histogram take
+ *   REMOVED     somebody removed the segment from the folder, or the folder: the units that were in it when the last thread left it, also those
+ *               whose povundiri_recording_add was true */
 enum povundiri_missed {
     POVUNDIRI_MISSED_TOO_LARGE = 0,
     POVUNDIRI_MISSED_OTHER_SPEC = 1,
@@ -115,7 +126,8 @@ enum povundiri_missed {
     POVUNDIRI_MISSED_FORKED = 4,
     POVUNDIRI_MISSED_ENDED = 5,
     POVUNDIRI_MISSED_NO_MEMORY = 6,
-    POVUNDIRI_MISSED_REASONS = 7
+    POVUNDIRI_MISSED_REMOVED = 7,
+    POVUNDIRI_MISSED_REASONS = 8
 };
 
 /* ---- Beginning and end ---- */
@@ -129,7 +141,7 @@ enum povundiri_missed {
  * that starts while it runs has its own segment.
  *
  * POVUNDIRI_DONE: *recording is not null. This is returned also if no segment can be made, as on a full disk: then began->fault says why,
- * samples are missed, as NO_SPACE, and it is tried again, a second later at the earliest. On any other status *recording is unchanged, and
+ * samples are missed, as NO_SPACE, and it is tried again. On any other status *recording is unchanged, and
  * on NULL and NOT_EMPTY *began as well.
  *   POVUNDIRI_NULL (any but the options), POVUNDIRI_NOT_EMPTY (*recording), POVUNDIRI_NO_MEMORY, POVUNDIRI_OPEN_NO_MEMORY
  *   POVUNDIRI_OPEN_BAD_SHAPE   `bytes` of the options is too small or too large for a segment
@@ -205,7 +217,7 @@ uint32_t povundiri_recording_sums(struct povundiri_recording *recording, struct 
  *   show     `missed, REASON: UNITS` for each reason with units
  *
  * A text is of the whole folder, so let one of the processes that record there be scraped. The flag `full` in it says that some segment was
- * full, which is how each one ends. A text takes no mutex of the recording, and reads each segment three times. An export folds first if
+ * full, which is how each one ends. A text takes the mutex for a moment, and reads each segment three times. An export folds first if
  * the folder has `fold_at` segments or more, and then waits for the device; whether that fold is done makes no difference to the text or
  * the status.
  *
@@ -221,11 +233,6 @@ uint32_t povundiri_recording_show(struct povundiri_recording *recording, uint16_
 /* povundiri_folder_fold of its folder. The present segments of this and of other recordings are not final, and stay.
  * Statuses and what to keep: as there; POVUNDIRI_NULL also if `recording` is null. */
 uint32_t povundiri_recording_fold(struct povundiri_recording *recording, uint64_t *folded, int *fault) POVUNDIRI_CHECKED;
-
-/* ---- For povundiri_recorded.c alone ---- */
-
-const char *povundiri_recording_folder(const struct povundiri_recording *recording);
-uint64_t povundiri_recording_fold_at(const struct povundiri_recording *recording);
 
 #ifdef __cplusplus
 }

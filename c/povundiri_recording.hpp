@@ -32,7 +32,8 @@ enum class Missed {
     Rolling = POVUNDIRI_MISSED_ROLLING,
     Forked = POVUNDIRI_MISSED_FORKED,
     Ended = POVUNDIRI_MISSED_ENDED,
-    NoMemory = POVUNDIRI_MISSED_NO_MEMORY
+    NoMemory = POVUNDIRI_MISSED_NO_MEMORY,
+    Removed = POVUNDIRI_MISSED_REMOVED
 };
 
 // A histogram of a recording, for any thread, also after the recording has ended. One that no recording returned counts nothing, and what it

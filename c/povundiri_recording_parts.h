@@ -1,8 +1,15 @@
-/* What povundiri_recording.c and povundiri_metrics.c have in common: the metrics of a recording. It is not installed. */
+/* What povundiri_recording.c has in common with povundiri_metrics.c, the metrics of a recording, and with povundiri_recorded.c. It is not
+ * installed. */
 #ifndef POVUNDIRI_RECORDING_PARTS_H
 #define POVUNDIRI_RECORDING_PARTS_H
 
-#include "povundiri.h"
+#include "povundiri_folder_parts.h"
+#include "povundiri_recording.h"
+
+/* Its folder, by a descriptor of the caller's own, after a look at whether the present segment is there. 0, or the system's fault. */
+int povundiri_recording_folder(struct povundiri_recording *recording, struct povundiri_held *held);
+
+uint64_t povundiri_recording_fold_at(const struct povundiri_recording *recording);
 
 /* A histogram that was asked for. */
 struct povundiri_metric {

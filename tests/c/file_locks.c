@@ -34,9 +34,9 @@ ssize_t test_pread(int descriptor, void *to, size_t bytes, off_t at) {
     return is_interrupted() ? -1 : pread(descriptor, to, bytes, at);
 }
 
-int test_open(const char *path, int flags, ...);
-int test_open(const char *path, int flags, ...) {
-    return is_interrupted() ? -1 : open(path, flags, 0600);
+int test_openat(int folder, const char *path, int flags, ...);
+int test_openat(int folder, const char *path, int flags, ...) {
+    return is_interrupted() ? -1 : openat(folder, path, flags, 0600);
 }
 
 int test_posix_fallocate(int descriptor, off_t at, off_t bytes);

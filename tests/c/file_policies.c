@@ -22,14 +22,14 @@ static int fails(void) {
     return calls == failing_at;
 }
 
-int test_open(const char *path, int flags, ...);
-int test_open(const char *path, int flags, ...) {
+int test_openat(int folder, const char *path, int flags, ...);
+int test_openat(int folder, const char *path, int flags, ...) {
     va_list more;
     mode_t mode;
     va_start(more, flags);
     mode = va_arg(more, mode_t);
     va_end(more);
-    return fails() ? -1 : open(path, flags, mode);
+    return fails() ? -1 : openat(folder, path, flags, mode);
 }
 
 int test_fstat(int descriptor, struct stat *about);

@@ -8,11 +8,9 @@
 #include <atomic>
 #include <cerrno>
 #include <chrono>
-#include <condition_variable>
 #include <csignal>
 #include <cstdlib>
 #include <ctime>
-#include <mutex>
 #include <thread>
 #include <vector>
 
@@ -21,6 +19,9 @@
 namespace {
 
 std::atomic<bool> device_is_full{false};
+
+// With which fault a segment is refused, how often still, and how often one was tried.
+std::atomic<int> refusal{0}, refusals_left{0}, times_tried{0};
 
 // What the clock shows, in nanoseconds, if a test sets it; else 0.
 std::atomic<std::int64_t> shown{0};
@@ -48,6 +49,11 @@ extern "C" int __wrap_clock_gettime(clockid_t which, timespec* time) {
 
 extern "C" int __real_posix_fallocate(int descriptor, off_t from, off_t length);
 extern "C" int __wrap_posix_fallocate(int descriptor, off_t from, off_t length) {
+    ++times_tried;
+    if (refusals_left > 0) {
+        --refusals_left;
+        return refusal;
+    }
     return device_is_full ? ENOSPC : __real_posix_fallocate(descriptor, from, length);
 }
 
@@ -277,29 +283,6 @@ void ended() {
     // The other's segment is final: a fold takes it, and not this one's.
     HOLDS(recording.fold() == 1 && metric.add(1) && units_in(recording.report(), "b") == 4);
 }
-
-// A gate that threads wait at, until all have come and it is opened.
-class Gate {
-   public:
-    void wait() {
-        std::unique_lock<std::mutex> turn(mutex_);
-        ++waiting_;
-        changed_.notify_all();
-        changed_.wait(turn, [this] { return is_open_; });
-    }
-    void open_for(int threads) {
-        std::unique_lock<std::mutex> turn(mutex_);
-        changed_.wait(turn, [this, threads] { return waiting_ == threads; });
-        is_open_ = true;
-        changed_.notify_all();
-    }
-
-   private:
-    std::mutex mutex_;
-    std::condition_variable changed_;
-    int waiting_ = 0;
-    bool is_open_ = false;
-};
 
 // Above 250 threads at once, further ones share a recorder. They count in many histograms, too.
 void many_threads() {
@@ -600,6 +583,45 @@ void no_space() {
     }));
 }
 
+// Where the system refuses a segment for a moment, it is tried five times more at once, and then after 10 ms, which doubles up to a second.
+// With a full device it is a second at once.
+void refused() {
+    constexpr std::uint32_t kMost = 4'000'000'000;
+    Clock clock;
+    Recording recording;
+    HOLDS(opens(folder("refused"), recording, small()));
+    const Metric metric = metric_of(recording, "b");
+    HOLDS(metric.add(1, kMost));
+    refusal = EIO;
+    refusals_left = 5;
+    // The second segment is the spare. For the third one five tries are refused: one when the next spare is made, and four for the sample.
+    HOLDS(metric.add(1, kMost) && refusals_left == 4 && metric.add(1, kMost) && refusals_left == 0 && recording.missed() == 0);
+    for (const int fault : {EIO, ENOSPC, EDQUOT, EROFS, EACCES, ENOENT}) {
+        std::uint64_t missed = recording.missed();
+        recording.end();
+        HOLDS(opens(folder("refused"), recording, small()) && metric_of(recording, "b").add(1, kMost) && metric_of(recording, "b").add(1, kMost));
+        const Metric again = metric_of(recording, "b");
+        missed = recording.missed();
+        refusal = fault;
+        refusals_left = 1'000;
+        // The spare is begun, and none after it.
+        HOLDS(again.add(1, kMost) && !again.add(1, kMost));
+        const bool is_short = fault == EIO;
+        int wait = is_short ? 10 : 1000, tries = times_tried;
+        for (int i = 0; i < 10; ++i) {
+            clock.pass(wait - 1);
+            HOLDS(!again.add(1, kMost) && times_tried == tries);
+            clock.pass(1);
+            HOLDS(!again.add(1, kMost) && times_tried == ++tries);
+            wait = wait < 500 ? 2 * wait : 1000;
+        }
+        refusals_left = 0;
+        clock.pass(1000);
+        HOLDS(again.add(1, kMost) && recording.missed() == missed + 21 * std::uint64_t{kMost});
+        HOLDS(recording.missed(Missed::NoSpace) == recording.missed());
+    }
+}
+
 // Where a larger segment is refused, the next one has the size of the present one, a second later.
 void may_not_grow() {
     HOLDS(in_child([] {
@@ -728,6 +750,7 @@ int run(bool only_threads) {
     failed += group("forks", forks);
     failed += group("a limit of the files' length", no_space);
     failed += group("segments beyond that limit", may_not_grow);
+    failed += group("a segment that is refused", refused);
     failed += group("totals beyond that limit", long_totals);
     failed += group("a full disk", full_disk);
     failed += group("an unwritable folder", unwritable);

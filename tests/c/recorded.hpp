@@ -5,7 +5,9 @@
 #include <sys/wait.h>
 #include <unistd.h>
 
+#include <condition_variable>
 #include <functional>
+#include <mutex>
 #include <string>
 
 #include "checks.hpp"
@@ -73,6 +75,33 @@ inline Metric metric_of(Recording& recording, const char* name, povundiri_spec s
     DONE(recording.try_hist(name, spec, {}, metric));
     return metric;
 }
+
+// A gate that threads wait at, until all have come and it is opened.
+class Gate {
+   public:
+    void wait() {
+        std::unique_lock<std::mutex> turn(mutex_);
+        ++waiting_;
+        changed_.notify_all();
+        changed_.wait(turn, [this] { return is_open_; });
+    }
+    void wait_for(int threads) {
+        std::unique_lock<std::mutex> turn(mutex_);
+        changed_.wait(turn, [this, threads] { return waiting_ == threads; });
+    }
+    void open_for(int threads) {
+        wait_for(threads);
+        const std::unique_lock<std::mutex> turn(mutex_);
+        is_open_ = true;
+        changed_.notify_all();
+    }
+
+   private:
+    std::mutex mutex_;
+    std::condition_variable changed_;
+    int waiting_ = 0;
+    bool is_open_ = false;
+};
 
 // Whether a child says so, by its status.
 inline bool in_child(const std::function<bool()>& says) {

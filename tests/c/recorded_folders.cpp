@@ -1,11 +1,21 @@
-// The folders of recordings: whose they are, what a start removes and continues there, and folds with few descriptors: 'recorded_folders
-// FOLDER'. Each group works in a folder of its own below that. It is linked with -Wl,--wrap=open.
+// The folders of recordings: whose they are, what a start removes and continues there, which descriptors a recording keeps, and folds with
+// few: 'recorded_folders FOLDER'. Each group works in a folder of its own below that. It is linked with -Wl,--wrap=open and so on.
 #include <fcntl.h>
+#include <sched.h>
+#include <sys/file.h>
+#include <sys/mount.h>
 #include <sys/resource.h>
 
 #include <cerrno>
+#include <csignal>
 #include <cstdarg>
 #include <cstdio>
+#include <cstring>
+#include <ctime>
+#include <filesystem>
+#include <iterator>
+#include <string_view>
+#include <thread>
 #include <utility>
 #include <vector>
 
@@ -19,6 +29,13 @@ std::string folded_between;
 // How many segments are opened to be folded before one is refused, once; -1: none is.
 int opened_until_fault = -1;
 
+// What the system does with files that have no name: it makes none, or gives them none, as where there is no /proc.
+enum class Unnamed { Named, NotMade, NotNamed };
+Unnamed unnamed = Unnamed::Named;
+
+// A folder in which another process begins to record whenever this one is about to lock a spare, which takes long.
+std::string opened_between;
+
 void fold_between() {
     const std::string path = std::exchange(folded_between, "");
     std::uint64_t folded = 0;
@@ -27,17 +44,53 @@ void fold_between() {
     HOLDS(folded == 1);
 }
 
+void open_between() {
+    const std::string path = std::exchange(opened_between, "");
+    HOLDS(in_child([&] {
+        Recording recording;
+        return opens(path, recording) && recording.began().number > 0;
+    }));
+    usleep(150'000);
+    opened_between = path;
+}
+
+// Whether a descriptor is that of a file without a name, or of a spare.
+bool is_spare(int descriptor) {
+    char name[4096];
+    const std::string path = "/proc/self/fd/" + std::to_string(descriptor);
+    const ssize_t length = readlink(path.c_str(), name, sizeof name);
+    const std::string_view file(name, length < 0 ? 0 : static_cast<std::size_t>(length));
+    return file.find("/spare-") != file.npos || file.find(" (deleted)") != file.npos;
+}
+
 }  // namespace
 
-extern "C" int __real_open(const char* path, int flags, ...);
-extern "C" int __wrap_open(const char* path, int flags, ...) {
+extern "C" int __real_flock(int descriptor, int how);
+extern "C" int __wrap_flock(int descriptor, int how) {
+    if (!opened_between.empty() && is_spare(descriptor)) open_between();
+    return __real_flock(descriptor, how);
+}
+
+extern "C" int __real_linkat(int from_folder, const char* from, int to_folder, const char* to, int flags);
+extern "C" int __wrap_linkat(int from_folder, const char* from, int to_folder, const char* to, int flags) {
+    if (unnamed == Unnamed::Named || std::strncmp(from, "/proc/", 6) != 0) return __real_linkat(from_folder, from, to_folder, to, flags);
+    errno = ENOENT;
+    return -1;
+}
+
+extern "C" int __real_openat(int in, const char* path, int flags, ...);
+extern "C" int __wrap_openat(int in, const char* path, int flags, ...) {
     va_list more;
     va_start(more, flags);
-    const int mode = (flags & O_CREAT) != 0 ? va_arg(more, int) : 0;
+    const int mode = (flags & O_CREAT) != 0 || (flags & O_TMPFILE) == O_TMPFILE ? va_arg(more, int) : 0;
     va_end(more);
+    if (unnamed == Unnamed::NotMade && (flags & O_TMPFILE) == O_TMPFILE) {
+        errno = EOPNOTSUPP;
+        return -1;
+    }
     const bool is_segment = std::string(path).find(".seg") != std::string::npos, is_recorded = (flags & O_ACCMODE) == O_RDWR;
     if (is_segment && is_recorded && !folded_between.empty()) fold_between();
-    const int descriptor = __real_open(path, flags, mode);
+    const int descriptor = __real_openat(in, path, flags, mode);
     if (descriptor < 0 || !is_segment || is_recorded || opened_until_fault < 0 || opened_until_fault-- > 0) return descriptor;
     close(descriptor);
     errno = ENFILE;
@@ -46,15 +99,29 @@ extern "C" int __wrap_open(const char* path, int flags, ...) {
 
 namespace {
 
-bool is_made(const std::string& path, const char* text) {
+bool ages(const std::string& path, std::time_t seconds) {
+    const timespec times[2] = {{std::time(nullptr) - seconds, 0}, {std::time(nullptr) - seconds, 0}};
+    return utimensat(AT_FDCWD, path.c_str(), times, 0) == 0;
+}
+
+// A file with this text, which is as many seconds old.
+bool is_made(const std::string& path, const char* text, std::time_t age = 0) {
     std::FILE* const file = std::fopen(path.c_str(), "w");
-    return file != nullptr && std::fputs(text, file) >= 0 && std::fclose(file) == 0;
+    return file != nullptr && std::fputs(text, file) >= 0 && std::fclose(file) == 0 && ages(path, age);
+}
+
+std::vector<std::string> spares_in(const std::string& path) {
+    std::vector<std::string> found;
+    for (const auto& entry : std::filesystem::directory_iterator(path)) {
+        if (entry.path().filename().string().rfind("spare-", 0) == 0) found.push_back(entry.path());
+    }
+    return found;
 }
 
 // Something has the name of a recording's mark, and is none: nothing is removed there, or made.
 void marks() {
     const std::string path = folder("marked"), mark = path + "/recording", spare = path + "/spare-1-0123456789abcdef";
-    HOLDS(mkdir(path.c_str(), 0700) == 0 && is_made(spare, "not a segment") && is_made(folder("empty"), ""));
+    HOLDS(mkdir(path.c_str(), 0700) == 0 && is_made(spare, "not a segment", 70) && is_made(folder("empty"), ""));
     const auto is_refused = [&] {
         Recording recording;
         povundiri_handle sums = {};
@@ -74,7 +141,8 @@ void marks() {
     HOLDS(opens(path, recording) && bytes_of(spare) == -1);
 }
 
-// A spare that nobody holds is removed. A file without the name of a spare is not, and a spare that somebody holds is not either.
+// An old spare that nobody holds is removed. A young one is not, a file without the name of a spare is not, and a spare that somebody holds
+// is not either.
 void spares() {
     const std::string path = folder("spares");
     const std::vector<std::string> others = {"spare-",
@@ -98,17 +166,93 @@ void spares() {
                                              "spare-99999999999999999999-0123456789abcdef",
                                              "my-spare-1-0123456789abcdef"};
     const std::vector<std::string> left = {"spare-1-0123456789abcdef", "spare-4194304-0000000000000000", "spare-77-ffffffffffffffff"};
+    const std::string young = path + "/spare-1-1111111111111111";
     Recording held, recording;
+    unnamed = Unnamed::NotMade;
     HOLDS(opens(path, held));
-    for (const std::string& name : others) HOLDS(is_made(path + "/" + name, "x"));
-    for (const std::string& name : left) HOLDS(is_made(path + "/" + name, "x"));
+    unnamed = Unnamed::Named;
+    HOLDS(spares_in(path).size() == 1 && ages(spares_in(path)[0], 1000));
+    for (const std::string& name : others) HOLDS(is_made(path + "/" + name, "x", 1000));
+    for (const std::string& name : left) HOLDS(is_made(path + "/" + name, "x", 70));
+    HOLDS(is_made(young, "x", 50));
     HOLDS(mkdir((path + "/spare-2-0123456789abcdef").c_str(), 0700) == 0 && opens(path, recording));
     for (const std::string& name : others) HOLDS(bytes_of(path + "/" + name) == 1);
     for (const std::string& name : left) HOLDS(bytes_of(path + "/" + name) == -1);
-    HOLDS(bytes_of(path + "/spare-2-0123456789abcdef") >= 0);
+    HOLDS(bytes_of(path + "/spare-2-0123456789abcdef") >= 0 && bytes_of(young) == 1);
     // The spare of the one that holds it was not swept: the next segment is begun with it.
     HOLDS(metric_of(held, "b").add(1, 4'000'000'000) && metric_of(held, "b").add(1, 4'000'000'000) && held.missed() == 0);
     HOLDS(units_in(held.report(), "b") == 8'000'000'000);
+}
+
+// How many spares a process leaves that is killed as it records.
+std::size_t left_by_kill(const std::string& path) {
+    const pid_t child = fork();
+    if (child == 0) {
+        Recording recording;
+        if (opens(path, recording, small()) && metric_of(recording, "b").add(1, 3)) kill(getpid(), SIGKILL);
+        _exit(1);
+    }
+    int status = 0;
+    HOLDS(child > 0 && waitpid(child, &status, 0) == child && WIFSIGNALED(status) && WTERMSIG(status) == SIGKILL);
+    return spares_in(path).size();
+}
+
+// Others begin to record in the folder whenever this process makes a spare, and its lock comes late: none removes it. A kill leaves a spare
+// only where spares have names.
+void swept() {
+    const std::vector<std::pair<Unnamed, const char*>> ways = {
+        {Unnamed::Named, "unnamed"}, {Unnamed::NotMade, "not_made"}, {Unnamed::NotNamed, "not_named"}};
+    RecordingOptions options{};
+    options.apart = 1;
+    for (const auto& [way, name] : ways) {
+        const std::string path = folder(name);
+        Recording recording;
+        HOLDS(mkdir(path.c_str(), 0700) == 0);
+        unnamed = way;
+        opened_between = path;
+        HOLDS(opens(path, recording, options));
+        opened_between.clear();
+        HOLDS(recording.began().fault == 0 && recording.began().number > 0);
+        for (int i = 0; i < 3; ++i) HOLDS(metric_of(recording, "b").add(1, 4'000'000'000));
+        HOLDS(recording.missed() == 0 && units_in(recording.report(), "b") == 12'000'000'000);
+        recording.end();
+        HOLDS(spares_in(path).empty());
+        const std::size_t left = left_by_kill(path);
+        HOLDS(left == (way == Unnamed::Named ? 0 : 1) && opens(path, recording) && spares_in(path).size() == 2 * left);
+        for (const std::string& spare : spares_in(path)) HOLDS(ages(spare, 61));
+        recording.end();
+        HOLDS(opens(path, recording, small()) && spares_in(path).size() == left);
+        HOLDS(units_in(recording.report(), "b") == 12'000'000'003);
+        unnamed = Unnamed::Named;
+    }
+}
+
+// Workers of a server that start at once each begin a segment, and miss nothing.
+void workers() {
+    constexpr int kWorkers = 60, kSamples = 100;
+    const std::string path = folder("workers");
+    int gate[2];
+    std::vector<pid_t> children;
+    HOLDS(pipe(gate) == 0);
+    for (int i = 0; i < kWorkers; ++i) {
+        children.push_back(fork());
+        if (children.back() != 0) continue;
+        char byte;
+        close(gate[1]);
+        if (read(gate[0], &byte, 1) != 0) _exit(1);
+        Recording recording;
+        if (!opens(path, recording, small()) || recording.began().number == 0) _exit(1);
+        for (int sample = 0; sample < kSamples; ++sample) metric_of(recording, "b").add(1);
+        _exit(recording.missed() == 0 ? 0 : 1);
+    }
+    HOLDS(close(gate[0]) == 0 && close(gate[1]) == 0);
+    int failed = 0;
+    for (const pid_t child : children) {
+        int status = -1;
+        HOLDS(waitpid(child, &status, 0) == child);
+        failed += status != 0;
+    }
+    HOLDS(failed == 0 && units_beside(path, "b") == kWorkers * kSamples && spares_in(path).empty());
 }
 
 // A fold takes the newest segment just before it is continued: the next number is begun, and that one's file is not made again.
@@ -207,13 +351,104 @@ void no_descriptor() {
     }
 }
 
+std::ptrdiff_t descriptors() {
+    return std::distance(std::filesystem::directory_iterator("/proc/self/fd"), std::filesystem::directory_iterator());
+}
+
+// Whether somebody has the lock of a file.
+bool is_locked(const std::string& path) {
+    const int descriptor = open(path.c_str(), O_RDONLY | O_CLOEXEC);
+    const bool is = descriptor >= 0 && flock(descriptor, LOCK_EX | LOCK_NB) != 0 && errno == EWOULDBLOCK;
+    HOLDS(descriptor >= 0 && close(descriptor) == 0);
+    return is;
+}
+
+std::string segment(const std::string& path, int number) {
+    const std::string digits = std::to_string(number);
+    return path + "/" + std::string(10 - digits.size(), '0') + digits + ".seg";
+}
+
+// Threads that each have a recorder in another segment of a recording, and are idle.
+class Holders {
+   public:
+    Holders(const Metric& metric, int threads) {
+        for (int i = 0; i < threads; ++i) {
+            std::thread([&] { HOLDS(metric.add(1, kMost)); }).join();
+            threads_.emplace_back([this, metric] {
+                HOLDS(metric.add(1));
+                gate_.wait();
+            });
+            gate_.wait_for(i + 1);
+        }
+    }
+    void leave() {
+        gate_.open_for(static_cast<int>(threads_.size()));
+        for (std::thread& thread : threads_) thread.join();
+    }
+
+   private:
+    static constexpr std::uint32_t kMost = 4'200'000'000;
+    Gate gate_;
+    std::vector<std::thread> threads_;
+};
+
+// Each segment that a thread is in is locked, and none that all have left. Returns how many descriptors the segments have.
+std::ptrdiff_t descriptors_of(const std::string& path, int segments) {
+    Recording recording;
+    HOLDS(opens(path, recording, small()));
+    const Metric metric = metric_of(recording, "b");
+    recording.leave();
+    const std::ptrdiff_t before = descriptors();
+    Holders holders(metric, segments);
+    const std::ptrdiff_t after = descriptors();
+    HOLDS(segments_in(path) == static_cast<std::uint64_t>(segments));
+    for (int number = 1; number <= segments; ++number) HOLDS(is_locked(segment(path, number)));
+    HOLDS(recording.fold() == 0);
+    holders.leave();
+    for (int number = 1; number <= segments; ++number) HOLDS(is_locked(segment(path, number)) == (number == segments));
+    HOLDS(recording.fold() == static_cast<std::uint64_t>(segments - 1) && recording.missed() == 0);
+    // A child that lives on has nothing of the present segment, which is final once its process has ended the recording.
+    int ends[2];
+    char byte = 0;
+    HOLDS(pipe(ends) == 0);
+    const pid_t child = fork();
+    if (child == 0) {
+        if (write(ends[1], "x", 1) == 1) pause();
+        _exit(1);
+    }
+    HOLDS(child > 0 && read(ends[0], &byte, 1) == 1);
+    recording.end();
+    HOLDS(!is_locked(segment(path, segments)) && kill(child, SIGKILL) == 0 && waitpid(child, nullptr, 0) == child);
+    HOLDS(close(ends[0]) == 0 && close(ends[1]) == 0);
+    return after - before;
+}
+
+// Threads that are idle in old segments keep no descriptor.
+void few_open() { HOLDS(descriptors_of(folder("few_open"), 20) <= 0); }
+
+// The mapping of a file on overlayfs keeps no lock: so the descriptors stay.
+void overlaid() { HOLDS(descriptors_of(folder("overlay/merged/metrics"), 5) >= 4); }
+
+// Mounts an overlayfs for this process alone.
+bool mounts_overlay() {
+    const std::string top = folder("overlay");
+    for (const char* name : {"", "/lower", "/upper", "/work", "/merged"}) HOLDS(mkdir((top + name).c_str(), 0700) == 0);
+    const std::string words = "lowerdir=" + top + "/lower,upperdir=" + top + "/upper,workdir=" + top + "/work";
+    return unshare(CLONE_NEWNS) == 0 && mount("none", "/", nullptr, MS_REC | MS_PRIVATE, nullptr) == 0 &&
+           mount("overlay", (top + "/merged").c_str(), "overlay", 0, words.c_str()) == 0;
+}
+
 int run() {
     int failed = group("what is no recording's folder", marks);
     failed += group("spares", spares);
+    failed += group("starts beside one another", swept);
+    failed += group("workers that start at once", workers);
     failed += group("a fold before a start", taken);
     failed += group("a file in which nothing was begun", unmade);
     failed += group("few descriptors", few_descriptors);
     failed += group("no descriptor for a moment", no_descriptor);
+    failed += group("idle threads in old segments", few_open);
+    failed += mounts_overlay() ? group("the same on overlayfs", overlaid) : left_out("the same on overlayfs", std::strerror(errno));
     return failed;
 }
 

@@ -1,8 +1,9 @@
 /* Linked into a program with the words of `wrapped` (tests/parts/recordings.py): those of its calls to the system that others can see come
  * here first. If the environment has STOP_AT, a number from 1 on, the process kills itself before that one of these calls. If it has
- * STOP_TELLS, the process prints at its end how many there were. */
+ * STOP_TELLS, the process prints at its end how many there were. If it has NO_UNNAMED, the system makes no files without a name. */
 #define _GNU_SOURCE
 
+#include <errno.h>
 #include <fcntl.h>
 #include <signal.h>
 #include <stdarg.h>
@@ -12,17 +13,17 @@
 #include <sys/types.h>
 #include <unistd.h>
 
-int __real_open(const char *path, int flags, ...);
+int __real_openat(int folder, const char *path, int flags, ...);
 int __real_close(int descriptor);
 int __real_flock(int descriptor, int how);
 int __real_fsync(int descriptor);
 int __real_ftruncate(int descriptor, off_t length);
-int __real_link(const char *from, const char *to);
+int __real_linkat(int from_folder, const char *from, int to_folder, const char *to, int flags);
 void *__real_mmap(void *at, size_t length, int protection, int flags, int descriptor, off_t offset);
 int __real_posix_fallocate(int descriptor, off_t from, off_t length);
 ssize_t __real_pread(int descriptor, void *to, size_t bytes, off_t at);
-int __real_rename(const char *from, const char *to);
-int __real_unlink(const char *path);
+int __real_renameat(int from_folder, const char *from, int to_folder, const char *to);
+int __real_unlinkat(int folder, const char *path, int flags);
 ssize_t __real_write(int descriptor, const void *from, size_t bytes);
 
 static long number_of(const char *name) {
@@ -40,14 +41,18 @@ static __attribute__((destructor)) void tell(void) {
     if (getenv("STOP_TELLS") != NULL) fprintf(stderr, "%ld calls\n", __atomic_load_n(&calls, __ATOMIC_RELAXED));
 }
 
-int __wrap_open(const char *path, int flags, ...) {
+int __wrap_openat(int folder, const char *path, int flags, ...) {
     va_list more;
     int mode = 0;
     va_start(more, flags);
-    if ((flags & O_CREAT) != 0) mode = va_arg(more, int);
+    if ((flags & O_CREAT) != 0 || (flags & O_TMPFILE) == O_TMPFILE) mode = va_arg(more, int);
     va_end(more);
     step();
-    return __real_open(path, flags, mode);
+    if ((flags & O_TMPFILE) == O_TMPFILE && getenv("NO_UNNAMED") != NULL) {
+        errno = EOPNOTSUPP;
+        return -1;
+    }
+    return __real_openat(folder, path, flags, mode);
 }
 
 int __wrap_close(int descriptor) {
@@ -70,9 +75,9 @@ int __wrap_ftruncate(int descriptor, off_t length) {
     return __real_ftruncate(descriptor, length);
 }
 
-int __wrap_link(const char *from, const char *to) {
+int __wrap_linkat(int from_folder, const char *from, int to_folder, const char *to, int flags) {
     step();
-    return __real_link(from, to);
+    return __real_linkat(from_folder, from, to_folder, to, flags);
 }
 
 void *__wrap_mmap(void *at, size_t length, int protection, int flags, int descriptor, off_t offset) {
@@ -90,14 +95,14 @@ ssize_t __wrap_pread(int descriptor, void *to, size_t bytes, off_t at) {
     return __real_pread(descriptor, to, bytes, at);
 }
 
-int __wrap_rename(const char *from, const char *to) {
+int __wrap_renameat(int from_folder, const char *from, int to_folder, const char *to) {
     step();
-    return __real_rename(from, to);
+    return __real_renameat(from_folder, from, to_folder, to);
 }
 
-int __wrap_unlink(const char *path) {
+int __wrap_unlinkat(int folder, const char *path, int flags) {
     step();
-    return __real_unlink(path);
+    return __real_unlinkat(folder, path, flags);
 }
 
 /* Half of the bytes come first, so that a text is cut off. */

@@ -23,7 +23,7 @@ from support.program import Case, Path
 PROGRAM = None
 MOST_SECONDS = 300
 FUZZ_SECONDS = 60
-INTERRUPTED = ("flock", "pread", "open", "posix_fallocate", "ftruncate")
+INTERRUPTED = ("flock", "pread", "openat", "posix_fallocate", "ftruncate")
 STOPPED = (
     *INTERRUPTED, "fstat", "fstatat", "mmap", "madvise", "munmap", "close", "renameat2", "link", "unlink", "malloc",
     "calloc",

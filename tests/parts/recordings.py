@@ -32,16 +32,19 @@ SIZES = ((16_384, 1_000_000), (32_768, 1), (65_536, 1_000_000))
 SMALL = (8_192, 1_000_000)
 # How a program is linked whose calls to the system come to stopped.c first.
 STOPPED = (
-    "open", "close", "flock", "fsync", "ftruncate", "link", "mmap", "posix_fallocate", "pread", "rename", "unlink",
-    "write",
+    "openat", "close", "flock", "fsync", "ftruncate", "linkat", "mmap", "posix_fallocate", "pread", "renameat",
+    "unlinkat", "write",
 )
 # A program that begins segments makes this many of these calls within some milliseconds.
 BEGINNINGS = 100
 # The programs that check something, and which calls to the system each of them intercepts.
-CHECKED = {"recorded": ("clock_gettime", "posix_fallocate"), "recorded_folders": ("open",)}
+CHECKED = {
+    "recorded": ("clock_gettime", "posix_fallocate"), "recorded_folders": ("openat", "flock", "linkat"),
+    "recorded_removed": (),
+}
 THREADS = "-fsanitize=thread"
 # The reasons for what is missed, in the order of the library; what a run may miss that nothing disturbs.
-REASONS = ("too_large", "other_spec", "no_space", "rolling", "forked", "ended", "no_memory")
+REASONS = ("too_large", "other_spec", "no_space", "rolling", "forked", "ended", "no_memory", "removed")
 MAY_MISS = ("too_large", "rolling")
 # The most units that may be missed as `rolling`, of those that were counted; seen were at most 0.0002.
 MOST_ROLLING = 0.05
@@ -222,9 +225,9 @@ def to_its_end(runs: Folder, mode: str) -> str | None:
     return runs.wrong() if begun == ended and +ended else f"begun are {begun}, and ended {ended}"
 
 
-def stopped(words: Sequence[Path], at: int) -> int:
+def stopped(words: Sequence[Path], at: int, **settings: str) -> int:
     """The status of a program that is killed before the call of this number."""
-    environment = {**os.environ, "STOP_AT": str(at)}
+    environment = {**os.environ, "STOP_AT": str(at), **settings}
     return subprocess.run([*words], env=environment, capture_output=True, timeout=MOST_SECONDS).returncode
 
 
@@ -279,10 +282,11 @@ def folds_killed(runs: Folder) -> str | None:
     return runs.wrong()
 
 
-def beginnings_killed(runs: Folder, mode: str) -> str | None:
-    """The program is killed before each of the calls to the system with which it starts and begins segments."""
+def beginnings_killed(runs: Folder, mode: str, **settings: str) -> str | None:
+    """The program is killed before each of the calls to the system with which it starts and begins segments. It leaves
+    spares only if the settings say that the system has no files without a name, and then a start removes the old."""
     for at in range(1, BEGINNINGS):
-        status = stopped(runs.words(0, runs.chance.choice(SIZES), ENOUGH_SECONDS, mode), at)
+        status = stopped(runs.words(0, runs.chance.choice(SIZES), ENOUGH_SECONDS, mode), at, **settings)
         if status != -9:
             return f"status {status} where it is killed before call {at}"
         wrong = runs.wrong() if (runs.folder / "recording").exists() else None
@@ -290,10 +294,15 @@ def beginnings_killed(runs: Folder, mode: str) -> str | None:
             wrong = runs.folded()
         if wrong is not None:
             return f"killed before call {at}: {wrong}"
+    left = [*runs.folder.glob("spare-*")]
+    if bool(left) != bool(settings):
+        return f"spares are left: {left}"
+    for path in left:
+        os.utime(path, (0, 0))
     with runs.running(0, SIZES[0], mode):
         time.sleep(0.05)
-    left = [path.name for path in runs.folder.glob("spare-*")]
-    return f"spares are left: {left}" if len(left) > 2 else runs.wrong()
+    left = [*runs.folder.glob("spare-*")]
+    return f"spares are still left: {left}" if left else runs.wrong()
 
 
 def wrapped(calls: Sequence[str]) -> list[str]:
@@ -385,3 +394,5 @@ def cases(program: None, options: argparse.Namespace) -> Iterator[Case]:
         yield "folds that are killed", folds_killed(runs("folds"))
         for mode in ("-", "g"):
             yield f"killed as it begins a segment, mode {mode}", beginnings_killed(runs(f"beginnings_{mode}"), mode)
+        named = beginnings_killed(runs("beginnings_named"), "-", NO_UNNAMED="")
+        yield "killed as it begins a segment, named spares", named

@@ -140,7 +140,7 @@ enum povundiri_status {
     POVUNDIRI_ELSEWHERE = 14,    /* the recorder's own segment took it, in a call of another thread there: its handle is empty */
     POVUNDIRI_BUSY = 15,         /* another thread passes a recorder of the same segment at this moment, or somebody folds the same folder:
                                   * nothing has happened, try again */
-    POVUNDIRI_SYSTEM = 16,       /* of files and folders: the system's fault, whose number (errno.h) is returned beside it */
+    POVUNDIRI_SYSTEM = 16,       /* of files, folders and shared memory: the system's fault, whose number (errno.h) is returned beside it */
     POVUNDIRI_TOO_MANY_KEYS = 17, /* the image has more keys than the caller allows, and is not reported */
     POVUNDIRI_BAD_PREFIX = 18,    /* no name of a metric may begin with the prefix */
     POVUNDIRI_TOO_MANY = 19,      /* a total of the sum would not fit: units, marks, redundant counts or images 64 bits, amounts 128 */

@@ -516,6 +516,8 @@ public:
     [[nodiscard]] Status try_close(std::vector<std::uint64_t>& image);
 
 private:
+    friend class SharedSegment;
+
     // Makes a segment of a state of its own.
     template <typename Make>
     static Status fill(Segment& segment, const Shape& shape, const Make& make) noexcept {

@@ -15,6 +15,7 @@
 #include <time.h>
 #include <unistd.h>
 
+#include "povundiri_file_parts.h"
 #include "povundiri_layout.h"
 
 /* A segment's file has whole units of 16 bytes. */
@@ -30,6 +31,9 @@ enum {
     ALL_FLAGS = POVUNDIRI_FILE_GROUP_WRITES | POVUNDIRI_FILE_ANY_OWNER | POVUNDIRI_FILE_FOLLOW | POVUNDIRI_FILE_KEEP_ON_FORK |
                 POVUNDIRI_FILE_EXISTING
 };
+
+/* A flag of requests alone: the path leads to memory that povundiri_shared.c has judged. */
+enum { IS_MEMORY = 1 << 16 };
 
 /* The words of a header that are never 0 once it is made. */
 static const size_t NEVER_ZERO[] = {0, 1, 2, 3, 5, 7, 8, 12, 13, 15};
@@ -287,6 +291,7 @@ static int open_descriptor(const struct request *request, struct povundiri_mappi
 
 static int judge(const struct request *request, const struct stat *about) {
     if (!S_ISREG(about->st_mode)) return EINVAL;
+    if ((request->flags & IS_MEMORY) != 0) return 0;
     if (about->st_uid != geteuid() && (request->flags & POVUNDIRI_FILE_ANY_OWNER) == 0) return EPERM;
     if ((about->st_mode & S_IWGRP) != 0 && (request->flags & POVUNDIRI_FILE_GROUP_WRITES) == 0) return EPERM;
     return (about->st_mode & S_IWOTH) != 0 ? EPERM : 0;
@@ -312,9 +317,8 @@ static void cut(int descriptor, off_t length) {
     while (ftruncate(descriptor, length) != 0 && errno == EINTR) continue;
 }
 
-/* Extends a file of this length, and reserves blocks for all its bytes; if there are none, its length is unchanged. The blocks are reserved
- * in pieces, so that repeated signals do not keep one long call from its end. */
-static int reserve(int descriptor, off_t length, off_t bytes) {
+/* The blocks are reserved in pieces, so that repeated signals do not keep one long call from its end. */
+int povundiri_parts_reserve(int descriptor, off_t length, off_t bytes) {
     struct rlimit limit;
     off_t at;
     int fault = 0;
@@ -331,13 +335,15 @@ static int reserve(int descriptor, off_t length, off_t bytes) {
 static int give_length(const struct request *request, struct povundiri_mapping *mapping, size_t *bytes) {
     const size_t length = (size_t)mapping->was;
     struct content content;
-    const int fault = inspect(mapping->descriptor, mapping->was, &content);
+    int fault;
     *bytes = length;
+    if ((request->flags & IS_MEMORY) != 0) return 0;
+    fault = inspect(mapping->descriptor, mapping->was, &content);
     if (fault != 0) return fault;
     if (!content.is_new && content.words == 0) return 0;
     *bytes = larger(rounded_up(length), request->bytes);
     if (!content.is_new) *bytes = larger(*bytes, povundiri_file_bytes(content.words, request->cursors));
-    return reserve(mapping->descriptor, mapping->was, (off_t)*bytes);
+    return povundiri_parts_reserve(mapping->descriptor, mapping->was, (off_t)*bytes);
 }
 
 static int map(struct povundiri_mapping *mapping, size_t bytes) {
@@ -427,6 +433,14 @@ int povundiri_file_open(struct povundiri_file *file, const char *path, size_t by
     if (fault != 0 || file == NULL || file->mapping != NULL || bytes == 0 || bytes > most_bytes()) return EINVAL;
     request.bytes = rounded_up(bytes);
     request.cursors = 0;
+    return open_request(file, &request);
+}
+
+int povundiri_parts_open_memory(struct povundiri_file *file, int descriptor) {
+    struct request request = {NULL, 0, 0, POVUNDIRI_FILE_FOLLOW | POVUNDIRI_FILE_EXISTING | IS_MEMORY, 0};
+    char path[32];
+    snprintf(path, sizeof path, "/proc/self/fd/%d", descriptor);
+    request.path = path;
     return open_request(file, &request);
 }
 

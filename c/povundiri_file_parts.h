@@ -2,6 +2,9 @@
 #ifndef POVUNDIRI_FILE_PARTS_H
 #define POVUNDIRI_FILE_PARTS_H
 
+#include <stddef.h>
+#include <sys/types.h>
+
 #include "povundiri_file.h"
 
 /* Reads `bytes` bytes from there on, or those up to the end of the file, and says how many. 0, or the system's fault. */
@@ -23,5 +26,13 @@ bool povundiri_parts_stands(const struct povundiri_file *file, int folder, const
 
 /* povundiri_file_look of a name in a folder. */
 uint32_t povundiri_parts_look(int folder, const char *name, uint64_t **image, size_t *length, int *fault) POVUNDIRI_CHECKED;
+
+/* Reserves blocks for all bytes of a file of this length, and so extends it; if there are none, its length is unchanged. 0, or the system's
+ * fault; EFBIG: the process may not write files of this length. */
+int povundiri_parts_reserve(int descriptor, off_t length, off_t bytes);
+
+/* Opens the memory of a descriptor once more, by its name in /proc, and locks and maps it as a file; it keeps its length, whoever it
+ * belongs to. 0, or the system's fault; EBUSY: somebody has it open. */
+int povundiri_parts_open_memory(struct povundiri_file *file, int descriptor);
 
 #endif

@@ -3,8 +3,8 @@
 //     killed PLACE FILE TALLY SEED VERSION WORDS PAGE [LOOKS]
 //
 // PLACE is 'file': the segment is in FILE, which is mapped; if FILE has a segment already, that one is continued. Or it is 'heap': the
-// segment is in the heap; if there is an image FILE, the segment continues from that. The program prints 'begins' first. A status that may
-// not come ends it with status 3.
+// segment is in the heap; if there is an image FILE, the segment continues from that. Or it is 'shared': FILE is the number of a descriptor,
+// and the segment in its memory is continued. The program prints 'begins' first. A status that may not come ends it with status 3.
 //
 // With LOOKS it looks LOOKS times at its own segment, by its handle and, if it is in a file, by turns also by that; then it ends with
 // status 0. The report of each look is read. Status 3 ends the program if a bucket has fewer units than had ended before the look, more
@@ -28,6 +28,7 @@
 #include <vector>
 
 #include "povundiri.hpp"
+#include "povundiri_shared.hpp"
 #include "tally.hpp"
 
 namespace {
@@ -175,6 +176,13 @@ void open_in_heap(const Options& options, povundiri::Segment& segment) {
     need("adopt", povundiri::Segment::try_adopt(words, segment, options.shape.cursors));
 }
 
+void open_in_shared(const Options& options, povundiri::Segment& segment) {
+    povundiri::SharedSegment shared;
+    const std::error_code fault = povundiri::SharedSegment::try_open({std::atoi(options.file.c_str())}, shared, options.shape.cursors);
+    if (fault) stop("shared", fault.message().c_str());
+    segment = std::move(shared.segment(0));
+}
+
 // The cell of a bucket, by the histogram's name and the bucket's least value.
 std::size_t cell_of(const std::string& name, std::int32_t low) {
     if (name == "boolean") return tally::kBoolean + static_cast<std::size_t>(low);
@@ -232,7 +240,8 @@ void look(const Options& options, const povundiri::Segment& segment, const tally
 [[noreturn]] void record(const Options& options) {
     tally::Thread* cells = tally_of(options.tally);
     povundiri::Segment segment;
-    options.place == "file" ? open_in_file(options, segment) : open_in_heap(options, segment);
+    const auto open = options.place == "file" ? open_in_file : options.place == "heap" ? open_in_heap : open_in_shared;
+    open(options, segment);
     const Units before = options.looks == 0 ? Units() : units_of(segment.look());
     std::vector<std::thread> threads;
     for (std::uint32_t i = 0; i < tally::kThreads; ++i) {

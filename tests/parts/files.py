@@ -23,6 +23,7 @@ from support.program import Case, Path
 PROGRAM = None
 MOST_SECONDS = 300
 FUZZ_SECONDS = 60
+LAYERS = ("povundiri.c", "povundiri_file.c")
 INTERRUPTED = ("flock", "pread", "openat", "posix_fallocate", "ftruncate")
 STOPPED = (
     *INTERRUPTED, "fstat", "fstatat", "mmap", "madvise", "munmap", "close", "renameat2", "link", "unlink", "malloc",
@@ -49,7 +50,7 @@ def checked(
 ) -> Iterator[Case]:
     """The cases of one program."""
     try:
-        program = installed.with_file_layer(native.PROGRAMS / name, native.compiler(".c"), flags, replaced)
+        program = installed.with_layers(native.PROGRAMS / name, LAYERS, native.compiler(".c"), flags, replaced)
     except native.Failed as why:
         yield name, str(why)
         return
@@ -72,7 +73,7 @@ def has_fuzzer(folder: pathlib.Path) -> bool:
 
 def fuzzed(installed: native.Installed, options: argparse.Namespace) -> str | None:
     """What the fuzzer found, or None."""
-    program = installed.with_file_layer(native.PROGRAMS / "fuzz_file.c", FUZZER, FUZZER_FLAGS)
+    program = installed.with_layers(native.PROGRAMS / "fuzz_file.c", LAYERS, FUZZER, FUZZER_FLAGS)
     with tempfile.TemporaryDirectory(dir=MEMORY if os.access(MEMORY, os.W_OK) else None) as folder:
         words: list[Path] = [
             program, f"-max_total_time={FUZZ_SECONDS}", *FUZZER_WORDS, f"-seed={options.seed}",

@@ -17,10 +17,10 @@ WARNINGS = [
     "-Wall", "-Wextra", "-Wpedantic", "-Wconversion", "-Wshadow", "-Werror", "-fsyntax-only", f"-I{native.LIBRARY}",
 ]
 CPP_WARNINGS = ["-Wold-style-cast", "-Wzero-as-null-pointer-constant"]
-C_HEADERS = ("povundiri.h", "povundiri_file.h", "povundiri_folder.h", "povundiri_recording.h")
+C_HEADERS = ("povundiri.h", "povundiri_file.h", "povundiri_folder.h", "povundiri_recording.h", "povundiri_shared.h")
 CPP_HEADERS = (
     *C_HEADERS, "povundiri_status.hpp", "povundiri_values.hpp", "povundiri_images.hpp", "povundiri.hpp",
-    "povundiri_recording.hpp",
+    "povundiri_recording.hpp", "povundiri_shared.hpp",
 )
 MOST_SECONDS = 300
 

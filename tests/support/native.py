@@ -127,16 +127,21 @@ class Installed:
         )
         return built
 
-    def with_file_layer(
-        self, source: pathlib.Path, compiler_words: Iterable[str], flags: Iterable[str], replaced: Iterable[str] = ()
+    def with_layers(
+        self,
+        source: pathlib.Path,
+        layers: Iterable[str],
+        compiler_words: Iterable[str],
+        flags: Iterable[str],
+        replaced: Iterable[str] = (),
     ) -> pathlib.Path:
-        """A program of `tests/c` with povundiri_file.c compiled for it: by these words and flags, and with the calls to
-        the system that are in `replaced` going to the program's own `test_` functions. The proved part is that of the
-        library."""
-        built = self.folder / f"{source.stem}_with_file_layer"
+        """A program of `tests/c` with these sources of `c/` compiled for it: by these words and flags, and with the
+        calls to the system that are in `replaced` going to the program's own `test_` functions. The proved part is that
+        of the library."""
+        built = self.folder / f"{source.stem}_with_layers"
         words = [*compiler_words, *STRICT, *flags, *self.words("--cflags")]
         parts: list[pathlib.Path] = []
-        for name in ("povundiri.c", "povundiri_file.c"):
+        for name in layers:
             parts.append(self.folder / f"{source.stem}_{name}.o")
             run([*words, *(f"-D{call}=test_{call}" for call in replaced), "-c", "-o", parts[-1], LIBRARY / name])
         run([*words, "-o", built, source, *parts, *self.words("--libs")])

@@ -4,6 +4,7 @@
 #     make -C c uninstall PREFIX=..          removes what that has put there; DESTDIR comes before PREFIX in both
 #     make -C c stage OUT=FOLDER             lays the same out in a new folder
 #     make -C c check                        compiles and runs programs over it, in a folder of its own
+#     make -C c lists                        makes the lists of symbols and of layouts anew, after a header has changed
 #
 # None of these needs the kit, if the library is built.
 
@@ -19,10 +20,11 @@ SHARED_FLAGS = -shared -pthread -Wl,-soname,$(SONAME) -Wl,--version-script=out/p
     -Wl,-z,now -Wl,--build-id=sha1
 
 .DELETE_ON_ERROR:
-.PHONY: stage install uninstall check headers
+.PHONY: stage install uninstall check headers lists
 
-out/povundiri.map: $(filter %.h,$(HEADERS)) $(PACKAGING)/symbols.py
-	python3 $(PACKAGING)/symbols.py $(filter %.h,$(HEADERS)) > $@.new
+C_HEADERS = $(filter %.h,$(HEADERS))
+out/povundiri.map: $(C_HEADERS) $(PACKAGING)/symbols.py
+	python3 $(PACKAGING)/symbols.py $(C_HEADERS) > $@.new
 	mv $@.new $@
 
 $(SHARED): out/libpovundiri.a out/povundiri.map
@@ -37,6 +39,13 @@ stage: all
 install: all
 	room=$$(mktemp -d) && trap 'rm -rf "$$room"' EXIT && $(STAGE) "$$room/stage" $(HEADERS) povundiri_raise.cpp && \
 	    sh $(PACKAGING)/install.sh --from "$$room/stage" "$(DESTDIR)$(PREFIX)"
+
+lists:
+	mkdir -p out
+	python3 $(PACKAGING)/symbols.py --since $(PACKAGING)/debian/libpovundiri1.symbols $(C_HEADERS) > out/symbols.new
+	python3 $(PACKAGING)/layouts.py $(C_HEADERS) > out/layouts.new
+	mv out/symbols.new $(PACKAGING)/debian/libpovundiri1.symbols
+	mv out/layouts.new $(PACKAGING)/layouts.txt
 
 headers:
 	@echo $(HEADERS)

@@ -49,16 +49,20 @@ found_by() {
     chmod 644 "$out/lib/pkgconfig/"* "$out/lib/cmake/povundiri/"*
 }
 
-# The programs that are built.
+# The programs that are built, and what is made of their help.
 programs() {
+    there=
     for program in $programs; do
         if [ -x "$program" ]; then
             marked "$program" "$out/bin/$(basename "$program")" 755
+            there="$there $program"
         else
             echo "$program is not built: left out" >&2
             [ "${ALL_PROGRAMS:-0}" = 0 ] || exit 1
         fi
     done
+    # shellcheck disable=SC2086
+    python3 "$here/manual.py" "$out" . $there
 }
 
 # The list by which it is installed and removed: each file and link, below the prefix.

@@ -18,7 +18,7 @@ from collections.abc import Callable, Iterator, Sequence
 from concurrent.futures import ThreadPoolExecutor
 
 from parts import c
-from support import native, packaged
+from support import debugged, manuals, native, packaged
 from support.packaged import BARE_PATH, PACKAGING, PROGRAMS
 from support.program import ROOT, Answer, Case, Word, answer, built, difference
 
@@ -106,6 +106,23 @@ def wrong_symbols(library: pathlib.Path, folder: pathlib.Path) -> str | None:
     return "\n".join(lines) or None
 
 
+def wrong_layouts(folder: pathlib.Path) -> str | None:
+    """What is wrong between the headers and the list of their layouts, or None: by the script that makes it, and by
+    what a compiler writes down for debuggers."""
+    listed = packaged.LAYOUTS.read_text()
+    now = native.run(["python3", PACKAGING / "layouts.py", *packaged.headers()])
+    if now != listed:
+        lines = sorted(set(now.splitlines()) ^ set(listed.splitlines()))
+        return f"packaging/layouts.txt, which `make -C c lists` makes anew, differs in {lines}"
+    facts = debugged.facts(packaged.headers(), folder)
+    changed = listed.replace("    at: at 8, 8", "    at: at 16, 8", 1)
+    changed = changed.replace("POVUNDIRI_SHORT: 7", "POVUNDIRI_SHORT: 9")
+    found = debugged.difference(facts, changed, packaged.internal_structs()) or ""
+    if found.count("\n") != 1 or "povundiri_handle.at" not in found or "POVUNDIRI_SHORT" not in found:
+        return f"of two wrong lines it finds {found!r}"
+    return debugged.difference(facts, listed, packaged.internal_structs())
+
+
 def wrong_objects(folder: pathlib.Path) -> str | None:
     """Whether an object is another one where it is compiled in another folder, or None."""
     objects = []
@@ -124,13 +141,14 @@ def interface(stage: pathlib.Path, folder: pathlib.Path) -> Iterator[Case]:
     library = stage / "lib" / packaged.SONAME
     yield "how the shared library is loaded", wrong_of(lambda: wrong_flags(library))
     yield "its symbols", wrong_of(lambda: wrong_symbols(library, folder))
+    yield "layouts and constants", wrong_of(lambda: wrong_layouts(folder))
     yield "an object in another folder", wrong_of(lambda: wrong_objects(folder))
 
 
 def installer(*words: Word) -> subprocess.CompletedProcess[str]:
     """What packaging/install.sh makes of these words."""
-    setting, line = {"PATH": BARE_PATH}, ["sh", INSTALLER, *words]
-    return subprocess.run(line, env=setting, capture_output=True, text=True, timeout=MOST_SECONDS)
+    line: list[Word] = ["sh", INSTALLER, *words]
+    return subprocess.run(line, env={"PATH": BARE_PATH}, capture_output=True, text=True, timeout=MOST_SECONDS)
 
 
 def install(stage: pathlib.Path, prefix: pathlib.Path) -> subprocess.CompletedProcess[str]:
@@ -192,7 +210,7 @@ def refused_install(stage: pathlib.Path, prefix: pathlib.Path, number: int, room
     counted = room / "counted"
     counted.write_text("")
     setting = {"PATH": f"{room}:{BARE_PATH}", "COUNTED": str(counted), "REFUSED": str(number)}
-    words = ["sh", INSTALLER, "--from", stage, prefix]
+    words: list[Word] = ["sh", INSTALLER, "--from", stage, prefix]
     done = subprocess.run(words, env=setting, capture_output=True, timeout=MOST_SECONDS)
     return done.returncode, counted.read_text().count("\n")
 
@@ -252,7 +270,7 @@ def wanted_checks() -> list[str]:
 def wrong_checks(prefix: pathlib.Path, home: pathlib.Path) -> str | None:
     """What is wrong with what packaging/check.sh passes over an installed library, or None. What it leaves out is
     printed."""
-    words = [*packaged.without_network(), "sh", PACKAGING / "check.sh", prefix]
+    words: list[Word] = [*packaged.without_network(), "sh", PACKAGING / "check.sh", prefix]
     said = native.run(words, env=packaged.bare(home)).splitlines()
     for line in said:
         if line.startswith("left out: "):
@@ -328,5 +346,6 @@ def cases(program: pathlib.Path, _options: argparse.Namespace) -> Iterator[Case]
             return
         yield from contents(stage, again)
         yield from interface(stage, folder)
+        yield from manuals.cases(stage, packaged.declared(folder))
         yield from installs(stage, folder, programs_with(program))
         yield from used(stage, folder)

@@ -17,6 +17,7 @@ from support.program import ROOT, Path, Word
 
 PACKAGING = ROOT / "packaging"
 SYMBOLS = PACKAGING / "debian" / "libpovundiri1.symbols"
+LAYOUTS = PACKAGING / "layouts.txt"
 SONAME, NODE = "libpovundiri.so.1", "POVUNDIRI_1"
 PROGRAMS = ("persist_report", "stepped")
 # In which section a program or a shared library says what it was built of.
@@ -53,6 +54,17 @@ def staged(folder: pathlib.Path, programs: str) -> pathlib.Path:
     """What is installed, with these programs, in a new folder."""
     made(["stage", f"OUT={folder}"], folder.parent, PROGRAMS=programs, ALL_PROGRAMS="1")
     return folder
+
+
+def complaint(tool: str, *words: Word) -> str | None:
+    """What a tool complains of, or None; that it is not there is printed."""
+    if shutil.which(tool) is None:
+        print(f"left out: {tool} is not installed", flush=True)
+        return None
+    setting = {**os.environ, "LC_ALL": "C.UTF-8"}
+    line = [tool, *words]
+    done = subprocess.run(line, capture_output=True, text=True, timeout=MOST_SECONDS, env=setting)
+    return done.stderr or (f"status {done.returncode}" if done.returncode else None)
 
 
 def sums(folder: pathlib.Path) -> dict[str, str]:
@@ -127,6 +139,12 @@ def first_internal_line(header: pathlib.Path) -> float:
     text = header.read_text()
     found = ALONE.search(text)
     return text.count("\n", 0, found.start()) + 1 if found else float("inf")
+
+
+def internal_structs() -> list[str]:
+    """The structs that headers have for other files of the library."""
+    texts = [ALONE.split(header.read_text(), maxsplit=1)[1:] for header in headers()]
+    return [name for rest in texts for name in re.findall(r"^struct (\w+) \{$", "".join(rest), re.MULTILINE)]
 
 
 def declared(folder: pathlib.Path) -> set[str]:

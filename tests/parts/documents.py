@@ -69,6 +69,7 @@ def cases(_program: None, _options: argparse.Namespace) -> Iterator[Case]:
     yield "the numbers of README.md", miscounted()
     yield "which part runs each block of README.md (tests/support/readme.py)", readme.difference()
     yield "that this is found where none does", readme.let_through()
+    yield "examples/latency.cpp, which README.md shows", readme.another_example()
     yield "the kits that README.md and docs/PROVED.md name (tests/support/kits.py)", kits.difference()
     yield "that this is found where they name others", kits.let_through()
     yield "the version, which the file VERSION has (tests/support/versions.py)", versions.difference()

@@ -1,9 +1,8 @@
 """What is installed, and how: laid out twice from one archive, it is the same bytes; its symbols are those of the
 headers and of the list; in an empty folder, with next to nothing in the environment, no kit and no network, it is
 installed, the programs of the pages and those of packaging/consumers are compiled and run over it, and when it is
-removed nothing is left.
-
-Of what fails in between the status is not 0, and the same again ends it.
+removed nothing is left. Of what fails in between the status is not 0, and the same again ends it. No release is made of
+what no gate has passed, and one is used as README.md says (tests/support/releases.py).
 """
 
 from __future__ import annotations
@@ -18,7 +17,7 @@ from collections.abc import Callable, Iterator, Sequence
 from concurrent.futures import ThreadPoolExecutor
 
 from parts import c
-from support import debugged, manuals, native, packaged
+from support import debugged, manuals, native, packaged, releases
 from support.packaged import BARE_PATH, PACKAGING, PROGRAMS
 from support.program import ROOT, Answer, Case, Word, answer, built, difference
 
@@ -349,3 +348,7 @@ def cases(program: pathlib.Path, _options: argparse.Namespace) -> Iterator[Case]
         yield from manuals.cases(stage, packaged.declared(folder))
         yield from installs(stage, folder, programs_with(program))
         yield from used(stage, folder)
+        try:
+            yield from releases.cases(folder / "releases", program, built("stepped"))
+        except native.Failed as why:
+            yield "releases", str(why)

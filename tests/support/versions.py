@@ -12,6 +12,7 @@ SEMANTIC = re.compile(r"(\d+)\.(\d+)\.(\d+)\n")
 # Where else it stands: a pattern with a group for it, which each file has once.
 STATED = {
     "CHANGELOG.md": r"\A(?:(?!## ).*\n)*## (\S+?)(?:,|$)",
+    "README.md": r"povundiri-(\S+)-x86_64-linux\.tar\.gz",
     "packaging/debian/changelog": r"\Apovundiri \((.*)\) ",
     "c/povundiri.h": r'^#define POVUNDIRI_VERSION_TEXT "(.*)"$',
 }

@@ -80,7 +80,8 @@ python3 "$consumers/read.py" "$library/libpovundiri.so.1" folder-gcc-povundiri >
 grep -q '^request_us,total,1000,499500$' said || { echo "FAILED: read.py said $(cat said)" >&2; exit 1; }
 say "read.py"
 if [ -x "$prefix/bin/persist_report" ]; then
-    "$prefix/bin/persist_report" report folder-g++-povundiri-static | grep -q '^request_us,total,1000,499500$' || exit 1
+    "$prefix/bin/persist_report" report folder-g++-povundiri-static > said
+    grep -q '^request_us,total,1000,499500$' said || { echo "FAILED: persist_report said $(cat said)" >&2; exit 1; }
     say "persist_report"
 else
     echo "left out: persist_report is not installed"

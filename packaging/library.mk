@@ -2,7 +2,7 @@
 #
 #     make -C c install PREFIX=/usr/local    libraries, headers, what pkg-config and CMake read; programs where they are built, with pages
 #     make -C c uninstall PREFIX=..          removes what that has put there; DESTDIR comes before PREFIX in both
-#     make -C c stage OUT=FOLDER             lays the same out in a new folder
+#     make -C c stage OUT=FOLDER             lays the same out in a new or empty folder
 #     make -C c check                        compiles and runs programs over it, in a folder of its own
 #     make -C c lists                        makes the lists of symbols and of layouts anew, after a header has changed
 #
@@ -12,7 +12,6 @@ PACKAGING = ../packaging
 VERSION := $(shell cat ../VERSION)
 SONAME = libpovundiri.so.1
 SHARED = out/libpovundiri.so.$(VERSION)
-OUT = out/stage
 
 # The symbols are a list (a header's inline functions call some that programs should not). There is no -Bsymbolic: programs have a copy of
 # povundiri_fork_number. Threads call the library as they end, so it stays loaded.

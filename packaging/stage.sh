@@ -3,9 +3,9 @@
 #
 #     stage.sh OUT HEADER..      in c/, where out/ has the libraries
 #
-# OUT is made anew. In the environment SHARED is the shared library; STRIP, OBJCOPY and SONAME may name others than what is usual. PROGRAMS
-# are those that are laid out too: one that is not built is left out, and a line says so, but with ALL_PROGRAMS=1 that is a fault. BUILT is a
-# file with what packaging/built.py would say.
+# OUT is not there yet, or empty. In the environment SHARED is the shared library; STRIP, OBJCOPY and SONAME may name others than what is
+# usual. PROGRAMS are those that are laid out too: one that is not built is left out, and a line says so, but with ALL_PROGRAMS=1 that is a
+# fault. BUILT is a file with what packaging/built.py would say.
 #
 # The bytes depend on what was built, and not on folders, times or users. What fails ends it, and then OUT is not complete.
 set -eu
@@ -14,9 +14,14 @@ here=$(cd "$(dirname "$0")" && pwd)
 root=$(cd "$here/.." && pwd)
 version=$(cat "$root/VERSION")
 strip=${STRIP:-strip} objcopy=${OBJCOPY:-objcopy} soname=${SONAME:-libpovundiri.so.1}
-programs=${PROGRAMS-"$root/crates/persist_report/out/persist_report $root/crates/stepped/out/stepped"}
-out=$1
+programs=${PROGRAMS-"../crates/persist_report/out/persist_report ../crates/stepped/out/stepped"}
+out=${1:?}
 shift
+
+if [ -n "$(ls -A "$out" 2> /dev/null)" ]; then
+    echo "stage.sh: $out is not empty: nothing was done" >&2
+    exit 1
+fi
 
 # The libraries: without what is for debuggers alone, and the shared one with what it was built of.
 libraries() {
@@ -73,7 +78,6 @@ listed() {
 }
 
 umask 022
-rm -rf "$out"
 mkdir -p "$out/lib/pkgconfig" "$out/lib/cmake/povundiri" "$out/include" "$out/share/povundiri"
 out=$(cd "$out" && pwd)
 if [ -n "${BUILT:-}" ]; then cp "$BUILT" "$out/share/povundiri/BUILD"; else python3 "$here/built.py" show > "$out/share/povundiri/BUILD"; fi

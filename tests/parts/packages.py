@@ -13,8 +13,9 @@ import re
 import shutil
 import subprocess
 import tempfile
-from collections.abc import Callable, Iterator, Sequence
+from collections.abc import Iterable, Iterator, Sequence
 from concurrent.futures import ThreadPoolExecutor
+from itertools import chain
 
 from parts import c
 from support import debugged, manuals, native, packaged, releases
@@ -34,11 +35,24 @@ STRIDE = 11
 MOST_SECONDS = 300
 
 
-def wrong_of(test: Callable[[], str | None]) -> str | None:
+def until_wrong(cases_of_it: Iterable[Case]) -> list[Case]:
+    """These cases up to the first that is wrong; a tool that fails is one."""
+    found: list[Case] = []
     try:
-        return test()
+        for name, wrong in cases_of_it:
+            found.append((name, wrong))
+            if wrong is not None:
+                break
     except native.Failed as why:
-        return str(why)
+        found.append((f"what comes after '{found[-1][0] if found else 'nothing'}'", str(why)))
+    return found
+
+
+def side_by_side(*groups: Iterable[Case]) -> Iterator[Case]:
+    """The cases of groups that have nothing in common, two groups at a time."""
+    with ThreadPoolExecutor(2) as pool:
+        for found in pool.map(until_wrong, groups):
+            yield from found
 
 
 def with_paths(stage: pathlib.Path, paths: Sequence[str]) -> str | None:
@@ -138,10 +152,10 @@ def wrong_objects(folder: pathlib.Path) -> str | None:
 def interface(stage: pathlib.Path, folder: pathlib.Path) -> Iterator[Case]:
     """What programs find in the library."""
     library = stage / "lib" / packaged.SONAME
-    yield "how the shared library is loaded", wrong_of(lambda: wrong_flags(library))
-    yield "its symbols", wrong_of(lambda: wrong_symbols(library, folder))
-    yield "layouts and constants", wrong_of(lambda: wrong_layouts(folder))
-    yield "an object in another folder", wrong_of(lambda: wrong_objects(folder))
+    yield "how the shared library is loaded", wrong_flags(library)
+    yield "its symbols", wrong_symbols(library, folder)
+    yield "layouts and constants", wrong_layouts(folder)
+    yield "an object in another folder", wrong_objects(folder)
 
 
 def installer(*words: Word) -> subprocess.CompletedProcess[str]:
@@ -252,11 +266,25 @@ def wrong_lists(stage: pathlib.Path, folder: pathlib.Path) -> str | None:
     return None if came.returncode == 1 and "there is no list" in came.stderr else f"{came}"
 
 
+def wrong_folder(folder: pathlib.Path) -> str | None:
+    """What is wrong with laying out in a folder of somebody else's files, or None: they stay."""
+    other = folder / "documents"
+    (other / "share" / "povundiri").mkdir(parents=True)
+    (other / "share" / "povundiri" / "letter").write_text("")
+    for out in (str(other), ""):
+        words = ["make", "-s", "-C", str(ROOT / "c"), "stage", f"OUT={out}"]
+        done = subprocess.run(words, env=packaged.bare(folder), capture_output=True, timeout=MOST_SECONDS)
+        if done.returncode == 0 or left_in(other) != "share, share/povundiri, share/povundiri/letter":
+            return f"{out!r}: status {done.returncode}, {left_in(other)}"
+    return None
+
+
 def installs(stage: pathlib.Path, folder: pathlib.Path, programs: str) -> Iterator[Case]:
-    yield "by make, below DESTDIR, and removed", wrong_of(lambda: wrong_install(stage, folder, programs))
+    yield "by make, below DESTDIR, and removed", wrong_install(stage, folder, programs)
     yield "over an earlier version, beside files of others", wrong_upgrade(stage, folder / "upgraded")
     yield "each of some steps is refused", wrong_refused(stage, folder)
     yield "lists that are none", wrong_lists(stage, folder)
+    yield "laid out over files of others", wrong_folder(folder)
 
 
 def wanted_checks() -> list[str]:
@@ -302,13 +330,9 @@ def pages(prefix: pathlib.Path, folder: pathlib.Path) -> Iterator[Case]:
     works = [(name, source, kind) for name, source in c.shown_programs(folder) for kind in KINDS]
     yield "the pages show programs", None if len(works) >= 2 * len(c.PAGES) else f"only {works}"
 
-    def one(work: tuple[str, pathlib.Path, str]) -> Case:
-        name, source, kind = work
+    for name, source, kind in works:
         wanted = c.RECORDED_BY_README if name.endswith(" of README.md") else c.RECORDED
-        return f"{name}, by {kind}", wrong_of(lambda: wrong_page(prefix, source, kind, wanted))
-
-    with ThreadPoolExecutor(2) as pool:
-        yield from pool.map(one, works)
+        yield f"{name}, by {kind}", wrong_page(prefix, source, kind, wanted)
 
 
 def used(stage: pathlib.Path, folder: pathlib.Path) -> Iterator[Case]:
@@ -317,7 +341,7 @@ def used(stage: pathlib.Path, folder: pathlib.Path) -> Iterator[Case]:
     prefix.parent.mkdir()
     came = install(stage, prefix)
     yield "installed", None if came.returncode == 0 and not came.stderr else f"status {came.returncode}: {came.stderr}"
-    yield "what packaging/check.sh passes", wrong_of(lambda: wrong_checks(prefix, prefix.parent))
+    yield "what packaging/check.sh passes", wrong_checks(prefix, prefix.parent)
     yield from pages(prefix, folder / "pages")
     gone = uninstall(prefix)
     yield "removed, nothing is left", f"status {gone.returncode}" if gone.returncode else left_in(prefix)
@@ -343,12 +367,9 @@ def cases(program: pathlib.Path, _options: argparse.Namespace) -> Iterator[Case]
         except native.Failed as why:
             yield "laid out", str(why)
             return
-        yield from contents(stage, again)
-        yield from interface(stage, folder)
-        yield from manuals.cases(stage, packaged.declared(folder))
-        yield from installs(stage, folder, programs_with(program))
-        yield from used(stage, folder)
-        try:
-            yield from releases.cases(folder / "releases", program, built("stepped"))
-        except native.Failed as why:
-            yield "releases", str(why)
+        looked_at = chain(
+            contents(stage, again), interface(stage, folder), manuals.cases(stage, packaged.declared(folder)),
+            installs(stage, folder, programs_with(program)),
+        )
+        made = releases.cases(folder / "releases", program, built("stepped"))
+        yield from side_by_side(used(stage, folder), looked_at, made)

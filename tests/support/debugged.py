@@ -18,7 +18,8 @@ Facts = dict[str, str]
 
 def entries(text: str) -> Iterator[tuple[int, str, dict[str, str]]]:
     """Each entry with its depth, its tag and its attributes."""
-    depth, tag, found = 0, "", {}
+    depth, tag = 0, ""
+    found: dict[str, str] = {}
     for line in text.splitlines():
         entry = ENTRY.match(line)
         if entry is not None:

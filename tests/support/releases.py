@@ -198,8 +198,10 @@ def wrong_damage(release: pathlib.Path, home: pathlib.Path) -> str | None:
     for name in ("built/lib/libpovundiri.a", "built/bin/stepped", "built/share/povundiri/FILES"):
         path = unpacked / name
         data = path.read_bytes()
-        for damage in (lambda: void(path.write_bytes(data[:-1] + b"?")), path.unlink):
-            damage()
+        for damaged in (data[:-1] + b"?", None):
+            path.unlink()
+            if damaged is not None:
+                path.write_bytes(damaged)
             came = installer(unpacked, home, home / "prefix")
             if came.returncode == 0 or (home / "prefix").exists():
                 return f"{name}: status {came.returncode}"
@@ -239,7 +241,7 @@ def wrong_gate(folder: pathlib.Path, built: str | None, failed: int) -> str | No
             path.chmod(0o755)
     (folder / ".ci").mkdir()
     shutil.copy(ROOT / ".ci" / "run", folder / ".ci")
-    words = ["bash", folder / ".ci" / "run"]
+    words: list[Word] = ["bash", folder / ".ci" / "run"]
     done = subprocess.run(words, capture_output=True, text=True, timeout=MOST_SECONDS, stdin=subprocess.DEVNULL)
     said = done.stdout.splitlines()
     is_quiet = "noise" not in done.stdout + done.stderr

@@ -18,9 +18,9 @@ def flags_of(package: str, **settings: Any) -> list[str] | None:
 
 
 def flags(folder: Path) -> list[str]:
-    """Those of the library, which is installed into the folder."""
+    """Those of its archives, which are installed into the folder."""
     prefix = pathlib.Path(folder) / "prefix"
     subprocess.run(["make", "-s", "-C", HERE.parent / "c", "install", f"PREFIX={prefix}"], check=True)
-    words = flags_of("povundiri", env={**os.environ, "PKG_CONFIG_PATH": str(prefix / "lib" / "pkgconfig")})
+    words = flags_of("povundiri-static", env={**os.environ, "PKG_CONFIG_PATH": str(prefix / "lib" / "pkgconfig")})
     assert words is not None, "pkg-config does not find what was installed"
     return words

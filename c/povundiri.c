@@ -1,4 +1,4 @@
-/* The functions of povundiri.h that are inline there, for callers by name; and the names of the statuses. */
+/* The functions of povundiri.h that are inline there, for callers by name; the names of the statuses; and the version. */
 
 #include "povundiri.h"
 
@@ -129,4 +129,8 @@ const char *povundiri_status_text(uint32_t status) {
         if (NAMES[i].status == status) return NAMES[i].name;
     }
     return "NoSuchStatus";
+}
+
+const char *povundiri_version(void) {
+    return POVUNDIRI_VERSION_TEXT;
 }

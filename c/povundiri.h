@@ -719,6 +719,19 @@ inline uint32_t povundiri_sums_show(struct povundiri_handle *sums, uint16_t widt
 /* The name of a status; any number may be passed. `persist_report explain NAME` says what each name means. */
 const char *povundiri_status_text(uint32_t status);
 
+/* ---- The version ---- */
+
+/* The version of this header. The one number grows from each version to the next: `#if POVUNDIRI_VERSION >= 900`. */
+#define POVUNDIRI_VERSION_MAJOR 0
+#define POVUNDIRI_VERSION_MINOR 9
+#define POVUNDIRI_VERSION_PATCH 0
+#define POVUNDIRI_VERSION (10000 * POVUNDIRI_VERSION_MAJOR + 100 * POVUNDIRI_VERSION_MINOR + POVUNDIRI_VERSION_PATCH)
+#define POVUNDIRI_VERSION_TEXT "0.9.0"
+
+/* The version of the library that the program runs with, such as "0.9.0". A shared one may be later than the header. Any thread may call it
+ * at any time, also in a signal handler. */
+const char *povundiri_version(void);
+
 #ifdef __cplusplus
 }
 #if defined(__GNUC__)

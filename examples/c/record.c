@@ -1,6 +1,6 @@
 /* Records a thousand samples into a mapped file, and continues from what stands there: run it twice.
  *
- *     cc -std=c99 record.c $(pkg-config --cflags --libs povundiri) -o record
+ *     cc -std=c99 record.c $(pkg-config --cflags --libs povundiri-static) -o record
  *     ./record latency.seg && ./record latency.seg
  *     persist_report extract latency.seg latency.img && persist_report show latency.img */
 #include <povundiri_file.h>

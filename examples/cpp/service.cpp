@@ -10,7 +10,7 @@
 //
 // Meanwhile a thread writes the metrics to a file, if one is named, each second.
 //
-//     c++ -std=c++17 -pthread service.cpp $(pkg-config --cflags --libs povundiri) -o service
+//     c++ -std=c++17 -pthread service.cpp $(pkg-config --cflags --libs povundiri-static) -o service
 //     ./service metrics & sleep 1; kill -9 $!
 //     ./service metrics latency.prom & sleep 2; kill $!
 

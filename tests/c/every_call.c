@@ -681,6 +681,7 @@ static void texts(void) {
     HOLDS(strcmp(povundiri_status_text(POVUNDIRI_BUSY), "Busy") == 0);
     HOLDS(strcmp(povundiri_status_text(99), "NoSuchStatus") == 0);
     HOLDS(strcmp(povundiri_status_text(UINT32_MAX), "NoSuchStatus") == 0);
+    HOLDS(strcmp(povundiri_version(), POVUNDIRI_VERSION_TEXT) == 0);
 }
 
 static const struct test TESTS[] = {

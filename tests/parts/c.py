@@ -252,13 +252,13 @@ def examples(installed: native.Installed, program: pathlib.Path, folder: pathlib
 
 def wrong_after_program(program: pathlib.Path, home: pathlib.Path) -> str | None:
     """What is wrong with the commands that README.md has after its program, or None: they are run as they are, in a
-    folder that looks like the repository, and install the library in its ~/local."""
+    folder that looks like the repository, and install the library in its ~/.local, and the program is run twice."""
     home.mkdir()
     for name in ("c", "crates", "examples"):
         (home / name).symlink_to(ROOT / name)
-    (home / "latency.cpp").write_text("".join(f"{line}\n" for line in readme.block(readme.PROGRAM)))
     setting = {**os.environ, "HOME": str(home), "PATH": os.pathsep.join([str(program.parent), os.environ["PATH"]])}
-    native.run(["bash", "-e", "-c", "\n".join(readme.block(readme.INSTALLED))], cwd=home, env=setting)
+    commands = [*readme.block(readme.INSTALLED), *readme.block(readme.RELEASE)[1:], "./latency"]
+    native.run(["bash", "-e", "-c", "\n".join(commands)], cwd=home, env=setting)
     recorded = Answer(RECORDED_BY_README.encode())
     if wrong := difference(recorded, answer(program, ["report", segment_in(home)])):
         return wrong

@@ -1,8 +1,8 @@
 """Documents that are made of the sources are what these say now, links lead to files that are there, README.md is
-short, a part runs each of its blocks and its numbers are right, the kits that proved this have one list, each crate
-stands on shelves on which it may and those that read do not depend on the machine, a name of a definition means one
-thing, each edit of wrong/ was tried over the text that its crate has now, and the Python of tests/ and bench/ is clean.
-No program of the crates is run."""
+short, a part runs each of its blocks and its numbers are right, the kits that proved this have one list, the version is
+one wherever it stands, each crate stands on shelves on which it may and those that read do not depend on the machine, a
+name of a definition means one thing, each edit of wrong/ was tried over the text that its crate has now, and the Python
+of tests/ and bench/ is clean. No program of the crates is run."""
 
 from __future__ import annotations
 
@@ -23,6 +23,7 @@ from support import (
     names,
     proved,
     readme,
+    versions,
     wrong_records,
 )
 from support.program import ROOT, Case
@@ -68,8 +69,11 @@ def cases(_program: None, _options: argparse.Namespace) -> Iterator[Case]:
     yield "the numbers of README.md", miscounted()
     yield "which part runs each block of README.md (tests/support/readme.py)", readme.difference()
     yield "that this is found where none does", readme.let_through()
+    yield "examples/latency.cpp, which README.md shows", readme.another_example()
     yield "the kits that README.md and docs/PROVED.md name (tests/support/kits.py)", kits.difference()
     yield "that this is found where they name others", kits.let_through()
+    yield "the version, which the file VERSION has (tests/support/versions.py)", versions.difference()
+    yield "that this is found where another one stands", versions.let_through()
     yield "crates.txt: no crate that reads depends on the machine (tests/support/layers.py)", layers.difference()
     yield "that this is found where one does", layers.let_through()
     yield "specs/: a name is defined by one file, but for a table of some (tests/support/names.py)", names.difference()

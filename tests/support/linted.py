@@ -1,4 +1,4 @@
-"""What ruff, flake8 and mypy find in the Python of tests/, bench/ and c/, by the settings of pyproject.toml, and the
+"""What ruff, flake8 and mypy find in the Python of tests/, bench/, c/ and packaging/, by the settings of pyproject.toml, and the
 lines that are longer than these allow. A tool that is not installed is left out, and a line says so."""
 
 from __future__ import annotations
@@ -18,7 +18,8 @@ IGNORED = re.findall(r"\w+", re.findall(r"^ignore = \[(.*)\]$", SETTINGS, re.MUL
 FIRST_LINE = "#!/usr/bin/env python3\n"
 PROGRAMS = [path for path in sorted((ROOT / "bench").iterdir()) if path.suffix == "" and path.is_file()]
 SCRIPTS = [f"bench/{path.name}" for path in PROGRAMS if path.read_text().startswith(FIRST_LINE)]
-RUN_BY_HAND = ["tests/run", "tests/quick", "tests/edits", "c/prove.py", *SCRIPTS]
+PACKAGING = [str(path.relative_to(ROOT)) for path in sorted((ROOT / "packaging").glob("**/*.py"))]
+RUN_BY_HAND = ["tests/run", "tests/quick", "tests/edits", "c/prove.py", "tests/by_hand/packages", *PACKAGING, *SCRIPTS]
 MODULES = [str(path.relative_to(ROOT)) for path in sorted((ROOT / "bench").glob("*.py"))]
 MYPY = ["mypy", "--no-incremental", "--cache-dir", "/dev/null"]
 COMMANDS = [
@@ -30,7 +31,9 @@ COMMANDS = [
     ],
     # Each by itself: there is a script `run` in both.
     [*MYPY, "tests/support", "tests/parts", "tests/run", "tests/quick", "tests/edits", "c/prove.py"],
+    [*MYPY, "tests/by_hand/packages"],
     [*MYPY, *MODULES, *SCRIPTS],
+    [*MYPY, *PACKAGING],
 ]
 MOST_SECONDS = 300
 MOST_SHOWN = 3000

@@ -93,9 +93,9 @@ class Installed:
         run(["make", "-s", "-C", LIBRARY, "install", f"PREFIX={self.prefix}"], seconds=MOST_SECONDS_TO_BUILD)
 
     def words(self, what: str) -> list[str]:
-        """What pkg-config answers for the library."""
+        """What pkg-config answers for the archives."""
         path = str(self.prefix / "lib" / "pkgconfig")
-        return shlex.split(run(["pkg-config", what, "povundiri"], env={**os.environ, "PKG_CONFIG_PATH": path}))
+        return shlex.split(run(["pkg-config", what, "povundiri-static"], env={**os.environ, "PKG_CONFIG_PATH": path}))
 
     def sanitized(self, suffix: str) -> list[pathlib.Path]:
         """What is in `c/` for a program in this language, compiled under the sanitizers: it is linked in place of the

@@ -11,11 +11,13 @@ INDENT = "    "
 PROMPT = "$ "
 ANY_LINES = "[..]"
 
-DEMO, TRIED, PROGRAM, INSTALLED = "make -C examples demo", "tests/quick", "#include", "pkg-config"
-SERVICE, SHOWN, RACE = "persist_report show metrics", "persist_report show examples/", "stepped examples/"
+DEMO, TRIED, PROGRAM, INSTALLED = "make -C examples demo", "tests/quick", "#include", "make -C c install"
+SERVICE, SHOWN, RACE = "persist_report show metrics --live", "persist_report show examples/", "stepped examples/"
+RELEASE = "tar xf "
 # What each block has and no other, and which part of tests/run runs it.
 RUN_BY = {
     DEMO: "demo", TRIED: "demo", PROGRAM: "c", INSTALLED: "c", SERVICE: "c", SHOWN: "cookbook", RACE: "shown_steps",
+    RELEASE: "packages",
 }
 
 
@@ -42,6 +44,12 @@ def fault_of(text: str) -> str | None:
     counts = {mark: sum(mark in found for found in marks) for mark in RUN_BY}
     wrong += [f"{mark} is in {count} blocks" for mark, count in counts.items() if count != 1]
     return "\n".join(wrong) or None
+
+
+def another_example() -> str | None:
+    """Where examples/latency.cpp is not the program of README.md, or None."""
+    shown, kept = block(PROGRAM), (ROOT / "examples" / "latency.cpp").read_text().splitlines()
+    return None if kept == shown else f"it is {kept}, and README.md shows {shown}"
 
 
 def difference() -> str | None:

@@ -18,7 +18,8 @@ IGNORED = re.findall(r"\w+", re.findall(r"^ignore = \[(.*)\]$", SETTINGS, re.MUL
 FIRST_LINE = "#!/usr/bin/env python3\n"
 PROGRAMS = [path for path in sorted((ROOT / "bench").iterdir()) if path.suffix == "" and path.is_file()]
 SCRIPTS = [f"bench/{path.name}" for path in PROGRAMS if path.read_text().startswith(FIRST_LINE)]
-RUN_BY_HAND = ["tests/run", "tests/quick", "tests/edits", "c/prove.py", *SCRIPTS]
+COMPARING = ["tests/by_hand/same_program", "tests/by_hand/finds_differences"]
+RUN_BY_HAND = ["tests/run", "tests/quick", "tests/edits", *COMPARING, "c/prove.py", *SCRIPTS]
 MODULES = [str(path.relative_to(ROOT)) for path in sorted((ROOT / "bench").glob("*.py"))]
 MYPY = ["mypy", "--no-incremental", "--cache-dir", "/dev/null"]
 COMMANDS = [
@@ -29,7 +30,10 @@ COMMANDS = [
         *("tests", "bench", *RUN_BY_HAND),
     ],
     # Each by itself: there is a script `run` in both.
-    [*MYPY, "tests/support", "tests/parts", "tests/run", "tests/quick", "tests/edits", "c/prove.py"],
+    [
+        *(*MYPY, "tests/support", "tests/parts", "tests/by_hand", "tests/run", "tests/quick", "tests/edits"),
+        *(*COMPARING, "c/prove.py"),
+    ],
     [*MYPY, *MODULES, *SCRIPTS],
 ]
 MOST_SECONDS = 300

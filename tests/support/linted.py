@@ -19,7 +19,12 @@ FIRST_LINE = "#!/usr/bin/env python3\n"
 PROGRAMS = [path for path in sorted((ROOT / "bench").iterdir()) if path.suffix == "" and path.is_file()]
 SCRIPTS = [f"bench/{path.name}" for path in PROGRAMS if path.read_text().startswith(FIRST_LINE)]
 PACKAGING = [str(path.relative_to(ROOT)) for path in sorted((ROOT / "packaging").glob("**/*.py"))]
-RUN_BY_HAND = ["tests/run", "tests/quick", "tests/edits", "c/prove.py", "tests/by_hand/packages", *PACKAGING, *SCRIPTS]
+COMPARING = ["tests/by_hand/same_program", "tests/by_hand/finds_differences"]
+RUN_BY_HAND = [
+    *("tests/run", "tests/quick", "tests/edits", *COMPARING, "c/prove.py", "tests/by_hand/packages"),
+    *PACKAGING,
+    *SCRIPTS,
+]
 MODULES = [str(path.relative_to(ROOT)) for path in sorted((ROOT / "bench").glob("*.py"))]
 MYPY = ["mypy", "--no-incremental", "--cache-dir", "/dev/null"]
 COMMANDS = [
@@ -30,7 +35,10 @@ COMMANDS = [
         *("tests", "bench", *RUN_BY_HAND),
     ],
     # Each by itself: there is a script `run` in both.
-    [*MYPY, "tests/support", "tests/parts", "tests/run", "tests/quick", "tests/edits", "c/prove.py"],
+    [
+        *(*MYPY, "tests/support", "tests/parts", "tests/by_hand", "tests/run", "tests/quick", "tests/edits"),
+        *(*COMPARING, "c/prove.py"),
+    ],
     [*MYPY, "tests/by_hand/packages"],
     [*MYPY, *MODULES, *SCRIPTS],
     [*MYPY, *PACKAGING],

@@ -7,7 +7,7 @@
 
 #include "checks.h"
 
-enum { SHARE = 1000, LENT = 50, ROUNDS = 2500 };
+enum { SHARE = 1000, LENT = 50, ROUNDS = 2500, MOST_ROUNDS = 500000 };
 
 /* What a thread does: it lends, or joins, a recorder by a handle to a segment by a handle. */
 struct pass {
@@ -75,14 +75,14 @@ static void is_whole(struct povundiri_handle *segment) {
 
 /* The first thread lends a recorder of the other segment. The second lends or joins one to the other segment: a recorder of the first
  * segment if both cross, else one of the other segment itself, and then its call is done, or returns BUSY. Then they have to meet
- * in some rounds; where both cross, they do so too rarely for that. */
+ * in some round: where processors are busy there are more rounds until they have. Where both cross, they meet too rarely for that. */
 static void cross(bool both, bool joins) {
     const struct povundiri_shape shape = {1024, 256, 7, 0, 2};
     struct povundiri_handle here = {0}, there = {0};
     int round, meetings = 0;
     DONE(povundiri_create(shape, &here));
     DONE(povundiri_create(shape, &there));
-    for (round = 0; round < ROUNDS && failed_here == 0; round += 1) {
+    for (round = 0; (round < ROUNDS || (!both && meetings == 0 && round < MOST_ROUNDS)) && failed_here == 0; round += 1) {
         struct povundiri_handle one = {0}, other = {0};
         struct pass wrong = {&here, &one, false, POVUNDIRI_NULL};
         struct pass beside = {&there, &other, joins, POVUNDIRI_NULL};

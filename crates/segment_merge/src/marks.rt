@@ -1,9 +1,15 @@
 //! What is noted of the keys of a histogram, beside the keys that a later reading has of it.
 
+ghost use Rattle.std.specs.Prelude.{◌≤◌, length, IfOk, IfSome, MatchOption};
+ghost use Rattle.segment_merge.specs.Marks.{AreMarksOf, IsGone, IsMark, IsNextNoted};
+
 use std::alloc::{AllocError, Global};
 
 // The index of the first key from there on of which units are noted, or how many keys there are.
-fn next_noted(noted: &[(i32, u64)], from: usize) -> usize {
+fn next_noted(noted: &[(i32, u64)], from: usize) -> usize
+    requires { from ≤ length noted.now }
+    ensures { IsNextNoted noted.now from result }
+{
     for i in from..noted.len() {
         if noted[i].1 > 0 {
             return i;
@@ -13,18 +19,20 @@ fn next_noted(noted: &[(i32, u64)], from: usize) -> usize {
 }
 
 // The units that are noted of a key, if the next key that is noted is none before it; none if it is, or has more units.
-fn mark_of(noted: &[(i32, u64)], next: usize, key: i32, units: u64) -> Option<u64> {
-    match noted.get(next) {
-        None => Some(0),
-        Some(note) => {
-            if key < note.0 {
-                Some(0)
-            } else if key == note.0 && note.1 <= units {
-                Some(note.1)
-            } else {
-                None
-            }
-        }
+fn mark_of(noted: &[(i32, u64)], next: usize, count: &(i32, u64)) -> Option<u64>
+    requires { next ≤ length noted.now }
+    ensures { MatchOption result (IsGone noted.now next count.now.0 count.now.1) (IsMark noted.now next count.now.0 count.now.1) }
+{
+    if next == noted.len() {
+        return Some(0);
+    }
+    let (first, mark) = noted[next];
+    if count.0 < first {
+        Some(0)
+    } else if count.0 == first && mark <= count.1 {
+        Some(mark)
+    } else {
+        None
     }
 }
 
@@ -33,11 +41,13 @@ pub(crate) fn marks_of(
     alloc: Global,
     noted: &[(i32, u64)],
     counts: &[(i32, u64)],
-) -> Result<Option<Vec<u64>>, AllocError> {
+) -> Result<Option<Vec<u64>>, AllocError>
+    ensures { IfOk result (λ found. IfSome found (λ marks. AreMarksOf noted.now counts.now marks.items)) }
+{
     let mut marks = Vec::with_capacity(alloc, counts.len())?;
     let mut next = next_noted(noted, 0);
     for count in counts {
-        let Some(mark) = mark_of(noted, next, count.0, count.1) else {
+        let Some(mark) = mark_of(noted, next, count) else {
             return Ok(None);
         };
         if mark > 0 {
@@ -45,9 +55,8 @@ pub(crate) fn marks_of(
         }
         marks.push_reserved(mark);
     }
-    Ok(if next < noted.len() {
-        None
-    } else {
-        Some(marks)
-    })
+    if next < noted.len() {
+        return Ok(None);
+    }
+    Ok(Some(marks))
 }

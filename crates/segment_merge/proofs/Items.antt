@@ -70,3 +70,13 @@ item_among counts marks i d key units mark near count-is mark-is more =
     (sym (items_before-some counts marks i d key units mark near count-is mark-is more))
     (Contains-append_right (items_before counts marks i) (item ∷ []) item (0, omega arith, refl)) in
     subst (λ (list : List (ℤ × ℕ)). Contains list item) (sym whole) (Contains-append_left so_far (filter_map left_of (drop (i + 1) all)) item last)
+
+-- a key with its units and its mark, which is 0 if there are no more
+pub marked_at : (counts : List (ℤ × ℕ)) (marks : List ℕ) (i : ℕ) (d : ℤ × ℕ) → i < length counts
+    → get_or (marked counts marks) i (d, 0) ≡ (get_or counts i d, get_or marks i 0)
+marked_at counts marks i d near =
+    let all : List ℕ = marks ++ replicate (length counts) 0 in
+    let long = length-append marks (replicate (length counts) 0) in
+    let many : length (replicate {A = ℕ} (length counts) 0) ≡ length counts = length-replicate (length counts) 0 in
+    get_or-zip counts all i (d, 0) near (omega (arith, near, long, many))
+    ∙ ap (λ (mark : ℕ). (get_or counts i d, mark)) (mark_at counts marks i near)

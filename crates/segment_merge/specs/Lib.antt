@@ -2,3 +2,9 @@ pub mod Remainder
 pub mod Merge
 pub mod Parts
 pub mod Image
+pub mod Marks
+pub mod Cut
+pub mod Noted
+pub mod Follow
+pub mod Steps
+pub mod Follower

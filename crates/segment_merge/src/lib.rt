@@ -4,8 +4,18 @@
 //! [`merge`] adds them by a recorder of the live segment, one batch for each histogram, and reports what it added.
 #![tactic(auto)]
 
+mod costs;
+mod follow_fault;
+mod follower;
+mod following;
+mod marked;
+mod marks;
 mod merging;
+mod noting;
 mod remainder;
 
+pub use follow_fault::FollowFault;
+pub use follower::Follower;
+pub use following::FollowReport;
 pub use merging::{MergeReport, MergeStop, merge};
 pub use remainder::{Remainder, remainder_of};

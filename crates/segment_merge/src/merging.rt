@@ -38,10 +38,10 @@ pub struct MergeReport {
 
 // What a merge needs for a histogram: its name twice, for the report and for where it stops, and what is left of it.
 #[derive(Drop)]
-struct Part {
+pub(crate) struct Part {
     name: Vec<u8>,
     stop_name: Vec<u8>,
-    left: Option<Remainder>,
+    pub(crate) left: Option<Remainder>,
 }
 
 /// Adds what deltas have not taken of a reading to a recorder's segment: for each of its histograms in order, `hist`
@@ -100,7 +100,7 @@ fn parts_of(alloc: Global, reading: &Reading) -> Result<Vec<Part>, AllocError>
 }
 
 // What it needs for one.
-fn part_of(alloc: Global, histogram: &HistReading) -> Result<Part, AllocError>
+pub(crate) fn part_of(alloc: Global, histogram: &HistReading) -> Result<Part, AllocError>
     ensures { IfOk result (IsPartOf histogram.now) }
 {
     Ok(Part {
@@ -111,7 +111,7 @@ fn part_of(alloc: Global, histogram: &HistReading) -> Result<Part, AllocError>
 }
 
 // Merges the next histogram, and puts its line at the end of the report; why the merge stops there, if it does.
-fn merge_next(
+pub(crate) fn merge_next(
     recorder: &mut Recorder,
     histogram: &HistReading,
     part: Part,

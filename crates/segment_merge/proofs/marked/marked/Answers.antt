@@ -1,0 +1,102 @@
+use Rattle.std.proofs.Common.{rules, ◌≡◌, ◌∙◌, ◌≤◌, ◌+◌, ℕ, Bool, if◌then◌else◌, List, [], ◌∷◌, ◌++◌, length, map, take, drop, refl, sym, ap, subst, arith}
+use Rattle.std.specs.Prelude.{IfSome, IsPermutation, Option, vec_capacity}
+use Rattle.std.specs.Vec.Iter.{into_iter_items}
+use Rattle.std.proofs.lemmas.Grind.{common_steps}
+use Rattle.std.proofs.lemmas.List.{length-map, length_push, map_push, take_all}
+use Rattle.std.proofs.lemmas.List.Sorted.{IsPermutation-map, length_permutation}
+use Rattle.bucket_ranges.specs.Reading.{Histogram}
+use Rattle.image_reader.specs.Views.{histogram_view}
+use Rattle.image_reader.specs.declared.reading.HistReading.{HistReading}
+use Rattle.segment_merge.specs.Noted.{HasRisen, IsMarkedAt, unmarked as without_marks}
+use Rattle.segment_merge.proofs.MarkedSteps.{AreMarkedSoFar, marked_all, marked_more, marked_none, same_more}
+use Rattle.segment_merge.proofs.Underway.{next_of}
+use Rattle.segment_merge.proofs.marked.marked.Goals as goal
+
+pub loop-hist-init : goal.loop-hist-init
+loop-hist-init c =
+    let list : List HistReading = into_iter_items c.into_iter-hist-iterator.result in
+    let none : c.in_ok-all.all.items ≡ [] = c.in_ok-all.ensures.items in
+    let gives : list ≡ c.in_ok-hist-items.hist-items.items = search rules in
+    let long = length_permutation c.args.hists.items c.in_ok-hist-items.hist-items.items c.in_ok-hist-items.ensures in
+    let room : length c.args.hists.items ≤ vec_capacity c.in_ok-all.all = search rules in
+    let same = ap length gives in record {
+      can = tt;
+      finite = tt;
+      so_far = ap (λ (l : List HistReading). drop (length l) list) (sym none);
+      room = omega (arith, room, long, same);
+      same = subst (λ (l : List HistReading). map without_marks (map histogram_view l) ≡ map without_marks (map histogram_view (take (length l) list))) (sym none) refl;
+      marks = subst (λ (l : List HistReading). AreMarkedSoFar (map histogram_view c.args.noted.now) (map histogram_view l) 0) (sym none)
+          (marked_none (map histogram_view c.args.noted.now));
+    }
+
+pub loop-hist-preserved-then-is_noted : goal.loop-hist-preserved-then-is_noted
+loop-hist-preserved-then-is_noted c =
+    let noted : List Histogram = map histogram_view c.args.noted.now in
+    let list : List HistReading = into_iter_items c.into_iter-hist-iterator.result in
+    let all : List HistReading = c.loop-hist.all.items in
+    let rest : List HistReading = into_iter_items c.next.new.self in
+    let hist : HistReading = c.in-Some.hist in
+    let came : HistReading × Bool = c.in-Some-2.came in
+    let pushed : c.push_reserved.new.self.items ≡ all ++ came.0 ∷ [] = c.push_reserved.ensures.items in
+    let here : drop (length all) list ≡ hist ∷ rest = sym c.loop-hist.invariant.so_far ∙ c.in-Some.ensures.steps.0 in
+    let (below, _, behind) = next_of list rest (length all) hist here in
+    let long : length c.push_reserved.new.self.items ≡ length all + 1 = ap length pushed ∙ length_push all came.0 in
+    let is : (without_marks (histogram_view came.0) ≡ without_marks (histogram_view hist)) × HasRisen (histogram_view came.0)
+    × IsMarkedAt noted c.loop-hist.next (histogram_view came.0) came.1 =
+    subst (λ (found : Option (HistReading × Bool)). IfSome found (λ (one : HistReading × Bool).
+    (without_marks (histogram_view one.0) ≡ without_marks (histogram_view hist)) × HasRisen (histogram_view one.0)
+    × IsMarkedAt noted c.loop-hist.next (histogram_view one.0) one.1)) c.in-Some-2.is c.in_ok-came.ensures in record {
+      can = tt;
+      finite = tt;
+      so_far = behind ∙ ap (λ (k : ℕ). drop k list) (sym long);
+      room = omega (arith, c.push_reserved.ensures.capacity, c.loop-hist.invariant.room);
+      same = same_more all c.push_reserved.new.self.items list rest came.0 hist pushed here is.0 c.loop-hist.invariant.same;
+      marks = subst (λ (l : List Histogram). AreMarkedSoFar noted l (c.loop-hist.next + 1)) (sym (ap (map histogram_view) pushed ∙ map_push histogram_view all came.0))
+          (marked_more noted (map histogram_view all) c.loop-hist.next (c.loop-hist.next + 1) (histogram_view came.0) came.1 c.loop-hist.invariant.marks is.1 is.2
+          (ap (λ (b : Bool). if b then c.loop-hist.next + 1 else c.loop-hist.next) (sym c.if-is_noted.true)));
+    }
+
+pub loop-hist-preserved : goal.loop-hist-preserved
+loop-hist-preserved c =
+    let noted : List Histogram = map histogram_view c.args.noted.now in
+    let list : List HistReading = into_iter_items c.into_iter-hist-iterator.result in
+    let all : List HistReading = c.loop-hist.all.items in
+    let rest : List HistReading = into_iter_items c.next.new.self in
+    let hist : HistReading = c.in-Some.hist in
+    let came : HistReading × Bool = c.in-Some-2.came in
+    let pushed : c.push_reserved.new.self.items ≡ all ++ came.0 ∷ [] = c.push_reserved.ensures.items in
+    let here : drop (length all) list ≡ hist ∷ rest = sym c.loop-hist.invariant.so_far ∙ c.in-Some.ensures.steps.0 in
+    let (below, _, behind) = next_of list rest (length all) hist here in
+    let long : length c.push_reserved.new.self.items ≡ length all + 1 = ap length pushed ∙ length_push all came.0 in
+    let is : (without_marks (histogram_view came.0) ≡ without_marks (histogram_view hist)) × HasRisen (histogram_view came.0)
+    × IsMarkedAt noted c.loop-hist.next (histogram_view came.0) came.1 =
+    subst (λ (found : Option (HistReading × Bool)). IfSome found (λ (one : HistReading × Bool).
+    (without_marks (histogram_view one.0) ≡ without_marks (histogram_view hist)) × HasRisen (histogram_view one.0)
+    × IsMarkedAt noted c.loop-hist.next (histogram_view one.0) one.1)) c.in-Some-2.is c.in_ok-came.ensures in record {
+      can = tt;
+      finite = tt;
+      so_far = behind ∙ ap (λ (k : ℕ). drop k list) (sym long);
+      room = omega (arith, c.push_reserved.ensures.capacity, c.loop-hist.invariant.room);
+      same = same_more all c.push_reserved.new.self.items list rest came.0 hist pushed here is.0 c.loop-hist.invariant.same;
+      marks = subst (λ (l : List Histogram). AreMarkedSoFar noted l c.loop-hist.next) (sym (ap (map histogram_view) pushed ∙ map_push histogram_view all came.0))
+          (marked_more noted (map histogram_view all) c.loop-hist.next c.loop-hist.next (histogram_view came.0) came.1 c.loop-hist.invariant.marks is.1 is.2
+          (ap (λ (b : Bool). if b then c.loop-hist.next + 1 else c.loop-hist.next) (sym c.if-is_noted.false)));
+    }
+
+pub returns-clause-same : goal.returns-clause-same
+returns-clause-same c =
+    let list : List HistReading = into_iter_items c.into_iter-hist-iterator.result in
+    let all : List HistReading = c.loop-hist.all.items in
+    let sorted : List HistReading = c.in_ok-hist-items.hist-items.items in
+    let gives : list ≡ sorted = search rules in
+    let past : length list ≤ length all = first_of (search rules, grind (arith, common_steps)) in
+    subst (IsPermutation (map without_marks (map histogram_view c.args.hists.items)))
+    (ap (λ (l : List HistReading). map without_marks (map histogram_view l)) (sym gives ∙ sym (take_all (length all) list past)) ∙ sym c.loop-hist.invariant.same)
+    (IsPermutation-map without_marks (map histogram_view c.args.hists.items) (map histogram_view sorted)
+    (IsPermutation-map histogram_view c.args.hists.items sorted c.in_ok-hist-items.ensures))
+
+pub returns-clause-by : goal.returns-clause-by
+returns-clause-by c =
+    let long = length-map c.args.noted.now histogram_view in
+    marked_all (map histogram_view c.args.noted.now) (map histogram_view c.loop-hist.all.items) c.loop-hist.next c.loop-hist.invariant.marks
+    (omega (arith, long, c.if-next-noted.false))

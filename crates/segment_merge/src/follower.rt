@@ -1,0 +1,129 @@
+//! What came of a segment since an earlier reading of it is added to a live one.
+
+use crate::costs::{cost_of_all, units_of_all};
+use crate::follow_fault::FollowFault;
+use crate::following::{FollowReport, FollowStep, follow_all, report_for, steps_of};
+use crate::marked::marked;
+use image_reader::{HistReading, Reading};
+use live_segment::Recorder;
+use std::alloc::Global;
+
+/// What was merged of one segment so far, by readings of it while it runs.
+#[derive(Drop)]
+pub struct Follower {
+    alloc: Global,
+    // The id of the segment, once a reading was followed.
+    id: Option<u64>,
+    // What is noted, by names: the units of each key and the sum.
+    noted: Vec<HistReading>,
+}
+
+// What a merge needs, made before anything changes.
+#[derive(Drop)]
+struct Prepared {
+    steps: Vec<FollowStep>,
+    report: FollowReport,
+    noted: Vec<HistReading>,
+}
+
+impl Follower {
+    ghost use Rattle.std.specs.Prelude.{◌≡◌, [], None, Some, IfOk, MatchResult, map};
+    ghost use Rattle.image_reader.specs.Views.{histogram_view, reading_view};
+    ghost use Rattle.live_segment.specs.Holders.{view_of_recorder};
+    ghost use Rattle.live_segment.specs.RecorderState.{KnowsOn};
+    ghost use Rattle.segment_merge.specs.Follow.{IsFollowed};
+    ghost use Rattle.segment_merge.specs.Follower.{HaveNotes, IsNotFollowedFor, IsNotSkippedFor, IsOfSegment, IsPrepared, IsSkipped, followed_id, noted_of};
+
+    /// Returns a follower that has followed nothing: nothing is noted [none], and the first reading may be of any
+    /// segment [any].
+    pub fn new(alloc: Global) -> Follower
+        ensures none { noted_of result ≡ [] }
+        ensures any { followed_id result ≡ None }
+    {
+        Follower {
+            alloc,
+            id: None,
+            noted: Vec::new(alloc),
+        }
+    }
+
+    /// Adds what a reading has above what is noted, and notes it: of each histogram, in the order of their names, the
+    /// units of each key above those that are noted of the name and the key, with the sum less the noted sum, by one
+    /// `hist` and one `batch`. A histogram that has nothing new is not asked for. The marks of the reading itself make
+    /// no difference.
+    ///
+    /// A histogram is passed over for `BadName`, `BadSpec`, `TooLarge`, `OtherSpec` and `Full`, and the others go on;
+    /// `NoUnits`, `Corrupt` and `NoMemory` stop the merge there. The first items of a batch that is cut short are added
+    /// and noted, its sum is not. What is not added is not noted, so the next merge adds it.
+    pub fn merge(
+        &mut self,
+        recorder: &mut Recorder,
+        reading: Reading,
+        most: u64,
+    ) -> Result<FollowReport, FollowFault>
+        ensures kept { recorder.new.segment ≡ recorder.old.segment }
+        ensures same { KnowsOn recorder.old.state recorder.new.state }
+        ensures segment { IfOk result (λ report. IsOfSegment self.old (reading_view reading) × (followed_id self.new ≡ Some reading.id)) }
+        ensures answer { MatchResult result (λ report. IsFollowed (noted_of self.old) (reading_view reading) most report (noted_of self.new) (view_of_recorder recorder.old) (view_of_recorder recorder.new)) (λ fault. (self.new ≡ self.old) × (recorder.new ≡ recorder.old) × IsNotFollowedFor self.old (reading_view reading) most fault) }
+    {
+        let id = reading.id;
+        let Prepared {
+            steps,
+            mut report,
+            mut noted,
+        } = self.prepared(reading, most)?;
+        follow_all(recorder, steps, &mut report, &mut noted);
+        self.id = Some(id);
+        self.noted = noted;
+        Ok(report)
+    }
+
+    /// Notes a reading, adds nothing, and returns the units that it has above what was noted, or
+    /// 18,446,744,073,709,551,615 if there are more.
+    pub fn skip(&mut self, reading: Reading) -> Result<u64, FollowFault>
+        ensures segment { IfOk result (λ units. IsOfSegment self.old (reading_view reading) × (followed_id self.new ≡ Some reading.id)) }
+        ensures answer { MatchResult result (λ units. IsSkipped (noted_of self.old) (reading_view reading) units (noted_of self.new)) (λ fault. (self.new ≡ self.old) × IsNotSkippedFor self.old (reading_view reading) fault) }
+    {
+        let id = reading.id;
+        let noted = self.marked(reading)?;
+        let units = units_of_all(&noted);
+        self.id = Some(id);
+        self.noted = noted;
+        Ok(units)
+    }
+
+    // The histograms of a reading by their names, with what is noted of them as their marks.
+    fn marked(&self, reading: Reading) -> Result<Vec<HistReading>, FollowFault>
+        ensures segment { IfOk result (λ hists. IsOfSegment self.now (reading_view reading)) }
+        ensures answer { MatchResult result (λ hists. HaveNotes (noted_of self.now) (reading_view reading) (map histogram_view hists.items)) (λ fault. IsNotSkippedFor self.now (reading_view reading) fault) }
+    {
+        if let Some(id) = self.id
+            && id != reading.id
+        {
+            return Err(FollowFault::OtherSegment);
+        }
+        match marked(self.alloc, &self.noted, reading.hists)? {
+            Some(hists) => Ok(hists),
+            None => Err(FollowFault::Fell),
+        }
+    }
+
+    // What a merge needs.
+    fn prepared(&self, reading: Reading, most: u64) -> Result<Prepared, FollowFault>
+        ensures segment { IfOk result (λ prepared. IsOfSegment self.now (reading_view reading)) }
+        ensures answer { MatchResult result (λ prepared. IsPrepared (noted_of self.now) (reading_view reading) most prepared) (λ fault. IsNotFollowedFor self.now (reading_view reading) most fault) }
+    {
+        let hists = self.marked(reading)?;
+        let cost = cost_of_all(&hists);
+        if cost > most {
+            return Err(FollowFault::TooMany { cost });
+        }
+        let report = report_for(self.alloc, hists.len())?;
+        let noted = Vec::with_capacity(self.alloc, hists.len())?;
+        Ok(Prepared {
+            steps: steps_of(self.alloc, hists)?,
+            report,
+            noted,
+        })
+    }
+}

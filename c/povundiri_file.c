@@ -437,7 +437,7 @@ int povundiri_file_open(struct povundiri_file *file, const char *path, size_t by
 }
 
 int povundiri_parts_open_memory(struct povundiri_file *file, int descriptor) {
-    struct request request = {NULL, 0, 0, POVUNDIRI_FILE_FOLLOW | POVUNDIRI_FILE_EXISTING | IS_MEMORY, 0};
+    struct request request = {AT_FDCWD, NULL, 0, 0, POVUNDIRI_FILE_FOLLOW | POVUNDIRI_FILE_EXISTING | IS_MEMORY, 0, false};
     char path[32];
     snprintf(path, sizeof path, "/proc/self/fd/%d", descriptor);
     request.path = path;

@@ -179,6 +179,19 @@ static int run(const char *task, int descriptor) {
     return end_of(start(task, descriptor));
 }
 
+/* Starts a child that says on its standard output when it has counted, and waits for that. */
+static pid_t start_counting(const char *task, int descriptor) {
+    const int output = fcntl(STDOUT_FILENO, F_DUPFD_CLOEXEC, 0);
+    int ready[2];
+    char byte = 0;
+    pid_t child;
+    HOLDS(pipe2(ready, O_CLOEXEC) == 0 && dup2(ready[1], STDOUT_FILENO) == STDOUT_FILENO && close(ready[1]) == 0);
+    child = start(task, descriptor);
+    HOLDS(dup2(output, STDOUT_FILENO) == STDOUT_FILENO && close(output) == 0);
+    HOLDS(read(ready[0], &byte, 1) == 1 && byte == 'r' && close(ready[0]) == 0);
+    return child;
+}
+
 /* ---- What children do ---- */
 
 /* Opens the memory, counts `count` units of 3, and lives on or ends. */
@@ -457,35 +470,21 @@ static void first_and_successors(void) {
 /* While it lives, nobody else opens its memory; when it was killed, the next one does. */
 static void one_at_a_time(void) {
     struct povundiri_shared shared = made();
-    const int descriptor = povundiri_shared_descriptor(&shared), streams = dup(STDOUT_FILENO);
-    int ready[2];
-    char byte = 0;
-    pid_t child;
-    HOLDS(pipe2(ready, O_CLOEXEC) == 0 && dup2(ready[1], STDOUT_FILENO) == STDOUT_FILENO);
-    child = start("waits", descriptor);
-    HOLDS(dup2(streams, STDOUT_FILENO) == STDOUT_FILENO && close(streams) == 0 && read(ready[0], &byte, 1) == 1 && byte == 'r');
+    const int descriptor = povundiri_shared_descriptor(&shared);
+    const pid_t child = start_counting("waits", descriptor);
     HOLDS(run("adds", descriptor) == REFUSED + EBUSY && has_report(&shared, FIVE));
     HOLDS(kill(child, SIGKILL) == 0 && end_of(child) == 1000 + SIGKILL && has_report(&shared, FIVE));
     HOLDS(run("dies", descriptor) == 1000 + SIGKILL && has_report(&shared, "s,sparse,3,4,12\ns,total,12,36\n"));
-    close(ready[0]);
-    close(ready[1]);
     povundiri_shared_close(&shared);
 }
 
 /* A child that forks and is killed does not hold its memory by a child of its own. */
 static void children_of_children(void) {
     struct povundiri_shared shared = made();
-    const int descriptor = povundiri_shared_descriptor(&shared), streams = dup(STDOUT_FILENO);
-    int ready[2];
-    char byte = 0;
-    pid_t child;
-    HOLDS(pipe2(ready, O_CLOEXEC) == 0 && dup2(ready[1], STDOUT_FILENO) == STDOUT_FILENO);
-    child = start("forks", descriptor);
-    HOLDS(dup2(streams, STDOUT_FILENO) == STDOUT_FILENO && close(streams) == 0 && read(ready[0], &byte, 1) == 1 && byte == 'r');
+    const int descriptor = povundiri_shared_descriptor(&shared);
+    const pid_t child = start_counting("forks", descriptor);
     HOLDS(kill(child, SIGKILL) == 0 && end_of(child) == 1000 + SIGKILL);
     HOLDS(run("counts", descriptor) == 0 && has_report(&shared, "s,sparse,3,4,10\ns,total,10,30\n"));
-    close(ready[0]);
-    close(ready[1]);
     povundiri_shared_close(&shared);
 }
 

@@ -298,6 +298,34 @@ static int child_punches(int descriptor) {
     return fallocate(descriptor, FALLOC_FL_PUNCH_HOLE | FALLOC_FL_KEEP_SIZE, 0, BYTES) == 0 ? 0 : 5;
 }
 
+/* A word that may mean something where it is written: a small number, a cookie, a type of block, or any. */
+static uint64_t any_word(uint64_t *chance) {
+    static const uint64_t words[] = {0, 1, 2, 3, 4, 12, 16, WORDS, UINT64_MAX, 0xC8799269, 0x408305DC};
+    *chance ^= *chance << 13;
+    *chance ^= *chance >> 7;
+    *chance ^= *chance << 17;
+    if (*chance % 4 == 0) return *chance;
+    return *chance % 4 == 1 ? *chance / 4 % (WORDS + 8) : words[*chance / 4 % (sizeof words / sizeof words[0])];
+}
+
+/* Writes words at random, and again and again the header as it was, until it is killed. */
+static int child_scribbles(int descriptor) {
+    uint64_t *image = mmap(NULL, BYTES, PROT_READ | PROT_WRITE, MAP_SHARED, descriptor, 0);
+    uint64_t header[16], chance = 88172645463325252;
+    size_t turn;
+    if (image == MAP_FAILED) return 6;
+    image += 1;
+    memcpy(header, image, sizeof header);
+    alarm(MOST_SECONDS);
+    if (write(STDOUT_FILENO, "r", 1) != 1) return 3;
+    for (turn = 0;; turn += 1) {
+        const size_t at = (size_t)(any_word(&chance) % WORDS);
+        const uint64_t word = any_word(&chance);
+        __atomic_store_n(image + at, word, __ATOMIC_RELAXED);
+        __atomic_store_n(image + turn % 16, header[turn % 16], __ATOMIC_RELAXED);
+    }
+}
+
 /* Which descriptors an exec left: the streams, and that of the memory. */
 static int child_lists(int descriptor) {
     HOLDS(count_descriptors() == 3 + 1 && fcntl(descriptor, F_GETFD) == 0 && count_mappings("r--s") == 0);
@@ -312,6 +340,7 @@ static const struct task {
     {"waits", child_waits},         {"forks", child_forks},
     {"counts", child_forks_and_counts}, {"truncates", child_truncates},
     {"punches", child_punches},     {"lists", child_lists},
+    {"scribbles", child_scribbles},
 };
 
 static int do_task(const char *name, int descriptor) {
@@ -553,6 +582,35 @@ static void hostile(void) {
     HOLDS(run("punches", povundiri_shared_descriptor(&shared)) == 0);
     ANSWERS(IMAGE_BAD_COOKIE, povundiri_shared_look(&shared, image, WORDS, NULL));
     HOLDS(run("adds", povundiri_shared_descriptor(&shared)) == NO_SEGMENT);
+    povundiri_shared_close(&shared);
+}
+
+/* Looks while a child writes any words: each has a status, and each that is an image has a report, or too many keys. */
+static void scribbled(void) {
+    enum { LOOKS = 500 };
+    static char text[1 << 20];
+    const struct timespec nap = {0, 50000};
+    struct povundiri_shared shared = made();
+    uint64_t image[WORDS];
+    int i, done = 0, damaged = 0;
+    pid_t child;
+    HOLDS(run("adds", povundiri_shared_descriptor(&shared)) == 0);
+    child = start_counting("scribbles", povundiri_shared_descriptor(&shared));
+    for (i = 0; i < LOOKS; i += 1) {
+        size_t length = 0, needed = 0;
+        const uint32_t status = povundiri_shared_look(&shared, image, WORDS, &length);
+        const bool is_fault = status >= POVUNDIRI_IMAGE_TOO_SHORT && status <= POVUNDIRI_IMAGE_BAD_QUEUE;
+        HOLDS(status == POVUNDIRI_DONE || is_fault || status == POVUNDIRI_ADOPT_OLD_VERSION);
+        if (i % 10 == 0) nanosleep(&nap, NULL);
+        if (status != POVUNDIRI_DONE) continue;
+        HOLDS(length <= WORDS);
+        done += 1;
+        if (povundiri_report_bounded(image, length, text, sizeof text - 1, &needed, 1000) != POVUNDIRI_DONE) continue;
+        text[needed] = 0;
+        damaged += strstr(text, "!bad") != NULL || strstr(text, "!stopped") != NULL;
+    }
+    HOLDS(kill(child, SIGKILL) == 0 && end_of(child) == 1000 + SIGKILL && done >= LOOKS / 10 && damaged >= 10);
+    if (failed_here != 0) printf("%d looks, %d of them damaged\n", done, damaged);
     povundiri_shared_close(&shared);
 }
 
@@ -836,6 +894,7 @@ int main(int count, char **words) {
     failed += group("no leaks over exec", no_leaks);
     failed += group("workers", workers);
     failed += group("hostile children", hostile);
+    failed += group("any words", scribbled);
     failed += group("other descriptors", other_descriptors);
     failed += group("missing seals", missing_seals);
     failed += group("other lengths", other_lengths);

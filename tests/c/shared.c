@@ -179,6 +179,19 @@ static int run(const char *task, int descriptor) {
     return end_of(start(task, descriptor));
 }
 
+/* Starts a child that says on its standard output when it has counted, and waits for that. */
+static pid_t start_counting(const char *task, int descriptor) {
+    const int output = fcntl(STDOUT_FILENO, F_DUPFD_CLOEXEC, 0);
+    int ready[2];
+    char byte = 0;
+    pid_t child;
+    HOLDS(pipe2(ready, O_CLOEXEC) == 0 && dup2(ready[1], STDOUT_FILENO) == STDOUT_FILENO && close(ready[1]) == 0);
+    child = start(task, descriptor);
+    HOLDS(dup2(output, STDOUT_FILENO) == STDOUT_FILENO && close(output) == 0);
+    HOLDS(read(ready[0], &byte, 1) == 1 && byte == 'r' && close(ready[0]) == 0);
+    return child;
+}
+
 /* ---- What children do ---- */
 
 /* Opens the memory, counts `count` units of 3, and lives on or ends. */
@@ -285,6 +298,34 @@ static int child_punches(int descriptor) {
     return fallocate(descriptor, FALLOC_FL_PUNCH_HOLE | FALLOC_FL_KEEP_SIZE, 0, BYTES) == 0 ? 0 : 5;
 }
 
+/* A word that may mean something where it is written: a small number, a cookie, a type of block, or any. */
+static uint64_t any_word(uint64_t *chance) {
+    static const uint64_t words[] = {0, 1, 2, 3, 4, 12, 16, WORDS, UINT64_MAX, 0xC8799269, 0x408305DC};
+    *chance ^= *chance << 13;
+    *chance ^= *chance >> 7;
+    *chance ^= *chance << 17;
+    if (*chance % 4 == 0) return *chance;
+    return *chance % 4 == 1 ? *chance / 4 % (WORDS + 8) : words[*chance / 4 % (sizeof words / sizeof words[0])];
+}
+
+/* Writes words at random, and again and again the header as it was, until it is killed. */
+static int child_scribbles(int descriptor) {
+    uint64_t *image = mmap(NULL, BYTES, PROT_READ | PROT_WRITE, MAP_SHARED, descriptor, 0);
+    uint64_t header[16], chance = 88172645463325252;
+    size_t turn;
+    if (image == MAP_FAILED) return 6;
+    image += 1;
+    memcpy(header, image, sizeof header);
+    alarm(MOST_SECONDS);
+    if (write(STDOUT_FILENO, "r", 1) != 1) return 3;
+    for (turn = 0;; turn += 1) {
+        const size_t at = (size_t)(any_word(&chance) % WORDS);
+        const uint64_t word = any_word(&chance);
+        __atomic_store_n(image + at, word, __ATOMIC_RELAXED);
+        __atomic_store_n(image + turn % 16, header[turn % 16], __ATOMIC_RELAXED);
+    }
+}
+
 /* Which descriptors an exec left: the streams, and that of the memory. */
 static int child_lists(int descriptor) {
     HOLDS(count_descriptors() == 3 + 1 && fcntl(descriptor, F_GETFD) == 0 && count_mappings("r--s") == 0);
@@ -299,6 +340,7 @@ static const struct task {
     {"waits", child_waits},         {"forks", child_forks},
     {"counts", child_forks_and_counts}, {"truncates", child_truncates},
     {"punches", child_punches},     {"lists", child_lists},
+    {"scribbles", child_scribbles},
 };
 
 static int do_task(const char *name, int descriptor) {
@@ -457,35 +499,21 @@ static void first_and_successors(void) {
 /* While it lives, nobody else opens its memory; when it was killed, the next one does. */
 static void one_at_a_time(void) {
     struct povundiri_shared shared = made();
-    const int descriptor = povundiri_shared_descriptor(&shared), streams = dup(STDOUT_FILENO);
-    int ready[2];
-    char byte = 0;
-    pid_t child;
-    HOLDS(pipe2(ready, O_CLOEXEC) == 0 && dup2(ready[1], STDOUT_FILENO) == STDOUT_FILENO);
-    child = start("waits", descriptor);
-    HOLDS(dup2(streams, STDOUT_FILENO) == STDOUT_FILENO && close(streams) == 0 && read(ready[0], &byte, 1) == 1 && byte == 'r');
+    const int descriptor = povundiri_shared_descriptor(&shared);
+    const pid_t child = start_counting("waits", descriptor);
     HOLDS(run("adds", descriptor) == REFUSED + EBUSY && has_report(&shared, FIVE));
     HOLDS(kill(child, SIGKILL) == 0 && end_of(child) == 1000 + SIGKILL && has_report(&shared, FIVE));
     HOLDS(run("dies", descriptor) == 1000 + SIGKILL && has_report(&shared, "s,sparse,3,4,12\ns,total,12,36\n"));
-    close(ready[0]);
-    close(ready[1]);
     povundiri_shared_close(&shared);
 }
 
 /* A child that forks and is killed does not hold its memory by a child of its own. */
 static void children_of_children(void) {
     struct povundiri_shared shared = made();
-    const int descriptor = povundiri_shared_descriptor(&shared), streams = dup(STDOUT_FILENO);
-    int ready[2];
-    char byte = 0;
-    pid_t child;
-    HOLDS(pipe2(ready, O_CLOEXEC) == 0 && dup2(ready[1], STDOUT_FILENO) == STDOUT_FILENO);
-    child = start("forks", descriptor);
-    HOLDS(dup2(streams, STDOUT_FILENO) == STDOUT_FILENO && close(streams) == 0 && read(ready[0], &byte, 1) == 1 && byte == 'r');
+    const int descriptor = povundiri_shared_descriptor(&shared);
+    const pid_t child = start_counting("forks", descriptor);
     HOLDS(kill(child, SIGKILL) == 0 && end_of(child) == 1000 + SIGKILL);
     HOLDS(run("counts", descriptor) == 0 && has_report(&shared, "s,sparse,3,4,10\ns,total,10,30\n"));
-    close(ready[0]);
-    close(ready[1]);
     povundiri_shared_close(&shared);
 }
 
@@ -554,6 +582,35 @@ static void hostile(void) {
     HOLDS(run("punches", povundiri_shared_descriptor(&shared)) == 0);
     ANSWERS(IMAGE_BAD_COOKIE, povundiri_shared_look(&shared, image, WORDS, NULL));
     HOLDS(run("adds", povundiri_shared_descriptor(&shared)) == NO_SEGMENT);
+    povundiri_shared_close(&shared);
+}
+
+/* Looks while a child writes any words: each has a status, and each that is an image has a report, or too many keys. */
+static void scribbled(void) {
+    enum { LOOKS = 500 };
+    static char text[1 << 20];
+    const struct timespec nap = {0, 50000};
+    struct povundiri_shared shared = made();
+    uint64_t image[WORDS];
+    int i, done = 0, damaged = 0;
+    pid_t child;
+    HOLDS(run("adds", povundiri_shared_descriptor(&shared)) == 0);
+    child = start_counting("scribbles", povundiri_shared_descriptor(&shared));
+    for (i = 0; i < LOOKS; i += 1) {
+        size_t length = 0, needed = 0;
+        const uint32_t status = povundiri_shared_look(&shared, image, WORDS, &length);
+        const bool is_fault = status >= POVUNDIRI_IMAGE_TOO_SHORT && status <= POVUNDIRI_IMAGE_BAD_QUEUE;
+        HOLDS(status == POVUNDIRI_DONE || is_fault || status == POVUNDIRI_ADOPT_OLD_VERSION);
+        if (i % 10 == 0) nanosleep(&nap, NULL);
+        if (status != POVUNDIRI_DONE) continue;
+        HOLDS(length <= WORDS);
+        done += 1;
+        if (povundiri_report_bounded(image, length, text, sizeof text - 1, &needed, 1000) != POVUNDIRI_DONE) continue;
+        text[needed] = 0;
+        damaged += strstr(text, "!bad") != NULL || strstr(text, "!stopped") != NULL;
+    }
+    HOLDS(kill(child, SIGKILL) == 0 && end_of(child) == 1000 + SIGKILL && done >= LOOKS / 10 && damaged >= 10);
+    if (failed_here != 0) printf("%d looks, %d of them damaged\n", done, damaged);
     povundiri_shared_close(&shared);
 }
 
@@ -800,7 +857,7 @@ static int refuse_each_allocation(int which) {
         refused += status != POVUNDIRI_DONE;
         if (segment.full) DONE(povundiri_drop(&segment));
         povundiri_shared_close(&own);
-        HOLDS(run("adds", povundiri_shared_descriptor(&shared)) == 0 && has_report(&shared, FIVE));
+        if (which == 1) HOLDS(run("adds", povundiri_shared_descriptor(&shared)) == 0 && has_report(&shared, FIVE));
         povundiri_shared_close(&shared);
     }
     HOLDS(status == POVUNDIRI_DONE);
@@ -837,6 +894,7 @@ int main(int count, char **words) {
     failed += group("no leaks over exec", no_leaks);
     failed += group("workers", workers);
     failed += group("hostile children", hostile);
+    failed += group("any words", scribbled);
     failed += group("other descriptors", other_descriptors);
     failed += group("missing seals", missing_seals);
     failed += group("other lengths", other_lengths);

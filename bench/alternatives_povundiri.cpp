@@ -64,7 +64,7 @@ public:
 
 private:
     static povundiri::RecordingOptions options() {
-        povundiri::RecordingOptions options{};
+        povundiri::RecordingOptions options;
         options.bytes = 8 * kWords;
         return options;
     }

@@ -69,7 +69,7 @@ void record(const Worker& worker, std::size_t samples, const std::vector<std::in
 
 // Segments of as many words as those of record.cpp.
 povundiri::Recording recording_in(const plain::Folder& folder) {
-    povundiri::RecordingOptions options{};
+    povundiri::RecordingOptions options;
     options.bytes = 8 * 65'536;
     return povundiri::Recording(folder.path(), options);
 }

@@ -57,9 +57,10 @@
 extern "C" {
 #endif
 
-/* A segment, a recorder, a sum, or nothing. It begins as zeros, and is zeros again when it is closed, joined or dropped. */
+/* A segment, a recorder, a sum, or nothing: `held` says whether there is one. It begins as zeros, and is zeros again when it is closed, joined
+ * or dropped. */
 struct povundiri_handle {
-    bool full;
+    bool held;
     void *at;
 };
 

@@ -384,6 +384,11 @@ inline void Recorder::reset() noexcept {
 // ---- Segments ----
 
 // What to do with a file whose image cannot be adopted, or has no more room (povundiri_file.h).
+// How a file is opened: as usual, until a member is set.
+struct FileOptions : povundiri_file_options {
+    FileOptions() noexcept : povundiri_file_options POVUNDIRI_FILE_OPTIONS {}
+};
+
 enum class Policy {
     AdoptOrFail = POVUNDIRI_ADOPT_OR_FAIL,
     AdoptOrSetAside = POVUNDIRI_ADOPT_OR_SET_ASIDE,
@@ -434,15 +439,15 @@ public:
 
     // One in a file (povundiri_open), which is closed when the segment and all its recorders have ended, or by 'close'.
     // 'try_open' returns a Status, or the system's fault in the generic category. The flag KEEP_ON_FORK is invalid: open after daemon(3).
-    static Opened open(const char* path, const Shape& shape, Policy policy, const povundiri_file_options& options = {});
+    static Opened open(const char* path, const Shape& shape, Policy policy, const povundiri_file_options& options = FileOptions());
     [[nodiscard]] static std::error_code try_open(const char* path, const Shape& shape, Policy policy, Opened& opened,
-                                                  const povundiri_file_options& options = {}) noexcept;
+                                                  const povundiri_file_options& options = FileOptions()) noexcept;
 
     // Whether it is open: it was made, is not closed, and is of this process.
     explicit operator bool() const noexcept {
         if (state_.usable() != Status::Done) return false;
         const std::lock_guard<std::mutex> turn(state_->turn);
-        return state_->segment.full;
+        return state_->segment.held;
     }
 
     // Gives it up, without an image. Its recorders can still record; after the last of them the words are gone, or are in the file or room.

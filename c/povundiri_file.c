@@ -248,6 +248,13 @@ struct request {
     bool is_unnamed; /* a new file without a name, in the folder at the path */
 };
 
+bool povundiri_parts_are_known(const void *options, size_t first, size_t known) {
+    size_t size;
+    memcpy(&size, options, sizeof size);
+    if (size == 0) return true;
+    return size >= first && (size <= known || are_zeros((const char *)options + known, size - known));
+}
+
 static int request_of(struct request *request, const char *path, const struct povundiri_file_options *options) {
     const mode_t mode = options == NULL ? 0 : options->mode;
     request->folder = AT_FDCWD;
@@ -255,6 +262,7 @@ static int request_of(struct request *request, const char *path, const struct po
     request->is_unnamed = false;
     request->flags = options == NULL ? 0 : options->flags;
     request->mode = mode == 0 ? 0600 : mode;
+    if (options != NULL && !povundiri_parts_are_known(options, sizeof *options, sizeof *options)) return EINVAL;
     if (path == NULL || (request->flags & ~(unsigned)ALL_FLAGS) != 0) return EINVAL;
     if ((request->mode & ~(mode_t)0775) != 0 || (request->mode & 0600) != 0600) return EINVAL;
     return (request->mode & S_IWGRP) != 0 && (request->flags & POVUNDIRI_FILE_GROUP_WRITES) == 0 ? EINVAL : 0;
@@ -655,7 +663,7 @@ static void close_as_it_was(struct povundiri_file *file) {
 static void take_back(const struct task *task) {
     const struct povundiri_shape none = {0, 0, 0, 0, 0};
     struct povundiri_opened *opened = task->opened;
-    if (task->segment->full) povundiri_drop(task->segment);
+    if (task->segment->held) povundiri_drop(task->segment);
     close_as_it_was(task->file);
     opened->outcome = POVUNDIRI_NOTHING;
     opened->shape = none;
@@ -717,7 +725,7 @@ uint32_t povundiri_open(const char *path, struct povundiri_shape shape, enum pov
     int fault;
     if (path == NULL || file == NULL || segment == NULL || opened == NULL) return POVUNDIRI_NULL;
     memset(opened, 0, sizeof *opened);
-    if (file->mapping != NULL || segment->full) return POVUNDIRI_NOT_EMPTY;
+    if (file->mapping != NULL || segment->held) return POVUNDIRI_NOT_EMPTY;
     if (!is_policy(policy)) return POVUNDIRI_BAD_KIND;
     fault = request_of(&task.request, path, options);
     if (fault != 0) return system_fault(opened, fault);
@@ -728,7 +736,7 @@ uint32_t povundiri_open(const char *path, struct povundiri_shape shape, enum pov
 
 uint32_t povundiri_parts_open_in(int folder, const char *name, struct povundiri_shape shape, unsigned flags, struct povundiri_file *file,
                                  struct povundiri_handle *segment, struct povundiri_opened *opened) {
-    const struct povundiri_file_options options = {flags, 0};
+    const struct povundiri_file_options options = {sizeof options, flags, 0};
     struct task task;
     memset(opened, 0, sizeof *opened);
     opened->fault = request_of(&task.request, name != NULL ? name : ".", &options);

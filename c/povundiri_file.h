@@ -70,14 +70,19 @@ enum povundiri_file_flag {
     POVUNDIRI_FILE_EXISTING = 16     /* no file is made: ENOENT if there is none, also after one was set aside */
 };
 
-/* How a file is opened. All zeros, or a null in its place, are what is usual.
+/* How a file is opened. It begins as POVUNDIRI_FILE_OPTIONS, which is what is usual, as is a null in its place.
+ *   size    of this struct, as the caller knows it; 0: as it was first. If it is less than that, or a member that is not known here is not 0,
+ *           the options are refused (EINVAL)
  *   flags   some of povundiri_file_flag
  *   mode    of a file that is made, less the umask: 0600 and more of 0777, or 0 for 0600. Write for the group asks for
  *           POVUNDIRI_FILE_GROUP_WRITES; write for others may not be. */
 struct povundiri_file_options {
+    size_t size;
     unsigned flags;
     mode_t mode;
 };
+
+#define POVUNDIRI_FILE_OPTIONS {sizeof(struct povundiri_file_options), 0, 0}
 
 /* The bytes of a file for a segment with this many words and shared cursors: a multiple of 16. 0 if no segment is so large. */
 size_t povundiri_file_bytes(uint64_t words, size_t cursors);

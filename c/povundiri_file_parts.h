@@ -7,6 +7,10 @@
 
 #include "povundiri_file.h"
 
+/* Whether options that begin with their size are known here: the size is 0 or at least that of the first ones, and of those that are larger than
+ * the known ones the rest is zeros. */
+bool povundiri_parts_are_known(const void *options, size_t first, size_t known);
+
 /* Reads `bytes` bytes from there on, or those up to the end of the file, and says how many. 0, or the system's fault. */
 int povundiri_parts_read(int descriptor, void *to, size_t bytes, off_t at, size_t *got);
 

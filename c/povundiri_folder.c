@@ -467,7 +467,7 @@ static uint32_t sums_once(int folder, struct povundiri_handle *sums, uint64_t *l
     if (*fault == 0 && !povundiri_parts_is_recordings(&listing)) *fault = EINVAL;
     if (*fault == 0) status = begin_sums(&totals, sums);
     if (status == POVUNDIRI_DONE) status = add_looks(folder, &listing, &totals, sums, left, fault);
-    if (status == POVUNDIRI_SYSTEM && *fault == ENOENT && sums->full) *again = true;
+    if (status == POVUNDIRI_SYSTEM && *fault == ENOENT && sums->held) *again = true;
     if (status == POVUNDIRI_DONE) {
         *fault = look_for_fold(folder, &totals, again);
         if (*fault != 0) status = POVUNDIRI_SYSTEM;
@@ -494,7 +494,7 @@ uint32_t povundiri_folder_sums(const char *folder, struct povundiri_handle *sums
     uint32_t status = POVUNDIRI_SYSTEM;
     int state;
     if (folder == NULL || sums == NULL || fault == NULL) return POVUNDIRI_NULL;
-    if (sums->full) return POVUNDIRI_NOT_EMPTY;
+    if (sums->held) return POVUNDIRI_NOT_EMPTY;
     *fault = 0;
     if (!povundiri_folder_watch()) return POVUNDIRI_NO_MEMORY;
     pthread_setcancelstate(PTHREAD_CANCEL_DISABLE, &state);
@@ -718,7 +718,7 @@ static uint32_t fold_once(int folder, uint64_t *folded, bool *again, int *fault)
     free(fold.finals);
     free(fold.listing.numbers);
     povundiri_parts_free(&fold.totals);
-    if (fold.sums.full) povundiri_sums_drop(&fold.sums);
+    if (fold.sums.held) povundiri_sums_drop(&fold.sums);
     return status == POVUNDIRI_SYSTEM && *fault == ENOMEM ? (uint32_t)POVUNDIRI_NO_MEMORY : status;
 }
 

@@ -208,7 +208,7 @@ private:
     // The sum of no images is made at the first call that needs it.
     template <typename Call>
     Status with(const Call& call) noexcept {
-        if (!handle_.full) {
+        if (!handle_.held) {
             const auto status = static_cast<Status>(povundiri_sums_new(&handle_));
             if (status != Status::Done) return status;
         }

@@ -40,8 +40,8 @@ static uint32_t judge(struct povundiri_shape shape, struct povundiri_metric *met
     }
     if (status == POVUNDIRI_DONE) status = povundiri_add(&recorder, hist, 0, 1);
     if (status == POVUNDIRI_DONE) status = povundiri_add(&recorder, hist, INT32_MAX, 1);
-    if (recorder.full) povundiri_drop(&recorder);
-    if (segment.full) povundiri_drop(&segment);
+    if (recorder.held) povundiri_drop(&recorder);
+    if (segment.held) povundiri_drop(&segment);
     if (status == POVUNDIRI_REFUSED_FULL || status == POVUNDIRI_REFUSED_TOO_LARGE) {
         metric->is_too_large = true;
         return POVUNDIRI_DONE;

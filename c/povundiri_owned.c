@@ -56,7 +56,7 @@ uint64_t povundiri_folder_units(struct povundiri_owned *owned) {
 void povundiri_folder_release(const struct povundiri_place *place, struct povundiri_owned *owned) {
     if (owned == NULL) return;
     if (owned->number == 0 && owned->name[0] != 0 && povundiri_folder_stands(place, owned)) unlinkat(folder_of(place), owned->name, 0);
-    if (owned->segment.full) povundiri_drop(&owned->segment);
+    if (owned->segment.held) povundiri_drop(&owned->segment);
     povundiri_file_close(&owned->file);
     free(owned);
 }

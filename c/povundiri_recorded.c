@@ -10,8 +10,10 @@
 
 #include "povundiri_recording_parts.h"
 
-static const char *const REASONS[POVUNDIRI_MISSED_REASONS] = {"too_large", "other_spec", "no_space",  "rolling",
+static const char *const REASONS[MISSED_REASONS] = {"too_large", "other_spec", "no_space",  "rolling",
                                                               "forked",    "ended",      "no_memory", "removed"};
+
+const char *povundiri_missed_text(uint32_t reason) { return reason < MISSED_REASONS ? REASONS[reason] : NULL; }
 
 uint32_t povundiri_recording_sums(struct povundiri_recording *recording, struct povundiri_handle *sums, uint64_t *left, int *fault) {
     struct povundiri_held folder;
@@ -19,7 +21,7 @@ uint32_t povundiri_recording_sums(struct povundiri_recording *recording, struct 
     uint32_t status = POVUNDIRI_SYSTEM;
     int state;
     if (recording == NULL || sums == NULL || fault == NULL) return POVUNDIRI_NULL;
-    if (sums->full) return POVUNDIRI_NOT_EMPTY;
+    if (sums->held) return POVUNDIRI_NOT_EMPTY;
     pthread_setcancelstate(PTHREAD_CANCEL_DISABLE, &state);
     *fault = povundiri_recording_folder(recording, &folder);
     if (*fault == 0) {
@@ -77,8 +79,8 @@ static size_t write_ending(const struct povundiri_recording *recording, const st
         PUT("# HELP %s_missed_total Units that were not counted, by reason.\n", prefix);
         PUT("# TYPE %s_missed_total counter\n", prefix);
     }
-    for (i = 0; i < POVUNDIRI_MISSED_REASONS; i += 1) {
-        const uint64_t missed = povundiri_recording_missed(recording, (enum povundiri_missed)i);
+    for (i = 0; i < MISSED_REASONS; i += 1) {
+        const uint64_t missed = povundiri_recording_missed(recording, (uint32_t)i);
         if (asked->what == EXPORT) PUT("%s_missed_total{reason=\"%s\"} %" PRIu64 "\n", prefix, REASONS[i], missed);
         if (asked->what == REPORT && missed > 0) PUT("!missed,%s,%" PRIu64 "\n", REASONS[i], missed);
         if (asked->what == SHOW && missed > 0) PUT("missed, %s: %" PRIu64 "\n", REASONS[i], missed);
@@ -117,7 +119,7 @@ static uint32_t text(struct povundiri_recording *recording, const struct asked *
     *length = 0;
     status = povundiri_recording_sums(recording, &sums, &left, fault);
     if (status == POVUNDIRI_DONE) status = text_of(recording, &sums, asked, left, text_at, length);
-    if (sums.full) povundiri_sums_drop(&sums);
+    if (sums.held) povundiri_sums_drop(&sums);
     return status;
 }
 

@@ -71,7 +71,7 @@ static struct local *new_local(struct povundiri_recording *recording, size_t met
     if (posix_memalign(&at, LINES, size) != 0) return NULL;
     local = (struct local *)at;
     local->known = (size - sizeof *local) / sizeof(size_t);
-    local->recorder.full = false;
+    local->recorder.held = false;
     local->recorder.at = NULL;
     local->recording = recording;
     clear(local);
@@ -347,8 +347,8 @@ void povundiri_recording_leave(struct povundiri_recording *recording) {
     pthread_setcancelstate(state, NULL);
 }
 
-uint64_t povundiri_recording_missed(const struct povundiri_recording *recording, enum povundiri_missed reason) {
-    if (recording == NULL || (unsigned)reason >= POVUNDIRI_MISSED_REASONS) return 0;
+uint64_t povundiri_recording_missed(const struct povundiri_recording *recording, uint32_t reason) {
+    if (recording == NULL || reason >= MISSED_REASONS) return 0;
     return __atomic_load_n(&recording->missed[reason], __ATOMIC_RELAXED);
 }
 
@@ -453,12 +453,16 @@ static uint32_t check_shape(struct povundiri_shape shape) {
     return status == POVUNDIRI_DONE ? povundiri_drop(&segment) : status;
 }
 
-static uint32_t open_recording(const char *folder, struct povundiri_recording *recording, struct povundiri_began *began) {
+static uint32_t open_recording(const char *folder, struct povundiri_recording *recording, int *fault) {
     const uint32_t status = check_shape(recording->shape);
     if (status != POVUNDIRI_DONE) return status;
-    began->fault = povundiri_place_enter(&recording->folder, folder);
-    if (began->fault != 0) return began->fault == ENOMEM ? POVUNDIRI_NO_MEMORY : POVUNDIRI_SYSTEM;
-    povundiri_segments_begin_first(recording, began);
+    *fault = povundiri_place_enter(&recording->folder, folder);
+    if (*fault == ENOMEM) {
+        *fault = 0;
+        return POVUNDIRI_NO_MEMORY;
+    }
+    if (*fault != 0) return POVUNDIRI_SYSTEM;
+    povundiri_segments_begin_first(recording);
     pthread_mutex_lock(&list_mutex);
     recording->place = places;
     places += 1;
@@ -469,18 +473,19 @@ static uint32_t open_recording(const char *folder, struct povundiri_recording *r
 }
 
 uint32_t povundiri_recording_open(const char *folder, const struct povundiri_recording_options *options,
-                                  struct povundiri_recording **recording, struct povundiri_began *began) {
+                                  struct povundiri_recording **recording, int *fault) {
     struct povundiri_recording *made;
     uint32_t status;
     int state;
-    if (folder == NULL || recording == NULL || began == NULL) return POVUNDIRI_NULL;
+    if (folder == NULL || recording == NULL || fault == NULL) return POVUNDIRI_NULL;
     if (*recording != NULL) return POVUNDIRI_NOT_EMPTY;
-    memset(began, 0, sizeof *began);
+    *fault = options != NULL && !povundiri_parts_are_known(options, sizeof *options, sizeof *options) ? EINVAL : 0;
+    if (*fault != 0) return POVUNDIRI_SYSTEM;
     pthread_once(&once, make_ready);
     made = is_ready ? new_recording(options) : NULL;
     if (made == NULL) return POVUNDIRI_NO_MEMORY;
     pthread_setcancelstate(PTHREAD_CANCEL_DISABLE, &state);
-    status = open_recording(folder, made, began);
+    status = open_recording(folder, made, fault);
     if (status == POVUNDIRI_DONE) povundiri_segments_prepare(made);
     pthread_setcancelstate(state, NULL);
     if (status == POVUNDIRI_DONE) {
@@ -492,6 +497,10 @@ uint32_t povundiri_recording_open(const char *folder, const struct povundiri_rec
         free(made);
     }
     return status;
+}
+
+const struct povundiri_began *povundiri_recording_began(const struct povundiri_recording *recording) {
+    return recording != NULL ? &recording->began : NULL;
 }
 
 void povundiri_recording_end(struct povundiri_recording *recording) {

@@ -1,9 +1,9 @@
 /* A recording: any thread counts samples into a folder at any time, across kills and restarts, for as long as the device has room.
  *
  *     struct povundiri_recording *recording = NULL;
- *     struct povundiri_began began;
  *     size_t latency = 0;
- *     uint32_t status = povundiri_recording_open("metrics", NULL, &recording, &began);
+ *     int fault = 0;
+ *     uint32_t status = povundiri_recording_open("metrics", NULL, &recording, &fault);
  *     status = povundiri_recording_scale(recording, "request_us", 1, 10000000, 5, &latency);
  *     povundiri_recording_add(recording, latency, elapsed_us, 1);       any thread; no lock in the usual sample
  *     status = povundiri_recording_export(recording, NULL, &text, &length, &fault);
@@ -72,7 +72,9 @@ extern "C" {
 
 struct povundiri_recording;
 
-/* All zeros, or a null in its place, are what is usual.
+/* What a recording is to do. It begins as POVUNDIRI_RECORDING_OPTIONS, which is what is usual, as are zeros and a null in its place.
+ *   size      of this struct, as the caller knows it; 0: as it was first. If it is less than that, or a member that is not known here is not 0,
+ *             the options are refused (EINVAL)
  *   bytes     that a segment has at most, from 512 to 8,388,608, until one is too small (SIZE, above); 0: 1 MiB. From 32,768 on, every
  *             histogram of 1,000 buckets fits in one
  *   fold_at   povundiri_recording_export folds first if the folder has this many segments or more; 0: 64; UINT64_MAX: never
@@ -82,6 +84,7 @@ struct povundiri_recording;
  *             two at once, and it makes no call of a recording
  *   context   what `random` is given */
 struct povundiri_recording_options {
+    size_t size;
     uint64_t bytes;
     uint64_t fold_at;
     uint64_t apart;
@@ -89,12 +92,14 @@ struct povundiri_recording_options {
     void *context;
 };
 
-/* How a recording began.
+#define POVUNDIRI_RECORDING_OPTIONS {sizeof(struct povundiri_recording_options), 0, 0, 0, NULL, NULL}
+
+/* How a recording began. More may be said at its end by later versions.
  *   number     that of its segment; 0: there is none yet, since none could be made. A sample tries again
  *   adopted    whether that segment was in the folder before, and is continued
  *   refused    what is wrong with the image of the folder's newest segment, so that it is not continued (povundiri_adopt, povundiri_report);
  *              else POVUNDIRI_DONE, also if that segment is in use, full, or of another size or user
- *   fault      the system's (errno.h), if the status is POVUNDIRI_SYSTEM, or if no segment could be made; else 0
+ *   fault      the system's (errno.h), if no segment could be made; else 0
  *   set_aside  the new path of the newest segment, NUMBER.damaged, if its header has a fault; else empty */
 struct povundiri_began {
     uint64_t number;
@@ -104,7 +109,7 @@ struct povundiri_began {
     char set_aside[POVUNDIRI_PATH_BYTES];
 };
 
-/* Why units were not counted.
+/* Why units were not counted. A reason has its number for good; later versions may have more.
  *   TOO_LARGE   the histogram does not fit in a segment of the present size, not even alone
  *   OTHER_SPEC  the present segment has a histogram of that name with another spec: it is continued from another release, or this program
  *               asks for the name with both
@@ -126,9 +131,11 @@ enum povundiri_missed {
     POVUNDIRI_MISSED_FORKED = 4,
     POVUNDIRI_MISSED_ENDED = 5,
     POVUNDIRI_MISSED_NO_MEMORY = 6,
-    POVUNDIRI_MISSED_REMOVED = 7,
-    POVUNDIRI_MISSED_REASONS = 8
+    POVUNDIRI_MISSED_REMOVED = 7
 };
+
+/* The name of a reason, such as "no_space"; null for a number that is none: the reasons are those from 0 to the first such number. */
+const char *povundiri_missed_text(uint32_t reason);
 
 /* ---- Beginning and end ---- */
 
@@ -140,17 +147,20 @@ enum povundiri_missed {
  * its header has no fault. So a restart continues where the process before stopped, unless segments had grown (SIZE, above), and a process
  * that starts while it runs has its own segment.
  *
- * POVUNDIRI_DONE: *recording is not null. This is returned also if no segment can be made, as on a full disk: then began->fault says why,
- * samples are missed, as NO_SPACE, and it is tried again. On any other status *recording is unchanged, and
- * on NULL and NOT_EMPTY *began as well.
+ * POVUNDIRI_DONE: *recording is not null. This is returned also if no segment can be made, as on a full disk: then samples are
+ * missed, as NO_SPACE, it is tried again, and povundiri_recording_began says why. On any other status *recording is unchanged.
  *   POVUNDIRI_NULL (any but the options), POVUNDIRI_NOT_EMPTY (*recording), POVUNDIRI_NO_MEMORY, POVUNDIRI_OPEN_NO_MEMORY
  *   POVUNDIRI_OPEN_BAD_SHAPE   `bytes` of the options is too small or too large for a segment
- *   POVUNDIRI_SYSTEM           began->fault says what: EEXIST: the folder is neither empty nor a recording's (povundiri_folder.h), and nothing
+ *   POVUNDIRI_SYSTEM           *fault says what, and is else 0: EINVAL: the options are not known; EEXIST: the folder is neither empty nor a recording's (povundiri_folder.h), and nothing
  *                              is changed in it; ENOTDIR: it is no folder;
  *                              ENOENT: that which it would be in is not there; ENAMETOOLONG, EACCES, EROFS and others as the calls say
  * Keep: pointers; process. */
 uint32_t povundiri_recording_open(const char *folder, const struct povundiri_recording_options *options,
-                                  struct povundiri_recording **recording, struct povundiri_began *began) POVUNDIRI_CHECKED;
+                                  struct povundiri_recording **recording, int *fault) POVUNDIRI_CHECKED;
+
+/* How it began: until the process ends, and also after the recording has ended. Null for a null.
+ * Keep: process. */
+const struct povundiri_began *povundiri_recording_began(const struct povundiri_recording *recording);
 
 /* Ends it: from now on samples are missed, as ENDED. Texts, sums and folds still work. With a null, or a second time, nothing happens.
  * This thread gives back what it has of the recording. A segment that others recorded into is final, so that a fold takes it, when each of
@@ -201,7 +211,7 @@ void povundiri_recording_leave(struct povundiri_recording *recording);
 /* How many units this process has missed for a reason since it opened the recording, or since it was forked. 0 for a null, and for what is
  * no reason.
  * Keep: process. */
-uint64_t povundiri_recording_missed(const struct povundiri_recording *recording, enum povundiri_missed reason);
+uint64_t povundiri_recording_missed(const struct povundiri_recording *recording, uint32_t reason);
 
 /* ---- What was counted ---- */
 

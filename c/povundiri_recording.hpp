@@ -18,14 +18,20 @@
 #ifndef POVUNDIRI_RECORDING_HPP
 #define POVUNDIRI_RECORDING_HPP
 
+#include <filesystem>
+
 #include "povundiri.hpp"
 #include "povundiri_recording.h"
 
 namespace povundiri {
 
-using RecordingOptions = povundiri_recording_options;
+// What is usual, until a member is set.
+struct RecordingOptions : povundiri_recording_options {
+    RecordingOptions() noexcept : povundiri_recording_options POVUNDIRI_RECORDING_OPTIONS {}
+};
 
-enum class Missed {
+// The name of a reason is povundiri_missed_text of its number.
+enum class Missed : std::uint32_t {
     TooLarge = POVUNDIRI_MISSED_TOO_LARGE,
     OtherSpec = POVUNDIRI_MISSED_OTHER_SPEC,
     NoSpace = POVUNDIRI_MISSED_NO_SPACE,
@@ -62,17 +68,19 @@ private:
 class Recording {
 public:
     Recording() noexcept = default;
-    explicit Recording(const char* folder, const RecordingOptions& options = {}) {
+    explicit Recording(const char* folder, const RecordingOptions& options = RecordingOptions()) {
         const std::error_code fault = try_open(folder, *this, options);
         if (fault) raise(fault, std::string("recording \"").append(folder != nullptr ? folder : "").append("\""));
     }
-    Recording(Recording&& other) noexcept
-        : recording_(std::exchange(other.recording_, nullptr)), began_(std::exchange(other.began_, povundiri_began{})) {}
+    explicit Recording(const std::string& folder, const RecordingOptions& options = RecordingOptions())
+        : Recording(folder.c_str(), options) {}
+    explicit Recording(const std::filesystem::path& folder, const RecordingOptions& options = RecordingOptions())
+        : Recording(folder.c_str(), options) {}
+    Recording(Recording&& other) noexcept : recording_(std::exchange(other.recording_, nullptr)) {}
     Recording& operator=(Recording&& other) noexcept {
         if (this != &other) {
             end();
             recording_ = std::exchange(other.recording_, nullptr);
-            began_ = std::exchange(other.began_, povundiri_began{});
         }
         return *this;
     }
@@ -80,16 +88,28 @@ public:
 
     // Opens one in 'recording', which has to be empty: NotEmpty else, and it is unchanged. If no fault is returned, it holds a recording,
     // also if no segment could be made yet, as on a full disk: then 'began().fault' is not 0.
-    [[nodiscard]] static std::error_code try_open(const char* folder, Recording& recording, const RecordingOptions& options = {}) noexcept {
-        const std::uint32_t status = povundiri_recording_open(folder, &options, &recording.recording_, &recording.began_);
-        if (status == POVUNDIRI_SYSTEM) return {recording.began_.fault, std::generic_category()};
-        return static_cast<Status>(status);
+    [[nodiscard]] static std::error_code try_open(const char* folder, Recording& recording,
+                                                  const RecordingOptions& options = RecordingOptions()) noexcept {
+        int fault = 0;
+        const std::uint32_t status = povundiri_recording_open(folder, &options, &recording.recording_, &fault);
+        return code(status, fault);
+    }
+    [[nodiscard]] static std::error_code try_open(const std::string& folder, Recording& recording,
+                                                  const RecordingOptions& options = RecordingOptions()) noexcept {
+        return try_open(folder.c_str(), recording, options);
+    }
+    [[nodiscard]] static std::error_code try_open(const std::filesystem::path& folder, Recording& recording,
+                                                  const RecordingOptions& options = RecordingOptions()) noexcept {
+        return try_open(folder.c_str(), recording, options);
     }
 
     explicit operator bool() const noexcept { return recording_ != nullptr; }
 
-    // How it began: in which segment, what was set aside, and why there is no segment yet.
-    const povundiri_began& began() const noexcept { return began_; }
+    // How it began: in which segment, what was set aside, and why there is no segment yet. It stays until the process ends. Zeros if it is empty.
+    const povundiri_began& began() const noexcept {
+        static constexpr povundiri_began kNone{};
+        return recording_ != nullptr ? *povundiri_recording_began(recording_) : kNone;
+    }
 
     // Ends it, and leaves this object empty: later samples of its metrics are missed, as Ended. The destructor does so too.
     void end() noexcept { povundiri_recording_end(std::exchange(recording_, nullptr)); }
@@ -123,11 +143,11 @@ public:
 
     // How many units this process has missed: for a reason, and for all.
     std::uint64_t missed(Missed reason) const noexcept {
-        return povundiri_recording_missed(recording_, static_cast<povundiri_missed>(reason));
+        return povundiri_recording_missed(recording_, static_cast<std::uint32_t>(reason));
     }
     std::uint64_t missed() const noexcept {
         std::uint64_t all = 0;
-        for (int reason = 0; reason < POVUNDIRI_MISSED_REASONS; ++reason) all += missed(static_cast<Missed>(reason));
+        for (std::uint32_t reason = 0; povundiri_missed_text(reason) != nullptr; ++reason) all += povundiri_recording_missed(recording_, reason);
         return all;
     }
 
@@ -204,7 +224,6 @@ private:
     }
 
     povundiri_recording* recording_ = nullptr;
-    povundiri_began began_{};
 };
 
 }  // namespace povundiri

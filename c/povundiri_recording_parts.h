@@ -6,6 +6,9 @@
 #include "povundiri_folder_parts.h"
 #include "povundiri_recording.h"
 
+/* How many reasons there are. */
+enum { MISSED_REASONS = POVUNDIRI_MISSED_REMOVED + 1 };
+
 /* Its folder, by a descriptor of the caller's own, after a look at whether the present segment is there. 0, or the system's fault. */
 int povundiri_recording_folder(struct povundiri_recording *recording, struct povundiri_held *held);
 

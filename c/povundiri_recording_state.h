@@ -41,8 +41,9 @@ struct povundiri_recording {
     struct povundiri_recording *next;
     struct povundiri_place folder;
     struct povundiri_recording_options options;
+    struct povundiri_began began;
 
-    uint64_t missed[POVUNDIRI_MISSED_REASONS] __attribute__((aligned(LINES)));
+    uint64_t missed[MISSED_REASONS] __attribute__((aligned(LINES)));
 
     pthread_mutex_t mutex; /* for all that follows */
     enum state state;
@@ -91,7 +92,7 @@ void povundiri_segments_give_back(struct povundiri_recording *recording, struct 
 void povundiri_segments_retire(struct povundiri_recording *recording);
 
 /* The first segment: the newest of the folder, or a new one; or none, and it is tried again. */
-void povundiri_segments_begin_first(struct povundiri_recording *recording, struct povundiri_began *began);
+void povundiri_segments_begin_first(struct povundiri_recording *recording);
 
 /* Begins the next segment. The system's fault, or 0; EAGAIN: it was refused before, and is not tried yet. */
 int povundiri_segments_begin_next(struct povundiri_recording *recording);

@@ -242,7 +242,8 @@ void povundiri_segments_prepare(struct povundiri_recording *recording) {
 
 /* ---- Beginning ---- */
 
-void povundiri_segments_begin_first(struct povundiri_recording *recording, struct povundiri_began *began) {
+void povundiri_segments_begin_first(struct povundiri_recording *recording) {
+    struct povundiri_began *const began = &recording->began;
     struct povundiri_shape shape = recording->shape;
     struct povundiri_found found;
     shape.id = random_of(recording);

@@ -64,7 +64,7 @@ void publish(povundiri::Recording& recording, const std::string& path) {
 // Opens the recording, and says what it found. Where there can be none, it is empty, and its metrics count nothing.
 povundiri::Recording open_recording(const char* folder) {
     povundiri::Recording recording;
-    povundiri::RecordingOptions options{};
+    povundiri::RecordingOptions options;
     options.bytes = 524'288;
     const std::error_code fault = povundiri::Recording::try_open(folder, recording, options);
     const povundiri_began& began = recording.began();

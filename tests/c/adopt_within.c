@@ -27,7 +27,7 @@ int main(int argc, char **argv) {
     length = fread(words, sizeof *words, MOST_WORDS, file);
     fclose(file);
     show(povundiri_adopt(words, length, 0, &segment));
-    if (segment.full && povundiri_drop(&segment) != POVUNDIRI_DONE) return 3;
+    if (segment.held && povundiri_drop(&segment) != POVUNDIRI_DONE) return 3;
     show(povundiri_report_bounded(words, length, NULL, 0, NULL, 0));
     free(words);
     return kept == 0 && blocks == 0 ? 0 : 1;

@@ -51,8 +51,8 @@ Answers joined_together(Handle& first, Handle& one, Handle& second, Handle& othe
 void comes_home(std::uint32_t answer, Handle& recorder, Handle& own) {
     const bool met = answer == POVUNDIRI_DONE || answer == POVUNDIRI_ELSEWHERE;
     HOLDS(met || answer == POVUNDIRI_OTHER_SEGMENT || answer == POVUNDIRI_BUSY);
-    HOLDS(met != recorder.it.full);
-    if (recorder.it.full) DONE(povundiri_join(&own.it, &recorder.it));
+    HOLDS(met != recorder.it.held);
+    if (recorder.it.held) DONE(povundiri_join(&own.it, &recorder.it));
 }
 
 void is_whole(Handle& segment) {

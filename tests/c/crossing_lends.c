@@ -49,7 +49,7 @@ static bool is_empty(const struct pass *pass) {
 static void answered(const struct pass *pass) {
     HOLDS(pass->status == POVUNDIRI_DONE || pass->status == POVUNDIRI_OTHER_SEGMENT || pass->status == POVUNDIRI_ELSEWHERE ||
           pass->status == POVUNDIRI_BUSY);
-    HOLDS(pass->recorder->full != is_empty(pass));
+    HOLDS(pass->recorder->held != is_empty(pass));
 }
 
 /* Whether the call met the other one: alone, it is done or returns that the recorder is of another segment. */
@@ -60,7 +60,7 @@ static bool met(const struct pass *pass) {
 /* The recorder in a handle, if there is one, is joined to its own segment. */
 static void come_home(struct povundiri_handle *recorder, struct povundiri_handle *here, struct povundiri_handle *there) {
     uint32_t status;
-    if (!recorder->full) return;
+    if (!recorder->held) return;
     status = povundiri_join(here, recorder);
     if (status == POVUNDIRI_OTHER_SEGMENT) status = povundiri_join(there, recorder);
     HOLDS(status == POVUNDIRI_DONE);

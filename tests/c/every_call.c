@@ -30,7 +30,7 @@ static void made(struct povundiri_handle *segment, struct povundiri_handle *reco
 static void let_go(struct povundiri_handle *segment, struct povundiri_handle *recorder) {
     DONE(povundiri_drop(recorder));
     DONE(povundiri_drop(segment));
-    HOLDS(!segment->full && !recorder->full);
+    HOLDS(!segment->held && !recorder->held);
 }
 
 static void nulls_of_segments(void) {
@@ -177,9 +177,9 @@ static void handles_of_sums(void) {
     ANSWERS(OTHER_KIND, povundiri_join(&segment, &sums));
     ANSWERS(OTHER_KIND, povundiri_lend(&segment, &sums, 1));
     ANSWERS(OTHER_KIND, povundiri_units(&sums, &number));
-    HOLDS(sums.full);
+    HOLDS(sums.held);
     DONE(povundiri_sums_drop(&sums));
-    HOLDS(!sums.full);
+    HOLDS(!sums.held);
     ANSWERS(EMPTY, povundiri_sums_drop(&sums));
     DONE(povundiri_sums_new(&sums));
     DONE(povundiri_drop(&sums));
@@ -242,7 +242,7 @@ static void shapes(void) {
     shape.cursors = 9;
     ANSWERS(OPEN_BAD_CURSORS, povundiri_create(shape, &out));
     shape.cursors = 8;
-    HOLDS(!out.full);
+    HOLDS(!out.held);
     DONE(povundiri_create(shape, &out));
     DONE(povundiri_drop(&out));
 }
@@ -269,7 +269,7 @@ static void bad_rooms(void) {
     bad.bytes = room.bytes - 16;
     ANSWERS(OPEN_NO_MEMORY, povundiri_create_in(bad, shape_of(WORDS, PAGE), &segment));
     ANSWERS(OPEN_BAD_SHAPE, povundiri_create_in(room, shape_of(WORDS, 65), &segment));
-    HOLDS(!segment.full);
+    HOLDS(!segment.held);
     free(room.at);
 }
 

@@ -60,9 +60,9 @@ static void image_of(uint64_t *words, uint64_t version) {
     DONE(povundiri_add(&recorder, hist, -3, 2));
     DONE(povundiri_join(&segment, &recorder));
     ANSWERS(SHORT, povundiri_close(&segment, words, WORDS - 1, &needed));
-    HOLDS(needed == WORDS && segment.full);
+    HOLDS(needed == WORDS && segment.held);
     DONE(povundiri_close(&segment, words, WORDS, &needed));
-    HOLDS(needed == WORDS && !segment.full);
+    HOLDS(needed == WORDS && !segment.held);
 }
 
 static const char EXPECTED[] = "b,boolean,1,2,5\nb,total,5,5\ns,sparse,-3,-2,2\ns,total,2,-6\n";

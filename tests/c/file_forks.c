@@ -39,7 +39,7 @@ static void close_gate(struct gate *gate) {
     close(gate->ends[1]);
 }
 
-static const struct povundiri_file_options KEPT = {POVUNDIRI_FILE_KEEP_ON_FORK, 0};
+static const struct povundiri_file_options KEPT = {sizeof KEPT, POVUNDIRI_FILE_KEEP_ON_FORK, 0};
 
 /* ---- A child without the file ---- */
 

@@ -331,7 +331,7 @@ static void long_names(void) {
 
 /* With a link, the file to which it leads is set aside, and the link leads to the new one. */
 static void behind_a_link(void) {
-    const struct povundiri_file_options follow = {POVUNDIRI_FILE_FOLLOW, 0};
+    const struct povundiri_file_options follow = {sizeof follow, POVUNDIRI_FILE_FOLLOW, 0};
     struct povundiri_file file = {0};
     struct povundiri_handle segment = {0};
     struct povundiri_opened opened;
@@ -352,7 +352,7 @@ static void behind_a_link(void) {
 
 /* Calls that cannot be: no pointer, no policy, no valid shape, options that are none, or handles that are full. */
 static void wrong_calls(const char *path, struct povundiri_shape invalid) {
-    const struct povundiri_file_options wrong = {1 << 20, 0};
+    const struct povundiri_file_options wrong = {0, 1 << 20, 0}, short_ones = {sizeof(size_t), 0, 0};
     const struct povundiri_shape shape = shape_of(WORDS);
     struct povundiri_shape many = shape;
     struct povundiri_file file = {0}, other = {0};
@@ -367,7 +367,8 @@ static void wrong_calls(const char *path, struct povundiri_shape invalid) {
     ANSWERS(OPEN_BAD_SHAPE, povundiri_open(path, invalid, POVUNDIRI_ADOPT_OR_SET_ASIDE, NULL, &file, &segment, &opened));
     ANSWERS(OPEN_BAD_CURSORS, povundiri_open(path, many, POVUNDIRI_ADOPT_OR_SET_ASIDE, NULL, &file, &segment, &opened));
     ANSWERS(SYSTEM, povundiri_open(path, shape, POVUNDIRI_ADOPT_OR_SET_ASIDE, &wrong, &file, &segment, &opened));
-    HOLDS(opened.fault == EINVAL && !segment.full && !povundiri_file_is_open(&file));
+    ANSWERS(SYSTEM, povundiri_open(path, shape, POVUNDIRI_ADOPT_OR_SET_ASIDE, &short_ones, &file, &segment, &opened));
+    HOLDS(opened.fault == EINVAL && !segment.held && !povundiri_file_is_open(&file));
     DONE(povundiri_create(shape, &heap));
     ANSWERS(NOT_EMPTY, povundiri_open(path, shape, POVUNDIRI_ADOPT_OR_SET_ASIDE, NULL, &file, &heap, &opened));
     DONE(povundiri_drop(&heap));
@@ -579,7 +580,7 @@ static int refuse_each_allocation(enum start start) {
         HOLDS(opened.set_aside[0] == 0 || start == IS_DAMAGED || start == IS_SPENT);
         if (status != POVUNDIRI_DONE) {
             HOLDS(is_no_memory(status, opened.fault) && is_as_before(&opened, before, length));
-            HOLDS(!segment.full && !povundiri_file_is_open(&file));
+            HOLDS(!segment.held && !povundiri_file_is_open(&file));
             refused += 1;
             next_start(start, before, length);
         } else {

@@ -146,7 +146,7 @@ static UNUSED uint32_t open_and_count(const char *name, enum povundiri_policy po
     struct povundiri_file file = {0};
     struct povundiri_handle segment = {0};
     const uint32_t status = povundiri_open(path_of(name), shape_of(WORDS), policy, NULL, &file, &segment, opened);
-    HOLDS((status == POVUNDIRI_DONE) == segment.full && segment.full == povundiri_file_is_open(&file));
+    HOLDS((status == POVUNDIRI_DONE) == segment.held && segment.held == povundiri_file_is_open(&file));
     if (status != POVUNDIRI_DONE) return status;
     if (count > 0) count_units(&segment, count);
     DONE(povundiri_drop(&segment));

@@ -248,7 +248,7 @@ void daemon_that_opens() {
     char good = 0;
     HOLDS(read(ends[0], &good, 1) == 1 && good == 'y');
     close(ends[0]);
-    povundiri_file_options kept{};
+    povundiri::FileOptions kept;
     kept.flags = POVUNDIRI_FILE_KEEP_ON_FORK;
     Opened opened;
     HOLDS(Segment::try_open(path_of("kept.seg").c_str(), kShape, Policy::AdoptOrFail, opened, kept) == std::errc::invalid_argument);

@@ -217,7 +217,7 @@ static void refused_as_it_was(void) {
 
 /* How the file is made, and whose may be opened. */
 static int with(const char *name, unsigned flags, mode_t mode) {
-    const struct povundiri_file_options options = {flags, mode};
+    const struct povundiri_file_options options = {sizeof options, flags, mode};
     struct povundiri_file file = {0};
     const int fault = povundiri_file_open(&file, path_of(name), 8224, &options);
     HOLDS(povundiri_file_is_open(&file) == (fault == 0));
@@ -274,7 +274,7 @@ static void links(void) {
 
 /* A file that has to be there: none is made, even if the last one was set aside. */
 static void existing(void) {
-    static const struct povundiri_file_options options = {POVUNDIRI_FILE_EXISTING, 0};
+    static const struct povundiri_file_options options = {sizeof options, POVUNDIRI_FILE_EXISTING, 0};
     const uint64_t wrong = 16; /* the free pointer, before the record */
     struct povundiri_file file = {0};
     struct povundiri_handle segment = {0};

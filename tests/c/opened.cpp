@@ -135,7 +135,7 @@ void faults() {
     // A file that its group may write is trusted only if the options say so.
     HOLDS(chmod(path_of("goes_on").c_str(), 0660) == 0);
     HOLDS(open("goes_on", Policy::AdoptOrSetAside, opened) == std::errc::operation_not_permitted);
-    povundiri_file_options options{};
+    povundiri::FileOptions options;
     options.flags = POVUNDIRI_FILE_GROUP_WRITES;
     HOLDS(!Segment::try_open(path_of("goes_on").c_str(), kShape, Policy::AdoptOrFail, opened, options) && bool(opened.segment));
 }

@@ -9,8 +9,12 @@
 #include <cerrno>
 #include <chrono>
 #include <csignal>
+#include <cstdio>
 #include <cstdlib>
+#include <cstring>
 #include <ctime>
+#include <filesystem>
+#include <new>
 #include <thread>
 #include <vector>
 
@@ -67,12 +71,12 @@ void metrics() {
     std::size_t one = 9, other = 9, scale = 9;
     const povundiri_spec boolean = {POVUNDIRI_BOOLEAN, 1, 2, 3}, again = {POVUNDIRI_BOOLEAN, 0, 0, 0};
     povundiri_recording* own = nullptr;
-    povundiri_began began;
-    ANSWERS(NULL, povundiri_recording_open(nullptr, nullptr, &own, &began));
-    HOLDS(povundiri_recording_open(folder("metrics").c_str(), nullptr, &own, &began) == 0 && began.number == 2);
-    ANSWERS(NOT_EMPTY, povundiri_recording_open(folder("metrics").c_str(), nullptr, &own, &began));
-    ANSWERS(NULL, povundiri_recording_open(nullptr, nullptr, &own, &began));
-    HOLDS(began.number == 2);
+    int fault = 0;
+    ANSWERS(NULL, povundiri_recording_open(nullptr, nullptr, &own, &fault));
+    HOLDS(povundiri_recording_open(folder("metrics").c_str(), nullptr, &own, &fault) == 0 && povundiri_recording_began(own)->number == 2);
+    ANSWERS(NOT_EMPTY, povundiri_recording_open(folder("metrics").c_str(), nullptr, &own, &fault));
+    ANSWERS(NULL, povundiri_recording_open(nullptr, nullptr, &own, &fault));
+    HOLDS(povundiri_recording_began(own)->number == 2);
     HOLDS(Recording::try_open(folder("metrics").c_str(), recording) == Status::NotEmpty && recording.began().number == 1);
     HOLDS(povundiri_recording_hist(own, "b", 1, boolean, nullptr, 0, &one) == 0);
     HOLDS(povundiri_recording_hist(own, "b and more", 1, again, nullptr, 0, &other) == 0);
@@ -93,6 +97,75 @@ void metrics() {
     HOLDS(!recording.show().empty());
 }
 
+// A folder is named in each way that C++ has, and none of them is ambiguous.
+void named() {
+    static_assert(sizeof(Recording) == sizeof(void*));
+    const std::string text = folder("ways");
+    const std::filesystem::path path = text;
+    char letters[4096];
+    HOLDS(std::snprintf(letters, sizeof letters, "%s", text.c_str()) > 0);
+    RecordingOptions options;
+    options.bytes = 16'384;
+    for (int turn = 0; turn < 2; ++turn) {
+        const Recording ways[] = {Recording(text),          Recording(path),          Recording(letters),          Recording(text.c_str()),
+                                  Recording(text, options), Recording(path, options), Recording(letters, options), Recording(path / ".")};
+        for (const Recording& each : ways) HOLDS(each && each.began().number > 0);
+    }
+    Recording one, two, three;
+    HOLDS(!Recording::try_open(text, one) && !Recording::try_open(path, two, options) && !Recording::try_open(letters, three));
+    HOLDS(one.began().number > 0 && Recording().began().number == 0 && povundiri_recording_began(nullptr) == nullptr);
+    Recording moved = std::move(one);
+    HOLDS(moved.began().number > 0 && one.began().number == 0);
+}
+
+// Options are what is usual wherever they are made, and those that this library does not know are refused.
+void options() {
+    alignas(RecordingOptions) unsigned char place[sizeof(RecordingOptions)], other[sizeof(povundiri::FileOptions)];
+    std::memset(place, 0x5A, sizeof place);
+    std::memset(other, 0x5A, sizeof other);
+    const auto* const usual = new (place) RecordingOptions;
+    const auto* const file = new (other) povundiri::FileOptions;
+    HOLDS(usual->size == sizeof *usual && usual->bytes == 0 && usual->fold_at == 0 && usual->apart == 0);
+    HOLDS(usual->random == nullptr && usual->context == nullptr);
+    HOLDS(file->size == sizeof *file && file->flags == 0 && file->mode == 0);
+    struct {
+        povundiri_recording_options known = POVUNDIRI_RECORDING_OPTIONS;
+        std::uint64_t later = 0;
+    } larger;
+    const auto opened = [&](const char* name) {
+        povundiri_recording* own = nullptr;
+        int fault = 0;
+        const std::uint32_t status = povundiri_recording_open(folder(name).c_str(), &larger.known, &own, &fault);
+        povundiri_recording_end(own);
+        HOLDS((status == POVUNDIRI_SYSTEM) == (fault == EINVAL) && (status == POVUNDIRI_DONE) == (own != nullptr));
+        return status == POVUNDIRI_DONE;
+    };
+    HOLDS(opened("options"));
+    larger.known.size = 0;
+    HOLDS(opened("options"));
+    larger.known.size = sizeof larger.known - 1;
+    HOLDS(!opened("refused-options"));
+    larger.known.size = sizeof larger;
+    HOLDS(opened("options"));
+    larger.later = 1;
+    HOLDS(!opened("refused-options") && bytes_of(folder("refused-options")) == -1);
+}
+
+// Reasons keep their numbers, and have names; after the last there is none.
+void reasons() {
+    const char* const names[] = {"too_large", "other_spec", "no_space", "rolling", "forked", "ended", "no_memory", "removed"};
+    std::uint32_t count = 0;
+    for (const char* name : names) HOLDS(std::strcmp(povundiri_missed_text(count++), name) == 0);
+    HOLDS(povundiri_missed_text(count) == nullptr && povundiri_missed_text(UINT32_MAX) == nullptr);
+    static_assert(POVUNDIRI_MISSED_TOO_LARGE == 0 && POVUNDIRI_MISSED_OTHER_SPEC == 1 && POVUNDIRI_MISSED_NO_SPACE == 2);
+    static_assert(POVUNDIRI_MISSED_ROLLING == 3 && POVUNDIRI_MISSED_FORKED == 4 && POVUNDIRI_MISSED_ENDED == 5);
+    static_assert(POVUNDIRI_MISSED_NO_MEMORY == 6 && POVUNDIRI_MISSED_REMOVED == 7);
+    Recording recording;
+    HOLDS(opens(folder("reasons"), recording) && povundiri_recording_missed(nullptr, 0) == 0);
+    const std::string text = recording.prometheus();
+    for (const char* name : names) HOLDS(text.find(std::string("_missed_total{reason=\"") + name + "\"} 0\n") != std::string::npos);
+}
+
 // A folder that is not a recording's is not touched.
 void folders() {
     Recording recording;
@@ -102,14 +175,14 @@ void folders() {
     HOLDS(Recording::try_open(other.c_str(), recording) == std::errc::file_exists);
     HOLDS(Recording::try_open(file.c_str(), recording) == std::errc::not_a_directory);
     HOLDS(Recording::try_open(folder("none/below").c_str(), recording) == std::errc::no_such_file_or_directory);
-    RecordingOptions options{};
+    RecordingOptions options;
     options.bytes = 8;
     HOLDS(Recording::try_open(folder("shape").c_str(), recording, options) == Status::OpenBadShape);
     HOLDS(!recording);
     povundiri_handle sums = {};
     int fault = 0;
     ANSWERS(SYSTEM, povundiri_folder_sums(other.c_str(), &sums, nullptr, &fault));
-    HOLDS(fault == EINVAL && !sums.full);
+    HOLDS(fault == EINVAL && !sums.held);
     ANSWERS(SYSTEM, povundiri_folder_fold(other.c_str(), nullptr, &fault));
     HOLDS(fault == EINVAL);
     HOLDS(std::remove(file.c_str()) == 0 && opens(other, recording));
@@ -175,7 +248,7 @@ void growth_of_segments() {
     constexpr int kThreads = 3, kMetrics = 20, kSamples = 5000;
     const std::string path = folder("growth");
     Clock clock;
-    RecordingOptions options{};
+    RecordingOptions options;
     options.bytes = 16'384;
     Recording recording;
     HOLDS(opens(path, recording, options));
@@ -270,10 +343,10 @@ void ended() {
     HOLDS(opens(folder("ended"), recording));
     const Metric metric = metric_of(recording, "b");
     povundiri_recording* own = nullptr;
-    povundiri_began began;
+    int fault = 0;
     std::size_t number = 9;
     HOLDS(metric.add(1));
-    HOLDS(povundiri_recording_open(folder("ended").c_str(), nullptr, &own, &began) == 0 && began.number == 2);
+    HOLDS(povundiri_recording_open(folder("ended").c_str(), nullptr, &own, &fault) == 0 && povundiri_recording_began(own)->number == 2);
     HOLDS(povundiri_recording_hist(own, "b", 1, {POVUNDIRI_BOOLEAN, 0, 0, 0}, nullptr, 0, &number) == 0);
     HOLDS(povundiri_recording_add(own, number, 1, 2));
     povundiri_recording_end(own);
@@ -339,9 +412,9 @@ void count_by_turns(Recording& one, Recording& other) {
 void numbers_of_another() {
     Recording third;
     povundiri_recording* own = nullptr;
-    povundiri_began began;
+    int fault = 0;
     std::size_t number = 9;
-    HOLDS(povundiri_recording_open(folder("own").c_str(), nullptr, &own, &began) == 0);
+    HOLDS(povundiri_recording_open(folder("own").c_str(), nullptr, &own, &fault) == 0);
     HOLDS(povundiri_recording_hist(own, "b", 1, {POVUNDIRI_BOOLEAN, 0, 0, 0}, nullptr, 0, &number) == 0 && number == 0);
     HOLDS(opens(folder("third"), third));
     Metric last;
@@ -739,6 +812,9 @@ int run(bool only_threads) {
     failed += group("segments of the largest size", largest);
     if (only_threads) return failed;
     failed += group("metrics", metrics);
+    failed += group("names of a folder", named);
+    failed += group("options", options);
+    failed += group("reasons", reasons);
     failed += group("folders", folders);
     failed += group("again", again);
     failed += group("a segment that is not continued", not_continued);

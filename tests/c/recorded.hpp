@@ -26,7 +26,7 @@ inline std::string folder(const char* name) { return home + "/" + name; }
 
 // Options for segments that are so small that a few histograms fill one, and that may follow one another at once.
 inline RecordingOptions small() {
-    RecordingOptions options{};
+    RecordingOptions options;
     options.bytes = 16'384;
     options.apart = 1;
     return options;
@@ -44,7 +44,7 @@ inline long bytes_of(const std::string& path) {
     return lstat(path.c_str(), &about) == 0 ? static_cast<long>(about.st_size) : -1;
 }
 
-inline bool opens(const std::string& path, Recording& recording, const RecordingOptions& options = {}) {
+inline bool opens(const std::string& path, Recording& recording, const RecordingOptions& options = RecordingOptions()) {
     return !Recording::try_open(path.c_str(), recording, options);
 }
 

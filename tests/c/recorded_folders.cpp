@@ -202,7 +202,7 @@ std::size_t left_by_kill(const std::string& path) {
 void swept() {
     const std::vector<std::pair<Unnamed, const char*>> ways = {
         {Unnamed::Named, "unnamed"}, {Unnamed::NotMade, "not_made"}, {Unnamed::NotNamed, "not_named"}};
-    RecordingOptions options{};
+    RecordingOptions options;
     options.apart = 1;
     for (const auto& [way, name] : ways) {
         const std::string path = folder(name);

@@ -140,7 +140,7 @@ void unmarked() {
     make_file(path + "/notes", "mine");
     povundiri_handle sums = {};
     ANSWERS(SYSTEM, povundiri_folder_sums(path.c_str(), &sums, nullptr, &fault));
-    HOLDS(fault == EINVAL && !sums.full && Recording::try_open(path.c_str(), recording) == std::errc::file_exists && !is_marked(path));
+    HOLDS(fault == EINVAL && !sums.held && Recording::try_open(path.c_str(), recording) == std::errc::file_exists && !is_marked(path));
 }
 
 // A folder that has none of a recording's files stays another one.
@@ -242,9 +242,9 @@ void ended() {
     const auto descriptors = [] { return std::distance(files::directory_iterator("/proc/self/fd"), files::directory_iterator()); };
     const std::ptrdiff_t before = descriptors();
     povundiri_recording* own = nullptr;
-    povundiri_began began;
+    int fault = 0;
     std::size_t metric = 0;
-    HOLDS(povundiri_recording_open(path.c_str(), nullptr, &own, &began) == 0 && descriptors() > before);
+    HOLDS(povundiri_recording_open(path.c_str(), nullptr, &own, &fault) == 0 && descriptors() > before);
     HOLDS(povundiri_recording_hist(own, "b", 1, {POVUNDIRI_BOOLEAN, 0, 0, 0}, nullptr, 0, &metric) == 0);
     HOLDS(povundiri_recording_add(own, metric, 1, 7));
     const auto reports = [&] {

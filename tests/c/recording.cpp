@@ -159,7 +159,7 @@ std::uint64_t number(const char* word) { return std::strtoull(word, nullptr, 10)
 
 void run(const Words& words) {
     Tally& tally = tally_of(words.tally);
-    povundiri::RecordingOptions options{};
+    povundiri::RecordingOptions options;
     options.bytes = words.bytes;
     options.apart = words.apart;
     povundiri::Recording recording;
@@ -191,7 +191,7 @@ void run(const Words& words) {
     ends = true;
     for (std::thread& thread : threads) thread.join();
     std::printf("segment %llu, read %llu, missed", static_cast<unsigned long long>(recording.began().number), readings.load());
-    for (int reason = 0; reason < POVUNDIRI_MISSED_REASONS; ++reason) {
+    for (std::uint32_t reason = 0; povundiri_missed_text(reason) != nullptr; ++reason) {
         std::printf(" %llu", static_cast<unsigned long long>(recording.missed(static_cast<povundiri::Missed>(reason))));
     }
     std::puts("");

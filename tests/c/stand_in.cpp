@@ -35,7 +35,7 @@ void release(Words* words) {
 Held* held(povundiri_handle* handle) {
     const povundiri_handle was = *handle;
     *handle = was;
-    return was.full ? static_cast<Held*>(was.at) : nullptr;
+    return was.held ? static_cast<Held*>(was.at) : nullptr;
 }
 
 std::uint32_t fill(povundiri_handle* out, const Held& of) {
@@ -67,7 +67,7 @@ std::uint32_t counted(povundiri_handle* recorder, std::size_t hist, povundiri_co
 }
 
 // What a call of a sum returns.
-std::uint32_t no_sums(const povundiri_handle* handle) { return handle->full ? POVUNDIRI_OTHER_KIND : POVUNDIRI_EMPTY; }
+std::uint32_t no_sums(const povundiri_handle* handle) { return handle->held ? POVUNDIRI_OTHER_KIND : POVUNDIRI_EMPTY; }
 
 }  // namespace
 

@@ -78,7 +78,7 @@ MISTAKES = (
 PROGRAMS = {
     ".c": "#include <povundiri.h>\nint main(void) {\n"
     "    struct povundiri_handle segment = {0}, recorder = {0};\n    %s\n"
-    "    return segment.full || recorder.full;\n}\n",
+    "    return segment.held || recorder.held;\n}\n",
     ".cpp": "#include <povundiri.hpp>\nint main() {\n"
     "    povundiri::Segment segment;\n    povundiri::Recorder recorder;\n    povundiri::Hist hist;\n    %s\n"
     "    return segment || recorder || recorder.add(hist, 1);\n}\n",

@@ -48,9 +48,10 @@ install_from() {
         old=$(cat "$2/$LIST")
     fi
     mkdir -p "$2/$(dirname $LIST)"
-    trap 'rm -f "$2/$LIST.new"' EXIT
-    { printf '%s\n' "$old"; cat "$1/$LIST"; } | sed '/^$/d' | LC_ALL=C sort -u > "$2/$LIST.new"
-    mv "$2/$LIST.new" "$2/$LIST"
+    unfinished=$2/$LIST.new
+    trap 'rm -f "$unfinished"' EXIT
+    { printf '%s\n' "$old"; cat "$1/$LIST"; } | sed '/^$/d' | LC_ALL=C sort -u > "$unfinished"
+    mv "$unfinished" "$2/$LIST"
     while read -r file; do
         [ "$file" = "$LIST" ] || put "$1/$file" "$2/$file"
     done < "$1/$LIST"

@@ -24,8 +24,8 @@ PROGRAMS = ("persist_report", "stepped")
 SECTION = ".povundiri_built"
 # The newest glibc that anything needs.
 NEWEST_GLIBC = (2, 34)
-# The folders of commands of every system; `rt` is in none of them.
-BARE_PATH = "/usr/local/bin:/usr/bin:/bin"
+# The folders of commands of every system.
+BARE_PATH = "/usr/bin:/bin"
 TOOLS = ("gcc", "g++", "make", "pkg-config", "objcopy", "readelf", "nm", "strip")
 MOST_SECONDS = 300
 

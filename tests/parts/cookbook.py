@@ -1,9 +1,9 @@
 """The tasks of docs/COOKBOOK.md: each command there is run, and prints what is below it. And the example of README.md.
 
 A block of the page is code, and the text before it names the file that has it, or commands, each after a `$`. They run
-one after the other in a new folder, which has the examples. What they print, on both streams, is compared line by line;
-`[..]` stands for any lines. Python finds `python/povundiri`. If there is no `sqlite3`, the commands that need it are left
-out, and a line says so.
+one after the other in a new folder, which has the examples; Python finds `python/povundiri`. What they print, on both
+streams, is compared line by line; `[..]` stands for any lines. If there is no `sqlite3`, the commands that need it are
+left out, and a line says so.
 
 The command of README.md that shows an example prints the lines below it, among others. Which part runs each other
 command of that page, tests/support/readme.py says.

@@ -11,8 +11,8 @@ from typing import BinaryIO
 from ._faults import BadImage, Changed, OldVersion, fault_at
 from ._images import (
     BUCKETS, COUNT, COUNTS, FREE, HEADER, ID, IN_USE, LEAST_BLOCK, LEAST_HISTOGRAM, LEAST_SAMPLE, MAPPED_FRONT, MARK,
-    NEXT, PAYLOAD, QUEUE, REDUNDANT, SINGLE, SINGLE_MARK, SUM, SUM_MARK, TAIL, TYPE, TYPE_HISTOGRAM, TYPE_SAMPLE,
-    VERSION, Path, check_length, header_fault, image_in, in_file_order, reading_of,
+    MOST_MAPPED_BYTES, NEXT, PAYLOAD, QUEUE, REDUNDANT, SINGLE, SINGLE_MARK, SUM, SUM_MARK, TAIL, TYPE, TYPE_HISTOGRAM,
+    TYPE_SAMPLE, VERSION, Path, check_length, header_fault, image_in, in_file_order, reading_of,
 )
 from ._readings import MOST_BUCKETS, Reading
 
@@ -26,7 +26,7 @@ def look(path: Path) -> Reading:
     before the next one begins. Python promises neither, since it has no atomic loads. They hold in CPython on x86-64,
     where the items of a memoryview of a mapped file, cast to `Q`, are loaded one after the other, each by one aligned
     move of 8 bytes. On another machine or interpreter a look may lack counts, or have some too many. If somebody cuts
-    the file while it is copied, the system may end this process (SIGBUS); recordings never cut a segment in use.
+    the file while a copy is taken, the system ends this process (SIGBUS); recordings never cut a segment in use.
 
     `BadImage` if there is no segment, or, with `BadSize`, if the length of the file changes; `OldVersion`, `Changed`;
     `OSError`.
@@ -40,7 +40,8 @@ def look(path: Path) -> Reading:
 def copies_of(file: BinaryIO) -> Iterator[array[int]]:
     """Yields three copies of the image in a file, each taken when it is asked for."""
     length = os.fstat(file.fileno()).st_size
-    check_length(os.pread(file.fileno(), len(MAPPED_FRONT), 0), length)
+    # It is read once before: where a device fails, that is an OSError here, and would be a signal later.
+    check_length(file.read(MOST_MAPPED_BYTES)[: len(MAPPED_FRONT)], length)
     if length == 0:
         raise BadImage("TooShort")
     with mmap.mmap(file.fileno(), length, access=mmap.ACCESS_READ) as mapped, memoryview(mapped) as view:

@@ -1,8 +1,9 @@
 """The tasks of docs/COOKBOOK.md: each command there is run, and prints what is below it. And the example of README.md.
 
 A block of the page is code, and the text before it names the file that has it, or commands, each after a `$`. They run
-one after the other in a new folder, which has the examples. What they print, on both streams, is compared line by line;
-`[..]` stands for any lines. If there is no `sqlite3`, the commands that need it are left out, and a line says so.
+one after the other in a new folder, which has the examples; Python finds `python/povundiri`. What they print, on both
+streams, is compared line by line; `[..]` stands for any lines. If there is no `sqlite3`, the commands that need it are
+left out, and a line says so.
 
 The command of README.md that shows an example prints the lines below it, among others. Which part runs each other
 command of that page, tests/support/readme.py says.
@@ -99,6 +100,7 @@ def wrong_in_readme(folder: pathlib.Path, setting: Mapping[str, str]) -> str | N
 def cases(program: pathlib.Path, _options: argparse.Namespace) -> Iterator[Case]:
     folders = [str(path.parent) for path in (program, built(STEPPED))]
     setting = {**os.environ, "PATH": os.pathsep.join([*folders, os.environ["PATH"]]), "LC_ALL": "C.UTF-8"}
+    setting.update(PYTHONPATH=str(ROOT / "python"), PYTHONDONTWRITEBYTECODE="1")
     has_engine = shutil.which(ENGINE) is not None
     if not has_engine:
         print(f"cookbook: no {ENGINE} here, so what asks for it was left out")

@@ -44,7 +44,18 @@ MOST_TIMES = 16
 # A segment of the greatest size has so many records of 16 words, and is read within so many seconds of this process.
 MOST_HISTOGRAMS, MOST_SECONDS = 65_535, 20
 # How long a program is looked at, and with what a folder's segments are filled.
-LOOKS_A_RUN, RUNS, READINGS = 60, 3, 60
+LOOKS_A_RUN, READINGS_A_RUN, RUNS = 60, 4, 3
+# How many words of a file another process stores, and how many copies of them are taken amid that, in how many seconds.
+TORN_WORDS, TORN_ENOUGH, TORN_SECONDS = 2048, 1500, 60
+STORING = f"""
+import mmap, sys
+with open(sys.argv[1], "r+b") as file, mmap.mmap(file.fileno(), 0) as mapped:
+    words = memoryview(mapped).cast("Q")
+    while True:
+        for word in (2**64 - 1, 0):
+            for at in range({TORN_WORDS}):
+                words[at] = word
+"""
 VERSION = 2
 # Totals with a name of UTF-8 and one of another byte, in the order of the bytes, which is none of letters.
 OTHER_NAMES = "totals,1\nimages,1,0,0,0,0\nhist,\U0001f600,1,0,0,0,0,sparse\nhist,\udcff,1,0,0,0,0,sparse\nend,2\n"
@@ -583,6 +594,31 @@ def sums_beside(package: Package, program: pathlib.Path, top: pathlib.Path, seed
 # ---- beside programs that record
 
 
+@contextlib.contextmanager
+def stored_into(path: pathlib.Path) -> Iterator[None]:
+    """While a process stores all zeros and all ones by turns into each word of a file that is made."""
+    path.write_bytes(bytes(8 * TORN_WORDS))
+    with subprocess.Popen([sys.executable, "-c", STORING, str(path)]) as storing:
+        try:
+            yield
+        finally:
+            storing.kill()
+
+
+def torn(package: Package, top: pathlib.Path) -> Iterator[Case]:
+    """Copies of words that another process stores: no word has a part of one store and a part of another."""
+    path, end, amid, others, count = top / "torn", time.monotonic() + TORN_SECONDS, 0, 0, 0
+    with stored_into(path):
+        while time.monotonic() < end and amid < TORN_ENOUGH:
+            with open(path, "rb") as file:
+                for copy in package._looks.copies_of(file):
+                    zeros, ones = copy.count(0), copy.count(2**64 - 1)
+                    others, amid, count = others + TORN_WORDS - zeros - ones, amid + (zeros > 0 < ones), count + 1
+    print(f"python: {count} copies of {TORN_WORDS} words, {amid} amid stores", flush=True)
+    yield "words that are torn", f"{others}, in {count} copies" if others else None
+    yield "copies amid stores", None if amid else "none"
+
+
 def units_in(reading: Package) -> bounds.Units:
     """The units of each bucket that has some."""
     return collections.Counter({(name, low): units for name, _, low, _, units in reading.rows()})
@@ -637,32 +673,48 @@ def looked_at(package: Package, recording: pathlib.Path, top: pathlib.Path, seed
     yield "looks amid a call", None if watched.amid and sum(watched.last.values()) else "none"
 
 
-def wrong_beside(package: Package, runs: recordings.Folder, counts: collections.Counter[str]) -> str | None:
-    """Reads a folder while a program records there and another one folds: each histogram has at least what had ended,
-    at most what was begun, and no less than before. What is wrong, or None."""
-    units: recordings.Counts = collections.Counter()
-    for _ in range(READINGS):
-        ended = runs.counts()[1]
+class Read:
+    """A folder that is read while programs record there, one after the other."""
+
+    def __init__(self, package: Package, runs: recordings.Folder) -> None:
+        self.package, self.runs = package, runs
+        self.units: recordings.Counts = collections.Counter()
+        self.met: collections.Counter[str] = collections.Counter()
+
+    def wrong(self) -> str | None:
+        """What is wrong with a reading, or None: each histogram has at least what had ended, at most what was begun,
+        and no less than in the reading before."""
+        ended = self.runs.counts()[1]
         try:
-            reading = package.read(runs.folder)
-        except package.Busy:
-            counts["busy"] += 1
-            continue
+            reading = self.package.read(self.runs.folder)
+        except self.package.Busy:
+            self.met["busy"] += 1
+            return None
         found = collections.Counter({name.encode(): one.units for name, one in reading.histograms.items()})
-        begun = runs.counts()[0]
+        begun, before = self.runs.counts()[0], self.units
+        self.units, self.met["read"] = found, self.met["read"] + 1
         if reading.damage or reading.left_out:
             return f"{reading.damage}, {reading.left_out}"
         for name in recordings.NAMES:
-            if not max(units[name], ended[name]) <= found[name] <= begun[name]:
-                return f"{name!r}: {units[name]} were there, {ended[name]} had ended, {found[name]} are there"
-        units, counts["read"] = found, counts["read"] + 1
-    return None if sum(units.values()) else "nothing is there"
+            if not max(before[name], ended[name]) <= found[name] <= begun[name]:
+                return f"{name!r}: {before[name]} were there, {ended[name]} had ended, {found[name]} are there"
+        return None
+
+    def run(self, program: pathlib.Path, mode: str) -> str | None:
+        """What is wrong with the readings beside a run, or after it was killed; or None. Then the folder is folded."""
+        with self.runs.running(0, recordings.SIZES[0], mode):
+            wrong = next(filter(None, (self.wrong() for _ in range(READINGS_A_RUN))), None)
+        wrong = wrong or self.wrong()
+        wanted = answer(program, ["report", "--totals", self.runs.folder])
+        came = Answer(python_texts.totals_of(self.package.read(self.runs.folder)))
+        wrong = wrong or difference(wanted, came) or difference(Answer(), answer(program, ["fold", self.runs.folder]))
+        return wrong or self.wrong()
 
 
 def recorded(
     package: Package, program: pathlib.Path, top: pathlib.Path, options: argparse.Namespace
 ) -> Iterator[Case]:
-    """Programs of the library that record, in a file and in a folder, into which another one folds."""
+    """Programs of the library that record, in a file and in a folder; in one mode they fold too."""
     try:
         programs = recordings.Programs(top)
         killed = programs.installed.program(native.PROGRAMS / "killed.cpp")
@@ -673,16 +725,14 @@ def recorded(
     for mode in ("-", "f"):
         home = top / f"mode {mode}"
         home.mkdir()
-        runs = recordings.Folder(programs.recording, program, home, random.Random(f"python {options.seed} {mode}"))
-        counts = collections.Counter[str]()
-        with runs.running(0, recordings.SIZES[0], mode):
-            wrong = wrong_beside(package, runs, counts)
-        print(f"python: mode {mode}: {counts['read']} readings, {counts['busy']} of them Busy", flush=True)
-        yield f"a folder that is recorded into, mode {mode}", wrong
-        yield f"mode {mode}, enough readings", None if counts["read"] > READINGS // 2 else f"{counts}"
-        wanted = answer(program, ["report", "--totals", runs.folder])
-        came = Answer(python_texts.totals_of(package.read(runs.folder)))
-        yield f"mode {mode}, what is there then", difference(wanted, came)
+        chance = random.Random(f"python {options.seed} {mode}")
+        read = Read(package, recordings.Folder(programs.recording, program, home, chance))
+        for number in range(RUNS):
+            yield f"mode {mode}, run {number}", read.run(program, mode)
+        there = f"{read.met['read']} readings, {read.met['busy']} of them Busy; {sum(read.units.values())} units"
+        print(f"python: mode {mode}: {there}", flush=True)
+        is_enough = read.met["read"] > read.met["busy"] and min(read.units[name] for name in recordings.NAMES) > 0
+        yield f"mode {mode}, enough readings", None if is_enough else there
 
 
 def full_segment() -> bytes:
@@ -725,6 +775,7 @@ def cases(program: pathlib.Path, options: argparse.Namespace) -> Iterator[Case]:
             top.chmod(0o711)
             yield from part(package, program, top, options)
     with tempfile.TemporaryDirectory() as name:
+        yield from torn(package, pathlib.Path(name).resolve())
         yield from sums_beside(package, program, pathlib.Path(name).resolve(), options.seed)
         yield from largest(package, pathlib.Path(name).resolve())
     yield from let_through()

@@ -13,7 +13,8 @@ LINK = re.compile(r"\]\(([^)#\s]+)[^)]*\)")
 
 def documents() -> list[pathlib.Path]:
     places = (
-        "*.md", "docs/**/*.md", "crates/*/*.md", "c/**/*.md", "bench/**/*.md", "examples/**/*.md", "tests/**/*.md",
+        "*.md", "docs/**/*.md", "crates/*/*.md", "c/**/*.md", "bench/**/*.md", "examples/**/*.md", "python/**/*.md",
+        "tests/**/*.md",
     )
     return sorted(file for place in places for file in ROOT.glob(place) if definitions.PAGES not in file.parents)
 

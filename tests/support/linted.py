@@ -1,5 +1,6 @@
-"""What ruff, flake8 and mypy find in the Python of tests/, bench/, c/ and packaging/, by the settings of pyproject.toml, and the
-lines that are longer than these allow. A tool that is not installed is left out, and a line says so."""
+"""What ruff, flake8 and mypy find in the Python of tests/, bench/, c/, packaging/, python/ and examples/, by the
+settings of pyproject.toml, and the lines that are longer than these allow. A tool that is not installed is left out,
+and a line says so."""
 
 from __future__ import annotations
 
@@ -25,14 +26,16 @@ RUN_BY_HAND = [
     *PACKAGING,
     *SCRIPTS,
 ]
+# The package for users, and what uses it.
+PACKAGE = ["python/povundiri", "examples/python/slow.py"]
 MODULES = [str(path.relative_to(ROOT)) for path in sorted((ROOT / "bench").glob("*.py"))]
 MYPY = ["mypy", "--no-incremental", "--cache-dir", "/dev/null"]
 COMMANDS = [
-    ["ruff", "check", "--no-cache", "tests", "bench", *RUN_BY_HAND],
+    ["ruff", "check", "--no-cache", "tests", "bench", *PACKAGE, *RUN_BY_HAND],
     # E203 refuses the space before a colon in `words[at : at + 8]`.
     [
         *("flake8", "--isolated", f"--max-line-length={LIMIT}", f"--extend-ignore={','.join([*IGNORED, 'E203'])}"),
-        *("tests", "bench", *RUN_BY_HAND),
+        *("tests", "bench", *PACKAGE, *RUN_BY_HAND),
     ],
     # Each by itself: there is a script `run` in both.
     [
@@ -42,6 +45,7 @@ COMMANDS = [
     [*MYPY, "tests/by_hand/packages"],
     [*MYPY, *MODULES, *SCRIPTS],
     [*MYPY, *PACKAGING],
+    [*MYPY, "--strict", *PACKAGE],
 ]
 MOST_SECONDS = 300
 MOST_SHOWN = 3000
@@ -49,7 +53,8 @@ MOST_SHOWN = 3000
 
 def long_lines() -> str | None:
     """The lines that are longer than the limit, or None."""
-    modules = [path for folder in ("tests", "bench") for path in sorted((ROOT / folder).glob("**/*.py"))]
+    places = ("tests", "bench", "python", "examples")
+    modules = [path for folder in places for path in sorted((ROOT / folder).glob("**/*.py"))]
     found = []
     for path in [*modules, *(ROOT / name for name in RUN_BY_HAND)]:
         for number, line in enumerate(path.read_text().splitlines(), 1):

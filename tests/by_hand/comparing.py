@@ -8,6 +8,7 @@ import dataclasses
 import difflib
 import pathlib
 import re
+import shutil
 import tempfile
 from collections.abc import Collection, Iterator, Sequence
 from typing import Optional
@@ -81,6 +82,7 @@ def faults_in(outcome: Outcome, names: Collection[str]) -> frozenset[str]:
 def compared(programs: Programs, line: Line, folder: pathlib.Path, contents: rooms.Contents) -> Result:
     """Runs a line by both programs, one after the other, in a folder of this path."""
     old, new = (runs.run(program, line, folder, contents) for program in programs)
+    shutil.rmtree(folder)
     has_changed = any(not file.is_old for file in old.files.values())
     wrote = (old.output != b"", old.error != b"", has_changed)
     return Result(line, old.status, wrote, faults_in(old, lines.fault_names()), difference(old, new))
@@ -128,7 +130,7 @@ def summary(results: Sequence[Result]) -> Iterator[str]:
     statuses = collections.Counter(str(result.status) for result in results)
     yield f"{', '.join(f'{number} with status {name}' for name, number in sorted(statuses.items()))}"
     output, error, folder = (sum(result.wrote[place] for result in results) for place in range(3))
-    yield f"{output} wrote to standard output, {error} to the error stream, {folder} changed their folder"
+    yield f"{output} wrote to standard output, {error} to the error stream, {folder} made or replaced a file"
     yield f"{len({fault for result in results for fault in result.faults})} faults were named"
 
 

@@ -62,6 +62,12 @@ class Line:
         return "--every" in self.words
 
     @property
+    def has_workers(self) -> bool:
+        """Whether several threads may record."""
+        values = [value for word, value in zip(self.words, self.words[1:]) if word == "--workers"]
+        return self.words[:1] in [("run",), ("resume",)] and values not in ([], ["1"])
+
+    @property
     def named(self) -> Iterator[str]:
         """All words that may name what has to lie in the folder."""
         yield from (*self.words, self.stdin, *self.locked, *(change.path for change in self.changes))
@@ -138,14 +144,16 @@ def mistakes() -> Iterator[Line]:
 
 
 def options() -> Iterator[Line]:
-    """Each option with each value, and each two options."""
+    """Each command without an option, each option with each value, and each two options."""
+    for command in COMMANDS:
+        yield Line(command.words, classes=classed("command", command.name))
     for command in [*COMMANDS, tables.SIZE_OF_HISTS]:
         for option in command.options:
-            tried = classed("option", f"{command.name} {option.name}") + classed("command", command.name)
+            tried = classed("option", f"{command.name} {option.name}")
             for value in option.values or (None,):
                 yield Line(joined(command.words, [option.words(value)]), classes=tried)
             repeated = [word for value in option.values for word in option.words(value)] if option.repeats else []
-            yield Line((*command.words, *repeated), classes=classed("command", command.name))
+            yield Line((*command.words, *repeated))
         for pair in itertools.combinations(command.options, 2):
             words = joined(command.words, [option.words() for option in pair])
             names = f"{command.name} {pair[0].name} {pair[1].name}"
@@ -163,6 +171,19 @@ def line_of(form: Form, source: Source, *more: str) -> Line:
     return Line((*form.words, *more, *source.words(form)), source.stdin)
 
 
+# Ways in which a sum is made: of each source, and of some.
+WAYS: list[Words] = [
+    ("--workers", "3"), ("--strict", "--workers", "16"), ("--minus", "rich.img"), ("--explain",),
+    ("--live", "--at", "8"),
+]
+MORE_WAYS: list[Words] = [
+    ("--minus", "recording"), ("--minus", "-"), ("--minus", "missing.img"), ("--whole",), ("--live", "--workers", "2"),
+    ("--totals", "--minus", "earlier.totals"),
+]
+# Sources of which the forms with more words are written, and with more ways.
+FEW_SOURCES = ("an image", "an image of version 1", "standard input", "damaged ones", "a folder", "totals", "a list")
+
+
 def by_sources() -> Iterator[Line]:
     """Each form of each source, once and by looks; and reports of sums in each way."""
     for source, form in itertools.product(SOURCES, FORMS):
@@ -171,19 +192,11 @@ def by_sources() -> Iterator[Line]:
         )
         yield dataclasses.replace(line_of(form, source), classes=classes)
         yield line_of(form, source, "--live")
-    ways: list[Words] = [
-        ("--workers", "3"), ("--strict",), ("--strict", "--workers", "16"), ("--minus", "rich.img"),
-        ("--minus", "recording"), ("--minus", "-"), ("--minus", "missing.img"), ("--explain",), ("--whole",),
-        ("--totals", "--minus", "earlier.totals"), ("--live", "--workers", "2"), ("--live", "--at", "8"),
-    ]
-    for source, way in itertools.product(SOURCES, ways):
+    for source, way in itertools.product(SOURCES, WAYS):
         yield line_of(FORMS[0], source, *way)
-    for source, way in itertools.product(SOURCES, [("--explain",), ("--minus", "rich.img"), ("--strict",)]):
-        yield line_of(Form("page", ("show", "--html")), source, *way)
-
-
-# Sources of which the forms with more words are written.
-FEW_SOURCES = ("an image", "an image of version 1", "standard input", "damaged ones", "a folder", "totals", "a list")
+    few = [source for source in SOURCES if source.name in FEW_SOURCES]
+    for source, way, form in itertools.product(few, [*WAYS, *MORE_WAYS], [FORMS[0], FORMS[-1]]):
+        yield line_of(form, source, *way) if "--totals" not in way else line_of(FORMS[0], source, *way)
 
 
 def by_forms() -> Iterator[Line]:
@@ -191,6 +204,7 @@ def by_forms() -> Iterator[Line]:
     few = [source for source in SOURCES if source.name in FEW_SOURCES]
     for source, form in itertools.product(few, MORE_FORMS):
         yield dataclasses.replace(line_of(form, source), classes=classed("form", form.name))
+    for source, form in itertools.product(few[:1] + few[4:5], MORE_FORMS):
         yield line_of(form, source, "--live")
     words: list[Words] = [(), ("--html",), ("--list",), ("--whole",), ("--explain",), ("--live",)]
     for names, more, image in itertools.product(tables.NAMES, words, ["rich.img", "three_samples.img", "well"]):
@@ -198,28 +212,36 @@ def by_forms() -> Iterator[Line]:
 
 
 def damaged_names() -> list[str]:
-    """The files of images that are damaged."""
-    lists = [rooms.file_of(version, fault) for version in rooms.VERSIONS for fault in rooms.IN_REPORTS]
+    """The files of images that can be read, and are damaged."""
+    return [rooms.file_of(version, fault) for version in rooms.VERSIONS for fault in rooms.IN_REPORTS]
+
+
+def refused_names() -> list[str]:
+    """The files of images that cannot be read."""
     headers = [rooms.file_of(version, fault) for version in rooms.VERSIONS for fault in rooms.IN_ERRORS]
-    return [*lists, *headers, *rooms.header_files()]
+    return [*headers, *rooms.header_files()]
+
+
+# Commands that are given a damaged image, and forms that are written of one that can be read.
+OF_DAMAGED: list[Words] = [
+    ("report", "IMAGE"), ("show", "IMAGE", "--live"), ("show", "IMAGE", "--whole", "--explain"),
+    ("info", "IMAGE", "--explain"), ("report", "IMAGE", "--totals", "--whole"),
+    ("report", "IMAGE", "crash.img", "--whole"), ("report", "crash.img", "IMAGE", "--strict", "--explain"),
+    ("report", "IMAGE", "--minus", "IMAGE"), ("report", "IMAGE", "--to", "out.txt", "--explain"),
+    ("merge", "IMAGE", "crash.img", "out.txt", "--explain"), ("merge", "crash.img", "IMAGE", "out.txt"),
+    ("resume", "IMAGE", "more.csv", "out.txt", "--explain"), ("resume", "IMAGE", "more.csv", "new.txt"),
+    ("extract", "IMAGE", "out.txt"), ("look", "IMAGE", "out.txt"), ("look", "IMAGE", "--explain"),
+    ("--explain", "export", "IMAGE", "--families"),
+]
 
 
 def damages() -> Iterator[Line]:
     """Damaged images, in each form and each command."""
-    others: list[Words] = [
-        ("show", "IMAGE", "--live"), ("show", "IMAGE", "--whole", "--explain"), ("info", "IMAGE", "--live"),
-        ("report", "IMAGE", "--totals", "--whole"), ("report", "IMAGE", "crash.img", "--whole"),
-        ("report", "crash.img", "IMAGE", "--strict", "--explain"), ("report", "IMAGE", "--minus", "IMAGE"),
-        ("report", "IMAGE", "--to", "out.txt", "--explain"), ("merge", "IMAGE", "crash.img", "out.txt", "--explain"),
-        ("merge", "crash.img", "IMAGE", "out.txt"), ("resume", "IMAGE", "more.csv", "out.txt", "--explain"),
-        ("resume", "IMAGE", "more.csv", "new.txt"), ("extract", "IMAGE", "out.txt"), ("look", "IMAGE", "out.txt"),
-        ("look", "IMAGE", "--explain"), ("--explain", "export", "IMAGE", "--families"),
-    ]
-    for image in damaged_names():
+    forms = [*FORMS, *(form for form in MORE_FORMS if "whole" in form.name)]
+    of_readable: list[Words] = [*((*form.words, "IMAGE") for form in forms), ("info", "IMAGE", "--live")]
+    for image in [*damaged_names(), *refused_names()]:
         classes = classed("damage", image, None)
-        for form in [*FORMS, *(form for form in MORE_FORMS if "whole" in form.name)]:
-            yield Line((*form.words, image), classes=classes)
-        for words in others:
+        for words in [*OF_DAMAGED, *(of_readable if image in damaged_names() else [])]:
             yield Line(tuple(image if word == "IMAGE" else word for word in words), classes=classes)
         yield Line(("report",), image)
 
@@ -231,7 +253,8 @@ def outs() -> Iterator[Line]:
         classes = classed("OUT", out, status) + classed("writer", name, ended)
         yield Line((*words, path), classes=classes)
         yield Line((*words, path, "--explain"))
-        yield Line((*words, path), settings=EXPLAINED, output=FULL)
+    for name, path in itertools.product(("run", "resume"), ("new.txt", "out.txt", "out.link", "/dev/stdout", "empty")):
+        yield Line((*tables.WRITERS[name], path), settings=EXPLAINED, output=FULL)
     for name, words in tables.WRITERS.items():
         yield Line((*words, "-"))
         yield Line((*words, words[1]))
@@ -247,6 +270,8 @@ INPUTS = (
     "mapped.img", "small.img", "none.img", "other.img", "three_samples.img", "crash.csv", "rich.csv", "link.img",
     "round.img", "core", "sum.totals", "recording", "wrong", "worse", "begun", "hosts", "last.img",
 )
+# It searches 2^64 bytes.
+ENDLESS = ("extract", "/dev/zero")
 
 
 def inputs() -> Iterator[Line]:
@@ -256,12 +281,14 @@ def inputs() -> Iterator[Line]:
         places = {"resume": (1, 2), "merge": (1, 2)}.get(name, (1,))
         for place, given in itertools.product(places, INPUTS):
             changed = (*words[:place], given, *words[place + 1 :])
+            if changed[:2] == ENDLESS:
+                continue
             yield Line(changed, stdin="later.img" if "img" in words[place] else "rich.csv")
             yield Line((*changed, "--explain"), stdin="crash.img")
     for words in [("merge", "-", "-", "out.txt"), ("resume", "-", "-", "out.txt"), ("run", "-", "-")]:
         yield Line(words, stdin="rich.img")
-    for out in ("rich.img", "./rich.img", "crash.img"):
-        yield Line(("merge", "rich.img", "crash.img", out))
+    for out in ("rich.img", "./rich.img", "later.img"):
+        yield Line(("merge", "rich.img", "later.img", out))
         yield Line(("resume", "rich.img", "more.csv", out))
     for segment in ("recording/0000000003.seg", "recording/0000000004.seg", "recording/fold.lock"):
         yield Line(("fold", "recording"), locked=(segment,))
@@ -411,7 +438,7 @@ def classes() -> set[Class]:
             wanted |= {*classed("mistake", f"{command.name} {option.name}", USAGE)}
     wanted |= {Class("form", form.name, 0) for form in (*FORMS, *MORE_FORMS)}
     wanted |= {Class("source", source.name, source.status) for source in SOURCES}
-    wanted |= {Class("damage", name, None) for name in damaged_names()}
+    wanted |= {Class("damage", name, None) for name in [*damaged_names(), *refused_names()]}
     wanted |= {Class("OUT", name, status) for name, _, status in tables.OUTS}
     wanted |= {Class("writer", name, tables.STATUS_OF_WRITER.get(name, 0)) for name in tables.WRITERS}
     wanted |= {Class("rounds", path, None) for path in CHANGED}

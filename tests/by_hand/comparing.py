@@ -145,7 +145,7 @@ def shown_differences(results: Sequence[Result]) -> Iterator[str]:
 def judged(results: Sequence[Result], meant: Collection[str], is_whole: bool) -> list[str]:
     """What is wrong with a comparison, in lines."""
     different = {result.line.name for result in results if result.difference is not None}
-    wrong = [f"{len(different - {*meant})} lines differ that are not meant to"] if different - {*meant} else []
+    wrong = [f"lines differ that are not meant to: {len(different - {*meant})}"] if different - {*meant} else []
     run_lines = {result.line.name for result in results}
     wrong += [f"it is meant to differ, and does not: {name}" for name in sorted(run_lines & {*meant} - different)]
     return wrong + ([f"did not occur: {name}" for name in missing(results)] if is_whole else [])

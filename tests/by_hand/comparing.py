@@ -4,6 +4,7 @@ from __future__ import annotations
 
 import collections
 import concurrent.futures
+import contextlib
 import dataclasses
 import difflib
 import pathlib
@@ -91,16 +92,16 @@ def compared(programs: Programs, line: Line, folder: pathlib.Path, contents: roo
 def run_all(programs: Programs, chosen: Sequence[Line], jobs: int) -> list[Result]:
     """Runs lines by both programs, side by side: what came of each, in their order."""
     contents = rooms.contents(programs[0])
-    with tempfile.TemporaryDirectory() as scratch, concurrent.futures.ThreadPoolExecutor(
-        jobs
-    ) as pool, concurrent.futures.ThreadPoolExecutor(WAITING * jobs) as waiting_pool:
+    with contextlib.ExitStack() as held:
+        scratch = pathlib.Path(held.enter_context(tempfile.TemporaryDirectory()))
+        pool, waiting = (
+            held.enter_context(concurrent.futures.ThreadPoolExecutor(count)) for count in (jobs, WAITING * jobs)
+        )
         begun = [
-            (waiting_pool if line.has_rounds else pool).submit(
-                compared, programs, line, pathlib.Path(scratch) / f"{place:05}", contents
-            )
+            (waiting if line.has_rounds else pool).submit(compared, programs, line, scratch / f"{place:05}", contents)
             for place, line in enumerate(chosen)
         ]
-        return [one.result() for one in begun]
+    return [one.result() for one in begun]
 
 
 def occurred(results: Sequence[Result]) -> set[Class]:

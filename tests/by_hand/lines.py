@@ -333,7 +333,7 @@ def scales() -> Iterator[Line]:
 
 
 def streams() -> Iterator[Line]:
-    """Each command with outputs that cannot be written, streams that are closed, and terminals."""
+    """Each command with outputs that cannot be written, and terminals."""
     for command in COMMANDS:
         for output in (FULL, NO_READER, CLOSED, TERMINAL):
             yield Line(command.words, output=output)
@@ -341,21 +341,29 @@ def streams() -> Iterator[Line]:
         yield Line((command.name, "--help"), output=FULL)
         yield Line((*command.words, "--wrong"), error=FULL)
         yield Line((*command.words, "--wrong"), error=TERMINAL)
-    wrong: list[Words] = [
-        ("report", "missing.img"), ("report", "hosts"), ("show", "rich.img", "requst.ms"), ("fold", "worse"),
-        ("run", "script-00.csv", "out.txt"), ("merge", "rich.img", "other.img", "out.txt"),
-        ("export", "clash.img", "--families"), ("report", "rich.img", "--minus", "later.img"),
-        ("report", "v2-bad-BadSum.img", "--whole"), ("look", "three_samples.img"), ("explain", "Rea"),
-        ("report", "rich.img", "v2-bad-BadSum.img", "--whole"), ("extract", "text.txt", "out.txt"),
-    ]
-    for words in wrong:
-        for value in ("", "0", "1", "yes"):
-            yield Line(words, settings=(("PERSIST_REPORT_EXPLAIN", value),))
-        yield Line(words, error=TERMINAL)
-        yield Line(words, error=FULL)
-        yield Line(words, error=CLOSED)
+
+
+# Commands that end with a fault, most after a text.
+FAULTY: list[Words] = [
+    ("report", "missing.img"), ("report", "hosts"), ("show", "rich.img", "requst.ms"), ("fold", "worse"),
+    ("run", "script-00.csv", "out.txt"), ("merge", "rich.img", "other.img", "out.txt"),
+    ("export", "clash.img", "--families"), ("report", "rich.img", "--minus", "later.img"),
+    ("report", "v2-bad-BadSum.img", "--whole"), ("look", "three_samples.img"), ("explain", "Rea"),
+    ("report", "rich.img", "v2-bad-BadSum.img", "--whole"), ("extract", "text.txt", "out.txt"),
+]
+
+
+def told_faults() -> Iterator[Line]:
+    """Faults that are explained since the environment or a terminal asks for it, or not, or that cannot be told."""
+    for words in FAULTY:
+        yield from (Line(words, settings=((EXPLAINED[0][0], value),)) for value in ("", "0", "1", "yes"))
+        yield from (Line(words, error=error) for error in (TERMINAL, FULL, CLOSED))
         yield Line(("--explain", *words))
         yield Line(words, output=FULL, settings=EXPLAINED)
+
+
+def environments() -> Iterator[Line]:
+    """Standard input that is no pipe, and the columns of the environment."""
     for stdin, form in itertools.product((CLOSED, TERMINAL, "/dev/null"), FORMS):
         yield Line(form.words, stdin)
         yield Line((*form.words, "--explain"), stdin, error=TERMINAL)
@@ -381,28 +389,15 @@ CHANGES = [
 ]
 
 
-# What changes while it is looked at: a file, one of a folder, one that is new there, and the same of a recording.
+# What changes while it is looked at: a file, one of a folder and one that is new there, and the same of a recording.
 CHANGED = ("live.img", "well/1.img", "well/9.img", "recording/0000000009.seg", "recording/0000000004.seg")
 
 
 def rounds() -> Iterator[Line]:
-    """Texts that are written again: in each form, of each source, and of what changes into something else."""
+    """Texts that are written again: in each form, of names, and to what cannot be written or is a terminal."""
     repeated = [form for form in (*FORMS, *MORE_FORMS) if form.words[0] in ("show", "export")]
     for form in repeated:
         yield from rounds_of((*form.words, "live.img"), "later.img", "last.img")
-    some: list[Words] = [("show",), ("show", "--list"), ("export",), ("show", "--whole", "--explain")]
-    for words in some:
-        for source in (("live.img", "crash.img"), ("live.img", "live.img"), ("live.img", "sum.totals", "missing.img")):
-            rest = source[1:] if words[0] == "export" else [word for name in source[1:] for word in ("--also", name)]
-            yield from rounds_of((*words, source[0], *rest), "later.img", "last.img")
-        yield from rounds_of((*words, "well"), "later.img", "last.img", path="well/1.img")
-        yield from rounds_of((*words, "well"), "rich.img", "", path="well/9.img")
-        yield from rounds_of((*words, "recording"), "rich.img", "later.img", path="recording/0000000009.seg")
-        yield from rounds_of((*words, "recording"), "last.img", path="recording/0000000004.seg")
-        yield from rounds_of((*words, "live.img", "--minus", "rich.img"), "later.img", "rich.img")
-        yield from rounds_of((*words, "live.img", "--workers", "3", "--strict"), "later.img", "text.txt")
-        for contents in CHANGES:
-            yield from rounds_of((*words, "live.img"), *contents)
     for words in [("request.ms",), ("fresh", "last"), ("--match", "last")]:
         yield from rounds_of(("show", "live.img", *words), "later.img", "last.img")
     yield from rounds_of(("export", "live.img", "--families"), "clash.img")
@@ -410,9 +405,31 @@ def rounds() -> Iterator[Line]:
         yield dataclasses.replace(next(rounds_of(("show", "live.img"), "later.img")), output=output, changes=())
 
 
+def rounds_of_sources(words: Words) -> Iterator[Line]:
+    """A text that is written again of several, of folders and recordings, of what came since an earlier image, and of a
+    file that becomes another one."""
+    for source in (("live.img", "crash.img"), ("live.img", "live.img"), ("live.img", "sum.totals", "missing.img")):
+        rest = source[1:] if words[0] == "export" else [word for name in source[1:] for word in ("--also", name)]
+        yield from rounds_of((*words, source[0], *rest), "later.img", "last.img")
+    yield from rounds_of((*words, "well"), "later.img", "last.img", path="well/1.img")
+    yield from rounds_of((*words, "well"), "rich.img", "", path="well/9.img")
+    yield from rounds_of((*words, "recording"), "rich.img", "later.img", path="recording/0000000009.seg")
+    yield from rounds_of((*words, "recording"), "last.img", path="recording/0000000004.seg")
+    yield from rounds_of((*words, "live.img", "--minus", "rich.img"), "later.img", "rich.img")
+    yield from rounds_of((*words, "live.img", "--workers", "3", "--strict"), "later.img", "text.txt")
+    for contents in CHANGES:
+        yield from rounds_of((*words, "live.img"), *contents)
+
+
+def other_rounds() -> Iterator[Line]:
+    """Some texts that are written again, of each source."""
+    for words in [("show",), ("show", "--list"), ("export",), ("show", "--whole", "--explain")]:
+        yield from rounds_of_sources(words)
+
+
 GROUPS = (
     helps, mistakes, options, named_pairs, by_sources, by_forms, damages, outs, inputs, scripts, scales, streams,
-    rounds,
+    told_faults, environments, rounds, other_rounds,
 )
 
 

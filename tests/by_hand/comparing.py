@@ -4,10 +4,12 @@ from __future__ import annotations
 
 import collections
 import concurrent.futures
+import contextlib
 import dataclasses
 import difflib
 import pathlib
 import re
+import shutil
 import tempfile
 from collections.abc import Collection, Iterator, Sequence
 from typing import Optional
@@ -81,6 +83,7 @@ def faults_in(outcome: Outcome, names: Collection[str]) -> frozenset[str]:
 def compared(programs: Programs, line: Line, folder: pathlib.Path, contents: rooms.Contents) -> Result:
     """Runs a line by both programs, one after the other, in a folder of this path."""
     old, new = (runs.run(program, line, folder, contents) for program in programs)
+    shutil.rmtree(folder)
     has_changed = any(not file.is_old for file in old.files.values())
     wrote = (old.output != b"", old.error != b"", has_changed)
     return Result(line, old.status, wrote, faults_in(old, lines.fault_names()), difference(old, new))
@@ -89,16 +92,16 @@ def compared(programs: Programs, line: Line, folder: pathlib.Path, contents: roo
 def run_all(programs: Programs, chosen: Sequence[Line], jobs: int) -> list[Result]:
     """Runs lines by both programs, side by side: what came of each, in their order."""
     contents = rooms.contents(programs[0])
-    with tempfile.TemporaryDirectory() as scratch, concurrent.futures.ThreadPoolExecutor(
-        jobs
-    ) as pool, concurrent.futures.ThreadPoolExecutor(WAITING * jobs) as waiting_pool:
+    with contextlib.ExitStack() as held:
+        scratch = pathlib.Path(held.enter_context(tempfile.TemporaryDirectory()))
+        pool, waiting = (
+            held.enter_context(concurrent.futures.ThreadPoolExecutor(count)) for count in (jobs, WAITING * jobs)
+        )
         begun = [
-            (waiting_pool if line.has_rounds else pool).submit(
-                compared, programs, line, pathlib.Path(scratch) / f"{place:05}", contents
-            )
+            (waiting if line.has_rounds else pool).submit(compared, programs, line, scratch / f"{place:05}", contents)
             for place, line in enumerate(chosen)
         ]
-        return [one.result() for one in begun]
+    return [one.result() for one in begun]
 
 
 def occurred(results: Sequence[Result]) -> set[Class]:
@@ -128,7 +131,7 @@ def summary(results: Sequence[Result]) -> Iterator[str]:
     statuses = collections.Counter(str(result.status) for result in results)
     yield f"{', '.join(f'{number} with status {name}' for name, number in sorted(statuses.items()))}"
     output, error, folder = (sum(result.wrote[place] for result in results) for place in range(3))
-    yield f"{output} wrote to standard output, {error} to the error stream, {folder} changed their folder"
+    yield f"{output} wrote to standard output, {error} to the error stream, {folder} made or replaced a file"
     yield f"{len({fault for result in results for fault in result.faults})} faults were named"
 
 
@@ -143,7 +146,7 @@ def shown_differences(results: Sequence[Result]) -> Iterator[str]:
 def judged(results: Sequence[Result], meant: Collection[str], is_whole: bool) -> list[str]:
     """What is wrong with a comparison, in lines."""
     different = {result.line.name for result in results if result.difference is not None}
-    wrong = [f"{len(different - {*meant})} lines differ that are not meant to"] if different - {*meant} else []
+    wrong = [f"lines differ that are not meant to: {len(different - {*meant})}"] if different - {*meant} else []
     run_lines = {result.line.name for result in results}
     wrong += [f"it is meant to differ, and does not: {name}" for name in sorted(run_lines & {*meant} - different)]
     return wrong + ([f"did not occur: {name}" for name in missing(results)] if is_whole else [])

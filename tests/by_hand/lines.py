@@ -62,6 +62,12 @@ class Line:
         return "--every" in self.words
 
     @property
+    def has_workers(self) -> bool:
+        """Whether several threads may record."""
+        values = [value for word, value in zip(self.words, self.words[1:]) if word == "--workers"]
+        return self.words[:1] in [("run",), ("resume",)] and values not in ([], ["1"])
+
+    @property
     def named(self) -> Iterator[str]:
         """All words that may name what has to lie in the folder."""
         yield from (*self.words, self.stdin, *self.locked, *(change.path for change in self.changes))
@@ -138,14 +144,16 @@ def mistakes() -> Iterator[Line]:
 
 
 def options() -> Iterator[Line]:
-    """Each option with each value, and each two options."""
+    """Each command without an option, each option with each value, and each two options."""
+    for command in COMMANDS:
+        yield Line(command.words, classes=classed("command", command.name))
     for command in [*COMMANDS, tables.SIZE_OF_HISTS]:
         for option in command.options:
-            tried = classed("option", f"{command.name} {option.name}") + classed("command", command.name)
+            tried = classed("option", f"{command.name} {option.name}")
             for value in option.values or (None,):
                 yield Line(joined(command.words, [option.words(value)]), classes=tried)
             repeated = [word for value in option.values for word in option.words(value)] if option.repeats else []
-            yield Line((*command.words, *repeated), classes=classed("command", command.name))
+            yield Line((*command.words, *repeated))
         for pair in itertools.combinations(command.options, 2):
             words = joined(command.words, [option.words() for option in pair])
             names = f"{command.name} {pair[0].name} {pair[1].name}"
@@ -163,6 +171,19 @@ def line_of(form: Form, source: Source, *more: str) -> Line:
     return Line((*form.words, *more, *source.words(form)), source.stdin)
 
 
+# Ways in which a sum is made: of each source, and of some.
+WAYS: list[Words] = [
+    ("--workers", "3"), ("--strict", "--workers", "16"), ("--minus", "rich.img"), ("--explain",),
+    ("--live", "--at", "8"),
+]
+MORE_WAYS: list[Words] = [
+    ("--minus", "recording"), ("--minus", "-"), ("--minus", "missing.img"), ("--whole",), ("--live", "--workers", "2"),
+    ("--totals", "--minus", "earlier.totals"),
+]
+# Sources of which the forms with more words are written, and with more ways.
+FEW_SOURCES = ("an image", "an image of version 1", "standard input", "damaged ones", "a folder", "totals", "a list")
+
+
 def by_sources() -> Iterator[Line]:
     """Each form of each source, once and by looks; and reports of sums in each way."""
     for source, form in itertools.product(SOURCES, FORMS):
@@ -171,19 +192,11 @@ def by_sources() -> Iterator[Line]:
         )
         yield dataclasses.replace(line_of(form, source), classes=classes)
         yield line_of(form, source, "--live")
-    ways: list[Words] = [
-        ("--workers", "3"), ("--strict",), ("--strict", "--workers", "16"), ("--minus", "rich.img"),
-        ("--minus", "recording"), ("--minus", "-"), ("--minus", "missing.img"), ("--explain",), ("--whole",),
-        ("--totals", "--minus", "earlier.totals"), ("--live", "--workers", "2"), ("--live", "--at", "8"),
-    ]
-    for source, way in itertools.product(SOURCES, ways):
+    for source, way in itertools.product(SOURCES, WAYS):
         yield line_of(FORMS[0], source, *way)
-    for source, way in itertools.product(SOURCES, [("--explain",), ("--minus", "rich.img"), ("--strict",)]):
-        yield line_of(Form("page", ("show", "--html")), source, *way)
-
-
-# Sources of which the forms with more words are written.
-FEW_SOURCES = ("an image", "an image of version 1", "standard input", "damaged ones", "a folder", "totals", "a list")
+    few = [source for source in SOURCES if source.name in FEW_SOURCES]
+    for source, way, form in itertools.product(few, [*WAYS, *MORE_WAYS], [FORMS[0], FORMS[-1]]):
+        yield line_of(form, source, *way) if "--totals" not in way else line_of(FORMS[0], source, *way)
 
 
 def by_forms() -> Iterator[Line]:
@@ -191,6 +204,7 @@ def by_forms() -> Iterator[Line]:
     few = [source for source in SOURCES if source.name in FEW_SOURCES]
     for source, form in itertools.product(few, MORE_FORMS):
         yield dataclasses.replace(line_of(form, source), classes=classed("form", form.name))
+    for source, form in itertools.product(few[:1] + few[4:5], MORE_FORMS):
         yield line_of(form, source, "--live")
     words: list[Words] = [(), ("--html",), ("--list",), ("--whole",), ("--explain",), ("--live",)]
     for names, more, image in itertools.product(tables.NAMES, words, ["rich.img", "three_samples.img", "well"]):
@@ -198,28 +212,36 @@ def by_forms() -> Iterator[Line]:
 
 
 def damaged_names() -> list[str]:
-    """The files of images that are damaged."""
-    lists = [rooms.file_of(version, fault) for version in rooms.VERSIONS for fault in rooms.IN_REPORTS]
+    """The files of images that can be read, and are damaged."""
+    return [rooms.file_of(version, fault) for version in rooms.VERSIONS for fault in rooms.IN_REPORTS]
+
+
+def refused_names() -> list[str]:
+    """The files of images that cannot be read."""
     headers = [rooms.file_of(version, fault) for version in rooms.VERSIONS for fault in rooms.IN_ERRORS]
-    return [*lists, *headers, *rooms.header_files()]
+    return [*headers, *rooms.header_files()]
+
+
+# Commands that are given a damaged image, and forms that are written of one that can be read.
+OF_DAMAGED: list[Words] = [
+    ("report", "IMAGE"), ("show", "IMAGE", "--live"), ("show", "IMAGE", "--whole", "--explain"),
+    ("info", "IMAGE", "--explain"), ("report", "IMAGE", "--totals", "--whole"),
+    ("report", "IMAGE", "crash.img", "--whole"), ("report", "crash.img", "IMAGE", "--strict", "--explain"),
+    ("report", "IMAGE", "--minus", "IMAGE"), ("report", "IMAGE", "--to", "out.txt", "--explain"),
+    ("merge", "IMAGE", "crash.img", "out.txt", "--explain"), ("merge", "crash.img", "IMAGE", "out.txt"),
+    ("resume", "IMAGE", "more.csv", "out.txt", "--explain"), ("resume", "IMAGE", "more.csv", "new.txt"),
+    ("extract", "IMAGE", "out.txt"), ("look", "IMAGE", "out.txt"), ("look", "IMAGE", "--explain"),
+    ("--explain", "export", "IMAGE", "--families"),
+]
 
 
 def damages() -> Iterator[Line]:
     """Damaged images, in each form and each command."""
-    others: list[Words] = [
-        ("show", "IMAGE", "--live"), ("show", "IMAGE", "--whole", "--explain"), ("info", "IMAGE", "--live"),
-        ("report", "IMAGE", "--totals", "--whole"), ("report", "IMAGE", "crash.img", "--whole"),
-        ("report", "crash.img", "IMAGE", "--strict", "--explain"), ("report", "IMAGE", "--minus", "IMAGE"),
-        ("report", "IMAGE", "--to", "out.txt", "--explain"), ("merge", "IMAGE", "crash.img", "out.txt", "--explain"),
-        ("merge", "crash.img", "IMAGE", "out.txt"), ("resume", "IMAGE", "more.csv", "out.txt", "--explain"),
-        ("resume", "IMAGE", "more.csv", "new.txt"), ("extract", "IMAGE", "out.txt"), ("look", "IMAGE", "out.txt"),
-        ("look", "IMAGE", "--explain"), ("--explain", "export", "IMAGE", "--families"),
-    ]
-    for image in damaged_names():
+    forms = [*FORMS, *(form for form in MORE_FORMS if "whole" in form.name)]
+    of_readable: list[Words] = [*((*form.words, "IMAGE") for form in forms), ("info", "IMAGE", "--live")]
+    for image in [*damaged_names(), *refused_names()]:
         classes = classed("damage", image, None)
-        for form in [*FORMS, *(form for form in MORE_FORMS if "whole" in form.name)]:
-            yield Line((*form.words, image), classes=classes)
-        for words in others:
+        for words in [*OF_DAMAGED, *(of_readable if image in damaged_names() else [])]:
             yield Line(tuple(image if word == "IMAGE" else word for word in words), classes=classes)
         yield Line(("report",), image)
 
@@ -231,7 +253,8 @@ def outs() -> Iterator[Line]:
         classes = classed("OUT", out, status) + classed("writer", name, ended)
         yield Line((*words, path), classes=classes)
         yield Line((*words, path, "--explain"))
-        yield Line((*words, path), settings=EXPLAINED, output=FULL)
+    for name, path in itertools.product(("run", "resume"), ("new.txt", "out.txt", "out.link", "/dev/stdout", "empty")):
+        yield Line((*tables.WRITERS[name], path), settings=EXPLAINED, output=FULL)
     for name, words in tables.WRITERS.items():
         yield Line((*words, "-"))
         yield Line((*words, words[1]))
@@ -247,6 +270,8 @@ INPUTS = (
     "mapped.img", "small.img", "none.img", "other.img", "three_samples.img", "crash.csv", "rich.csv", "link.img",
     "round.img", "core", "sum.totals", "recording", "wrong", "worse", "begun", "hosts", "last.img",
 )
+# It searches 2^64 bytes.
+ENDLESS = ("extract", "/dev/zero")
 
 
 def inputs() -> Iterator[Line]:
@@ -256,12 +281,14 @@ def inputs() -> Iterator[Line]:
         places = {"resume": (1, 2), "merge": (1, 2)}.get(name, (1,))
         for place, given in itertools.product(places, INPUTS):
             changed = (*words[:place], given, *words[place + 1 :])
+            if changed[:2] == ENDLESS:
+                continue
             yield Line(changed, stdin="later.img" if "img" in words[place] else "rich.csv")
             yield Line((*changed, "--explain"), stdin="crash.img")
     for words in [("merge", "-", "-", "out.txt"), ("resume", "-", "-", "out.txt"), ("run", "-", "-")]:
         yield Line(words, stdin="rich.img")
-    for out in ("rich.img", "./rich.img", "crash.img"):
-        yield Line(("merge", "rich.img", "crash.img", out))
+    for out in ("rich.img", "./rich.img", "later.img"):
+        yield Line(("merge", "rich.img", "later.img", out))
         yield Line(("resume", "rich.img", "more.csv", out))
     for segment in ("recording/0000000003.seg", "recording/0000000004.seg", "recording/fold.lock"):
         yield Line(("fold", "recording"), locked=(segment,))
@@ -306,7 +333,7 @@ def scales() -> Iterator[Line]:
 
 
 def streams() -> Iterator[Line]:
-    """Each command with outputs that cannot be written, streams that are closed, and terminals."""
+    """Each command with outputs that cannot be written, and terminals."""
     for command in COMMANDS:
         for output in (FULL, NO_READER, CLOSED, TERMINAL):
             yield Line(command.words, output=output)
@@ -314,21 +341,29 @@ def streams() -> Iterator[Line]:
         yield Line((command.name, "--help"), output=FULL)
         yield Line((*command.words, "--wrong"), error=FULL)
         yield Line((*command.words, "--wrong"), error=TERMINAL)
-    wrong: list[Words] = [
-        ("report", "missing.img"), ("report", "hosts"), ("show", "rich.img", "requst.ms"), ("fold", "worse"),
-        ("run", "script-00.csv", "out.txt"), ("merge", "rich.img", "other.img", "out.txt"),
-        ("export", "clash.img", "--families"), ("report", "rich.img", "--minus", "later.img"),
-        ("report", "v2-bad-BadSum.img", "--whole"), ("look", "three_samples.img"), ("explain", "Rea"),
-        ("report", "rich.img", "v2-bad-BadSum.img", "--whole"), ("extract", "text.txt", "out.txt"),
-    ]
-    for words in wrong:
-        for value in ("", "0", "1", "yes"):
-            yield Line(words, settings=(("PERSIST_REPORT_EXPLAIN", value),))
-        yield Line(words, error=TERMINAL)
-        yield Line(words, error=FULL)
-        yield Line(words, error=CLOSED)
+
+
+# Commands that end with a fault, most after a text.
+FAULTY: list[Words] = [
+    ("report", "missing.img"), ("report", "hosts"), ("show", "rich.img", "requst.ms"), ("fold", "worse"),
+    ("run", "script-00.csv", "out.txt"), ("merge", "rich.img", "other.img", "out.txt"),
+    ("export", "clash.img", "--families"), ("report", "rich.img", "--minus", "later.img"),
+    ("report", "v2-bad-BadSum.img", "--whole"), ("look", "three_samples.img"), ("explain", "Rea"),
+    ("report", "rich.img", "v2-bad-BadSum.img", "--whole"), ("extract", "text.txt", "out.txt"),
+]
+
+
+def told_faults() -> Iterator[Line]:
+    """Faults that are explained since the environment or a terminal asks for it, or not, or that cannot be told."""
+    for words in FAULTY:
+        yield from (Line(words, settings=((EXPLAINED[0][0], value),)) for value in ("", "0", "1", "yes"))
+        yield from (Line(words, error=error) for error in (TERMINAL, FULL, CLOSED))
         yield Line(("--explain", *words))
         yield Line(words, output=FULL, settings=EXPLAINED)
+
+
+def environments() -> Iterator[Line]:
+    """Standard input that is no pipe, and the columns of the environment."""
     for stdin, form in itertools.product((CLOSED, TERMINAL, "/dev/null"), FORMS):
         yield Line(form.words, stdin)
         yield Line((*form.words, "--explain"), stdin, error=TERMINAL)
@@ -354,28 +389,15 @@ CHANGES = [
 ]
 
 
-# What changes while it is looked at: a file, one of a folder, one that is new there, and the same of a recording.
+# What changes while it is looked at: a file, one of a folder and one that is new there, and the same of a recording.
 CHANGED = ("live.img", "well/1.img", "well/9.img", "recording/0000000009.seg", "recording/0000000004.seg")
 
 
 def rounds() -> Iterator[Line]:
-    """Texts that are written again: in each form, of each source, and of what changes into something else."""
+    """Texts that are written again: in each form, of names, and to what cannot be written or is a terminal."""
     repeated = [form for form in (*FORMS, *MORE_FORMS) if form.words[0] in ("show", "export")]
     for form in repeated:
         yield from rounds_of((*form.words, "live.img"), "later.img", "last.img")
-    some: list[Words] = [("show",), ("show", "--list"), ("export",), ("show", "--whole", "--explain")]
-    for words in some:
-        for source in (("live.img", "crash.img"), ("live.img", "live.img"), ("live.img", "sum.totals", "missing.img")):
-            rest = source[1:] if words[0] == "export" else [word for name in source[1:] for word in ("--also", name)]
-            yield from rounds_of((*words, source[0], *rest), "later.img", "last.img")
-        yield from rounds_of((*words, "well"), "later.img", "last.img", path="well/1.img")
-        yield from rounds_of((*words, "well"), "rich.img", "", path="well/9.img")
-        yield from rounds_of((*words, "recording"), "rich.img", "later.img", path="recording/0000000009.seg")
-        yield from rounds_of((*words, "recording"), "last.img", path="recording/0000000004.seg")
-        yield from rounds_of((*words, "live.img", "--minus", "rich.img"), "later.img", "rich.img")
-        yield from rounds_of((*words, "live.img", "--workers", "3", "--strict"), "later.img", "text.txt")
-        for contents in CHANGES:
-            yield from rounds_of((*words, "live.img"), *contents)
     for words in [("request.ms",), ("fresh", "last"), ("--match", "last")]:
         yield from rounds_of(("show", "live.img", *words), "later.img", "last.img")
     yield from rounds_of(("export", "live.img", "--families"), "clash.img")
@@ -383,9 +405,31 @@ def rounds() -> Iterator[Line]:
         yield dataclasses.replace(next(rounds_of(("show", "live.img"), "later.img")), output=output, changes=())
 
 
+def rounds_of_sources(words: Words) -> Iterator[Line]:
+    """A text that is written again of several, of folders and recordings, of what came since an earlier image, and of a
+    file that becomes another one."""
+    for source in (("live.img", "crash.img"), ("live.img", "live.img"), ("live.img", "sum.totals", "missing.img")):
+        rest = source[1:] if words[0] == "export" else [word for name in source[1:] for word in ("--also", name)]
+        yield from rounds_of((*words, source[0], *rest), "later.img", "last.img")
+    yield from rounds_of((*words, "well"), "later.img", "last.img", path="well/1.img")
+    yield from rounds_of((*words, "well"), "rich.img", "", path="well/9.img")
+    yield from rounds_of((*words, "recording"), "rich.img", "later.img", path="recording/0000000009.seg")
+    yield from rounds_of((*words, "recording"), "last.img", path="recording/0000000004.seg")
+    yield from rounds_of((*words, "live.img", "--minus", "rich.img"), "later.img", "rich.img")
+    yield from rounds_of((*words, "live.img", "--workers", "3", "--strict"), "later.img", "text.txt")
+    for contents in CHANGES:
+        yield from rounds_of((*words, "live.img"), *contents)
+
+
+def other_rounds() -> Iterator[Line]:
+    """Some texts that are written again, of each source."""
+    for words in [("show",), ("show", "--list"), ("export",), ("show", "--whole", "--explain")]:
+        yield from rounds_of_sources(words)
+
+
 GROUPS = (
     helps, mistakes, options, named_pairs, by_sources, by_forms, damages, outs, inputs, scripts, scales, streams,
-    rounds,
+    told_faults, environments, rounds, other_rounds,
 )
 
 
@@ -411,7 +455,7 @@ def classes() -> set[Class]:
             wanted |= {*classed("mistake", f"{command.name} {option.name}", USAGE)}
     wanted |= {Class("form", form.name, 0) for form in (*FORMS, *MORE_FORMS)}
     wanted |= {Class("source", source.name, source.status) for source in SOURCES}
-    wanted |= {Class("damage", name, None) for name in damaged_names()}
+    wanted |= {Class("damage", name, None) for name in [*damaged_names(), *refused_names()]}
     wanted |= {Class("OUT", name, status) for name, _, status in tables.OUTS}
     wanted |= {Class("writer", name, tables.STATUS_OF_WRITER.get(name, 0)) for name in tables.WRITERS}
     wanted |= {Class("rounds", path, None) for path in CHANGED}

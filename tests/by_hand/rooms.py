@@ -92,7 +92,8 @@ IMAGES = {
 }
 # A script that continues the first of them.
 MORE = b"segment,4096,1024,7\nhist,request.ms,linear,1,1000,20\nhist,more,sparse\nadd,request.ms,5,1\nadd,more,-5,2\n"
-# Totals that fit with no others, totals that are none, and names of files.
+# Totals of the greatest numbers, totals that fit with no others, and names of files.
+GREAT = sums.ENDS + b"end,3\n"
 FAR = b"totals,1\nimages,1,0,0,0,0\nhist,A,1,4611686018427387904,0,0,0,sparse\nend,1\n"
 LISTS: dict[str, list[str]] = {
     "names.list": ["crash.img", "rich.img", "", "sum.totals"],
@@ -217,7 +218,7 @@ def folders(images: Mapping[str, bytes]) -> dict[str, Entry]:
     crash = CRASH.read_bytes()
     return {
         "hosts/1.img": crash, "hosts/2.img": images["rich.img"], "hosts/3.seg": bytes(8) + images["later.img"],
-        "hosts/4.totals": sums.ENDS, "hosts/5.txt": b"no image at all\n", "hosts/6.img": crash[:-1],
+        "hosts/4.totals": GREAT, "hosts/5.txt": b"no image at all\n", "hosts/6.img": crash[:-1],
         "hosts/in/more.img": crash, "hosts/link.img": Link("../crash.img"), f"hosts/{LEFTOVER}": crash,
         "nested/one/1.img": crash, "nested/two/2.img": images["rich.img"], "nested/recording/recording": b"",
         "well/1.img": crash, "well/2.img": images["other.img"], "well/3.totals": totals_of([crash]),
@@ -236,7 +237,7 @@ def plain_files(images: Mapping[str, bytes]) -> dict[str, Entry]:
         "odd.img": crash[:-1], "link.img": Link("crash.img"), "round.img": Link("round.img"),
         "dangling.img": Link("nothing.img"), "out.txt": STOOD, "out.link": Link("out.txt"),
         "new.link": Link("new.txt"), "sum.totals": totals_of([crash, images["rich.img"], old]),
-        "earlier.totals": totals_of([images["rich.img"]]), "ends.totals": sums.ENDS, "far.totals": FAR,
+        "earlier.totals": totals_of([images["rich.img"]]), "ends.totals": GREAT, "far.totals": FAR,
         "bad.totals": b"totals,1\nimages,1,0,0,0,0\nend,1\n", LEFTOVER: crash,
         **{name: "".join(f"{line}\n" for line in lines).encode() for name, lines in LISTS.items()},
     }

@@ -2,7 +2,8 @@
 status, and all that the folder then has.
 
 What may differ between two runs of one program is masked: the line of the time before a text that is written again
-(`--every` without `--to`), and the sixteen digits in the name of a new file that a command leaves.
+(`--every` without `--to`), the sixteen digits in the name of a new file that a command leaves, and where the blocks of
+an image are that several workers recorded: of that the sum is compared that a plain reader reads, and the header.
 """
 
 from __future__ import annotations
@@ -24,6 +25,7 @@ from typing import IO, Any, NamedTuple, Optional, Union
 
 from by_hand import rooms
 from by_hand.lines import CLOSED, FULL, NO_READER, TERMINAL, Change, Line
+from support import layout, plain_sums
 
 # The environment of each line, which has nothing else but what the line sets.
 ENVIRONMENT = {"COLUMNS": "80", "TERM": "dumb", "TZ": "UTC", "LC_ALL": "C", "PATH": os.environ.get("PATH", "")}
@@ -89,7 +91,8 @@ class Place:
         if stat.S_ISLNK(found.st_mode):
             kind, content = "a link", os.fsencode(os.readlink(place))
         elif stat.S_ISREG(found.st_mode):
-            kind, content = "a file", place.read_bytes()
+            data = place.read_bytes()
+            kind, content = "a file", reading_of(data) if self.line.has_workers else data
         else:
             kind, content = "a folder" if stat.S_ISDIR(found.st_mode) else "another thing", b""
         return File(kind, stat.S_IMODE(found.st_mode), content, self.numbers.get(path) == found.st_ino)
@@ -118,6 +121,15 @@ def masked(text: bytes, has_times: bool = False) -> bytes:
     """A text without what differs between two runs of one program."""
     text = NEW_FILE.sub(MASKED_FILE, text)
     return TIME.sub(MASKED_TIME, text) if has_times else text
+
+
+def reading_of(data: bytes) -> bytes:
+    """What an image has, wherever its blocks are: the words of its header that stay, and its sum as totals. Other bytes
+    are as they are."""
+    whole, left = plain_sums.sum_of([("", data)])
+    if left or not data.startswith(layout.COOKIE_BYTES):
+        return data
+    return data[: 8 * layout.FLAGS] + plain_sums.totals_text(whole)
 
 
 class Streams:

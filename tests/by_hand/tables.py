@@ -95,7 +95,7 @@ COMMANDS = (
         (PREFIX, LABEL, flag("--families"), TO, LIVE, AT, EVERY, COUNT, *SUM, WHOLE, EXPLAIN),
     ),
     Command(
-        "merge", ("merge", "rich.img", "crash.img", "out.txt"), ((), ("rich.img",), ("rich.img", "crash.img")),
+        "merge", ("merge", "rich.img", "later.img", "out.txt"), ((), ("rich.img",), ("rich.img", "later.img")),
         ("more.img",), (EXPLAIN,),
     ),
     Command("run", ("run", "crash.csv", "out.txt"), ((), ("crash.csv",)), ("more.img",), (WORKERS, EXPLAIN)),
@@ -262,7 +262,7 @@ OUTS = (
 WRITERS = {
     "run": ("run", "crash.csv"),
     "resume": ("resume", "rich.img", "more.csv"),
-    "merge": ("merge", "rich.img", "crash.img"),
+    "merge": ("merge", "rich.img", "later.img"),
     "extract": ("extract", "core"),
     "look": ("look", "rich.img"),
     "report --to": ("report", "rich.img", "--to"),

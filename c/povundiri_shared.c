@@ -164,7 +164,7 @@ uint32_t povundiri_shared_open(int descriptor, size_t cursors, struct povundiri_
     uint32_t status;
     int fault;
     if (shared == NULL || segment == NULL) return POVUNDIRI_NULL;
-    if (!holds_nothing(shared) || segment->full) return POVUNDIRI_NOT_EMPTY;
+    if (!holds_nothing(shared) || segment->held) return POVUNDIRI_NOT_EMPTY;
     shared->fault = 0;
     fault = judge(descriptor);
     if (fault == 0) fault = povundiri_parts_open_memory(&shared->file, descriptor);

@@ -525,7 +525,7 @@ static void two_opens(void) {
     const int before = count_descriptors();
     DONE(povundiri_shared_open(descriptor, CURSORS, &own, &segment));
     ANSWERS(SYSTEM, povundiri_shared_open(descriptor, CURSORS, &again, &other));
-    HOLDS(again.fault == EBUSY && is_nothing(&again) && !other.full && count_descriptors() == before + 1);
+    HOLDS(again.fault == EBUSY && is_nothing(&again) && !other.held && count_descriptors() == before + 1);
     ANSWERS(NOT_EMPTY, povundiri_shared_open(descriptor, CURSORS, &own, &other));
     ANSWERS(NOT_EMPTY, povundiri_shared_open(descriptor, CURSORS, &again, &segment));
     ANSWERS(NOT_EMPTY, povundiri_shared_open(descriptor, CURSORS, &shared, &other));
@@ -632,7 +632,7 @@ static uint32_t refusal_of(int descriptor, size_t cursors, int *fault) {
     struct povundiri_shared shared = {0};
     struct povundiri_handle segment = {0};
     const uint32_t status = povundiri_shared_open(descriptor, cursors, &shared, &segment);
-    HOLDS(status != POVUNDIRI_DONE && is_nothing(&shared) && !segment.full && count_descriptors() == open_before);
+    HOLDS(status != POVUNDIRI_DONE && is_nothing(&shared) && !segment.held && count_descriptors() == open_before);
     HOLDS(pread(descriptor, after, sizeof after, 0) == length && (length <= 0 || memcmp(before, after, (size_t)length) == 0));
     HOLDS(count_mappings("rw-s") == 0 && (status == POVUNDIRI_SYSTEM) == (shared.fault != 0));
     if (descriptor >= 0) close(descriptor);
@@ -790,10 +790,10 @@ static int fail_at_each_call(bool opens) {
                        : povundiri_shared_create(shape_of(WORDS), &own);
         failing_at = 0;
         if (calls < at) at = 1000;
-        HOLDS(status == POVUNDIRI_DONE || (status == POVUNDIRI_SYSTEM && own.fault == failing_with && is_nothing(&own) && !segment.full));
+        HOLDS(status == POVUNDIRI_DONE || (status == POVUNDIRI_SYSTEM && own.fault == failing_with && is_nothing(&own) && !segment.held));
         failed += status == POVUNDIRI_SYSTEM;
         if (status != POVUNDIRI_DONE && opens) HOLDS(run("adds", povundiri_shared_descriptor(&shared)) == 0 && has_report(&shared, FIVE));
-        if (segment.full) DONE(povundiri_drop(&segment));
+        if (segment.held) DONE(povundiri_drop(&segment));
         povundiri_shared_close(&own);
         povundiri_shared_close(&shared);
         HOLDS(count_descriptors() == before && count_mappings("r--s") == 0 && count_mappings("rw-s") == 0);
@@ -853,9 +853,9 @@ static int refuse_each_allocation(int which) {
         if (which == 2) status = povundiri_shared_look(&shared, image, WORDS, NULL);
         refused_at = 0;
         if (allocations < at) at = 1000;
-        HOLDS(status == POVUNDIRI_DONE || (is_no_memory(status, own.fault) && is_nothing(&own) && !segment.full));
+        HOLDS(status == POVUNDIRI_DONE || (is_no_memory(status, own.fault) && is_nothing(&own) && !segment.held));
         refused += status != POVUNDIRI_DONE;
-        if (segment.full) DONE(povundiri_drop(&segment));
+        if (segment.held) DONE(povundiri_drop(&segment));
         povundiri_shared_close(&own);
         if (which == 1) HOLDS(run("adds", povundiri_shared_descriptor(&shared)) == 0 && has_report(&shared, FIVE));
         povundiri_shared_close(&shared);

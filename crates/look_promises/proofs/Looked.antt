@@ -11,4 +11,5 @@ pub mod Reading
 pub mod Bounds
 pub mod Used
 pub mod Adopted
+pub mod Kinds
 pub mod Rises

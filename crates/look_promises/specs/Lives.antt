@@ -5,6 +5,7 @@ use Rattle.std.specs.List.{All, Contains, flat_map}
 use Rattle.segment_image.specs.Head.{head_of}
 use Rattle.segment_image.specs.Shape.{Dimensions}
 use Rattle.bucket_ranges.specs.Reading.{Histogram, Reading, IsListed, IsReading, reading_along}
+use Rattle.bucket_ranges.specs.Spec.{SameSpec}
 use Rattle.segment_looks.specs.Looks.{IsLook}
 use Rattle.segment_machine.specs.State.{State}
 use Rattle.segment_invariant.specs.Body.{Anatomy}
@@ -44,10 +45,10 @@ pub record IsReadIn {shape : Dimensions} (life : Life shape) (reading : Reading)
   pub look : IsLook (head_loaded shape life.opened life.at moments.three) one two three image
   pub is : IsReading image (head_of image) reading
 
--- A reading has all histograms of an earlier one, and for each key of each no fewer units.
+-- A reading has all histograms of an earlier one, each with the same spec, and for each key of each no fewer units: nothing fell.
 abbrev pub IsBeyond : Reading → Reading → Type 0
 IsBeyond earlier reading = (g : Histogram) → Contains earlier.hists g
-    → (h : Histogram) × Contains reading.hists h × (h.name ≡ g.name) × ((key : ℤ) → units_read g key ≤ units_read h key)
+    → (h : Histogram) × Contains reading.hists h × (h.name ≡ g.name) × SameSpec g.spec h.spec × ((key : ℤ) → units_read g key ≤ units_read h key)
 
 -- Of two looks, each within one life, the one in the later life has all histograms of the other, and for each key no fewer units, however
 -- often the segment was opened again in between.

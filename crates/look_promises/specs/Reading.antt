@@ -4,6 +4,7 @@ use Rattle.std.specs.List.{Contains, flat_map}
 use Rattle.segment_image.specs.Head.{head_of, header_of}
 use Rattle.segment_image.specs.Shape.{Dimensions}
 use Rattle.bucket_ranges.specs.Reading.{Histogram, Reading, IsListed, IsReading, reading_along}
+use Rattle.bucket_ranges.specs.Spec.{SameSpec}
 use Rattle.image_rules.specs.Adoption.{HasNoFault, IsAdoptable}
 use Rattle.segment_looks.specs.Looks.{IsLook}
 use Rattle.segment_machine.specs.Entry.{tally_units}
@@ -48,8 +49,8 @@ LooksAreAdoptable = (shape : Dimensions) (opened : Anatomy) (at : ℕ → State)
     → IsLook (head_loaded shape opened at moments.three) one two three image → (head_loaded shape opened at moments.three).corrupt ≡ false
     → IsListed image (head_of image) references → IsAdoptable image references (reading_along image (head_of image) references)
 
--- If one look's second copy was loaded no earlier than another's, the later look reads as all histograms of the earlier one, and for each
--- key it has no fewer units.
+-- If one look's second copy was loaded no earlier than another's, the later look reads as all histograms of the earlier one, each with the
+-- same spec, and for each key it has no fewer units.
 abbrev pub ReadingsRise : Type 0
 ReadingsRise = (shape : Dimensions) (opened : Anatomy) (at : ℕ → State) (first other last : ℕ) (moments later : Moments) (one two three four five six image next : List ℕ)
     (reading beyond : Reading) (g : Histogram)
@@ -57,4 +58,4 @@ ReadingsRise = (shape : Dimensions) (opened : Anatomy) (at : ℕ → State) (fir
     → ((i j : ℕ) → i < shape.size → j < shape.size → moments.two i ≤ later.two j)
     → IsLook (head_loaded shape opened at moments.three) one two three image → IsLook (head_loaded shape opened at later.three) four five six next
     → IsReading image (head_of image) reading → IsReading next (head_of next) beyond → Contains reading.hists g
-    → (h : Histogram) × Contains beyond.hists h × (h.name ≡ g.name) × ((key : ℤ) → units_read g key ≤ units_read h key)
+    → (h : Histogram) × Contains beyond.hists h × (h.name ≡ g.name) × SameSpec g.spec h.spec × ((key : ℤ) → units_read g key ≤ units_read h key)

@@ -248,8 +248,8 @@ pub fn looks_are_adoptable()
 {}
 
 /// If one look's second copy was loaded no earlier than another's, the later look reads as all histograms of the
-/// earlier one, and for each key it has no fewer units. So the difference of the two readings is what was counted
-/// between them, and is never negative.
+/// earlier one, each with the same spec, and for each key it has no fewer units. So the difference of the two readings
+/// is what was counted between them, and is never negative: who follows a segment by its looks never finds that one fell.
 ///
 /// Nothing is required of the other copies: two looks may be taken at the same time.
 pub fn readings_rise()
@@ -289,8 +289,8 @@ pub fn readings_tell_their_means()
     ensures { ReadingsTellTheirMeans }
 {}
 
-/// The words that a segment left when it was stopped have all histograms of each look that was taken before, and for
-/// each key no fewer units.
+/// The words that a segment left when it was stopped have all histograms of each look that was taken before, each with
+/// the same spec, and for each key no fewer units.
 ///
 /// Nothing is required of how it was stopped: its process may have been killed in the middle of calls.
 pub fn readings_rise_to_the_stop()
@@ -298,8 +298,8 @@ pub fn readings_rise_to_the_stop()
 {}
 
 /// A segment that was stopped, and opened again by the words that it left, reads in each later look as all histograms
-/// of each look from before, and for each key it has no fewer units. It may have been stopped and opened again many
-/// times.
+/// of each look from before, each with the same spec, and for each key it has no fewer units. It may have been stopped
+/// and opened again many times.
 ///
 /// Each of the two looks is taken within one life. Of a look whose copies were loaded before and after the segment was
 /// opened again nothing is said.

@@ -10,3 +10,5 @@ mod KeptUnits
 mod MarkedSteps
 mod FollowSteps
 mod AddsUp
+mod FewerUnits
+mod Fallen

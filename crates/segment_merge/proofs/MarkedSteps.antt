@@ -122,7 +122,7 @@ pub marked_more : (noted all : List Histogram) (next then_next : ℕ) (h : Histo
     → IsMarkedAt noted next h is_noted → then_next ≡ (if is_noted then next + 1 else next) → AreMarkedSoFar noted (all ++ h ∷ []) then_next
 marked_more noted all next then_next h true so_far risen (below, is) same =
     subst (AreMarkedSoFar noted (all ++ h ∷ [])) (sym same) (noted_more noted all next h so_far risen below is)
-marked_more noted all next then_next h false so_far risen none same =
+marked_more noted all next then_next h false so_far risen (none, before) same =
     subst (AreMarkedSoFar noted (all ++ h ∷ [])) (sym same) (fresh_more noted all next h so_far risen none)
 
 -- all notes are marks

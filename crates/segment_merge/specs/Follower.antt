@@ -1,5 +1,5 @@
 -- What a follower has noted, what its calls make of that, and why they are refused.
-use Rattle.std.specs.Prelude.{◌≡◌, ◌≢◌, min, ℕ, ◌<◌, ◌≤◌, List, [], IsPermutation, map, sum_by, Option, Some, None, MatchOption, vec_capacity, vec_len}
+use Rattle.std.specs.Prelude.{◌≡◌, ◌≢◌, min, ℕ, ◌<◌, ◌≤◌, List, [], map, sum_by, Option, Some, None, MatchOption, vec_capacity, vec_len}
 use Rattle.std.specs.List.{All}
 use Rattle.bucket_ranges.specs.Reading.{Histogram, Reading}
 use Rattle.image_reader.specs.Views.{histogram_view}
@@ -8,7 +8,7 @@ use Rattle.segment_merge.specs.declared.follow_fault.FollowFault.TheVariants.{Ot
 use Rattle.segment_merge.specs.declared.follower.Follower.{Follower}
 use Rattle.segment_merge.specs.declared.follower.Prepared.{Prepared}
 use Rattle.segment_merge.specs.Merge.{cost_left, units_left}
-use Rattle.segment_merge.specs.Noted.{AreMarkedBy, unmarked}
+use Rattle.segment_merge.specs.Noted.{AreInOrder, HasFallen, HaveNotes, IsInOrder}
 use Rattle.segment_merge.specs.Steps.{HasRoomFor, IsStep, hists_of}
 
 -- what is noted: histograms, of which the units of each key and the sum were added or skipped
@@ -23,42 +23,41 @@ followed_id follower = follower.id
 abbrev pub IsOfSegment : Follower → Reading → Type 0
 IsOfSegment follower reading = MatchOption (followed_id follower) (Unit {0}) (λ id. id ≡ reading.id)
 
--- the histograms of a reading, in some order, with what is noted as their marks
-pub record HaveNotes (noted : List Histogram) (reading : Reading) (hists : List Histogram) : Type 0 where
-  pub same : IsPermutation (map unmarked reading.hists) (map unmarked hists)
-  pub by : AreMarkedBy noted hists
-
 -- A reading is skipped: it is noted, whatever was noted before; and these are the units that it has above what was noted, or the greatest
 -- `u64` if there are more.
 pub record IsSkipped (noted : List Histogram) (reading : Reading) (units : ℕ) (later : List Histogram) : Type 0 where
-  pub have : HaveNotes noted reading later
+  pub have : HaveNotes noted reading.hists later
   pub units_are : units ≡ min (sum_by units_left later) 18446744073709551615
 
 -- What is new of a reading costs this, or, if it costs more than the greatest `u64`, this is that, and it is more than is allowed.
 pub record CostsTooMany (noted : List Histogram) (reading : Reading) (most cost : ℕ) : Type 0 where
   pub hists : List Histogram
-  pub have : HaveNotes noted reading hists
+  pub have : HaveNotes noted reading.hists hists
   pub cost_is : cost ≡ min (sum_by cost_left hists) 18446744073709551615
   pub more : most < cost
+
+-- A reading fell, if it and what is noted are in order: it has not all that is noted.
+abbrev pub HasFallenIfInOrder : List Histogram → Reading → Type 0
+HasFallenIfInOrder noted reading = AreInOrder noted → IsInOrder reading.hists → HasFallen noted reading.hists
 
 -- why a reading is not followed
 abbrev pub IsNotFollowedFor : Follower → Reading → ℕ → FollowFault → Type 0
 IsNotFollowedFor follower reading most OtherSegment = (id : ℕ) × (followed_id follower ≡ Some id) × (id ≢ reading.id)
-IsNotFollowedFor follower reading most Fell = Unit {0}
+IsNotFollowedFor follower reading most Fell = HasFallenIfInOrder (noted_of follower) reading
 IsNotFollowedFor follower reading most (TooMany cost) = CostsTooMany (noted_of follower) reading most cost
 IsNotFollowedFor follower reading most NoMemory = Unit {0}
 
 -- and why it is not skipped: for no cost
 abbrev pub IsNotSkippedFor : Follower → Reading → FollowFault → Type 0
 IsNotSkippedFor follower reading OtherSegment = (id : ℕ) × (followed_id follower ≡ Some id) × (id ≢ reading.id)
-IsNotSkippedFor follower reading Fell = Unit {0}
+IsNotSkippedFor follower reading Fell = HasFallenIfInOrder (noted_of follower) reading
 IsNotSkippedFor follower reading (TooMany cost) = ⊥
 IsNotSkippedFor follower reading NoMemory = Unit {0}
 
 -- What a merge needs is there: the steps of the histograms, which cost no more than is allowed, and a report and a list of notes with room
 -- for them, in which there is nothing.
 pub record IsPrepared (noted : List Histogram) (reading : Reading) (most : ℕ) (prepared : Prepared) : Type 0 where
-  pub have : HaveNotes noted reading (hists_of prepared.steps.items)
+  pub have : HaveNotes noted reading.hists (hists_of prepared.steps.items)
   pub cheap : min (sum_by cost_left (hists_of prepared.steps.items)) 18446744073709551615 ≤ most
   pub steps : All IsStep prepared.steps.items
   pub room : HasRoomFor (vec_len prepared.steps) prepared.report

@@ -22,6 +22,14 @@ pub record AreMarksOf (noted counts : List (ℤ × ℕ)) (marks : List ℕ) : Ty
   pub units : (key : ℤ) → units_listed (key_marks counts marks) key ≡ units_listed noted key
   pub risen : All HasRoom (zip counts marks)
 
+-- the keys ascend
+abbrev pub AreAscending : List (ℤ × ℕ) → Type 0
+AreAscending counts = (i j : ℕ) → i < j → j < length counts → (count_at counts i).0 <ℤ (count_at counts j).0
+
+-- of some key there are fewer units than are noted
+abbrev pub HasFewer : List (ℤ × ℕ) → List (ℤ × ℕ) → Type 0
+HasFewer noted counts = (key : ℤ) × (units_listed counts key < units_listed noted key)
+
 -- it is the first place, from another one on, at which units are noted, or the end
 pub record IsNextNoted (noted : List (ℤ × ℕ)) (from next : ℕ) : Type 0 where
   pub within : next ≤ length noted

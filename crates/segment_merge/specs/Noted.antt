@@ -1,11 +1,18 @@
 -- What is noted of a segment, and a reading of it whose marks are that.
-use Rattle.std.specs.Prelude.{◌≡◌, Bool, true, false, if◌then◌else◌, ℕ, ◌<◌, ℤ, pos, ◌+ℤ◌, List, [], fold, length, map, sum_by, slice_index_or}
+use Rattle.std.specs.Prelude.{◌≡◌, ◌≢◌, ◌⊎◌, Bool, true, false, if◌then◌else◌, ℕ, ◌<◌, ◌≤◌, ℤ, pos, ◌+ℤ◌, List, [], IsPermutation, fold, length, map, sum_by, slice_index_or}
+use mathlib.Core.Option.{some}
+use lib.ListN.{get_elem?}
+use Rattle.std.specs.Cmp.Lexicographic.{slice_cmp}
 use Rattle.std.specs.List.{All, Contains}
+use Rattle.std.specs.List.Sorted.{IsSortedByKey}
+use Rattle.std.specs.Ordering.{nat_cmp}
 use Rattle.std.specs.Str.{bytes_eq}
+use Rattle.std.specs.declared.cmp.Ordering.TheVariants.{Less, Greater}
 use Rattle.bucket_ranges.specs.Reading.{Histogram}
 use Rattle.bucket_ranges.specs.Spec.{SameSpec}
+use Rattle.image_reader.specs.declared.reading.HistReading.{HistReading}
 use Rattle.segment_promises.specs.Reads.{mark_read, units_read}
-use Rattle.segment_merge.specs.Marks.{HasRoom}
+use Rattle.segment_merge.specs.Marks.{AreAscending, HasFewer, HasRoom}
 use Rattle.segment_merge.specs.Remainder.{marked}
 
 -- ---- what histograms have together of a name
@@ -55,12 +62,61 @@ pub record AreMarkedBy (noted hists : List Histogram) : Type 0 where
   pub units : (name : List ℕ) (key : ℤ) → marks_among hists name key ≡ units_among noted name key
   pub sums : (name : List ℕ) → sum_mark_among hists name ≡ sum_among noted name
 
+-- ---- what is less than is noted
+
+-- A reading has what is noted: of each histogram that is noted one of its name, with the same spec, and no key of it has fewer units.
+abbrev pub HasAll : List Histogram → List Histogram → Type 0
+HasAll noted hists = (note : Histogram) → Contains noted note
+    → (h : Histogram) × Contains hists h × (h.name ≡ note.name) × SameSpec note.spec h.spec × ((key : ℤ) → units_read note key ≤ units_read h key)
+
+-- it fell: it has not all that is noted
+abbrev pub HasFallen : List Histogram → List Histogram → Type 0
+HasFallen noted hists = ¬ (HasAll noted hists)
+
+-- as readings of words are: each name is there once, and the keys of each histogram ascend
+pub record IsInOrder (hists : List Histogram) : Type 0 where
+  pub once : (i j : ℕ) (g h : Histogram) → i ≢ j → get_elem? hists i ≡ some g → get_elem? hists j ≡ some h → g.name ≢ h.name
+  pub keys : All (λ h. AreAscending h.counts) hists
+
+-- a name is before another one, as bytes compare
+abbrev pub IsBefore : List ℕ → List ℕ → Type 0
+IsBefore a b = slice_cmp nat_cmp a b ≡ Less
+
+-- histograms by their names
+abbrev pub AreByName : List HistReading → Type 0
+AreByName hists = IsSortedByKey (λ (hist : HistReading). hist.name.items) (slice_cmp nat_cmp) hists
+
+-- as notes of such readings are: the names ascend, and so do the keys of each histogram
+pub record AreInOrder (hists : List Histogram) : Type 0 where
+  pub names : (i j : ℕ) (g h : Histogram) → i < j → get_elem? hists i ≡ some g → get_elem? hists j ≡ some h → IsBefore g.name h.name
+  pub keys : All (λ h. AreAscending h.counts) hists
+
+-- The histograms of a reading, in some order, with what is noted as their marks. Those of a reading that is in order are in the order of
+-- their names.
+pub record HaveNotes (noted hists marked_hists : List Histogram) : Type 0 where
+  pub same : IsPermutation (map unmarked hists) (map unmarked marked_hists)
+  pub by : AreMarkedBy noted marked_hists
+  pub order : IsInOrder hists → AreInOrder marked_hists
+
+-- ---- one histogram
+
 -- nothing is noted of it
 pub record HasNoNote (h : Histogram) : Type 0 where
   pub units : (key : ℤ) → mark_read h key ≡ 0
   pub sum : h.sum_mark ≡ pos 0
 
--- it is marked by the note at a place, or there is none for it
+-- it is marked by the note at a place, or there is none for it and its name is before the one that is noted there
 abbrev pub IsMarkedAt : List Histogram → ℕ → Histogram → Bool → Type 0
 IsMarkedAt noted next h true = (next < length noted) × IsMarkedBy (slice_index_or noted next h) h
-IsMarkedAt noted next h false = HasNoNote h
+IsMarkedAt noted next h false = HasNoNote h × (next < length noted → IsBefore h.name (slice_index_or noted next h).name)
+
+-- it has less than is noted of its name: another spec, or fewer units of a key
+abbrev pub IsLessThan : Histogram → Histogram → Type 0
+IsLessThan note h = (¬ (SameSpec note.spec h.spec)) ⊎ (AreAscending note.counts → AreAscending h.counts → HasFewer note.counts h.counts)
+
+-- it has less than is noted at a place, or its name is behind that
+abbrev pub IsFallenAt : List Histogram → ℕ → Histogram → Type 0
+IsFallenAt noted next h =
+    (next < length noted)
+    × ((slice_cmp nat_cmp h.name (slice_index_or noted next h).name ≡ Greater)
+    ⊎ ((h.name ≡ (slice_index_or noted next h).name) × IsLessThan (slice_index_or noted next h) h))

@@ -32,13 +32,15 @@ impl Follower {
     ghost use Rattle.live_segment.specs.Holders.{view_of_recorder};
     ghost use Rattle.live_segment.specs.RecorderState.{KnowsOn};
     ghost use Rattle.segment_merge.specs.Follow.{IsFollowed};
-    ghost use Rattle.segment_merge.specs.Follower.{HaveNotes, IsNotFollowedFor, IsNotSkippedFor, IsOfSegment, IsPrepared, IsSkipped, followed_id, noted_of};
+    ghost use Rattle.segment_merge.specs.Noted.{AreInOrder, HaveNotes, IsInOrder};
+    ghost use Rattle.segment_merge.specs.Follower.{IsNotFollowedFor, IsNotSkippedFor, IsOfSegment, IsPrepared, IsSkipped, followed_id, noted_of};
 
-    /// Returns a follower that has followed nothing: nothing is noted [none], and the first reading may be of any
-    /// segment [any].
+    /// Returns a follower that has followed nothing: nothing is noted [none], which is in order [order], and the first
+    /// reading may be of any segment [any].
     pub fn new(alloc: Global) -> Follower
         ensures none { noted_of result ≡ [] }
         ensures any { followed_id result ≡ None }
+        ensures order { AreInOrder (noted_of result) }
     {
         Follower {
             alloc,
@@ -47,14 +49,28 @@ impl Follower {
         }
     }
 
-    /// Adds what a reading has above what is noted, and notes it: of each histogram, in the order of their names, the
-    /// units of each key above those that are noted of the name and the key, with the sum less the noted sum, by one
-    /// `hist` and one `batch`. A histogram that has nothing new is not asked for. The marks of the reading itself make
-    /// no difference.
+    /// Adds what a reading has above what is noted, and notes that: of each histogram, in the order of their names, the
+    /// units of each key above those that are noted of it, with the sum less the noted sum, by one `hist` and one
+    /// `batch`. A histogram of which nothing is new is not asked for. The marks of the reading itself make no
+    /// difference. Any reading may be given.
     ///
     /// A histogram is passed over for `BadName`, `BadSpec`, `TooLarge`, `OtherSpec` and `Full`, and the others go on;
     /// `NoUnits`, `Corrupt` and `NoMemory` stop the merge there. The first items of a batch that is cut short are added
     /// and noted, its sum is not. What is not added is not noted, so the next merge adds it.
+    ///
+    /// On `Ok`, each histogram that is noted is in the reading, with the same spec and no fewer units of any key. What is
+    /// new costs at most `most` units: together what the batches cost, or 18,446,744,073,709,551,615 if that is less. The
+    /// log of the recorder grew by exactly the batches of what is new, one after the other, with the cuts that the
+    /// report lists, each for its cause. Of each name and key what is noted grew by the units of these batches, and of
+    /// each name by their sums; of a histogram that is not listed, what is noted is what the reading has. On an error
+    /// nothing has changed. `OtherSegment`: the reading has another id than the one that was followed before. `Fell`, for
+    /// a reading in order, as those of words are, after readings in order: the reading has not all that is noted.
+    /// `TooMany`: what is new costs more than `most`, and `cost` is what it costs, or 18,446,744,073,709,551,615. Or
+    /// `NoMemory` [answer].
+    ///
+    /// On `Ok`, the reading is of the segment that was followed before, if there was one, and from then on that is the
+    /// one that is followed [segment]; and what is noted is in order, if the reading is [order]. The recorder records
+    /// into the same segment [kept], and each histogram that it knew it knows at the same place [same].
     pub fn merge(
         &mut self,
         recorder: &mut Recorder,
@@ -63,6 +79,7 @@ impl Follower {
     ) -> Result<FollowReport, FollowFault>
         ensures kept { recorder.new.segment ≡ recorder.old.segment }
         ensures same { KnowsOn recorder.old.state recorder.new.state }
+        ensures order { IfOk result (λ report. IsInOrder (reading_view reading).hists → AreInOrder (noted_of self.new)) }
         ensures segment { IfOk result (λ report. IsOfSegment self.old (reading_view reading) × (followed_id self.new ≡ Some reading.id)) }
         ensures answer { MatchResult result (λ report. IsFollowed (noted_of self.old) (reading_view reading) most report (noted_of self.new) (view_of_recorder recorder.old) (view_of_recorder recorder.new)) (λ fault. (self.new ≡ self.old) × (recorder.new ≡ recorder.old) × IsNotFollowedFor self.old (reading_view reading) most fault) }
     {
@@ -79,8 +96,13 @@ impl Follower {
     }
 
     /// Notes a reading, adds nothing, and returns the units that it has above what was noted, or
-    /// 18,446,744,073,709,551,615 if there are more.
+    /// 18,446,744,073,709,551,615 if there are more. On an error nothing has changed: `OtherSegment`, `Fell` and
+    /// `NoMemory` come as from a merge, and `TooMany` never [answer].
+    ///
+    /// On `Ok`, the reading is of the segment that was followed before, if there was one, and from then on that is the
+    /// one that is followed [segment]; and what is noted is in order, if the reading is [order].
     pub fn skip(&mut self, reading: Reading) -> Result<u64, FollowFault>
+        ensures order { IfOk result (λ units. IsInOrder (reading_view reading).hists → AreInOrder (noted_of self.new)) }
         ensures segment { IfOk result (λ units. IsOfSegment self.old (reading_view reading) × (followed_id self.new ≡ Some reading.id)) }
         ensures answer { MatchResult result (λ units. IsSkipped (noted_of self.old) (reading_view reading) units (noted_of self.new)) (λ fault. (self.new ≡ self.old) × IsNotSkippedFor self.old (reading_view reading) fault) }
     {
@@ -95,7 +117,7 @@ impl Follower {
     // The histograms of a reading by their names, with what is noted of them as their marks.
     fn marked(&self, reading: Reading) -> Result<Vec<HistReading>, FollowFault>
         ensures segment { IfOk result (λ hists. IsOfSegment self.now (reading_view reading)) }
-        ensures answer { MatchResult result (λ hists. HaveNotes (noted_of self.now) (reading_view reading) (map histogram_view hists.items)) (λ fault. IsNotSkippedFor self.now (reading_view reading) fault) }
+        ensures answer { MatchResult result (λ hists. HaveNotes (noted_of self.now) (reading_view reading).hists (map histogram_view hists.items)) (λ fault. IsNotSkippedFor self.now (reading_view reading) fault) }
     {
         if let Some(id) = self.id
             && id != reading.id

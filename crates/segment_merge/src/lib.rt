@@ -1,7 +1,8 @@
-//! What a dead segment counted is merged into a live one.
+//! What a dead segment counted, or what came of a running one, is merged into a live one.
 //!
 //! For each histogram of a reading, these are the units and the part of the sum that its deltas have not taken.
 //! [`merge`] adds them by a recorder of the live segment, one batch for each histogram, and reports what it added.
+//! A [`Follower`] adds what came of a segment since an earlier reading of it, and notes what it has added.
 #![tactic(auto)]
 
 mod costs;

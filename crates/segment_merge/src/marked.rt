@@ -1,19 +1,21 @@
 //! A reading whose marks are what a follower has noted.
 
-ghost use Rattle.std.specs.Prelude.{◌≡◌, ◌≤◌, IfOk, IfSome, IsPermutation, length, map};
+ghost use Rattle.std.specs.Prelude.{◌≡◌, ◌≤◌, IfOk, IsPermutation, MatchOption, length, map};
 ghost use Rattle.std.specs.List.{All};
 ghost use Rattle.image_reader.specs.Views.{histogram_view};
 ghost use Rattle.segment_merge.specs.Marks.{HasRoom};
-ghost use Rattle.segment_merge.specs.Noted.{AreMarkedBy, HasNoNote, HasRisen, IsMarkedAt, IsMarkedBy, unmarked as without_marks};
+ghost use Rattle.segment_merge.specs.Noted.{AreByName, AreInOrder, HasFallen, HasNoNote, HasRisen, HaveNotes, IsFallenAt, IsInOrder, IsLessThan, IsMarkedAt, IsMarkedBy, unmarked as without_marks};
 ghost use Rattle.segment_merge.specs.Remainder.{marked as with_their_marks};
 
 use crate::marks::marks_of;
 use image_reader::HistReading;
 use std::alloc::{AllocError, Global};
+use std::cmp::Ordering;
 
 // The histograms in the order of their names.
 fn by_name(hists: Vec<HistReading>) -> Result<Vec<HistReading>, AllocError>
-    ensures { IfOk result (λ sorted. IsPermutation hists.items sorted.items) }
+    ensures moved { IfOk result (λ sorted. IsPermutation hists.items sorted.items) }
+    ensures sorted { IfOk result (λ sorted. AreByName sorted.items) }
 {
     let mut sorted = hists;
     sorted.sort_by(|a, b| a.name.as_slice().cmp(b.name.as_slice()))?;
@@ -74,7 +76,7 @@ fn marked_by(
     hist: HistReading,
 ) -> Result<Option<HistReading>, AllocError>
     requires { hist.name.items ≡ note.now.name.items }
-    ensures { IfOk result (λ found. IfSome found (λ h. (without_marks (histogram_view h) ≡ without_marks (histogram_view hist)) × HasRisen (histogram_view h) × IsMarkedBy (histogram_view note.now) (histogram_view h))) }
+    ensures { IfOk result (λ found. MatchOption found (IsLessThan (histogram_view note.now) (histogram_view hist)) (λ h. (without_marks (histogram_view h) ≡ without_marks (histogram_view hist)) × HasRisen (histogram_view h) × IsMarkedBy (histogram_view note.now) (histogram_view h))) }
 {
     if !note.spec.is_same(&hist.spec) {
         return Ok(None);
@@ -89,7 +91,7 @@ fn marked_by(
 }
 
 // A histogram with what is noted of it, if the next one that is noted has its name, and whether it has; none if it is
-// less than that.
+// less than that, or that is gone.
 fn marked_next(
     alloc: Global,
     noted: &[HistReading],
@@ -97,18 +99,20 @@ fn marked_next(
     hist: HistReading,
 ) -> Result<Option<(HistReading, bool)>, AllocError>
     requires { next ≤ length noted.now }
-    ensures { IfOk result (λ found. IfSome found (λ came. (without_marks (histogram_view came.0) ≡ without_marks (histogram_view hist)) × HasRisen (histogram_view came.0) × IsMarkedAt (map histogram_view noted.now) next (histogram_view came.0) came.1)) }
+    ensures { IfOk result (λ found. MatchOption found (IsFallenAt (map histogram_view noted.now) next (histogram_view hist)) (λ came. (without_marks (histogram_view came.0) ≡ without_marks (histogram_view hist)) × HasRisen (histogram_view came.0) × IsMarkedAt (map histogram_view noted.now) next (histogram_view came.0) came.1)) }
 {
-    if next < noted.len() {
-        let note = &noted[next];
-        if hist.name.as_slice() == note.name.as_slice() {
-            return match marked_by(alloc, note, hist)? {
-                Some(with_notes) => Ok(Some((with_notes, true))),
-                None => Ok(None),
-            };
-        }
+    if next == noted.len() {
+        return Ok(Some((unmarked(alloc, hist), false)));
     }
-    Ok(Some((unmarked(alloc, hist), false)))
+    let note = &noted[next];
+    match hist.name.as_slice().cmp(note.name.as_slice()) {
+        Ordering::Less => Ok(Some((unmarked(alloc, hist), false))),
+        Ordering::Equal => match marked_by(alloc, note, hist)? {
+            Some(with_notes) => Ok(Some((with_notes, true))),
+            None => Ok(None),
+        },
+        Ordering::Greater => Ok(None),
+    }
 }
 
 // The histograms of a reading by their names, each with what is noted of it as its marks; none if one that is noted is
@@ -118,8 +122,7 @@ pub(crate) fn marked(
     noted: &[HistReading],
     hists: Vec<HistReading>,
 ) -> Result<Option<Vec<HistReading>>, AllocError>
-    ensures same { IfOk result (λ found. IfSome found (λ all. IsPermutation (map without_marks (map histogram_view hists.items)) (map without_marks (map histogram_view all.items)))) }
-    ensures by { IfOk result (λ found. IfSome found (λ all. AreMarkedBy (map histogram_view noted.now) (map histogram_view all.items))) }
+    ensures { IfOk result (λ found. MatchOption found (AreInOrder (map histogram_view noted.now) → IsInOrder (map histogram_view hists.items) → HasFallen (map histogram_view noted.now) (map histogram_view hists.items)) (λ all. HaveNotes (map histogram_view noted.now) (map histogram_view hists.items) (map histogram_view all.items))) }
 {
     let mut all = Vec::with_capacity(alloc, hists.len())?;
     let mut next = 0;

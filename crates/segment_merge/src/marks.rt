@@ -1,7 +1,7 @@
 //! What is noted of the keys of a histogram, beside the keys that a later reading has of it.
 
-ghost use Rattle.std.specs.Prelude.{◌≤◌, length, IfOk, IfSome, MatchOption};
-ghost use Rattle.segment_merge.specs.Marks.{AreMarksOf, IsGone, IsMark, IsNextNoted};
+ghost use Rattle.std.specs.Prelude.{◌≤◌, length, IfOk, MatchOption};
+ghost use Rattle.segment_merge.specs.Marks.{AreAscending, AreMarksOf, HasFewer, IsGone, IsMark, IsNextNoted};
 
 use std::alloc::{AllocError, Global};
 
@@ -42,7 +42,7 @@ pub(crate) fn marks_of(
     noted: &[(i32, u64)],
     counts: &[(i32, u64)],
 ) -> Result<Option<Vec<u64>>, AllocError>
-    ensures { IfOk result (λ found. IfSome found (λ marks. AreMarksOf noted.now counts.now marks.items)) }
+    ensures { IfOk result (λ found. MatchOption found (AreAscending noted.now → AreAscending counts.now → HasFewer noted.now counts.now) (λ marks. AreMarksOf noted.now counts.now marks.items)) }
 {
     let mut marks = Vec::with_capacity(alloc, counts.len())?;
     let mut next = next_noted(noted, 0);

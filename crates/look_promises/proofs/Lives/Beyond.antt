@@ -4,6 +4,7 @@ use Rattle.segment_invariant.proofs.Prelude.Std.{◌≡◌, ℕ, zero, suc, ◌+
 use Rattle.segment_invariant.proofs.Prelude.Machine.{Dimensions, State, head_of, Histogram, Reading, Spec, all_counted, tally_units}
 use Rattle.segment_invariant.proofs.Prelude.Invariant.{IsFirst, Invariant}
 use Rattle.bucket_ranges.specs.Reading.{IsReading}
+use Rattle.bucket_ranges.specs.Spec.{SameSpec}
 use Rattle.segment_looks.specs.Looks.{IsLook}
 use Rattle.segment_promises.specs.Reads.{units_read}
 use Rattle.segment_promises.proofs.Readings.Blocks.{words_read}
@@ -12,6 +13,7 @@ use Rattle.look_promises.specs.Lives.{Life, FollowEachOther, IsBeyond, IsReadIn,
 use Rattle.look_promises.proofs.Moments.Runs.{Run, run_of, kept_at}
 use Rattle.look_promises.proofs.Copies.ThreeCopies.{ThreeCopies, three_copies, hd_of}
 use Rattle.look_promises.proofs.Looked.Adopted.{words_kept}
+use Rattle.look_promises.proofs.Looked.Kinds.{one_kind, same_as, same_back, same_on}
 use Rattle.look_promises.proofs.Looked.Rises.{first_at, units_then}
 use Rattle.look_promises.proofs.Kept.Then.{first_here, counted_least}
 use Rattle.look_promises.proofs.Amounts.Calls.{no_moving}
@@ -20,13 +22,13 @@ use Rattle.look_promises.proofs.Lives.Grows.{Grows, grows_on, grows_over, grows_
 -- what is read is in a state: each histogram, and no fewer units of each key
 abbrev pub IsHeldAt : (run : Run) → ℕ → Reading → Type 0
 IsHeldAt run m reading = (g : Histogram) → Contains reading.hists g
-    → ((kind : Spec) × (x : ℕ) × IsFirst (kept_at run m).anatomy.records g.name kind x)
+    → ((kind : Spec) × (x : ℕ) × IsFirst (kept_at run m).anatomy.records g.name kind x × SameSpec g.spec kind)
     × ((key : ℤ) → units_read g key ≤ tally_units (all_counted (run.at m).actors) g.name key)
 
 -- a state is in what is read
 abbrev pub HasAllAt : (run : Run) → ℕ → Reading → Type 0
 HasAllAt run m reading = (name : List ℕ) (kind : Spec) (x : ℕ) → IsFirst (kept_at run m).anatomy.records name kind x
-    → (h : Histogram) × Contains reading.hists h × (h.name ≡ name)
+    → (h : Histogram) × Contains reading.hists h × (h.name ≡ name) × SameSpec h.spec kind
     × ((key : ℤ) → tally_units (all_counted (run.at m).actors) h.name key ≤ units_read h key)
 
 -- ---- a look
@@ -40,7 +42,7 @@ module _ (copies : ThreeCopies) (image : List ℕ) (look : IsLook (hd_of copies)
   held_at behind g there =
       let reads = words_read shape opened image reading (words_kept copies image look) is in
       let (kind, its, same) = reads.1.given g there in (
-        (kind, g.reference, first_at copies image look m le behind g.name kind g.reference its),
+        (kind, g.reference, first_at copies image look m le behind g.name kind g.reference its, same),
         λ key.
             let units = (reads.2 g there).units key in
             let most = units_then copies image look m le behind g.name key kind g.reference its in
@@ -51,10 +53,14 @@ module _ (copies : ThreeCopies) (image : List ℕ) (look : IsLook (hd_of copies)
   pub has_all_at : ((i : ℕ) → i < shape.size → m ≤ moments.two i) → HasAllAt run m reading
   has_all_at before name kind x its =
       let reads = words_read shape opened image reading (words_kept copies image look) is in
-      let (h, among, named) = reads.1.read name kind x (first_here copies image look m le before name kind x its) in (
+      let here = first_here copies image look m le before name kind x its in
+      let (h, among, named) = reads.1.read name kind x here in
+      let (sort, its_again, same) = reads.1.given h among in
+      let one = one_kind _ name h.name kind sort x h.reference named here its_again in (
         h,
         among,
         named,
+        same_as h.spec sort kind same (sym one),
         λ key.
             let units = (reads.2 h among).units key in
             let least = counted_least copies image look m le before h.name key in
@@ -100,10 +106,13 @@ module _ (shape : Dimensions) (life : Life shape) where
   left_has_all left is name kind x its =
       let kept = kept_at run life.stop in
       let reads = stopped_reads shape life.opened (life.at life.stop) left kept is in
-      let (h, among, named) = reads.2.read name kind x its in (
+      let (h, among, named) = reads.2.read name kind x its in
+      let (sort, its_again, same) = reads.2.given h among in
+      let one = one_kind _ name h.name kind sort x h.reference named its its_again in (
         h,
         among,
         named,
+        same_as h.spec sort kind same (sym one),
         λ key.
             let units = (reads.3 h among).0.counted key in
             let still = no_moving shape life.opened (life.at life.stop) kept (kept.same.0 ∙ life.runs.version) h.name key in
@@ -112,11 +121,12 @@ module _ (shape : Dimensions) (life : Life shape) where
 
   pub rises_to_the_stop : (reading left : Reading) → IsReadIn life reading → IsReading (words_left life) (head_of (words_left life)) left → IsBeyond reading left
   rises_to_the_stop reading left read is g there =
-      let ((kind, x, its), most) = held_at_end reading read g there in
-      let (h, among, named, least) = left_has_all left is g.name kind x its in (
+      let ((kind, x, its, same), most) = held_at_end reading read g there in
+      let (h, among, named, alike, least) = left_has_all left is g.name kind x its in (
         h,
         among,
         named,
+        same_on g.spec kind h.spec same (same_back h.spec kind alike),
         λ key.
             let up = most key in
             let on = least key in
@@ -163,12 +173,13 @@ module _ (shape : Dimensions) (lives : ℕ → Life shape) (follow : FollowEachO
 
   beyond_by : (i j : ℕ) → i ≤ j → (reading beyond : Reading) → IsReadIn (lives i) reading → IsReadIn (lives (suc j)) beyond → IsBeyond reading beyond
   beyond_by i j le reading beyond read read_later g there =
-      let ((kind, x, its), most) = held_at_end shape (lives i) reading read g there in
-      let ((sort, y, later), more) = across i j le g.name kind x its in
-      let (h, among, named, least) = has_all_at_start shape (lives (suc j)) beyond read_later g.name sort y later in (
+      let ((kind, x, its, same), most) = held_at_end shape (lives i) reading read g there in
+      let ((sort, y, later, same_sort), more) = across i j le g.name kind x its in
+      let (h, among, named, alike, least) = has_all_at_start shape (lives (suc j)) beyond read_later g.name sort y later in (
         h,
         among,
         named,
+        same_on g.spec kind h.spec same (same_on kind sort h.spec same_sort (same_back h.spec sort alike)),
         λ key.
             let up = most key in
             let on = more key in

@@ -6,6 +6,7 @@ use Rattle.segment_invariant.proofs.Prelude.Invariant.{Anatomy, Record, Sample, 
 use Rattle.std.proofs.Math.Decide.{dec_lt}
 use Rattle.alloc_core.proofs.Layouts.{length_shown}
 use Rattle.bucket_ranges.specs.Reading.{IsReading}
+use Rattle.bucket_ranges.specs.Spec.{SameSpec}
 use Rattle.bucket_ranges.specs.declared.spec.Spec.TheVariants as spec
 use Rattle.segment_invariant.proofs.Consistency.Books.{one_name, sample_first}
 use Rattle.segment_invariant.proofs.Consistency.Firsts.{record_of_first, sample_of_first}
@@ -17,6 +18,7 @@ use Rattle.look_promises.proofs.Moments.Runs.{Run, kept_at, rises_at, chain_at}
 use Rattle.look_promises.proofs.Moments.Firsts.{first_on, value_on}
 use Rattle.look_promises.proofs.Moments.Listed.{sample_place}
 use Rattle.look_promises.proofs.Copies.ThreeCopies.{ThreeCopies}
+use Rattle.look_promises.proofs.Looked.Kinds.{one_kind, same_as, same_back, same_on}
 use Rattle.look_promises.proofs.Amounts.Calls as calls
 use Rattle.look_promises.proofs.Amounts.Calls.{no_moving}
 use Rattle.look_promises.proofs.Amounts.Values as values
@@ -25,7 +27,7 @@ use Rattle.look_promises.proofs.Amounts.Values as values
 abbrev pub Grows : (shape : Dimensions) (opened reopened : Anatomy) (state other : State) → Invariant shape opened state → Invariant shape reopened other → Type 0
 Grows shape opened reopened state other was is =
     (name : List ℕ) (kind : Spec) (x : ℕ) → IsFirst was.anatomy.records name kind x
-    → ((sort : Spec) × (y : ℕ) × IsFirst is.anatomy.records name sort y)
+    → ((sort : Spec) × (y : ℕ) × IsFirst is.anatomy.records name sort y × SameSpec kind sort)
     × ((key : ℤ) → tally_units (all_counted state.actors) name key ≤ tally_units (all_counted other.actors) name key)
 
 -- ---- in a run
@@ -126,7 +128,7 @@ module _ (run : Run) (m n : ℕ) (le : m ≤ n) where
   ]
 
   pub grows_on : Grows shape opened opened (at m) (at n) early late
-  grows_on name kind x its = ((kind, x, first_later name kind x its), counted_rises name)
+  grows_on name kind x its = ((kind, x, first_later name kind x its, (refl, refl)), counted_rises name)
 
 -- ---- by the same words
 
@@ -147,8 +149,15 @@ module _ (shape : Dimensions) (opened reopened : Anatomy) (state other : State) 
       let before = stopped_reads shape opened state reading was reads in
       let after = stopped_reads shape reopened other reading is reads_again in
       let (h, among, named) = before.2.read name kind x its in
+      let (first, its_first, same_first) = before.2.given h among in
+      let one = one_kind _ name h.name kind first x h.reference named its its_first in
       let (sort, its_again, alike) = after.2.given h among in (
-        (sort, h.reference, subst (λ (name : List ℕ). IsFirst is.anatomy.records name sort h.reference) named its_again),
+        (
+          sort,
+          h.reference,
+          subst (λ (name : List ℕ). IsFirst is.anatomy.records name sort h.reference) named its_again,
+          same_on kind h.spec sort (same_back h.spec kind (same_as h.spec first kind same_first (sym one))) alike,
+        ),
         λ key.
             let units = (before.3 h among).0.counted key in
             let units_again = (after.3 h among).0.counted key in
@@ -174,9 +183,9 @@ pub grows_again : (shape : Dimensions) (opened reopened again : Anatomy) (state 
     (between : Invariant shape reopened mid) (is : Invariant shape again other)
     → Grows shape opened reopened state mid was between → Grows shape reopened again mid other between is → Grows shape opened again state other was is
 grows_again shape opened reopened again state mid other was between is first second name kind x its =
-    let ((sort, y, there), more) = first name kind x its in
-    let (last, most) = second name sort y there in (
-      last,
+    let ((sort, y, there, same), more) = first name kind x its in
+    let ((last, z, beyond, alike), most) = second name sort y there in (
+      (last, z, beyond, same_on kind sort last same alike),
       λ key. let least = more key in
           let rest = most key in omega (arith, least, rest),
     )

@@ -47,8 +47,8 @@ module _ (shape : Dimensions) (lives : ℕ → Life shape) (follow : FollowEachO
       omega (arith, ints, same, mine))
       (λ ne.
       let before = across_sums i j (omega (arith, le, ne)) kind x (λ k few. higher k (omega (arith, few))) its in
-      let ((sort, y, began), counted) = across shape lives follow i j (omega (arith, le, ne)) name kind x its in
-      let ((last, z, there), more) = grows_on (run_at shape lives follow (suc j)) 0 (lives (suc j)).stop (omega arith) name sort y began in
+      let ((sort, y, began, same_sort), counted) = across shape lives follow i j (omega (arith, le, ne)) name kind x its in
+      let ((last, z, there, same_last), more) = grows_on (run_at shape lives follow (suc j)) 0 (lives (suc j)).stop (omega arith) name sort y began in
       let up = sums_rise (run_at shape lives follow (suc j)) name (lives (suc j)).stop (higher (suc j) (omega arith)) 0 (lives (suc j)).stop (omega arith) (omega arith) in
       let same = over (suc j) last z there in
       omega (arith, ints, before, up, same))
@@ -65,7 +65,7 @@ module _ (shape : Dimensions) (lives : ℕ → Life shape) (follow : FollowEachO
       let upto = (two_within first_copies (g.reference + 11) inside).1 in
       let upto_later = (two_within later_copies (h.reference + 11) inside_later).1 in
       let rest = sums_rise (run_at shape lives follow i) name (lives i).stop (higher i (omega (arith, le))) (read.moments.two (g.reference + 11)) (lives i).stop upto (omega arith) in
-      let ((kind, x, its), most) = held_at_end shape (lives i) earlier read g there in
+      let ((kind, x, its, same), most) = held_at_end shape (lives i) earlier read g there in
       let between = across_sums i j le kind x (λ k few. higher k (omega (arith, few)))
       (subst (λ (name : List ℕ). IsFirst (last_of shape lives follow i).anatomy.records name kind x) named its) in
       let first = sums_rise (run_at shape lives follow (suc j)) name (lives (suc j)).stop (higher (suc j) (omega arith)) 0

@@ -27,6 +27,7 @@ use Rattle.look_promises.proofs.Amounts.Rising.{middle, down}
 use Rattle.look_promises.proofs.Looked.Counting.{first_late, of_bucket, of_sample}
 use Rattle.look_promises.proofs.Looked.Adopted.{its_records, words_kept}
 use Rattle.look_promises.proofs.Kept.Then.{first_here, counted_least}
+use Rattle.look_promises.proofs.Looked.Kinds.{one_kind, same_as, same_back, same_on}
 
 -- ---- a look, and a moment after its second copy
 
@@ -205,10 +206,13 @@ readings_rise shape opened at first other last moments later one two three four 
     let (kind, its, same) = reads.1.given g there in
     let then_first = first_at copies image look m le mid.behind g.name kind g.reference its in
     let its_later = first_here next_copies next look_later m le mid.before g.name kind g.reference then_first in
-    let (h, among, named) = reads_later.1.read g.name kind g.reference its_later in (
+    let (h, among, named) = reads_later.1.read g.name kind g.reference its_later in
+    let (sort, its_again, same_later) = reads_later.1.given h among in
+    let one = one_kind _ g.name h.name kind sort g.reference h.reference named its_later its_again in (
       h,
       among,
       named,
+      same_on g.spec sort h.spec (same_as g.spec kind sort same one) (same_back h.spec sort same_later),
       λ key.
           let units = (reads.2 g there).units key in
           let most = units_then copies image look m le mid.behind g.name key kind g.reference its in

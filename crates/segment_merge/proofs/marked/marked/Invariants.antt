@@ -2,7 +2,8 @@ use Rattle.std.proofs.Common.{◌≡◌, ◌≤◌, drop, length, map, take}
 use Rattle.std.specs.Prelude.{vec_capacity}
 use Rattle.std.specs.Vec.Iter.{into_iter_items}
 use Rattle.image_reader.specs.Views.{histogram_view}
-use Rattle.segment_merge.specs.Noted.{unmarked}
+use Rattle.segment_merge.specs.Noted.{AreInOrder, unmarked}
+use Rattle.segment_merge.proofs.Fallen.{AreBefore}
 use Rattle.segment_merge.proofs.MarkedSteps.{AreMarkedSoFar}
 use Rattle.segment_merge.proofs.marked.marked.Given as goal
 
@@ -15,4 +16,6 @@ invariant-loop-hist l = record {
   room : length (into_iter_items l.initial.hist-iterator) ≤ vec_capacity l.all;
   same : map unmarked (map histogram_view l.all.items) ≡ map unmarked (map histogram_view (take (length l.all.items) (into_iter_items l.initial.hist-iterator)));
   marks : AreMarkedSoFar (map histogram_view l.noted) (map histogram_view l.all.items) l.next;
+  before : AreInOrder (map histogram_view l.noted)
+      → AreBefore (map histogram_view l.noted) (map histogram_view (into_iter_items l.initial.hist-iterator)) l.next (length l.all.items);
 }

@@ -3,7 +3,8 @@ use Rattle.std.specs.Prelude.{◌⊎◌}
 use Rattle.std.specs.List.{All, zip}
 use Rattle.std.proofs.lemmas.List.{length_push}
 use Rattle.segment_machine.specs.Actor.{units_listed}
-use Rattle.segment_merge.specs.Marks.{HasRoom, IsMark, IsNextNoted, count_at, key_marks}
+use Rattle.segment_merge.specs.Marks.{HasRoom, IsGone, IsMark, IsNextNoted, count_at, key_marks}
+use Rattle.segment_merge.proofs.FewerUnits.{below_more, gone_fewer, left_fewer}
 use Rattle.segment_merge.proofs.MarkSteps.{IsTurned, mark_room, marks_whole, risen_more, turned}
 use Rattle.segment_merge.proofs.marks.marks_of.Goals as goal
 use Rattle.segment_merge.proofs.marks.marks_of.Goals.{then-mark-gt0, else-mark-gt0}
@@ -40,6 +41,8 @@ loop-count-preserved c =
           (sym pushed) turns.units;
       risen = subst (λ (list : List ℕ). All HasRoom (zip (take (i + 1) counts) list)) (sym pushed)
           (risen_more counts marks i mark near many c.loop-count.invariant.risen (mark_room noted c.loop-count.next (count_at counts i).0 (count_at counts i).1 mark is));
+      below = λ ascend there. below_more noted counts i c.loop-count.next ascend mark c.if-mark-gt0.next is goes c.loop-count.invariant.some
+          (c.loop-count.invariant.below ascend) there;
     }
 
 pub returns : goal.returns
@@ -47,3 +50,18 @@ returns c =
     marks_whole c.args.noted.now c.args.counts.now c.loop-count.marks.items c.loop-count.count-index c.loop-count.next
     (omega (arith, c.loop-count-test.false)) (omega (arith, c.loop-count.auto.count-index-end)) c.loop-count.invariant.many
     (omega (arith, c.if-next-noted.false)) c.loop-count.invariant.units c.loop-count.invariant.risen
+
+pub returns-in_default : goal.returns-in_default
+returns-in_default c = λ ascend_noted ascend.
+    let noted : List (ℤ × ℕ) = c.args.noted.now in
+    let counts : List (ℤ × ℕ) = c.args.counts.now in
+    let i : ℕ = c.loop-count.count-index in
+    let gone : IsGone noted c.loop-count.next (count_at counts i).0 (count_at counts i).1 = c.in_default.ensures in
+    gone_fewer noted counts i c.loop-count.next ascend_noted ascend (omega (arith, c.loop-count-test.true)) gone (c.loop-count.invariant.some gone.0)
+    (c.loop-count.invariant.below ascend_noted gone.0)
+
+pub returns-then-next-noted : goal.returns-then-next-noted
+returns-then-next-noted c = λ ascend_noted ascend.
+    let there : c.loop-count.next < length c.args.noted.now = omega (arith, c.if-next-noted.true) in
+    left_fewer c.args.noted.now c.args.counts.now c.loop-count.count-index c.loop-count.next ascend_noted there (c.loop-count.invariant.some there)
+    (omega (arith, c.loop-count-test.false)) (c.loop-count.invariant.below ascend_noted there)

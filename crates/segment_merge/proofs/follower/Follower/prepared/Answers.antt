@@ -5,8 +5,9 @@ use Rattle.image_reader.specs.Views.{histogram_view, reading_view}
 use Rattle.image_reader.specs.declared.reading.HistReading.{HistReading}
 use Rattle.segment_promises.proofs.Counts.{sum_of_map}
 use Rattle.segment_merge.specs.declared.following.FollowStep.{FollowStep}
-use Rattle.segment_merge.specs.Follower.{HaveNotes, noted_of}
+use Rattle.segment_merge.specs.Follower.{noted_of}
 use Rattle.segment_merge.specs.Merge.{cost_left}
+use Rattle.segment_merge.specs.Noted.{HaveNotes}
 use Rattle.segment_merge.specs.Steps.{HasRoomFor, hists_of}
 use Rattle.segment_merge.proofs.follower.Follower.prepared.Goals as goal
 
@@ -28,7 +29,7 @@ returns-clause-answer c =
     let below = c.if-cost-most.false in
     let enough : c.len.result ≡ vec_len c.in_ok-steps_of.field-0 = omega (arith, one, other, long, many, room) in
     record {
-      have = subst (HaveNotes (noted_of c.args.self.now) (reading_view c.args.reading)) (sym same) c.in_ok-hists.ensures.answer;
+      have = subst (HaveNotes (noted_of c.args.self.now) (reading_view c.args.reading).hists) (sym same) c.in_ok-hists.ensures.answer;
       cheap = subst (λ (n : ℕ). min n 18446744073709551615 ≤ c.args.most) cost (omega (arith, whole, below));
       steps = c.in_ok-steps_of.ensures.steps;
       room = subst (λ (n : ℕ). HasRoomFor n c.in_ok-report.report) enough c.in_ok-report.ensures.room;

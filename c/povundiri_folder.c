@@ -595,9 +595,11 @@ static uint32_t add_final(struct fold *fold, uint64_t number, int *fault) {
     return povundiri_parts_is_fault(status) || status == POVUNDIRI_TOO_MANY ? (uint32_t)POVUNDIRI_DONE : status;
 }
 
-/* Opens what the totals are written to, as soon as there is a segment to add: no later one takes the last descriptor from it. */
+/* Opens what the totals are written to, as soon as there is a segment to add: no later one takes the last descriptor from it. It is a new file:
+ * what a killed fold left may have got another name meanwhile. */
 static uint32_t begin_writing(struct fold *fold, int *fault) {
-    *fault = povundiri_parts_open(&fold->new, fold->folder, "totals.new", O_WRONLY | O_CREAT | O_TRUNC);
+    unlinkat(fold->folder, "totals.new", 0);
+    *fault = povundiri_parts_open(&fold->new, fold->folder, "totals.new", O_WRONLY | O_CREAT | O_EXCL);
     fold->is_writing = *fault == 0;
     return *fault == 0 ? POVUNDIRI_DONE : POVUNDIRI_SYSTEM;
 }

@@ -185,6 +185,12 @@ static enum povundiri_missed reason_of(uint32_t status) {
     }
 }
 
+/* Whether the next segment was begun since the present one, which another process began, has the histogram with another spec: so the buckets of
+ * a new release count at once. */
+static bool is_left_for(struct povundiri_recording *recording, uint32_t status) {
+    return status == POVUNDIRI_REFUSED_OTHER_SPEC && recording->began_at == 0 && povundiri_segments_begin_next(recording) == 0;
+}
+
 /* Counts a sample in the present segment, or in one that is begun for it; or misses it. */
 static bool count_or_miss(struct povundiri_recording *recording, size_t metric, int32_t value, uint32_t count) {
     struct local *local = NULL;
@@ -199,6 +205,7 @@ static bool count_or_miss(struct povundiri_recording *recording, size_t metric, 
         status = local_in(recording, count, &local);
         if (status == POVUNDIRI_DONE) status = count_in(recording, local, metric, value, count);
         if (status == POVUNDIRI_DONE) return true;
+        if (is_left_for(recording, status)) continue;
         if (!is_spent(status)) {
             miss(recording, reason_of(status), count);
             return false;
@@ -357,11 +364,13 @@ uint64_t povundiri_recording_missed(const struct povundiri_recording *recording,
 /* What the present segment says of the metric, where there is one. One that is full may say nothing. */
 static uint32_t ask(struct povundiri_recording *recording, size_t metric) {
     struct local *local = NULL;
-    uint32_t status;
+    uint32_t status = POVUNDIRI_DONE;
     if (recording->metrics.all[metric]->is_too_large) return POVUNDIRI_REFUSED_TOO_LARGE;
     if (recording->state != RECORDS || recording->current == NULL) return POVUNDIRI_DONE;
-    status = local_in(recording, 0, &local);
-    if (status == POVUNDIRI_DONE) status = find(recording, &local, metric);
+    do {
+        status = local_in(recording, 0, &local);
+        if (status == POVUNDIRI_DONE) status = find(recording, &local, metric);
+    } while (is_left_for(recording, status));
     return is_spent(status) ? (uint32_t)POVUNDIRI_DONE : status;
 }
 

@@ -27,7 +27,8 @@
  *
  * WHAT COULD NOT BE COUNTED is counted, by reason: povundiri_recording_missed. It is in the texts of this process as well.
  *
- * SPECS. A histogram whose buckets change should get another name. If a name has several specs, texts show the one that the oldest segment
+ * SPECS. If a release changes the buckets of a histogram, the segment that it continues is followed by the next one, and its samples count at
+ * once. But texts show one spec of a name, so a histogram whose buckets change should get another name. If a name has several specs, texts show the one that the oldest segment
  * had, also when that is folded; of the others the report has only how many units there are (!other), and the totals of
  * povundiri_recording_sums have all.
  *
@@ -111,8 +112,7 @@ struct povundiri_began {
 
 /* Why units were not counted. A reason has its number for good; later versions may have more.
  *   TOO_LARGE   the histogram does not fit in a segment of the present size, not even alone
- *   OTHER_SPEC  the present segment has a histogram of that name with another spec: it is continued from another release, or this program
- *               asks for the name with both
+ *   OTHER_SPEC  the present segment has a histogram of that name with another spec: this program asks for the name with both
  *   NO_SPACE    the present segment has no room or too few units, or there is none, and the system refused the next one, or a larger one, now
  *               or up to a second before: the device is full, a limit is reached, there is no memory, the folder is gone or may not be
  *               written. Where a larger one was refused, one of the size of the present one follows a second later
@@ -178,8 +178,8 @@ bool povundiri_recording_add_other(struct povundiri_recording *recording, size_t
  * process ends. The histogram is made in the present segment, if it is not there and has room. Ask once, and not for each sample.
  *
  * POVUNDIRI_DONE; or one of these, and *metric is a number all the same:
- *   POVUNDIRI_REFUSED_OTHER_SPEC   the present segment has it with another spec: samples are missed until the next one is begun, which may be
- *                                  long (SPECS, above). Other `bytes` at the next start begin one at once
+ *   POVUNDIRI_REFUSED_OTHER_SPEC   the present segment has it with another spec, and was begun by this recording: samples are missed until the
+ *                                  next one is begun, which may be long (SPECS, above)
  *   POVUNDIRI_REFUSED_TOO_LARGE    no segment of the present size has room for it: samples are missed, all of them or from the second bucket
  *                                  on, unless segments grow (SIZE, above)
  * Or there is none:

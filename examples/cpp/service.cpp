@@ -3,9 +3,9 @@
 //
 //   - where a segment is full, or has no units left, the next one is begun;
 //   - where the newest segment is damaged, the next one is begun; if not even its header can be read, it also gets another name;
-//   - where no segment can be made, as on a full disk, it is tried again, a second later at the earliest;
-//   - where another release made the histogram with other buckets, nothing is recorded until that segment is full: so give a histogram with
-//     other buckets another name;
+//   - where no segment can be made, as on a full disk, it is tried again, a second later;
+//   - where another release made the histogram with other buckets, the next one is begun; but a text shows the buckets of the older one, so give
+//     a histogram with other buckets another name;
 //   - requests that are not recorded are counted, and it says at the end how many there were.
 //
 // Meanwhile a thread writes the metrics to a file, if one is named, each second.

@@ -326,16 +326,30 @@ void fits_later() {
     DONE(recording.try_hist("l", {POVUNDIRI_LINEAR, 1, 100'000, 900}, {}, large));
 }
 
+// A release that changes the buckets of a histogram counts at once: the segment that it continues is followed by the next one, whether the
+// histogram is asked for or a thread that knows it counts. Both are in the totals.
 void other_spec() {
-    const povundiri_spec sparse = {POVUNDIRI_SPARSE, 0, 0, 0};
+    const povundiri_spec before = {POVUNDIRI_LINEAR, 1, 1000, 10}, after = {POVUNDIRI_LINEAR, 1, 2000, 20};
+    const std::string path = folder("spec");
+    for (int restart = 0; restart < 4; ++restart) {
+        Recording recording;
+        HOLDS(opens(path, recording) && recording.began().adopted == (restart > 0));
+        Metric metric;
+        DONE(recording.try_hist("l", restart == 0 ? before : after, {}, metric));
+        HOLDS(metric.status() == Status::Done && metric.add(5, 1000) && recording.missed() == 0);
+        // The next segment is begun once, and continued by those after it.
+        HOLDS(segments_in(path) == (restart == 0 ? 1 : 2));
+    }
     Recording recording;
-    HOLDS(opens(folder("spec"), recording) && metric_of(recording, "b").add(1));
-    recording.end();
-    HOLDS(opens(folder("spec"), recording) && recording.began().adopted);
-    Metric metric;
-    RETURNS(RefusedOtherSpec, recording.try_hist("b", sparse, {}, metric));
-    HOLDS(metric.status() == Status::RefusedOtherSpec && !metric.add(5, 2) && recording.missed(Missed::OtherSpec) == 2);
-    HOLDS(recording.report().find("\n!missed,other_spec,2\n") != std::string::npos);
+    HOLDS(opens(path, recording) && recording.began().number == 2 && recording.began().adopted);
+    HOLDS(recording.report().find("\n!other,l,1,3000\n") != std::string::npos && units_in(recording.report(), "l") == 1000);
+    // A segment that this process has begun is not left: it asks for the name with both, and might go on for ever.
+    Metric one, other;
+    DONE(recording.try_hist("l", before, {}, one));
+    HOLDS(segments_in(path) == 3);
+    RETURNS(RefusedOtherSpec, recording.try_hist("l", after, {}, other));
+    HOLDS(other.status() == Status::RefusedOtherSpec && !other.add(5, 2) && recording.missed(Missed::OtherSpec) == 2 && one.add(5));
+    HOLDS(recording.report().find("\n!missed,other_spec,2\n") != std::string::npos && segments_in(path) == 3);
 }
 
 void ended() {

@@ -255,6 +255,12 @@ void workers() {
     HOLDS(failed == 0 && units_beside(path, "b") == kWorkers * kSamples && spares_in(path).empty());
 }
 
+// How many names a file has.
+nlink_t files_named(const std::string& path) {
+    struct stat about;
+    return lstat(path.c_str(), &about) == 0 ? about.st_nlink : 0;
+}
+
 // A fold takes the newest segment just before it is continued: the next number is begun, and that one's file is not made again.
 void taken() {
     const std::string path = folder("taken"), first = path + "/0000000001.seg";
@@ -438,6 +444,19 @@ bool mounts_overlay() {
            mount("overlay", (top + "/merged").c_str(), "overlay", 0, words.c_str()) == 0;
 }
 
+// Another file has the name of new totals too: a fold leaves it as it is.
+void linked() {
+    const std::string kept = folder("kept");
+    Finals finals("linked");
+    std::uint64_t folded = 0;
+    HOLDS(finals.make(3) && is_made(kept, "precious") && link(kept.c_str(), folder("linked/totals.new").c_str()) == 0);
+    HOLDS(finals.fold(1024, folded) == 0 && folded == 3 && finals.stand(0) && finals.has_totals());
+    HOLDS(bytes_of(kept) == 8 && files_named(kept) == 1);
+    // A link of that name is not followed, and one to nothing is no obstacle.
+    HOLDS(finals.make(2) && symlink(kept.c_str(), folder("linked/totals.new").c_str()) == 0);
+    HOLDS(finals.fold(1024, folded) == 0 && folded == 2 && finals.stand(0) && bytes_of(kept) == 8);
+}
+
 int run() {
     int failed = group("what is no recording's folder", marks);
     failed += group("spares", spares);
@@ -445,6 +464,7 @@ int run() {
     failed += group("workers that start at once", workers);
     failed += group("a fold before a start", taken);
     failed += group("a file in which nothing was begun", unmade);
+    failed += group("new totals that are another file", linked);
     failed += group("few descriptors", few_descriptors);
     failed += group("no descriptor for a moment", no_descriptor);
     failed += group("idle threads in old segments", few_open);

@@ -33,6 +33,8 @@ ALWAYS = ("read.py", "persist_report")
 # One in this many of the steps of an installation is refused.
 STRIDE = 11
 MOST_SECONDS = 300
+# Some twenty programs are compiled.
+MOST_SECONDS_OF_CHECKS = 1800
 
 
 def until_wrong(cases_of_it: Iterable[Case]) -> list[Case]:
@@ -298,7 +300,7 @@ def wrong_checks(prefix: pathlib.Path, home: pathlib.Path) -> str | None:
     """What is wrong with what packaging/check.sh passes over an installed library, or None. What it leaves out is
     printed."""
     words: list[Word] = [*packaged.without_network(), "sh", PACKAGING / "check.sh", prefix]
-    said = native.run(words, env=packaged.bare(home)).splitlines()
+    said = native.run(words, seconds=MOST_SECONDS_OF_CHECKS, env=packaged.bare(home)).splitlines()
     for line in said:
         if line.startswith("left out: "):
             print(line, flush=True)

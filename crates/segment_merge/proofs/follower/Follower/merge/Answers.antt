@@ -21,6 +21,7 @@ returns-clause-answer c =
       hists = hists;
       same = prepared.have.same;
       by = prepared.have.by;
+      order = prepared.have.order;
       cheap = prepared.cheap;
       followed = followed;
       adds_up = noted_as_added noted hists followed.steps followed.behind later (view_of_recorder c.args.recorder.now) (view_of_recorder c.follow_all.new.recorder)

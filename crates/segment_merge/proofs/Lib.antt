@@ -12,3 +12,4 @@ mod FollowSteps
 mod AddsUp
 mod FewerUnits
 mod Fallen
+mod Within

@@ -18,7 +18,7 @@ use Rattle.segment_merge.specs.declared.following.FollowReport.{FollowReport}
 use Rattle.segment_merge.specs.declared.merging.MergeStop.{MergeStop}
 use Rattle.segment_merge.specs.Cut.{cut_at}
 use Rattle.segment_merge.specs.Merge.{IsMerged, StopsAt, cost_left, items_left, line_of, sum_left}
-use Rattle.segment_merge.specs.Noted.{AreMarkedBy, sum_among, units_among, unmarked}
+use Rattle.segment_merge.specs.Noted.{AreInOrder, AreMarkedBy, IsInOrder, sum_among, units_among, unmarked}
 
 -- ---- what is added of a histogram
 
@@ -135,11 +135,12 @@ pub record IsNotedAsAdded (steps : List Step) (noted later : List Histogram) (ol
   pub sums : (name : List ℕ) → sum_among later name ≡ sum_among noted name +ℤ sums_added steps name
 
 -- A reading is followed. Its histograms, in some order, have what was noted as their marks, and what is new of them costs at most so many
--- units; what is new is added and noted.
+-- units; what is new is added and noted. Those of a reading that is in order are in the order of their names.
 pub record IsFollowed (noted : List Histogram) (reading : Reading) (most : ℕ) (report : FollowReport) (later : List Histogram) (old new : Actor) : Type 0 where
   pub hists : List Histogram
   pub same : IsPermutation (map unmarked reading.hists) (map unmarked hists)
   pub by : AreMarkedBy noted hists
+  pub order : IsInOrder reading.hists → AreInOrder hists
   pub cheap : min (sum_by cost_left hists) 18446744073709551615 ≤ most
   pub followed : AreFollowed hists report later old new
   pub adds_up : IsNotedAsAdded followed.steps noted later old new

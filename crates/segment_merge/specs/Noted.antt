@@ -69,6 +69,10 @@ abbrev pub HasAll : List Histogram → List Histogram → Type 0
 HasAll noted hists = (note : Histogram) → Contains noted note
     → (h : Histogram) × Contains hists h × (h.name ≡ note.name) × SameSpec note.spec h.spec × ((key : ℤ) → units_read note key ≤ units_read h key)
 
+-- What is noted is in each reading that has all of one in which it is: so of readings that rise none fell.
+abbrev pub StaysWithin : Type 0
+StaysWithin = (noted first second : List Histogram) → HasAll noted first → HasAll first second → HasAll noted second
+
 -- it fell: it has not all that is noted
 abbrev pub HasFallen : List Histogram → List Histogram → Type 0
 HasFallen noted hists = ¬ (HasAll noted hists)

@@ -32,7 +32,7 @@ impl Follower {
     ghost use Rattle.live_segment.specs.Holders.{view_of_recorder};
     ghost use Rattle.live_segment.specs.RecorderState.{KnowsOn};
     ghost use Rattle.segment_merge.specs.Follow.{IsFollowed};
-    ghost use Rattle.segment_merge.specs.Noted.{AreInOrder, HaveNotes, IsInOrder};
+    ghost use Rattle.segment_merge.specs.Noted.{AreInOrder, HasAll, HaveNotes, IsInOrder};
     ghost use Rattle.segment_merge.specs.Follower.{IsNotFollowedFor, IsNotSkippedFor, IsOfSegment, IsPrepared, IsSkipped, followed_id, noted_of};
 
     /// Returns a follower that has followed nothing: nothing is noted [none], which is in order [order], and the first
@@ -69,8 +69,9 @@ impl Follower {
     /// `NoMemory` [answer].
     ///
     /// On `Ok`, the reading is of the segment that was followed before, if there was one, and from then on that is the
-    /// one that is followed [segment]; and what is noted is in order, if the reading is [order]. The recorder records
-    /// into the same segment [kept], and each histogram that it knew it knows at the same place [same].
+    /// one that is followed [segment]; what is noted is in order, if the reading is [order], and the reading has all of it
+    /// [within]. The recorder records into the same segment [kept], and each histogram that it knew it knows at the same
+    /// place [same].
     pub fn merge(
         &mut self,
         recorder: &mut Recorder,
@@ -80,6 +81,7 @@ impl Follower {
         ensures kept { recorder.new.segment ≡ recorder.old.segment }
         ensures same { KnowsOn recorder.old.state recorder.new.state }
         ensures order { IfOk result (λ report. IsInOrder (reading_view reading).hists → AreInOrder (noted_of self.new)) }
+        ensures within { IfOk result (λ report. HasAll (noted_of self.new) (reading_view reading).hists) }
         ensures segment { IfOk result (λ report. IsOfSegment self.old (reading_view reading) × (followed_id self.new ≡ Some reading.id)) }
         ensures answer { MatchResult result (λ report. IsFollowed (noted_of self.old) (reading_view reading) most report (noted_of self.new) (view_of_recorder recorder.old) (view_of_recorder recorder.new)) (λ fault. (self.new ≡ self.old) × (recorder.new ≡ recorder.old) × IsNotFollowedFor self.old (reading_view reading) most fault) }
     {
@@ -100,9 +102,11 @@ impl Follower {
     /// `NoMemory` come as from a merge, and `TooMany` never [answer].
     ///
     /// On `Ok`, the reading is of the segment that was followed before, if there was one, and from then on that is the
-    /// one that is followed [segment]; and what is noted is in order, if the reading is [order].
+    /// one that is followed [segment]; what is noted is in order, if the reading is [order], and the reading has all of it
+    /// [within].
     pub fn skip(&mut self, reading: Reading) -> Result<u64, FollowFault>
         ensures order { IfOk result (λ units. IsInOrder (reading_view reading).hists → AreInOrder (noted_of self.new)) }
+        ensures within { IfOk result (λ units. HasAll (noted_of self.new) (reading_view reading).hists) }
         ensures segment { IfOk result (λ units. IsOfSegment self.old (reading_view reading) × (followed_id self.new ≡ Some reading.id)) }
         ensures answer { MatchResult result (λ units. IsSkipped (noted_of self.old) (reading_view reading) units (noted_of self.new)) (λ fault. (self.new ≡ self.old) × IsNotSkippedFor self.old (reading_view reading) fault) }
     {

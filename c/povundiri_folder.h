@@ -12,8 +12,10 @@
  *     fold.lock           an empty file, whose lock a fold holds
  *
  * THE FOLDER ITSELF HAS NO LOCK. Each process records into segments of its own, whose locks it holds from their making on until its last
- * recorder there has ended. A segment whose lock nobody holds is final. A process begins its next segment by a link from a spare, which mostly
- * has no name, to the next number, and never replaces a file; so several processes share a folder, and a new release starts while the old one ends.
+ * recorder there has ended. A segment whose lock nobody holds is final. A process begins its next segment by a link from a spare, which
+ * mostly
+ * has no name, to the next number, and never replaces a file; so several processes share a folder, and a new release starts while the old
+ * one ends.
  *
  * PATHS. `folder` is the path of the folder itself: a symbolic link to it is refused with ENOTDIR, unless a slash follows the name.
  *

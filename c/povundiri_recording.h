@@ -28,7 +28,8 @@
  * WHAT COULD NOT BE COUNTED is counted, by reason: povundiri_recording_missed. It is in the texts of this process as well.
  *
  * SPECS. If a release changes the buckets of a histogram, the segment that it continues is followed by the next one, and its samples count at
- * once. But texts show one spec of a name, so a histogram whose buckets change should get another name. If a name has several specs, texts show the one that the oldest segment
+ * once. But texts show one spec of a name, so a histogram whose buckets change should get another name. If a name has several specs, texts
+ * show the one that the oldest segment
  * had, also when that is folded; of the others the report has only how many units there are (!other), and the totals of
  * povundiri_recording_sums have all.
  *
@@ -36,16 +37,20 @@
  * user may not read is a fault of each text; so are totals that it may not read, such as those of a fold by root, and then no segment can be
  * begun either. Only users who are trusted like the program itself may write in the folder, or in those that it is in.
  *
- * THE FOLDER MAY MOVE. A recording keeps a descriptor of it, so it stays with a folder that is renamed, and needs no path to it after setuid or
- * chroot. If the folder is removed, its path is made again. If somebody removes the present segment, or empties the folder, that is seen by the
+ * THE FOLDER MAY MOVE. A recording keeps a descriptor of it, so it stays with a folder that is renamed, and needs no path to it after
+ * setuid or
+ * chroot. If the folder is removed, its path is made again. If somebody removes the present segment, or empties the folder, that is seen
+ * by the
  * next text, and within a second where a sample takes the mutex. Then the next segment is begun, and the units that were in the removed one
  * when the last thread left it are missed, as REMOVED. A folder that has lost its mark is marked again.
  *
  * A KILL, exit and _exit lose no sample whose call had returned. Where spares have names (povundiri_folder.h), one may be left, which an open
  * removes a minute later. A crash of the machine may lose what no fold has synced.
  *
- * A SEGMENT THAT THE SYSTEM REFUSES is tried five times more at once, then after 10 ms, and then after twice as long each time, up to a second;
- * but after a second at once if the device or a quota is full, or the folder is read-only, gone or closed to this user (ENOSPC, EDQUOT, EROFS,
+ * A SEGMENT THAT THE SYSTEM REFUSES is tried five times more at once, then after 10 ms, and then after twice as long each time, up to a
+ * second;
+ * but after a second at once if the device or a quota is full, or the folder is read-only, gone or closed to this user (ENOSPC, EDQUOT,
+ * EROFS,
  * EACCES, ENOENT).
  *
  * FORK. A child of fork has no part in the recordings of its parent: there each sample is missed, as FORKED, and povundiri_recording_end and
@@ -74,7 +79,8 @@ extern "C" {
 struct povundiri_recording;
 
 /* What a recording is to do. It begins as POVUNDIRI_RECORDING_OPTIONS, which is what is usual, as are zeros and a null in its place.
- *   size      of this struct, as the caller knows it; 0: as it was first. If it is less than that, or a member that is not known here is not 0,
+ *   size      of this struct, as the caller knows it; 0: as it was first. If it is less than that, or a member that is not known here is
+ *             not 0,
  *             the options are refused (EINVAL)
  *   bytes     that a segment has at most, from 512 to 8,388,608, until one is too small (SIZE, above); 0: 1 MiB. From 32,768 on, every
  *             histogram of 1,000 buckets fits in one
@@ -116,12 +122,14 @@ struct povundiri_began {
  *   NO_SPACE    the present segment has no room or too few units, or there is none, and the system refused the next one, or a larger one, now
  *               or up to a second before: the device is full, a limit is reached, there is no memory, the folder is gone or may not be
  *               written. Where a larger one was refused, one of the size of the present one follows a second later
- *   ROLLING     the present segment has no room or too few units, and was begun less than `apart` before; or it has no room, is of the largest
+ *   ROLLING     the present segment has no room or too few units, and was begun less than `apart` before; or it has no room, is of the
+ *               largest
  *               size, and was begun less than a second before
  *   FORKED      this is a child of fork, and the recording its parent's
  *   ENDED       the recording has ended
  *   NO_MEMORY   there was no memory for what the first samples of a thread or of a histogram take
- *   REMOVED     somebody removed the segment from the folder, or the folder: the units that were in it when the last thread left it, also those
+ *   REMOVED     somebody removed the segment from the folder, or the folder: the units that were in it when the last thread left it, also
+ *               those
  *               whose povundiri_recording_add was true */
 enum povundiri_missed {
     POVUNDIRI_MISSED_TOO_LARGE = 0,
@@ -151,7 +159,8 @@ const char *povundiri_missed_text(uint32_t reason);
  * missed, as NO_SPACE, it is tried again, and povundiri_recording_began says why. On any other status *recording is unchanged.
  *   POVUNDIRI_NULL (any but the options), POVUNDIRI_NOT_EMPTY (*recording), POVUNDIRI_NO_MEMORY, POVUNDIRI_OPEN_NO_MEMORY
  *   POVUNDIRI_OPEN_BAD_SHAPE   `bytes` of the options is too small or too large for a segment
- *   POVUNDIRI_SYSTEM           *fault says what, and is else 0: EINVAL: the options are not known; EEXIST: the folder is neither empty nor a recording's (povundiri_folder.h), and nothing
+ *   POVUNDIRI_SYSTEM           *fault says what, and is else 0: EINVAL: the options are not known; EEXIST: the folder is neither empty nor
+ *                              a recording's (povundiri_folder.h), and nothing
  *                              is changed in it; ENOTDIR: it is no folder;
  *                              ENOENT: that which it would be in is not there; ENAMETOOLONG, EACCES, EROFS and others as the calls say
  * Keep: pointers; process. */
@@ -178,7 +187,8 @@ bool povundiri_recording_add_other(struct povundiri_recording *recording, size_t
  * process ends. The histogram is made in the present segment, if it is not there and has room. Ask once, and not for each sample.
  *
  * POVUNDIRI_DONE; or one of these, and *metric is a number all the same:
- *   POVUNDIRI_REFUSED_OTHER_SPEC   the present segment has it with another spec, and was begun by this recording: samples are missed until the
+ *   POVUNDIRI_REFUSED_OTHER_SPEC   the present segment has it with another spec, and was begun by this recording: samples are missed until
+ *                                  the
  *                                  next one is begun, which may be long (SPECS, above)
  *   POVUNDIRI_REFUSED_TOO_LARGE    no segment of the present size has room for it: samples are missed, all of them or from the second bucket
  *                                  on, unless segments grow (SIZE, above)

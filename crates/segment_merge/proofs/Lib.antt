@@ -13,3 +13,4 @@ mod AddsUp
 mod FewerUnits
 mod Fallen
 mod Within
+mod InOrder

@@ -1,5 +1,5 @@
 -- What is noted of a segment, and a reading of it whose marks are that.
-use Rattle.std.specs.Prelude.{◌≡◌, ◌≢◌, ◌⊎◌, Bool, true, false, if◌then◌else◌, ℕ, ◌<◌, ◌≤◌, ℤ, pos, ◌+ℤ◌, List, [], IsPermutation, fold, length, map, sum_by, slice_index_or}
+use Rattle.std.specs.Prelude.{◌≡◌, ◌≢◌, ◌⊎◌, Bool, true, false, if◌then◌else◌, ℕ, ◌<◌, ◌≤◌, ℤ, pos, ◌+ℤ◌, List, [], IsPermutation, fold, length, map, sum_by, slice_index_or, Ok}
 use mathlib.Core.Option.{some}
 use lib.ListN.{get_elem?}
 use Rattle.std.specs.Cmp.Lexicographic.{slice_cmp}
@@ -8,7 +8,9 @@ use Rattle.std.specs.List.Sorted.{IsSortedByKey}
 use Rattle.std.specs.Ordering.{nat_cmp}
 use Rattle.std.specs.Str.{bytes_eq}
 use Rattle.std.specs.declared.cmp.Ordering.TheVariants.{Less, Greater}
-use Rattle.bucket_ranges.specs.Reading.{Histogram}
+use Rattle.segment_image.specs.Head.{header_of}
+use Rattle.segment_image.specs.declared.head.SegmentHead.{SegmentHead}
+use Rattle.bucket_ranges.specs.Reading.{Histogram, IsReading, Reading}
 use Rattle.bucket_ranges.specs.Spec.{SameSpec}
 use Rattle.image_reader.specs.declared.reading.HistReading.{HistReading}
 use Rattle.segment_promises.specs.Reads.{mark_read, units_read}
@@ -81,6 +83,11 @@ HasFallen noted hists = ¬ (HasAll noted hists)
 pub record IsInOrder (hists : List Histogram) : Type 0 where
   pub once : (i j : ℕ) (g h : Histogram) → i ≢ j → get_elem? hists i ≡ some g → get_elem? hists j ≡ some h → g.name ≢ h.name
   pub keys : All (λ h. AreAscending h.counts) hists
+
+-- what words with a valid header read as is
+abbrev pub WordsAreInOrder : Type 0
+WordsAreInOrder = (words : List ℕ) (head : SegmentHead) (reading : Reading) → header_of words ≡ Ok head → IsReading words head reading
+    → IsInOrder reading.hists
 
 -- a name is before another one, as bytes compare
 abbrev pub IsBefore : List ℕ → List ℕ → Type 0

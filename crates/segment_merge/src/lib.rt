@@ -19,6 +19,6 @@ mod remainder;
 pub use follow_fault::FollowFault;
 pub use follower::Follower;
 pub use following::FollowReport;
-pub use laws::notes_stay_within;
+pub use laws::{notes_stay_within, words_are_in_order};
 pub use merging::{MergeReport, MergeStop, merge};
 pub use remainder::{Remainder, remainder_of};

@@ -3,3 +3,4 @@ pub mod Merged
 mod Batches
 mod Underway
 pub mod MergedImage
+mod CostSteps

@@ -51,7 +51,7 @@ fn sum_left(histogram: &HistReading) -> Option<i64>
 }
 
 // The mark of the key at an index, or 0.
-fn mark_beside(histogram: &HistReading, index: usize) -> u64
+pub(crate) fn mark_beside(histogram: &HistReading, index: usize) -> u64
     ensures { result ≡ slice_index histogram.now.marks.items index }
 {
     histogram.marks.get(index).copied().unwrap_or(0)

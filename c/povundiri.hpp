@@ -45,6 +45,7 @@
 #include "povundiri.h"
 #include "povundiri_file.h"
 #include "povundiri_images.hpp"
+#include "povundiri_merge.h"
 #include "povundiri_status.hpp"
 #include "povundiri_values.hpp"
 
@@ -120,6 +121,9 @@ private:
 };
 
 }  // namespace detail
+
+// What a merge did (povundiri_merge.h).
+using MergeReport = povundiri_merge_report;
 
 // How many units a recorder borrows at once by default: enough for a million samples, and 256 recorders have a sixteenth of all.
 inline constexpr std::uint32_t kUsualLease = 1U << 20U;
@@ -288,6 +292,28 @@ public:
         std::vector<std::uint64_t> records;
         detail::need(try_records(records), "records");
         return records;
+    }
+
+    // Adds what no delta took of the image of a dead segment, once (povundiri_merge). It borrows the units that this costs, so it is refused
+    // for units before anything is added. An image that reads as more than 'most_keys' keys is TooManyKeys. A status that comes with a
+    // 'report.name' is that of the histogram which stopped it: what came before that is added.
+    [[nodiscard]] Status try_merge(Span<const std::uint64_t> words, std::uint64_t most_keys, MergeReport& report) noexcept {
+        report = {};
+        report.size = sizeof report;
+        const Status usable = state_.usable();
+        if (usable != Status::Done) return usable;
+        const auto call = [&] {
+            return static_cast<Status>(povundiri_merge(&handle_, words.data(), words.size(), most_keys, &report));
+        };
+        const Status status = call();
+        return status == Status::RefusedNoUnits && report.name[0] == '\0' && borrow(report.cost) ? call() : status;
+    }
+    MergeReport merge(Span<const std::uint64_t> words, std::uint64_t most_keys) {
+        MergeReport report;
+        const Status status = try_merge(words, most_keys, report);
+        if (report.name[0] != '\0') detail::need(status, "merge, histogram", report.name);
+        detail::need(status, "merge, words", words.size());
+        return report;
     }
 
     // ListEnds, or no record, if there is none after the cursor yet.

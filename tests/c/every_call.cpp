@@ -213,6 +213,55 @@ void sums() {
     moved_sums(sums, image, totals);
 }
 
+// A merge borrows the units that it costs: 5 of a boolean value and 2 of a sparse one.
+void merges() {
+    const std::vector<std::uint64_t> image = image_to_add();
+    const std::size_t keys = 4;
+    Segment segment;
+    Recorder recorder, none;
+    povundiri::MergeReport report;
+    std::vector<std::uint64_t> merged;
+    std::string text;
+    std::uint32_t units = 0;
+    RETURNS(Empty, none.try_merge(image, keys, report));
+    DONE(Segment::try_create(kShape, segment));
+    DONE(segment.try_recorder(recorder, 6));
+    RETURNS(TooManyKeys, recorder.try_merge(image, keys - 1, report));
+    RETURNS(ImageTooShort, recorder.try_merge({image.data(), 15}, keys, report));
+    DONE(recorder.try_units(units));
+    HOLDS(units == 6);
+    DONE(recorder.try_merge(image, keys, report));
+    HOLDS(report.added == 7 && report.left == 0 && report.cost == 7 && report.name[0] == 0);
+    DONE(recorder.try_units(units));
+    HOLDS(units == 6);
+    DONE(segment.try_join(recorder));
+    DONE(segment.try_units(units));
+    HOLDS(units == UINT32_MAX - 7);
+    DONE(segment.try_close(merged));
+    DONE(povundiri::try_report(merged, text));
+    HOLDS(text == "b,boolean,1,2,5\nb,total,5,5\ns,sparse,-3,-2,2\ns,total,2,-6\n");
+}
+
+// What comes before the histogram that stops it is added, and it is not tried again. A segment with too few units has none taken.
+void merges_stop() {
+    const std::vector<std::uint64_t> image = image_to_add();
+    Segment segment;
+    Recorder recorder;
+    Hist hist;
+    povundiri::MergeReport report;
+    std::uint32_t units = 0;
+    DONE(Segment::try_create(kShape, segment));
+    DONE(segment.try_recorder(recorder, 1));
+    DONE(recorder.try_boolean("s", hist));
+    RETURNS(RefusedOtherSpec, recorder.try_merge(image, 4, report));
+    HOLDS(report.added == 5 && report.left == 2 && report.stopped == POVUNDIRI_REFUSED_OTHER_SPEC && std::string(report.name) == "s");
+    DONE(recorder.try_add(hist, 1, UINT32_MAX - 11));
+    RETURNS(RefusedNoUnits, recorder.try_merge(image, 4, report));
+    HOLDS(report.added == 0 && report.left == 7 && report.cost == 7 && report.stopped == POVUNDIRI_DONE && report.name[0] == 0);
+    DONE(recorder.try_units(units));
+    HOLDS(units < 7);
+}
+
 void corrupt() {
     Segment segment;
     Recorder recorder;
@@ -390,6 +439,18 @@ void exceptions_of_recorders(const Segment& segment, Recorder& recorder) {
     THROWS(NoCursor, "next_shared, cursor 3: NoCursor", recorder.next_shared(3));
 }
 
+void exceptions_of_merges() {
+    const std::vector<std::uint64_t> image = image_to_add();
+    Segment segment(kShape);
+    Recorder recorder = segment.recorder(1);
+    HOLDS(recorder.merge(image, 4).added == 7);
+    THROWS(TooManyKeys, "merge, words 1024: TooManyKeys", recorder.merge(image, 3));
+    Segment other(kShape);
+    recorder = other.recorder(1);
+    recorder.boolean("s");
+    THROWS(RefusedOtherSpec, "merge, histogram \"s\": OtherSpec", recorder.merge(image, 4));
+}
+
 void exceptions_of_texts(const std::vector<std::uint64_t>& image) {
     HOLDS(povundiri::report(image) == kReport);
     THROWS(ImageTooShort, "report, words 0: TooShort", povundiri::report({}));
@@ -438,6 +499,7 @@ void exceptions() {
     exceptions_of_texts(image);
     exceptions_of_adopted(image, memory.room());
     exceptions_of_sums(image);
+    exceptions_of_merges();
     exceptions_of_the_system();
 }
 
@@ -468,6 +530,8 @@ void threads() {
 int main() {
     int failed = group("statuses", statuses);
     failed += group("sums", sums);
+    failed += group("merges", merges);
+    failed += group("merges stop", merges_stop);
     failed += group("corrupt", corrupt);
     failed += group("moves", moves);
     failed += group("names", names);

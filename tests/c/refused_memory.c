@@ -5,6 +5,7 @@
 #include <stdlib.h>
 
 #include "checks.h"
+#include "povundiri_merge.h"
 
 enum { WORDS = 1024, PAGE = 256 };
 
@@ -84,6 +85,50 @@ static void record(struct povundiri_handle *recorder) {
     REFUSE_EACH(povundiri_records(recorder, records, 8, &needed));
     HOLDS(needed == 3);
     free(counts);
+}
+
+/* A merge of an image with one histogram. If memory runs out for the record, that is what stopped it; then nothing was added either. */
+static void merge(struct povundiri_handle *segment, const uint64_t *words) {
+    struct povundiri_merge_report report = {0};
+    struct povundiri_handle recorder = {0};
+    struct povundiri_count counts[4];
+    struct povundiri_totals totals = {0, 0, 0};
+    size_t hist = 0, stopped = 0, number;
+    uint32_t status = 1;
+    DONE(povundiri_recorder(segment, 100, &recorder));
+    for (number = 0; status != POVUNDIRI_DONE && number < 1000; number += 1) {
+        until_refused = number;
+        status = povundiri_merge(&recorder, words, WORDS, 4, &report);
+        until_refused = SIZE_MAX;
+        HOLDS(status == POVUNDIRI_DONE || is_no_memory(status));
+        HOLDS(status == POVUNDIRI_DONE || report.added == 0);
+        HOLDS((report.stopped == POVUNDIRI_REFUSED_NO_MEMORY) == (status == POVUNDIRI_REFUSED_NO_MEMORY));
+        stopped += report.stopped == POVUNDIRI_REFUSED_NO_MEMORY && strcmp(report.name, "c") == 0;
+    }
+    HOLDS(number > 10 && stopped > 1 && report.added == 2 && report.left == 0);
+    DONE(povundiri_hist_custom(&recorder, "c", VALUES, 3, &hist));
+    DONE(povundiri_snapshot(&recorder, hist, counts, 4, &totals));
+    HOLDS(totals.redundant == 2 && totals.sum == 55 && counts[1].key == 10 && counts[1].count == 2);
+    DONE(povundiri_join(segment, &recorder));
+}
+
+/* The words of an image of a custom histogram with two samples, and a segment into which it is merged. */
+static void each_allocation_of_merges(void) {
+    struct povundiri_shape shape = {WORDS, PAGE, 7, 1, 2};
+    struct povundiri_handle segment = {0}, recorder = {0};
+    const struct povundiri_item items[] = {{50, 2}};
+    uint64_t words[WORDS];
+    size_t hist = 0;
+    DONE(povundiri_create(shape, &segment));
+    DONE(povundiri_recorder(&segment, 100, &recorder));
+    DONE(povundiri_hist_custom(&recorder, "c", VALUES, 3, &hist));
+    DONE(povundiri_batch(&recorder, hist, items, 1, 55, NULL));
+    DONE(povundiri_join(&segment, &recorder));
+    DONE(povundiri_close(&segment, words, WORDS, NULL));
+    DONE(povundiri_create(shape, &segment));
+    merge(&segment, words);
+    DONE(povundiri_close(&segment, words, WORDS, NULL));
+    HOLDS(blocks == 0);
 }
 
 static void each_allocation(void) {
@@ -673,6 +718,7 @@ static void each_request_of_version_2(void) {
 
 int main(void) {
     return group("each allocation", each_allocation) + group("each allocation of sums", each_of_sums) +
+           group("each allocation of merges", each_allocation_of_merges) +
            group("a second value of a sparse histogram", second_value) +
            group("a batch of values of a sparse histogram", batch_of_values) +
            group("a second recorder of a sparse histogram", second_recorder) +

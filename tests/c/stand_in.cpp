@@ -8,6 +8,7 @@
 #include <limits>
 
 #include "povundiri.h"
+#include "povundiri_merge.h"
 
 namespace {
 
@@ -187,6 +188,22 @@ std::uint32_t povundiri_proved_delta(povundiri_handle* recorder, std::size_t his
 std::uint32_t povundiri_proved_snapshot(povundiri_handle* recorder, std::size_t hist, povundiri_count* counts, std::size_t length,
                                         povundiri_totals* totals) {
     return counted(recorder, hist, counts, length, totals);
+}
+
+// Of the words the first is what is to be added, as an image of this has it: a total.
+std::uint32_t povundiri_proved_merge(povundiri_handle* recorder, const std::uint64_t* words, std::size_t length, std::uint64_t, std::uint8_t*,
+                                     std::size_t, povundiri_merge_totals* totals) {
+    if (held(recorder) == nullptr) return POVUNDIRI_EMPTY;
+    if (length < 1) return POVUNDIRI_IMAGE_TOO_SHORT;
+    *totals = {0, words[0], words[0], 0, 0, 0, false, false};
+    if (kind(recorder, false) != POVUNDIRI_DONE) return kind(recorder, false);
+    Held* of = held(recorder);
+    if (of->units < words[0]) return POVUNDIRI_REFUSED_NO_UNITS;
+    of->units -= static_cast<std::uint32_t>(words[0]);
+    of->words->total.fetch_add(words[0], std::memory_order_relaxed);
+    totals->added = words[0];
+    totals->left = 0;
+    return POVUNDIRI_DONE;
 }
 
 std::uint32_t povundiri_proved_set_corrupt(povundiri_handle* recorder) { return kind(recorder, false); }

@@ -33,6 +33,7 @@ Test = Callable[[], Optional[str]]
 CHECKS: tuple[tuple[str, list[str], bool], ...] = (
     ("every_call.c", [], False),
     ("every_call_images.c", [], False),
+    ("every_call_merges.c", [], False),
     ("every_call.cpp", [], False),
     ("every_call.cpp", [NO_EXCEPTIONS], False),
     ("refused_memory.c", [], False),

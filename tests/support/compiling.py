@@ -17,7 +17,10 @@ WARNINGS = [
     "-Wall", "-Wextra", "-Wpedantic", "-Wconversion", "-Wshadow", "-Werror", "-fsyntax-only", f"-I{native.LIBRARY}",
 ]
 CPP_WARNINGS = ["-Wold-style-cast", "-Wzero-as-null-pointer-constant"]
-C_HEADERS = ("povundiri.h", "povundiri_file.h", "povundiri_folder.h", "povundiri_recording.h", "povundiri_shared.h")
+C_HEADERS = (
+    *("povundiri.h", "povundiri_file.h", "povundiri_folder.h", "povundiri_merge.h", "povundiri_recording.h"),
+    "povundiri_shared.h",
+)
 CPP_HEADERS = (
     *C_HEADERS, "povundiri_status.hpp", "povundiri_values.hpp", "povundiri_images.hpp", "povundiri.hpp",
     "povundiri_recording.hpp", "povundiri_shared.hpp",
@@ -162,7 +165,7 @@ def mixed(installed: native.Installed, folder: pathlib.Path) -> Iterator[Case]:
 def thread_sanitized(folder: pathlib.Path) -> Iterator[Case]:
     """What is in `c/` alone, with a stand-in for the proved functions: the sanitizer cannot see into those."""
     flags = ["-fsanitize=thread", "-DSTAND_IN"]
-    names = ("povundiri.c", "povundiri_file.c", "povundiri_look.c", "povundiri_raise.cpp")
+    names = ("povundiri.c", "povundiri_file.c", "povundiri_look.c", "povundiri_merge.c", "povundiri_raise.cpp")
     sources = [native.LIBRARY / name for name in names]
     objects = [compiled(folder, source, *flags) for source in (*sources, native.PROGRAMS / "stand_in.cpp")]
     for name, words, is_race in SANITIZED_RUNS:

@@ -27,6 +27,27 @@ pub struct OwnedRecorder {
 impl OwnedRecorder {
     ghost use Rattle.owned_recorder.specs.Holders.{view_of_owned};
 
+    /// Returns the recorder of these parts, which [`into_parts`](OwnedRecorder::into_parts) returned [segment, state].
+    pub fn of_parts(segment: Arc<Segment, Global>, state: RecorderState) -> OwnedRecorder
+        requires { IsRecorderAt (arc_value segment) state }
+        ensures segment { result.segment ≡ segment }
+        ensures state { result.state ≡ state }
+    {
+        OwnedRecorder { segment, state }
+    }
+
+    /// Returns its segment [segment] and all else that it has [state], for a call of a
+    /// [`Recorder`](live_segment::Recorder), which [`Recorder::of_state`](live_segment::Recorder::of_state) makes of these. The state is
+    /// that of a recorder at the segment [at].
+    pub fn into_parts(self) -> (Arc<Segment, Global>, RecorderState)
+        ensures at { IsRecorderAt (arc_value result.0) result.1 }
+        ensures segment { result.0 ≡ self.segment }
+        ensures state { result.1 ≡ self.state }
+    {
+        let OwnedRecorder { segment, state } = self;
+        (segment, state)
+    }
+
     /// Returns the units that it may still spend.
     pub fn units(&self) -> u32
         ensures { result ≡ (view_of_owned self.now).units.share }

@@ -11,3 +11,5 @@ pub mod Reporting
 pub mod Mailboxes
 pub mod Looks
 pub mod Summing
+mod Reading
+mod Merges

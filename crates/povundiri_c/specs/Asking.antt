@@ -9,13 +9,17 @@ use Rattle.bucket_ranges.specs.Fault.{spec_fault_number}
 use Rattle.bucket_ranges.specs.Scale.{scale_fault, scale_values}
 use Rattle.segment_calls.specs.declared.answer.Delta.{Delta}
 use Rattle.segment_calls.specs.declared.answer.Snapshot.{Snapshot}
+use Rattle.image_reader.specs.declared.reading.Reading.{Reading}
+use Rattle.segment_merge.specs.declared.merging.MergeReport.{MergeReport}
 use Rattle.povundiri_c.specs.declared.contents.Contents.{Contents}
 use Rattle.povundiri_c.specs.declared.status.Refused.{Refused}
 use Rattle.povundiri_c.specs.declared.types.Count.{Count}
 use Rattle.povundiri_c.specs.declared.types.HistSpec.{HistSpec}
 use Rattle.povundiri_c.specs.declared.types.Item.{Item}
+use Rattle.povundiri_c.specs.declared.types.MergeTotals.{MergeTotals}
 use Rattle.povundiri_c.specs.declared.types.Totals.{Totals}
 use Rattle.povundiri_c.specs.Calls.{GivesOfRecorder, IsWritten, SizesOfRecorder}
+use Rattle.povundiri_c.specs.Merging.{IsMergeReturned, IsNotRead, IsReadWithin, Merges, cost_of_reading}
 use Rattle.povundiri_c.specs.Recorders.{AtPlace, AtPlaceInRoom, Batches, FindsHist, refused_with, TakesDelta, TakesNext, TakesSnapshot, WalksAll}
 
 -- ---- `hist`
@@ -138,3 +142,18 @@ AnswersRecordsCall held status needed needed' old new held' =
 abbrev pub AnswersNextCall : ℕ → Option Contents → ℕ → ℕ → ℕ → Option Contents → Type 0
 AnswersNextCall cursor held status next next' held' =
     (answer : Result ℕ ℕ) × GivesOfRecorder (TakesNext cursor) held answer held' × IsWritten answer status next next'
+
+-- ---- `merge`
+
+-- all is unchanged
+abbrev pub IsUntouched : Option Contents → MergeTotals → List ℕ → MergeTotals → List ℕ → Option Contents → Type 0
+IsUntouched held totals name totals' name' held' = (held' ≡ held) × (totals' ≡ totals) × (name' ≡ name)
+
+-- The reading of the words is added by the recorder, or the status says why not. Or the handle is empty, or the words are not read: the
+-- status says so, and all is unchanged.
+abbrev pub AnswersMergeCall : List ℕ → ℕ → Option Contents → ℕ → MergeTotals → MergeTotals → List ℕ → List ℕ → Option Contents → Type 0
+AnswersMergeCall words most held status totals totals' name name' held' =
+    (((held ≡ None) × (status ≡ 3)) × IsUntouched held totals name totals' name' held')
+    ⊎ (((held ≢ None) × IsNotRead words most status) × IsUntouched held totals name totals' name' held')
+    ⊎ ((reading : Reading) × IsReadWithin words most reading × (answer : Result MergeReport ℕ)
+    × GivesOfRecorder (Merges reading (cost_of_reading reading)) held answer held' × IsMergeReturned reading answer status totals' name name')

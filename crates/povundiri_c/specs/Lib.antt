@@ -9,5 +9,6 @@ pub mod Seats
 pub mod Segments
 pub mod Status
 pub mod Mailbox
+pub mod Merging
 pub mod Looks
 pub mod Sums

@@ -1,6 +1,7 @@
 //! The functions that C calls.
 
 mod look;
+mod merging;
 mod reading;
 mod recording;
 mod reporting;

@@ -4,12 +4,17 @@ ghost use Rattle.std.specs.Arc.{arc_value};
 ghost use Rattle.std.specs.Prelude.{◌≡◌, Err, IfOk};
 ghost use Rattle.live_segment.specs.RecorderState.{Knows};
 ghost use Rattle.povundiri_c.specs.Mailbox.{BelongsTo, cursors_of};
+ghost use Rattle.povundiri_c.specs.Merging.{Merges};
 ghost use Rattle.povundiri_c.specs.Recorders.{Adds, AtPlace, AtPlaceInRoom, Batches, Finds, FindsHist, Limits, Marks, refused_with, TakesDelta, TakesNext, TakesSnapshot, WalksAll};
 
 use crate::mailbox::Mailbox;
-use crate::status::{DONE, LIST_ENDS, NO_CURSOR, Refused, SHORT, UNKNOWN, of_refusal};
-use live_segment::{Delta, Hist, Snapshot, Spec};
+use crate::merging::{MergeAsked, merged};
+use crate::status::{DONE, LIST_ENDS, NO_CURSOR, NO_MEMORY, Refused, SHORT, UNKNOWN, of_refusal};
+use core::mem::replace_with;
+use image_reader::Reading;
+use live_segment::{Delta, Hist, Refusal, Snapshot, Spec};
 use owned_recorder::OwnedRecorder;
+use segment_merge::MergeReport;
 use std::alloc::Global;
 use std::sync::Arc;
 
@@ -111,6 +116,26 @@ impl JoinableRecorder {
         match self.owned.snapshot(histogram) {
             Ok(snapshot) => Ok(snapshot),
             Err(why) => Err(Refused::of(of_refusal(why))),
+        }
+    }
+
+    /// Adds what no delta took of a reading, if it may spend so many units, which is what that costs.
+    pub(crate) fn merge(
+        &mut self,
+        alloc: Global,
+        reading: &Reading,
+        cost: u64,
+    ) -> Result<MergeReport, u32>
+        ensures kept { self.new.mailbox ≡ self.old.mailbox }
+        ensures answer { Merges reading.now cost self.old.owned result self.new.owned }
+    {
+        if u64::from(self.owned.units()) < cost {
+            return Err(of_refusal(Refusal::NoUnits));
+        }
+        let asked = MergeAsked { alloc, reading };
+        match replace_with(&mut self.owned, asked, merged) {
+            Ok(report) => Ok(report),
+            Err(_) => Err(NO_MEMORY),
         }
     }
 

@@ -10,8 +10,10 @@
 mod contents;
 mod exports;
 mod handle;
+mod image_units;
 mod joinable_recorder;
 mod mailbox;
+mod merging;
 mod opaque_box;
 mod owned_segment;
 mod seat_state;
@@ -22,4 +24,4 @@ mod texts;
 mod types;
 
 pub use handle::Handle;
-pub use types::{Count, HistSpec, Item, SegmentShape, Totals};
+pub use types::{Count, HistSpec, Item, MergeTotals, SegmentShape, Totals};

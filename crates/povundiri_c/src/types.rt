@@ -61,3 +61,25 @@ pub struct Totals {
     /// The redundant count of a snapshot.
     pub redundant: u64,
 }
+
+/// What a merge returns along with its status.
+#[repr(C)]
+#[derive(Clone, Copy)]
+pub struct MergeTotals {
+    /// How many units were added.
+    pub added: u64,
+    /// How many units that no delta took of the image were not added.
+    pub left: u64,
+    /// How many units it costs to add all that no delta took.
+    pub cost: u64,
+    /// How many units the image has left.
+    pub unspent: u64,
+    /// How many items of the histogram that stopped the merge were counted.
+    pub items: usize,
+    /// How long the name of that histogram is; 0 if none did.
+    pub name_length: usize,
+    /// Whether the image is marked as full.
+    pub full: bool,
+    /// Whether it is marked as corrupt.
+    pub corrupt: bool,
+}

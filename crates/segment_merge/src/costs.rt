@@ -35,8 +35,8 @@ fn cost_of(hist: &HistReading) -> u64
     units_above(hist).max(cost_of_sum(hist))
 }
 
-// The units of all histograms above their marks, or the greatest `u64` if there are more.
-pub(crate) fn units_of_all(hists: &[HistReading]) -> u64
+/// Returns the units of all histograms above their marks, or 18,446,744,073,709,551,615 if there are more.
+pub fn units_of_all(hists: &[HistReading]) -> u64
     ensures { result ≡ min (sum_by (λ h. units_left (histogram_view h)) hists.now) 18446744073709551615 }
 {
     let mut units: u64 = 0;
@@ -46,8 +46,10 @@ pub(crate) fn units_of_all(hists: &[HistReading]) -> u64
     units
 }
 
-// The units that it costs to add what all histograms have above their marks, or the greatest `u64` if these are more.
-pub(crate) fn cost_of_all(hists: &[HistReading]) -> u64
+/// Returns the units that it costs to add what all histograms have above their marks, or 18,446,744,073,709,551,615 if
+/// these are more: of each histogram its units, or the size of its sum less its mark, divided by 2^31 and rounded up, if
+/// that is more.
+pub fn cost_of_all(hists: &[HistReading]) -> u64
     ensures { result ≡ min (sum_by (λ h. cost_left (histogram_view h)) hists.now) 18446744073709551615 }
 {
     let mut cost: u64 = 0;

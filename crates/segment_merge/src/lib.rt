@@ -16,6 +16,7 @@ mod merging;
 mod noting;
 mod remainder;
 
+pub use costs::{cost_of_all, units_of_all};
 pub use follow_fault::FollowFault;
 pub use follower::Follower;
 pub use following::FollowReport;

@@ -14,6 +14,9 @@ STATED = {
     "CHANGELOG.md": r"\A(?:(?!## ).*\n)*## (\S+?)(?:,|$)",
     "README.md": r"povundiri-(\S+)-x86_64-linux\.tar\.gz",
     "packaging/debian/changelog": r"\Apovundiri \((.*)\) ",
+    "crates/report_requests/src/command.rt": r'^ +\.version\("(.*)"\)$',
+    "crates/stepped/src/request.rt": r'^ +\.version\("(.*)"\)$',
+    "python/pyproject.toml": r'^version = "(.*)"$',
     "c/povundiri.h": r'^#define POVUNDIRI_VERSION_TEXT "(.*)"$',
 }
 # Its three numbers, each by itself.

@@ -477,9 +477,10 @@ static void hostile(void) {
     povundiri_shared_close(&shared);
 }
 
-/* Looks while a child writes any words: each has a status, and each that is an image has a report, or too many keys. */
+/* Looks while a child writes any words: each has a status, and each that is an image has a report, or too many keys. There are more of them
+ * where few find a header that is whole. */
 static void scribbled(void) {
-    enum { LOOKS = 500 };
+    enum { LOOKS = 500, MOST_LOOKS = 500000, ENOUGH = 50, DAMAGED = 10 };
     static char text[1 << 20];
     const struct timespec nap = {0, 50000};
     struct povundiri_shared shared = made();
@@ -488,7 +489,7 @@ static void scribbled(void) {
     pid_t child;
     HOLDS(run("adds", povundiri_shared_descriptor(&shared)) == 0);
     child = start_counting("scribbles", povundiri_shared_descriptor(&shared));
-    for (i = 0; i < LOOKS; i += 1) {
+    for (i = 0; i < LOOKS || (i < MOST_LOOKS && (done < ENOUGH || damaged < DAMAGED)); i += 1) {
         size_t length = 0, needed = 0;
         const uint32_t status = povundiri_shared_look(&shared, image, WORDS, &length);
         const bool is_fault = status >= POVUNDIRI_IMAGE_TOO_SHORT && status <= POVUNDIRI_IMAGE_BAD_QUEUE;
@@ -501,7 +502,7 @@ static void scribbled(void) {
         text[needed] = 0;
         damaged += strstr(text, "!bad") != NULL || strstr(text, "!stopped") != NULL;
     }
-    HOLDS(kill(child, SIGKILL) == 0 && end_of(child) == 1000 + SIGKILL && done >= LOOKS / 10 && damaged >= 10);
+    HOLDS(kill(child, SIGKILL) == 0 && end_of(child) == 1000 + SIGKILL && done >= ENOUGH && damaged >= DAMAGED);
     if (failed_here != 0) printf("%d looks, %d of them damaged\n", done, damaged);
     povundiri_shared_close(&shared);
 }

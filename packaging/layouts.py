@@ -26,6 +26,7 @@ import symbols
 STRUCT = re.compile(r"^struct (\w+) \{\n(.*?)^\};", re.MULTILINE | re.DOTALL)
 ENUM = re.compile(r"^enum (\w+) \{\n(.*?)^\};", re.MULTILINE | re.DOTALL)
 CONSTANT = re.compile(r"^#define (POVUNDIRI_(?!VERSION)\w+) \d+$", re.MULTILINE)
+UNNAMED = re.compile(r"^enum \{(.*?)\};", re.MULTILINE | re.DOTALL)
 POINTER_TO_FUNCTION = re.compile(r"\(\*(\w+)\)\(")
 SECONDS = 60
 
@@ -50,7 +51,8 @@ def prints(text: str) -> Iterator[str]:
         yield f'printf("enum {name}: %zu bytes\\n", sizeof(enum {name}));'
         for constant in re.findall(r"^\s*(\w+) =", body, re.MULTILINE):
             yield f'printf("    {constant}: %lld\\n", (long long){constant});'
-    for constant in CONSTANT.findall(text):
+    unnamed = [constant for body in UNNAMED.findall(text) for constant in re.findall(r"\b(POVUNDIRI_\w+) =", body)]
+    for constant in [*CONSTANT.findall(text), *unnamed]:
         yield f'printf("{constant}: %lld\\n", (long long){constant});'
 
 

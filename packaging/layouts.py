@@ -51,8 +51,11 @@ def prints(text: str) -> Iterator[str]:
         yield f'printf("enum {name}: %zu bytes\\n", sizeof(enum {name}));'
         for constant in re.findall(r"^\s*(\w+) =", body, re.MULTILINE):
             yield f'printf("    {constant}: %lld\\n", (long long){constant});'
-    unnamed = [constant for body in UNNAMED.findall(text) for constant in re.findall(r"\b(POVUNDIRI_\w+) =", body)]
-    for constant in [*CONSTANT.findall(text), *unnamed]:
+    for body in UNNAMED.findall(text):
+        yield 'printf("enum: without a name\\n");'
+        for constant in re.findall(r"\b(POVUNDIRI_\w+) =", body):
+            yield f'printf("    {constant}: %lld\\n", (long long){constant});'
+    for constant in CONSTANT.findall(text):
         yield f'printf("{constant}: %lld\\n", (long long){constant});'
 
 

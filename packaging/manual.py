@@ -217,11 +217,11 @@ def described(lines: Iterable[str]) -> Iterator[str]:
 
 def library_page(folder: pathlib.Path) -> str:
     """The page of the library: what the header of recordings says, and which calls each header has."""
-    headers = [folder / f"{LIBRARY}{part}.h" for part in ("_recording", "_folder", "", "_file")]
+    headers = [folder / f"{LIBRARY}{part}.h" for part in ("_recording", "_folder", "", "_merge", "_file", "_shared")]
     lines = [*head(LIBRARY, 3, ABOUT_LIBRARY), ".SH SYNOPSIS", ".nf"]
     lines += [f".B #include <{escaped(header.name)}>" for header in headers]
     lines += [escaped(f"cc -std=c99 program.c $(pkg-config --cflags --libs {LIBRARY}-static) -o program"), ".fi"]
-    lines += [escaped(f"For C++17: {LIBRARY}_recording.hpp and {LIBRARY}.hpp.")]
+    lines += [escaped(f"For C++17: {LIBRARY}_recording.hpp, {LIBRARY}.hpp and {LIBRARY}_shared.hpp.")]
     lines += [".SH DESCRIPTION", *described(comment_of(headers[0])), ".SH CALLS"]
     for header in headers:
         calls = [name for name in symbols.names([header]) if not INNER.search(name)]

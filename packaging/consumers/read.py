@@ -16,7 +16,7 @@ DONE, SHORT = 0, 7
 class Handle(ctypes.Structure):
     """struct povundiri_handle."""
 
-    _fields_ = [("full", ctypes.c_bool), ("at", ctypes.c_void_p)]
+    _fields_ = [("held", ctypes.c_bool), ("at", ctypes.c_void_p)]
 
 
 def report(library: ctypes.CDLL, folder: str) -> bytes:

@@ -47,11 +47,11 @@ impl Spec {
     }
 }
 
-// Whether two lists have the same values above 0.
+// Whether two lists have the same values above 0. Those of one spec mostly are the same list, which is seen in one walk.
 fn have_same_values(values: &[u32], others: &[u32]) -> bool
     ensures { (result ≡ true) ↔ (distinct_values values.now ≡ distinct_values others.now) }
 {
-    has_values(others, values) && has_values(values, others)
+    values == others || has_values(others, values) && has_values(values, others)
 }
 
 // Whether each of the values that is above 0 is among the others.

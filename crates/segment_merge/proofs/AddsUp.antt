@@ -18,7 +18,7 @@ use Rattle.segment_machine.specs.Entry.{item_entry}
 use Rattle.segment_promises.specs.Reads.{mark_read, units_read}
 use Rattle.list_lemmas.proofs.Sums.{amounts_total}
 use Rattle.segment_merge.specs.Cut.{cut_at}
-use Rattle.segment_merge.specs.Follow.{Adds, AddsAll, IsNotedAsAdded, Step, entries_added, items_added, noted_after, sum_added, sums_added, units_added}
+use Rattle.segment_merge.specs.Follow.{AddsAll, AddsStep, IsNotedAsAdded, Step, entries_added, items_added, noted_after, sum_added, sums_added, units_added}
 use Rattle.segment_merge.specs.Merge.{items_left, sum_left}
 use Rattle.segment_merge.specs.Noted.{AreMarkedBy, HasRisen, marks_among, sum_among, sum_mark_among, units_among}
 use Rattle.segment_merge.proofs.KeptUnits.{cut_units, read_units}
@@ -26,7 +26,7 @@ use Rattle.segment_merge.proofs.KeptUnits.{cut_units, read_units}
 -- ---- the log
 
 -- nothing new is no item and no sum
-no_items : (items : List (ℤ × ℕ)) (sum : ℤ) → (not (length items == 0) || not (int_eq sum (pos 0))) ≡ false → (items ≡ []) × (int_eq sum (pos 0) ≡ true)
+pub no_items : (items : List (ℤ × ℕ)) (sum : ℤ) → (not (length items == 0) || not (int_eq sum (pos 0))) ≡ false → (items ≡ []) × (int_eq sum (pos 0) ≡ true)
 no_items [] sum none = (refl, no_sum (int_eq sum (pos 0)) none)
   where
     no_sum : (b : Bool) → not b ≡ false → b ≡ true
@@ -40,7 +40,7 @@ no_items (item ∷ items) sum none =
     never false c is none = absurd (cc none)
 
 -- one step
-logged_one : (step : Step) (a b : Actor) → Adds step a b → log_of b ≡ log_of a ++ entries_added step
+logged_one : (step : Step) (a b : Actor) → AddsStep step a b → log_of b ≡ log_of a ++ entries_added step
 logged_one (h, None) a b (inl (none, same)) =
     let (items, sum) = no_items (items_left h) (sum_left h) none in
     ap log_of same
@@ -78,7 +78,7 @@ named (h, None) = refl
 named (h, Some cut) = refl
 
 -- of one name
-either : (b : Bool) (m n o : ℕ) → m ≡ n + o → (if b then m else 0) ≡ (if b then n else 0) + (if b then o else 0)
+pub either : (b : Bool) (m n o : ℕ) → m ≡ n + o → (if b then m else 0) ≡ (if b then n else 0) + (if b then o else 0)
 either true m n o is = is
 either false m n o is = refl
 

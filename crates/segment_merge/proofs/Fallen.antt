@@ -26,15 +26,15 @@ use Rattle.segment_promises.specs.Reads.{units_read}
 use Rattle.segment_merge.specs.Cut.{cut_at, kept, left_behind}
 use Rattle.segment_merge.specs.Follow.{Step, noted_after}
 use Rattle.segment_merge.specs.Marks.{AreAscending, count_at}
-use Rattle.segment_merge.specs.Noted.{AreInOrder, HasAll, HasFallen, IsBefore, IsFallenAt, IsInOrder, IsMarkedAt, unmarked}
+use Rattle.segment_merge.specs.Noted.{AreNotesInOrder, HasAll, HasFallenBelow, IsFallenAt, IsMarkedAt, IsNameBefore, IsReadingInOrder, unmarked}
 use Rattle.segment_merge.specs.Remainder.{marked}
-use Rattle.segment_merge.proofs.Underway.{next_of}
+use Rattle.segment_merge.proofs.Taken.{next_of}
 
 -- a name is not before itself
-not_itself : (a b : List ℕ) → a ≡ b → IsBefore a b → ⊥
+not_itself : (a b : List ℕ) → a ≡ b → IsNameBefore a b → ⊥
 not_itself a b same before =
     let tied : slice_cmp nat_cmp b b ≡ Equal = tied_itself nat_list_cmp_total b in
-    let less : slice_cmp nat_cmp b b ≡ Less = subst (λ (name : List ℕ). IsBefore name b) same before in
+    let less : slice_cmp nat_cmp b b ≡ Less = subst (λ (name : List ℕ). IsNameBefore name b) same before in
     absurd (cc (tied, less))
 
 -- the element at a place
@@ -48,7 +48,7 @@ abbrev pub NeverFall : List Histogram → Type 0
 NeverFall hists = (i j : ℕ) (g h : Histogram) → i ≤ j → get_elem? hists i ≡ some g → get_elem? hists j ≡ some h → is_lt (slice_cmp nat_cmp h.name g.name) ≡ false
 
 -- in another order
-pub in_order_permuted : (xs ys : List Histogram) → IsPermutation xs ys → IsInOrder xs → IsInOrder ys
+pub in_order_permuted : (xs ys : List Histogram) → IsPermutation xs ys → IsReadingInOrder xs → IsReadingInOrder ys
 in_order_permuted xs ys moved order = record {
   once = any_two_permuted (λ (g h : Histogram). g.name ≢ h.name) xs ys moved order.once;
   keys = All-permutation (λ (h : Histogram). AreAscending h.counts) xs ys moved order.keys;
@@ -59,7 +59,7 @@ has_all_permuted noted xs ys moved all note there =
     let (h, among, named, spec, units) = all note there in (h, Contains-permutation xs ys h moved among, named, spec, units)
 
 -- one of two names is before the other
-either_way : (o : Ordering) (a b : List ℕ) → slice_cmp nat_cmp a b ≡ o → is_lt (slice_cmp nat_cmp b a) ≡ false → a ≢ b → IsBefore a b
+either_way : (o : Ordering) (a b : List ℕ) → slice_cmp nat_cmp a b ≡ o → is_lt (slice_cmp nat_cmp b a) ≡ false → a ≢ b → IsNameBefore a b
 either_way Less a b is not_before apart = is
 either_way Equal a b is not_before apart = absurd (apart (exact_bytes a b is))
 either_way Greater a b is not_before apart =
@@ -68,7 +68,7 @@ either_way Greater a b is not_before apart =
     absurd (cc (before, not_before))
 
 -- names that do not fall, each once, ascend
-pub in_order_sorted : (hists : List Histogram) → NeverFall hists → IsInOrder hists → AreInOrder hists
+pub in_order_sorted : (hists : List Histogram) → NeverFall hists → IsReadingInOrder hists → AreNotesInOrder hists
 in_order_sorted hists up order = record {
   names = λ i j g h less at_i at_j.
       either_way (slice_cmp nat_cmp g.name h.name) g.name h.name refl (up i j g h (omega (arith, less)) at_i at_j)
@@ -81,42 +81,42 @@ in_order_sorted hists up order = record {
 -- the first histograms have names before the one that is noted next
 abbrev pub AreBefore : List Histogram → List Histogram → ℕ → ℕ → Type 0
 AreBefore noted hists next n =
-    (note : Histogram) → get_elem? noted next ≡ some note → (k : ℕ) (g : Histogram) → k < n → get_elem? hists k ≡ some g → IsBefore g.name note.name
+    (note : Histogram) → get_elem? noted next ≡ some note → (k : ℕ) (g : Histogram) → k < n → get_elem? hists k ≡ some g → IsNameBefore g.name note.name
 
 pub before_none : (noted hists : List Histogram) (next : ℕ) → AreBefore noted hists next 0
 before_none noted hists next note there k g near here = absurd (omega (arith, near))
 
 module _ (noted hists : List Histogram) (next n : ℕ) (h : Histogram) (here : get_elem? hists n ≡ some h) where
   -- one histogram more
-  last_before : (name : List ℕ) → ((k : ℕ) (g : Histogram) → k < n → get_elem? hists k ≡ some g → IsBefore g.name name) → IsBefore h.name name
-      → (k : ℕ) (g : Histogram) → k < n + 1 → get_elem? hists k ≡ some g → IsBefore g.name name
+  last_before : (name : List ℕ) → ((k : ℕ) (g : Histogram) → k < n → get_elem? hists k ≡ some g → IsNameBefore g.name name) → IsNameBefore h.name name
+      → (k : ℕ) (g : Histogram) → k < n + 1 → get_elem? hists k ≡ some g → IsNameBefore g.name name
   last_before name so_far its k g near at_k = elim (cases_lt k n) [
     | inl early ↦ so_far k g early at_k
     | inr late ↦
         let same : k ≡ n = omega (arith, near, late) in
         let one : g ≡ h = same_element hists n g h (subst (λ (j : ℕ). get_elem? hists j ≡ some g) same at_k) here in
-        subst (λ (one : Histogram). IsBefore one.name name) (sym one) its
+        subst (λ (one : Histogram). IsNameBefore one.name name) (sym one) its
   ]
 
-  pub before_more : (came : Histogram) (is_noted : Bool) (then_next : ℕ) → AreInOrder noted → came.name ≡ h.name → IsMarkedAt noted next came is_noted
+  pub before_more : (came : Histogram) (is_noted : Bool) (then_next : ℕ) → AreNotesInOrder noted → came.name ≡ h.name → IsMarkedAt noted next came is_noted
       → then_next ≡ (if is_noted then next + 1 else next) → AreBefore noted hists next n → AreBefore noted hists then_next (n + 1)
   before_more came true then_next order named (below, marked) is so_far note there =
       let there_next : get_elem? noted (next + 1) ≡ some note = subst (λ (i : ℕ). get_elem? noted i ≡ some note) is there in
       let old : Histogram = get_or noted next came in
       let at_next : get_elem? noted next ≡ some old = element_at noted next came below in
-      let up : IsBefore old.name note.name = order.names next (next + 1) old note (omega arith) at_next there_next in
+      let up : IsNameBefore old.name note.name = order.names next (next + 1) old note (omega arith) at_next there_next in
       last_before note.name
       (λ k g near at_k. nat_list_cmp_total.trans g.name old.name note.name (so_far old at_next k g near at_k) up)
-      (subst (λ (name : List ℕ). IsBefore name note.name) (sym marked.name ∙ named) up)
+      (subst (λ (name : List ℕ). IsNameBefore name note.name) (sym marked.name ∙ named) up)
   before_more came false then_next order named (none, before) is so_far note there =
       let there_next : get_elem? noted next ≡ some note = subst (λ (i : ℕ). get_elem? noted i ≡ some note) is there in
       let old : get_or noted next came ≡ note = index_at noted next note came there_next in
       last_before note.name (so_far note there_next)
-      (subst (λ (name : List ℕ). IsBefore name note.name) named
-      (subst (λ (one : Histogram). IsBefore came.name one.name) old (before (below_length noted next note there_next))))
+      (subst (λ (name : List ℕ). IsNameBefore name note.name) named
+      (subst (λ (one : Histogram). IsNameBefore came.name one.name) old (before (below_length noted next note there_next))))
 
   -- here something is less than is noted
-  pub fallen_here : AreInOrder noted → NeverFall hists → IsInOrder hists → AreBefore noted hists next n → IsFallenAt noted next h → HasFallen noted hists
+  pub fallen_here : AreNotesInOrder noted → NeverFall hists → IsReadingInOrder hists → AreBefore noted hists next n → IsFallenAt noted next h → HasFallenBelow noted hists
   fallen_here order up once so_far (below, inl greater) all =
       let note : Histogram = get_or noted next h in
       let at_next : get_elem? noted next ≡ some note = element_at noted next h below in
@@ -126,7 +126,7 @@ module _ (noted hists : List Histogram) (next n : ℕ) (h : Histogram) (here : g
         | inl early ↦ not_itself found.name note.name named (so_far note at_next k found early at_k)
         | inr late ↦
             let turned : slice_cmp nat_cmp note.name h.name ≡ Less = nat_list_cmp_total.antisymm note.name h.name ∙ ap ordering_reverse greater in
-            let its : slice_cmp nat_cmp found.name h.name ≡ Less = subst (λ (name : List ℕ). IsBefore name h.name) (sym named) turned in
+            let its : slice_cmp nat_cmp found.name h.name ≡ Less = subst (λ (name : List ℕ). IsNameBefore name h.name) (sym named) turned in
             let less : is_lt (slice_cmp nat_cmp found.name h.name) ≡ true = ap is_lt its in
             let not_less = up n k h found (omega (arith, late)) here at_k in
             absurd (cc (less, not_less))
@@ -158,7 +158,7 @@ module _ (noted hists : List Histogram) (next n : ℕ) (h : Histogram) (here : g
       ]
 
 -- at the end something that is noted is left
-pub fallen_left : (noted hists : List Histogram) (next n : ℕ) → next < length noted → length hists ≤ n → AreBefore noted hists next n → HasFallen noted hists
+pub fallen_left : (noted hists : List Histogram) (next n : ℕ) → next < length noted → length hists ≤ n → AreBefore noted hists next n → HasFallenBelow noted hists
 fallen_left noted hists next n below past so_far all =
     let (note, at_next) = there_below noted next below in
     let (found, among, named, spec, units) = all note (contains_at noted next note at_next) in
@@ -208,12 +208,12 @@ ascending_keys xs ys same up i j less within =
     subst (λ (both : ℤ × ℤ). both.0 <ℤ both.1) (λ k. (key i (omega (arith, less, among)) k, key j among k)) (up i j less among)
 
 -- so the order is that of names and keys alone
-pub in_order_shaped : (xs ys : List Histogram) → map shape_of xs ≡ map shape_of ys → AreInOrder xs → AreInOrder ys
+pub in_order_shaped : (xs ys : List Histogram) → map shape_of xs ≡ map shape_of ys → AreNotesInOrder xs → AreNotesInOrder ys
 in_order_shaped xs ys same order = record {
   names = λ i j g h less at_i at_j.
       let (x, at_x, is_x) = of i g at_i in
       let (y, at_y, is_y) = of j h at_j in
-      subst (λ (both : List ℕ × List ℕ). IsBefore both.0 both.1) (λ k. ((is_x k).0, (is_y k).0)) (order.names i j x y less at_x at_y);
+      subst (λ (both : List ℕ × List ℕ). IsNameBefore both.0 both.1) (λ k. ((is_x k).0, (is_y k).0)) (order.names i j x y less at_x at_y);
   keys = all_from (λ (it : Histogram). AreAscending it.counts) ys (λ i g at_i.
       let (x, at_x, is_x) = of i g at_i in
       ascending_keys x.counts g.counts (λ k. (is_x k).1) (all_at (λ (it : Histogram). AreAscending it.counts) xs i x order.keys at_x));
@@ -225,7 +225,7 @@ in_order_shaped xs ys same order = record {
         (subst (λ (l : List (List ℕ × List ℤ)). get_elem? l i ≡ some (shape_of g)) (sym same) (image_at shape_of ys i g at_i))
 
 -- also without marks
-pub in_order_marked : (xs ys : List Histogram) → map unmarked xs ≡ map unmarked ys → AreInOrder xs → AreInOrder ys
+pub in_order_marked : (xs ys : List Histogram) → map unmarked xs ≡ map unmarked ys → AreNotesInOrder xs → AreNotesInOrder ys
 in_order_marked xs ys same =
     in_order_shaped xs ys
     (sym (map_after unmarked shape_of (λ h. refl) xs) ∙ (ap (map shape_of) same ∙ map_after unmarked shape_of (λ h. refl) ys))
@@ -265,7 +265,7 @@ shapes_noted (step ∷ steps) behind = (λ i. step_shape step i ∷ shapes_noted
 
 -- what is noted after a merge is in order
 pub noted_in_order : (hists later : List Histogram) (steps : List Step) (behind : List Histogram) → hists ≡ map (λ step. step.0) steps ++ behind
-    → later ≡ map noted_after steps ++ map (cut_at 0) behind → AreInOrder hists → AreInOrder later
+    → later ≡ map noted_after steps ++ map (cut_at 0) behind → AreNotesInOrder hists → AreNotesInOrder later
 noted_in_order hists later steps behind split noted_is =
     in_order_shaped hists later (ap (map shape_of) split ∙ (sym (shapes_noted steps behind) ∙ sym (ap (map shape_of) noted_is)))
 
@@ -276,9 +276,9 @@ current list rest n x is =
     image_at histogram_view list n x (element_at list n x below ∙ ap some here)
 
 -- nothing is in order
-pub none_in_order : (list : List HistReading) → list ≡ [] → AreInOrder (map histogram_view list)
+pub none_in_order : (list : List HistReading) → list ≡ [] → AreNotesInOrder (map histogram_view list)
 none_in_order list none =
-    subst (λ (l : List HistReading). AreInOrder (map histogram_view l)) (sym none) (record {
+    subst (λ (l : List HistReading). AreNotesInOrder (map histogram_view l)) (sym none) (record {
       names = λ i j g h less at_i at_j. absurd (none_at i g at_i);
       keys = All-nil (λ (h : Histogram). AreAscending h.counts);
     })

@@ -12,15 +12,15 @@ use Rattle.segment_machine.specs.declared.actor.Actor.{Actor}
 use Rattle.segment_merge.specs.declared.following.FollowReport.{FollowReport}
 use Rattle.segment_merge.specs.declared.merging.MergeStop.{MergeStop}
 use Rattle.segment_merge.specs.Cut.{cut_at}
-use Rattle.segment_merge.specs.Follow.{Adds, AddsAll, AreFollowed, Ending, FollowsNext, IsCutReported, IsReported, Step, concerns_one, cuts_of, has_new, lines_of, noted_after, seen_added, seen_stop, seen_stopped}
+use Rattle.segment_merge.specs.Follow.{AddsAll, AddsStep, AreFollowed, Ending, FollowsNext, IsCutReported, IsReported, Step, concerns_one, cuts_of, has_new, lines_of, noted_after, seen_added, seen_stop, seen_stopped}
 use Rattle.segment_merge.specs.Merge.{line_of}
 use Rattle.segment_merge.specs.Parts.{Merges}
 
 -- ---- all so far
 
 -- one step more
-adds_then : (steps : List Step) (step : Step) (a b c : Actor) → AddsAll steps a b → Adds step b c → AddsAll (steps ++ step ∷ []) a c
-adds_then [] step a b c same last = (c, subst (λ (m : Actor). Adds step m c) same last, refl)
+adds_then : (steps : List Step) (step : Step) (a b c : Actor) → AddsAll steps a b → AddsStep step b c → AddsAll (steps ++ step ∷ []) a c
+adds_then [] step a b c same last = (c, subst (λ (m : Actor). AddsStep step m c) same last, refl)
 adds_then (first ∷ steps) step a b c (m, adds, rest) last = (m, adds, adds_then steps step m b c rest last)
 
 -- nothing was followed yet
@@ -48,7 +48,7 @@ still_none behind none (Some stop) what = what
 module _ (hists : List Histogram) (report after : FollowReport) (noted : List Histogram) (a b c : Actor) (h next : Histogram)
     (so_far : AreFollowed hists report noted a b) where
   -- one histogram that was reached
-  reached : report.stopped ≡ None → so_far.behind ≡ [] → (ending : Ending) → Adds (h, ending) b c → next ≡ noted_after (h, ending) → IsReported (h, ending) report after
+  reached : report.stopped ≡ None → so_far.behind ≡ [] → (ending : Ending) → AddsStep (h, ending) b c → next ≡ noted_after (h, ending) → IsReported (h, ending) report after
       → AreFollowed (hists ++ h ∷ []) after (noted ++ next ∷ []) a c
   reached going none ending adds noted_is reported =
       let steps : List Step = so_far.steps in
@@ -92,7 +92,7 @@ module _ (hists : List Histogram) (report after : FollowReport) (noted : List Hi
   followed_by : (stopped : Option MergeStop) → report.stopped ≡ stopped
       → MatchOption stopped (so_far.behind ≡ []) (λ (stop : MergeStop). concerns_one stop.why ≡ false)
       → MatchOption stopped
-      ((ending : Ending) × Adds (h, ending) b c × (next ≡ noted_after (h, ending)) × IsReported (h, ending) report after)
+      ((ending : Ending) × AddsStep (h, ending) b c × (next ≡ noted_after (h, ending)) × IsReported (h, ending) report after)
       (λ (stop : MergeStop). (after ≡ report) × (c ≡ b) × (next ≡ cut_at 0 h))
       → AreFollowed (hists ++ h ∷ []) after (noted ++ next ∷ []) a c
   followed_by None is none (ending, adds, noted_is, reported) = reached is none ending adds noted_is reported
@@ -107,7 +107,7 @@ module _ (hists : List Histogram) (report after : FollowReport) (noted : List Hi
 pub follows_same : (h : Histogram) (report : FollowReport) (a : Actor) → report.stopped ≡ None → has_new h ≡ false → FollowsNext h report report h a a
 follows_same h report a going none =
     subst (λ (stopped : Option MergeStop). MatchOption stopped
-    ((ending : Ending) × Adds (h, ending) a a × (h ≡ noted_after (h, ending)) × IsReported (h, ending) report report)
+    ((ending : Ending) × AddsStep (h, ending) a a × (h ≡ noted_after (h, ending)) × IsReported (h, ending) report report)
     (λ (stop : MergeStop). (report ≡ report) × (a ≡ a) × (h ≡ cut_at 0 h))) (sym going) (
       None,
       inl (none, refl),
@@ -126,7 +126,7 @@ follows_not h report a halted = by report.stopped halted
   where
     by : (stopped : Option MergeStop) → is_some stopped ≡ true
         → MatchOption stopped
-        ((ending : Ending) × Adds (h, ending) a a × (cut_at 0 h ≡ noted_after (h, ending)) × IsReported (h, ending) report report)
+        ((ending : Ending) × AddsStep (h, ending) a a × (cut_at 0 h ≡ noted_after (h, ending)) × IsReported (h, ending) report report)
         (λ (stop : MergeStop). (report ≡ report) × (a ≡ a) × (cut_at 0 h ≡ cut_at 0 h))
     by None halted = absurd (cc halted)
     by (Some stop) halted = (refl, refl, refl)
@@ -142,7 +142,7 @@ module _ (h : Histogram) (before : FollowReport) (a b : Actor) (going : before.s
       → FollowsNext h before after h a b
   follows_whole after merges passed stopped =
       subst (λ (stopped : Option MergeStop). MatchOption stopped
-      ((ending : Ending) × Adds (h, ending) a b × (h ≡ noted_after (h, ending)) × IsReported (h, ending) before after)
+      ((ending : Ending) × AddsStep (h, ending) a b × (h ≡ noted_after (h, ending)) × IsReported (h, ending) before after)
       (λ (stop : MergeStop). (after ≡ before) × (b ≡ a) × (h ≡ cut_at 0 h))) (sym going) (
         None,
         inr (new, merges.outcome.0),
@@ -164,7 +164,7 @@ module _ (h : Histogram) (before : FollowReport) (a b : Actor) (going : before.s
       → FollowsNext h before after next a b
   follows_cut mid after stop next merges passed stopped added how noted_is =
       subst (λ (stopped : Option MergeStop). MatchOption stopped
-      ((ending : Ending) × Adds (h, ending) a b × (next ≡ noted_after (h, ending)) × IsReported (h, ending) before after)
+      ((ending : Ending) × AddsStep (h, ending) a b × (next ≡ noted_after (h, ending)) × IsReported (h, ending) before after)
       (λ (stop : MergeStop). (after ≡ before) × (b ≡ a) × (next ≡ cut_at 0 h))) (sym going)
       (Some (stop.items, stop.why), (new, merges.outcome.0), noted_is, reported how)
     where

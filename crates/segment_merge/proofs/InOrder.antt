@@ -28,7 +28,7 @@ use Rattle.image_reader.proofs.Readables.{head_within, hist_readable}
 use Rattle.segment_invariant.proofs.Prelude.Std.{bytes_eq-Decides}
 use Rattle.list_lemmas.proofs.Elements.{below_length, from_map, index_at}
 use Rattle.segment_merge.specs.Marks.{AreAscending, count_at}
-use Rattle.segment_merge.specs.Noted.{IsInOrder, WordsAreInOrder}
+use Rattle.segment_merge.specs.Noted.{IsReadingInOrder, WordsAreInOrder}
 
 -- ---- names
 
@@ -134,7 +134,7 @@ words_in_order words head reading opened is =
     let made : ℕ → Histogram = histogram_of head.version words samples in
     let records : List ℕ = read_records words head references in
     let hists : reading.hists ≡ map made records = ap (λ (r : Reading). r.hists) is.2 in
-    subst IsInOrder (sym hists) (record {
+    subst IsReadingInOrder (sym hists) (record {
       once = λ i j g h ne at_g at_h same.
           let (x, at_x, is_x) = from_map made records i g at_g in
           let (y, at_y, is_y) = from_map made records j h at_h in

@@ -11,7 +11,7 @@ use Rattle.bucket_ranges.specs.Reading.{Histogram}
 use Rattle.segment_machine.specs.Actor.{units_listed}
 use Rattle.segment_promises.specs.Reads.{mark_read, units_read}
 use Rattle.segment_merge.specs.Cut.{cut_at, kept}
-use Rattle.segment_merge.specs.Marks.{HasRoom, key_marks}
+use Rattle.segment_merge.specs.Marks.{ReachesItsMark, key_marks}
 use Rattle.segment_merge.specs.Merge.{items_left}
 use Rattle.segment_merge.specs.Noted.{HasRisen}
 use Rattle.segment_merge.specs.Remainder.{left_of, marked}
@@ -75,16 +75,16 @@ module _ (key : ℤ) where
   ]
 
   -- what is noted once some items were added
-  pub kept_units : (n : ℕ) (pairs : List ((ℤ × ℕ) × ℕ)) → All HasRoom pairs
+  pub kept_units : (n : ℕ) (pairs : List ((ℤ × ℕ) × ℕ)) → All ReachesItsMark pairs
       → units_listed (kept n pairs) key ≡ units_listed (map beside pairs) key + units_listed (take n (filter_map left_of pairs)) key
   kept_units n [] all =
       let none : take {A = ℤ × ℕ} n [] ≡ [] = take_all n [] (omega arith) in
       let empty = ap (λ (list : List (ℤ × ℕ)). units_listed list key) none in
       omega (arith, empty)
   kept_units n (((k, units), mark) ∷ rest) all =
-      let room : mark ≤ units = All-head HasRoom ((k, units), mark) rest all in
+      let room : mark ≤ units = All-head ReachesItsMark ((k, units), mark) rest all in
       kept_one (nat_lt mark units) k units mark n rest room (same_mark mark units room)
-      (λ m. kept_units m rest (All-tail HasRoom ((k, units), mark) rest all))
+      (λ m. kept_units m rest (All-tail ReachesItsMark ((k, units), mark) rest all))
 
   -- one key more of those of which all was added
   whole_one : (b : Bool) (k : ℤ) (units mark : ℕ) (rest : List ((ℤ × ℕ) × ℕ)) → mark ≤ units → (b ≡ false → mark ≡ units)
@@ -105,12 +105,12 @@ module _ (key : ℤ) where
       omega (arith, whole, marks, items, further, parts)
 
   -- what is noted once all items were added
-  whole_units : (pairs : List ((ℤ × ℕ) × ℕ)) → All HasRoom pairs
+  whole_units : (pairs : List ((ℤ × ℕ) × ℕ)) → All ReachesItsMark pairs
       → units_listed (map (λ each. each.0) pairs) key ≡ units_listed (map beside pairs) key + units_listed (filter_map left_of pairs) key
   whole_units [] all = refl
   whole_units (((k, units), mark) ∷ rest) all =
-      let room : mark ≤ units = All-head HasRoom ((k, units), mark) rest all in
-      whole_one (nat_lt mark units) k units mark rest room (same_mark mark units room) (whole_units rest (All-tail HasRoom ((k, units), mark) rest all))
+      let room : mark ≤ units = All-head ReachesItsMark ((k, units), mark) rest all in
+      whole_one (nat_lt mark units) k units mark rest room (same_mark mark units room) (whole_units rest (All-tail ReachesItsMark ((k, units), mark) rest all))
 
   -- the marks of keys that have none are 0
   no_marks : (counts : List (ℤ × ℕ)) (more : ℕ) → units_listed (map beside (zip counts (replicate more 0))) key ≡ 0

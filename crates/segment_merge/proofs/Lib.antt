@@ -1,4 +1,5 @@
 mod Items
+mod Taken
 pub mod Merged
 mod Batches
 mod Underway
@@ -10,7 +11,11 @@ mod KeptUnits
 mod MarkedSteps
 mod FollowSteps
 mod AddsUp
+mod Totals
+mod NewUnits
 mod FewerUnits
 mod Fallen
+mod MarkedOnes
 mod Within
 mod InOrder
+mod DeltasTook

@@ -7,7 +7,7 @@ use Rattle.std.proofs.lemmas.List.{at_drop_more, drop_all, length-map, length-ta
 use Rattle.std.proofs.lemmas.List.Elements.{All-append, All-cons, All-nil}
 use Rattle.std.proofs.lemmas.List.Sums.{sum_by-cons, sum_by_push}
 use Rattle.segment_machine.specs.Actor.{units_listed}
-use Rattle.segment_merge.specs.Marks.{AreMarksOf, HasRoom, IsMark, IsNextNoted, count_at, key_marks}
+use Rattle.segment_merge.specs.Marks.{AreMarksOf, IsMark, IsNextNoted, ReachesItsMark, count_at, key_marks}
 
 -- two lists beside each other, with one element more of each
 pub zip_push : {K X : Type 0} (ks : List K) (vs : List X) (k : K) (v : X) → length ks ≡ length vs
@@ -53,13 +53,13 @@ module _ (counts : List (ℤ × ℕ)) (marks : List ℕ) (i mark : ℕ) (near : 
       (length-map (take i counts) (λ (count : ℤ × ℕ). count.0) ∙ (length-take-le i counts (omega (arith, near)) ∙ sym many)))
 
   -- and it is no more than the units
-  pub risen_more : All HasRoom (zip (take i counts) marks) → mark ≤ (count_at counts i).1 → All HasRoom (zip (take (i + 1) counts) (marks ++ mark ∷ []))
+  pub risen_more : All ReachesItsMark (zip (take i counts) marks) → mark ≤ (count_at counts i).1 → All ReachesItsMark (zip (take (i + 1) counts) (marks ++ mark ∷ []))
   risen_more all room =
-      subst (All HasRoom)
+      subst (All ReachesItsMark)
       (sym (ap (λ (list : List (ℤ × ℕ)). zip list (marks ++ mark ∷ [])) (take_more counts i (pos 0, 0) near)
       ∙ zip_push (take i counts) marks (count_at counts i) mark (length-take-le i counts (omega (arith, near)) ∙ sym many)))
-      (All-append HasRoom (zip (take i counts) marks) ((count_at counts i, mark) ∷ []) all
-      (All-cons HasRoom (count_at counts i, mark) [] room (All-nil HasRoom)))
+      (All-append ReachesItsMark (zip (take i counts) marks) ((count_at counts i, mark) ∷ []) all
+      (All-cons ReachesItsMark (count_at counts i, mark) [] room (All-nil ReachesItsMark)))
 
   module _ (noted : List (ℤ × ℕ)) (next : ℕ)
       (so_far : (key : ℤ) → units_listed (key_marks (take i counts) marks) key + units_listed (drop next noted) key ≡ units_listed noted key) where
@@ -125,7 +125,7 @@ mark_room noted next key units mark (inr (there, is, room)) = room
 -- all keys have their marks
 pub marks_whole : (noted counts : List (ℤ × ℕ)) (marks : List ℕ) (i next : ℕ) → length counts ≤ i → i ≤ length counts → length marks ≡ i → length noted ≤ next
     → ((key : ℤ) → units_listed (key_marks (take i counts) marks) key + units_listed (drop next noted) key ≡ units_listed noted key)
-    → All HasRoom (zip (take i counts) marks) → AreMarksOf noted counts marks
+    → All ReachesItsMark (zip (take i counts) marks) → AreMarksOf noted counts marks
 marks_whole noted counts marks i next past within many none so_far risen =
     let all : take i counts ≡ counts = take_all i counts past in record {
       many = omega (arith, many, past, within);
@@ -136,5 +136,5 @@ marks_whole noted counts marks i next past within many none so_far risen =
           let empty : units_listed (drop next noted) key ≡ units_listed [] key = ap (λ (list : List (ℤ × ℕ)). units_listed list key) (drop_all next noted none) in
           let zero : units_listed [] key ≡ 0 = refl in
           omega (arith, before, same, empty, zero);
-      risen = subst (λ (list : List (ℤ × ℕ)). All HasRoom (zip list marks)) all risen;
+      risen = subst (λ (list : List (ℤ × ℕ)). All ReachesItsMark (zip list marks)) all risen;
     }

@@ -4,7 +4,7 @@ use Rattle.std.specs.Prelude.{fold}
 use Rattle.std.specs.List.{All, zip}
 use Rattle.std.specs.Str.{bytes_eq}
 use Rattle.std.proofs.Math.IntN.{+ℤ_assoc, +ℤ_idl, +ℤ_idr}
-use Rattle.std.proofs.lemmas.List.{at_drop_more, drop_all, drop_more, get_or-map, length-drop, length-map, length_push, map_push, take_all, take_more}
+use Rattle.std.proofs.lemmas.List.{at_drop_more, drop_all, drop_more, get_or-map, length-map, take_all, take_more}
 use Rattle.std.proofs.lemmas.List.Elements.{All-append, All-cons, All-nil, All-weaker, Contains-append_left, Contains-append_right}
 use Rattle.std.proofs.lemmas.List.Sums.{sum_by-cons, sum_by_push}
 use Rattle.bucket_ranges.specs.Reading.{Histogram}
@@ -15,8 +15,7 @@ use Rattle.segment_machine.specs.Actor.{units_listed}
 use Rattle.segment_promises.specs.Reads.{mark_read, units_read}
 use Rattle.list_lemmas.proofs.Sums.{amounts_total}
 use Rattle.segment_merge.specs.Noted.{AreMarkedBy, HasNoNote, HasRisen, IsMarkedAt, IsMarkedBy, IsNoteOf, marks_among, sum_among, sum_mark_among, units_among, unmarked}
-use Rattle.segment_merge.specs.Marks.{AreMarksOf, HasRoom}
-use Rattle.segment_merge.proofs.Underway.{next_of}
+use Rattle.segment_merge.specs.Marks.{AreMarksOf, ReachesItsMark}
 
 -- the first notes are the marks of these histograms
 pub record AreMarkedSoFar (noted all : List Histogram) (next : ℕ) : Type 0 where
@@ -148,10 +147,10 @@ none_beside [] key = refl
 none_beside (count ∷ counts) key = refl
 
 -- a mark of 0 has room
-zeros_room : (counts : List (ℤ × ℕ)) (more : ℕ) → All HasRoom (zip counts (replicate more 0))
-zeros_room [] more = All-nil HasRoom
-zeros_room (count ∷ counts) zero = All-nil HasRoom
-zeros_room (count ∷ counts) (suc more) = All-cons HasRoom (count, 0) (zip counts (replicate more 0)) (omega arith) (zeros_room counts more)
+zeros_room : (counts : List (ℤ × ℕ)) (more : ℕ) → All ReachesItsMark (zip counts (replicate more 0))
+zeros_room [] more = All-nil ReachesItsMark
+zeros_room (count ∷ counts) zero = All-nil ReachesItsMark
+zeros_room (count ∷ counts) (suc more) = All-cons ReachesItsMark (count, 0) (zip counts (replicate more 0)) (omega arith) (zeros_room counts more)
 
 -- further marks stand beside nothing
 zip_longer : (ks : List (ℤ × ℕ)) (vs more : List ℕ) → length vs ≡ length ks → zip ks (vs ++ more) ≡ zip ks vs
@@ -176,7 +175,7 @@ pub has_note : (note hist h : Histogram) (marks : List ℕ) → h ≡ record his
 has_note note hist h marks is are name spec =
     subst (λ (one : Histogram). (unmarked one ≡ unmarked hist) × HasRisen one × IsMarkedBy note one) (sym is) (
       refl,
-      subst (All HasRoom) (sym (zip_longer hist.counts marks (replicate (length hist.counts) 0) are.many)) are.risen,
+      subst (All ReachesItsMark) (sym (zip_longer hist.counts marks (replicate (length hist.counts) 0) are.many)) are.risen,
       record { name = name; spec = spec; units = are.units; sum = refl },
     )
 
@@ -188,31 +187,3 @@ marked_here noted next note h below here is =
       omega (arith, below, long),
       subst (λ (one : Histogram). IsMarkedBy one h) (sym (get_or-map histogram_view noted next note h below ∙ ap histogram_view (sym here))) is,
     )
-
--- ---- a list that is taken one after the other
-
-pub taken_next : {X : Type 0} (list rest : List X) (n : ℕ) (x : X) → drop n list ≡ x ∷ rest → take (n + 1) list ≡ take n list ++ x ∷ []
-taken_next list rest n x is =
-    let (below, here, behind) = next_of list rest n x is in
-    take_more list n x below ∙ ap (λ one. take n list ++ one ∷ []) here
-
--- nothing is left behind the end
-pub past_end : {X : Type 0} (list : List X) (n : ℕ) → drop n list ≡ [] → length list ≤ n
-past_end list n none =
-    let zero = ap length none in
-    let long = length-drop n list in
-    omega (arith, zero, long)
-
--- but for their marks, histograms are those that were taken, with one more
-pub same_more : (all new list rest : List HistReading) (x hist : HistReading) → new ≡ all ++ x ∷ [] → drop (length all) list ≡ hist ∷ rest
-    → unmarked (histogram_view x) ≡ unmarked (histogram_view hist)
-    → map unmarked (map histogram_view all) ≡ map unmarked (map histogram_view (take (length all) list))
-    → map unmarked (map histogram_view new) ≡ map unmarked (map histogram_view (take (length new) list))
-same_more all new list rest x hist is here one so_far =
-    let long : length new ≡ length all + 1 = ap length is ∙ length_push all x in
-    ap (λ (l : List HistReading). map unmarked (map histogram_view l)) is ∙ (pushed all x ∙ ((λ i. so_far i ++ one i ∷ [])
-    ∙ (sym (pushed (take (length all) list) hist) ∙ ap (λ (l : List HistReading). map unmarked (map histogram_view l)) (sym (taken_next list rest (length all) hist here) ∙ ap (λ (k : ℕ). take k list) (sym long)))))
-  where
-    pushed : (list : List HistReading) (y : HistReading)
-        → map unmarked (map histogram_view (list ++ y ∷ [])) ≡ map unmarked (map histogram_view list) ++ unmarked (histogram_view y) ∷ []
-    pushed list y = ap (map unmarked) (map_push histogram_view list y) ∙ map_push unmarked (map histogram_view list) (histogram_view y)

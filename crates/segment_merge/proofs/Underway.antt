@@ -4,8 +4,7 @@ use Rattle.std.proofs.Common.{true, false}
 use Rattle.std.specs.Prelude.{None, Some, Option, MatchOption, is_some}
 use Rattle.std.specs.declared.alloc.Global.{Global}
 use Rattle.std.specs.declared.vec.Vec.{Vec}
-use Rattle.std.proofs.lemmas.List.{length-drop, length-append, map-append, take_all, take_more, take-append-drop}
-use Rattle.std.proofs.Math.Numerals.{add-one}
+use Rattle.std.proofs.lemmas.List.{length-append, map-append, take_all, take_more, take-append-drop}
 use Rattle.std.proofs.Math.ListN.{get_or-append}
 use Rattle.std.proofs.Math.Seq.{drop-cons, get_or-append_seam}
 use Rattle.std.proofs.lemmas.Bool.{cases_lt}
@@ -18,16 +17,7 @@ use Rattle.segment_merge.specs.Merge.{IsMerged, IsStopped, IsWholeMerge, line_of
 use Rattle.segment_merge.specs.Parts.{ArePartsOf, IsPartOf, Merges}
 use Rattle.segment_merge.specs.declared.merging.Part.{Part}
 use Rattle.segment_merge.proofs.Merged.{merged_none, merged_then}
-
--- the first of a list that was dropped to
-pub next_of : {X : Type 0} (list rest : List X) (n : ℕ) (x : X) → drop n list ≡ x ∷ rest
-    → (n < length list) × (get_or list n x ≡ x) × (rest ≡ drop (n + 1) list)
-next_of list rest n x is =
-    let long = ap length is in
-    let dropped = length-drop n list in
-    let below : n < length list = omega (arith, long, dropped) in
-    let both : get_or list n x ∷ drop (suc n) list ≡ x ∷ rest = sym (drop-cons list n x below) ∙ is in
-    (below, cc both, rw add-one (cc both))
+use Rattle.segment_merge.proofs.Taken.{next_of}
 
 -- the part that comes next is that of the next histogram
 pub next_part : (hists : List HistReading) (list parts rest : List Part) (n : ℕ) (h : HistReading) (part : Part) → ArePartsOf hists parts → list ≡ parts

@@ -1,5 +1,5 @@
 -- What a follower adds of a reading, histogram by histogram, and what is noted of it from then on.
-use Rattle.std.specs.Prelude.{◌≡◌, ◌⊎◌, Bool, true, false, not, ◌||◌, ◌==◌, if◌then◌else◌, min, ℕ, ◌+◌, ◌≤◌, ℤ, pos, ◌+ℤ◌, List, [], ◌∷◌, ◌++◌, IsPermutation, fold, length, map, sum_by, take, Option, Some, None, MatchOption}
+use Rattle.std.specs.Prelude.{◌≡◌, ◌⊎◌, Bool, true, false, not, ◌||◌, ◌==◌, if◌then◌else◌, min, ℕ, ◌+◌, ◌-◌, ◌≤◌, ℤ, pos, ◌+ℤ◌, List, [], ◌∷◌, ◌++◌, IsPermutation, fold, length, map, sum_by, take, Option, Some, None, MatchOption}
 use Rattle.std.specs.List.{All, flat_map}
 use Rattle.std.specs.Ordering.{int_eq}
 use Rattle.std.specs.Str.{bytes_eq}
@@ -18,7 +18,7 @@ use Rattle.segment_merge.specs.declared.following.FollowReport.{FollowReport}
 use Rattle.segment_merge.specs.declared.merging.MergeStop.{MergeStop}
 use Rattle.segment_merge.specs.Cut.{cut_at}
 use Rattle.segment_merge.specs.Merge.{IsMerged, StopsAt, cost_left, items_left, line_of, sum_left}
-use Rattle.segment_merge.specs.Noted.{AreInOrder, AreMarkedBy, IsInOrder, sum_among, units_among, unmarked}
+use Rattle.segment_merge.specs.Noted.{AreMarkedBy, AreNotesInOrder, IsReadingInOrder, sum_among, units_among, units_in_all, unmarked}
 
 -- ---- what is added of a histogram
 
@@ -67,14 +67,14 @@ noted_after (h, None) = h
 noted_after (h, Some (items, why)) = cut_at items h
 
 -- A recorder adds what is new of a histogram: nothing, and nothing happens; or it merges it; or it stops there.
-abbrev pub Adds : Step → Actor → Actor → Type 0
-Adds (h, None) a b = ((has_new h ≡ false) × (b ≡ a)) ⊎ ((has_new h ≡ true) × IsMerged (h ∷ []) a b)
-Adds (h, Some (items, why)) a b = (has_new h ≡ true) × StopsAt h items why a b
+abbrev pub AddsStep : Step → Actor → Actor → Type 0
+AddsStep (h, None) a b = ((has_new h ≡ false) × (b ≡ a)) ⊎ ((has_new h ≡ true) × IsMerged (h ∷ []) a b)
+AddsStep (h, Some (items, why)) a b = (has_new h ≡ true) × StopsAt h items why a b
 
 -- one after the other
 abbrev pub AddsAll : List Step → Actor → Actor → Type 0
 AddsAll [] a b = b ≡ a
-AddsAll (step ∷ steps) a c = (b : Actor) × Adds step a b × AddsAll steps b c
+AddsAll (step ∷ steps) a c = (b : Actor) × AddsStep step a b × AddsAll steps b c
 
 -- ---- what is reported
 
@@ -134,16 +134,25 @@ pub record IsNotedAsAdded (steps : List Step) (noted later : List Histogram) (ol
   pub units : (name : List ℕ) (key : ℤ) → units_among later name key ≡ units_among noted name key + units_added steps name key
   pub sums : (name : List ℕ) → sum_among later name ≡ sum_among noted name +ℤ sums_added steps name
 
--- A reading is followed. Its histograms, in some order, have what was noted as their marks, and what is new of them costs at most so many
--- units; what is new is added and noted. Those of a reading that is in order are in the order of their names.
+-- A report tells what a reading has above what is noted: its units less those that are noted, of all names and keys, and what it costs to add
+-- these and the sums, by histograms that have what is noted as their marks. Each is the greatest `u64` if there is more.
+pub record TellsWhatIsNew (noted : List Histogram) (reading : Reading) (hists : List Histogram) (report : FollowReport) : Type 0 where
+  pub units : report.units ≡ min (units_in_all reading.hists - units_in_all noted) 18446744073709551615
+  pub cost : report.cost ≡ min (sum_by cost_left hists) 18446744073709551615
+
+-- A reading is followed. Its histograms, in some order, have what was noted as their marks; those of a reading that is in order are in the
+-- order of their names. The report tells what is new, which costs at most so many units. That is added and noted: what is noted grew by the
+-- units that the report lists.
 pub record IsFollowed (noted : List Histogram) (reading : Reading) (most : ℕ) (report : FollowReport) (later : List Histogram) (old new : Actor) : Type 0 where
   pub hists : List Histogram
   pub same : IsPermutation (map unmarked reading.hists) (map unmarked hists)
   pub by : AreMarkedBy noted hists
-  pub order : IsInOrder reading.hists → AreInOrder hists
-  pub cheap : min (sum_by cost_left hists) 18446744073709551615 ≤ most
+  pub order : IsReadingInOrder reading.hists → AreNotesInOrder hists
+  pub tells : TellsWhatIsNew noted reading hists report
+  pub cheap : report.cost ≤ most
   pub followed : AreFollowed hists report later old new
   pub adds_up : IsNotedAsAdded followed.steps noted later old new
+  pub grew : units_in_all later ≡ units_in_all noted + sum_by (λ line. line.1) report.added.items
 
 -- ---- one step of a merge
 
@@ -164,5 +173,5 @@ IsCutReported stop before after =
 abbrev pub FollowsNext : Histogram → FollowReport → FollowReport → Histogram → Actor → Actor → Type 0
 FollowsNext h before after noted a b =
     MatchOption before.stopped
-    ((ending : Ending) × Adds (h, ending) a b × (noted ≡ noted_after (h, ending)) × IsReported (h, ending) before after)
+    ((ending : Ending) × AddsStep (h, ending) a b × (noted ≡ noted_after (h, ending)) × IsReported (h, ending) before after)
     (λ stop. (after ≡ before) × (b ≡ a) × (noted ≡ cut_at 0 h))

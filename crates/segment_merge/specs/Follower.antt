@@ -7,9 +7,10 @@ use Rattle.segment_merge.specs.declared.follow_fault.FollowFault.{FollowFault}
 use Rattle.segment_merge.specs.declared.follow_fault.FollowFault.TheVariants.{OtherSegment, Fell, TooMany, NoMemory}
 use Rattle.segment_merge.specs.declared.follower.Follower.{Follower}
 use Rattle.segment_merge.specs.declared.follower.Prepared.{Prepared}
+use Rattle.segment_merge.specs.Follow.{TellsWhatIsNew}
 use Rattle.segment_merge.specs.Merge.{cost_left, units_left}
-use Rattle.segment_merge.specs.Noted.{AreInOrder, HasFallen, HaveNotes, IsInOrder}
-use Rattle.segment_merge.specs.Steps.{HasRoomFor, IsStep, hists_of}
+use Rattle.segment_merge.specs.Noted.{AreNotesInOrder, HasFallenBelow, HaveNotes, IsReadingInOrder}
+use Rattle.segment_merge.specs.Steps.{HasItsPart, HasRoomFor, hists_of}
 
 -- what is noted: histograms, of which the units of each key and the sum were added or skipped
 abbrev pub noted_of : Follower → List Histogram
@@ -38,7 +39,7 @@ pub record CostsTooMany (noted : List Histogram) (reading : Reading) (most cost 
 
 -- A reading fell, if it and what is noted are in order: it has not all that is noted.
 abbrev pub HasFallenIfInOrder : List Histogram → Reading → Type 0
-HasFallenIfInOrder noted reading = AreInOrder noted → IsInOrder reading.hists → HasFallen noted reading.hists
+HasFallenIfInOrder noted reading = AreNotesInOrder noted → IsReadingInOrder reading.hists → HasFallenBelow noted reading.hists
 
 -- why a reading is not followed
 abbrev pub IsNotFollowedFor : Follower → Reading → ℕ → FollowFault → Type 0
@@ -54,12 +55,13 @@ IsNotSkippedFor follower reading Fell = HasFallenIfInOrder (noted_of follower) r
 IsNotSkippedFor follower reading (TooMany cost) = ⊥
 IsNotSkippedFor follower reading NoMemory = Unit {0}
 
--- What a merge needs is there: the steps of the histograms, which cost no more than is allowed, and a report and a list of notes with room
--- for them, in which there is nothing.
+-- What a merge needs is there: the steps of the histograms; a report that tells what is new, which costs no more than is allowed; and a list of
+-- notes. Both have room for the histograms, and nothing is in them yet.
 pub record IsPrepared (noted : List Histogram) (reading : Reading) (most : ℕ) (prepared : Prepared) : Type 0 where
   pub have : HaveNotes noted reading.hists (hists_of prepared.steps.items)
-  pub cheap : min (sum_by cost_left (hists_of prepared.steps.items)) 18446744073709551615 ≤ most
-  pub steps : All IsStep prepared.steps.items
+  pub tells : TellsWhatIsNew noted reading (hists_of prepared.steps.items) prepared.report
+  pub cheap : prepared.report.cost ≤ most
+  pub steps : All HasItsPart prepared.steps.items
   pub room : HasRoomFor (vec_len prepared.steps) prepared.report
   pub added : prepared.report.added.items ≡ []
   pub passed : prepared.report.passed.items ≡ []

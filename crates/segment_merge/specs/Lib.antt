@@ -4,6 +4,7 @@ pub mod Parts
 pub mod Image
 pub mod Marks
 pub mod Cut
+pub mod Taken
 pub mod Noted
 pub mod Follow
 pub mod Steps

@@ -12,15 +12,15 @@ abbrev pub key_marks : List (ℤ × ℕ) → List ℕ → List (ℤ × ℕ)
 key_marks counts marks = zip (map (λ count. count.0) counts) marks
 
 -- a mark is at most the units that it stands beside
-abbrev pub HasRoom : (ℤ × ℕ) × ℕ → Type 0
-HasRoom each = each.1 ≤ each.0.1
+abbrev pub ReachesItsMark : (ℤ × ℕ) × ℕ → Type 0
+ReachesItsMark each = each.1 ≤ each.0.1
 
 -- The marks of these keys are what is noted: each key has one, which is the units that are noted of it, and these are at most those that it
 -- has now. Nothing is noted of another key.
 pub record AreMarksOf (noted counts : List (ℤ × ℕ)) (marks : List ℕ) : Type 0 where
   pub many : length marks ≡ length counts
   pub units : (key : ℤ) → units_listed (key_marks counts marks) key ≡ units_listed noted key
-  pub risen : All HasRoom (zip counts marks)
+  pub risen : All ReachesItsMark (zip counts marks)
 
 -- the keys ascend
 abbrev pub AreAscending : List (ℤ × ℕ) → Type 0

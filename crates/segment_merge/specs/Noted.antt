@@ -12,9 +12,10 @@ use Rattle.segment_image.specs.Head.{header_of}
 use Rattle.segment_image.specs.declared.head.SegmentHead.{SegmentHead}
 use Rattle.bucket_ranges.specs.Reading.{Histogram, IsReading, Reading}
 use Rattle.bucket_ranges.specs.Spec.{SameSpec}
+use Rattle.bucket_ranges.specs.Tally.{units_of}
 use Rattle.image_reader.specs.declared.reading.HistReading.{HistReading}
 use Rattle.segment_promises.specs.Reads.{mark_read, units_read}
-use Rattle.segment_merge.specs.Marks.{AreAscending, HasFewer, HasRoom}
+use Rattle.segment_merge.specs.Marks.{AreAscending, HasFewer, ReachesItsMark}
 use Rattle.segment_merge.specs.Remainder.{marked}
 
 -- ---- what histograms have together of a name
@@ -35,6 +36,10 @@ sum_among hists name = fold ◌+ℤ◌ (pos 0) (map (λ h. if bytes_eq h.name na
 abbrev pub sum_mark_among : List Histogram → List ℕ → ℤ
 sum_mark_among hists name = fold ◌+ℤ◌ (pos 0) (map (λ h. if bytes_eq h.name name then h.sum_mark else pos 0) hists)
 
+-- the units, of all names and keys
+abbrev pub units_in_all : List Histogram → ℕ
+units_in_all hists = sum_by (λ h. units_of h.counts) hists
+
 -- ---- marks that are what is noted
 
 -- a histogram but for its marks
@@ -43,7 +48,7 @@ unmarked h = record h { marks = []; sum_mark = pos 0 }
 
 -- of no key is the mark greater than the units
 abbrev pub HasRisen : Histogram → Type 0
-HasRisen h = All HasRoom (marked h.counts h.marks)
+HasRisen h = All ReachesItsMark (marked h.counts h.marks)
 
 -- A histogram has the name and the spec of one that is noted, and its marks are what is noted of that.
 pub record IsMarkedBy (note h : Histogram) : Type 0 where
@@ -76,30 +81,30 @@ abbrev pub StaysWithin : Type 0
 StaysWithin = (noted first second : List Histogram) → HasAll noted first → HasAll first second → HasAll noted second
 
 -- it fell: it has not all that is noted
-abbrev pub HasFallen : List Histogram → List Histogram → Type 0
-HasFallen noted hists = ¬ (HasAll noted hists)
+abbrev pub HasFallenBelow : List Histogram → List Histogram → Type 0
+HasFallenBelow noted hists = ¬ (HasAll noted hists)
 
 -- as readings of words are: each name is there once, and the keys of each histogram ascend
-pub record IsInOrder (hists : List Histogram) : Type 0 where
+pub record IsReadingInOrder (hists : List Histogram) : Type 0 where
   pub once : (i j : ℕ) (g h : Histogram) → i ≢ j → get_elem? hists i ≡ some g → get_elem? hists j ≡ some h → g.name ≢ h.name
   pub keys : All (λ h. AreAscending h.counts) hists
 
 -- what words with a valid header read as is
 abbrev pub WordsAreInOrder : Type 0
 WordsAreInOrder = (words : List ℕ) (head : SegmentHead) (reading : Reading) → header_of words ≡ Ok head → IsReading words head reading
-    → IsInOrder reading.hists
+    → IsReadingInOrder reading.hists
 
 -- a name is before another one, as bytes compare
-abbrev pub IsBefore : List ℕ → List ℕ → Type 0
-IsBefore a b = slice_cmp nat_cmp a b ≡ Less
+abbrev pub IsNameBefore : List ℕ → List ℕ → Type 0
+IsNameBefore a b = slice_cmp nat_cmp a b ≡ Less
 
 -- histograms by their names
 abbrev pub AreByName : List HistReading → Type 0
 AreByName hists = IsSortedByKey (λ (hist : HistReading). hist.name.items) (slice_cmp nat_cmp) hists
 
 -- as notes of such readings are: the names ascend, and so do the keys of each histogram
-pub record AreInOrder (hists : List Histogram) : Type 0 where
-  pub names : (i j : ℕ) (g h : Histogram) → i < j → get_elem? hists i ≡ some g → get_elem? hists j ≡ some h → IsBefore g.name h.name
+pub record AreNotesInOrder (hists : List Histogram) : Type 0 where
+  pub names : (i j : ℕ) (g h : Histogram) → i < j → get_elem? hists i ≡ some g → get_elem? hists j ≡ some h → IsNameBefore g.name h.name
   pub keys : All (λ h. AreAscending h.counts) hists
 
 -- The histograms of a reading, in some order, with what is noted as their marks. Those of a reading that is in order are in the order of
@@ -107,7 +112,7 @@ pub record AreInOrder (hists : List Histogram) : Type 0 where
 pub record HaveNotes (noted hists marked_hists : List Histogram) : Type 0 where
   pub same : IsPermutation (map unmarked hists) (map unmarked marked_hists)
   pub by : AreMarkedBy noted marked_hists
-  pub order : IsInOrder hists → AreInOrder marked_hists
+  pub order : IsReadingInOrder hists → AreNotesInOrder marked_hists
 
 -- ---- one histogram
 
@@ -119,7 +124,7 @@ pub record HasNoNote (h : Histogram) : Type 0 where
 -- it is marked by the note at a place, or there is none for it and its name is before the one that is noted there
 abbrev pub IsMarkedAt : List Histogram → ℕ → Histogram → Bool → Type 0
 IsMarkedAt noted next h true = (next < length noted) × IsMarkedBy (slice_index_or noted next h) h
-IsMarkedAt noted next h false = HasNoNote h × (next < length noted → IsBefore h.name (slice_index_or noted next h).name)
+IsMarkedAt noted next h false = HasNoNote h × (next < length noted → IsNameBefore h.name (slice_index_or noted next h).name)
 
 -- it has less than is noted of its name: another spec, or fewer units of a key
 abbrev pub IsLessThan : Histogram → Histogram → Type 0

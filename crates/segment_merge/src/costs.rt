@@ -28,22 +28,45 @@ fn cost_of_sum(hist: &HistReading) -> u64
     u64::try_from(size.div_ceil(1 << 31)).unwrap_or(u64::MAX)
 }
 
-// The units that it costs to add what a histogram has above its marks, or the greatest `u64` if these are more.
-fn cost_of(hist: &HistReading) -> u64
-    ensures { result ≡ min (cost_left (histogram_view hist.now)) 18446744073709551615 }
+// What histograms have above their marks.
+#[derive(Clone, Copy)]
+pub(crate) struct Above {
+    // The units, or the greatest `u64` if there are more.
+    pub(crate) units: u64,
+    // What it costs to add these and the sums, or the greatest `u64` if it costs more.
+    pub(crate) cost: u64,
+}
+
+// What a histogram has above its marks.
+fn above_marks(hist: &HistReading) -> Above
+    ensures units { result.units ≡ min (units_left (histogram_view hist.now)) 18446744073709551615 }
+    ensures cost { result.cost ≡ min (cost_left (histogram_view hist.now)) 18446744073709551615 }
 {
-    units_above(hist).max(cost_of_sum(hist))
+    let units = units_above(hist);
+    let cost = units.max(cost_of_sum(hist));
+    Above { units, cost }
+}
+
+// What all histograms have above their marks.
+pub(crate) fn above_all(hists: &[HistReading]) -> Above
+    ensures units { result.units ≡ min (sum_by (λ h. units_left (histogram_view h)) hists.now) 18446744073709551615 }
+    ensures cost { result.cost ≡ min (sum_by (λ h. cost_left (histogram_view h)) hists.now) 18446744073709551615 }
+{
+    let mut units: u64 = 0;
+    let mut cost: u64 = 0;
+    for hist in hists {
+        let more = above_marks(hist);
+        units = units.saturating_add(more.units);
+        cost = cost.saturating_add(more.cost);
+    }
+    Above { units, cost }
 }
 
 /// Returns the units of all histograms above their marks, or 18,446,744,073,709,551,615 if there are more.
 pub fn units_of_all(hists: &[HistReading]) -> u64
     ensures { result ≡ min (sum_by (λ h. units_left (histogram_view h)) hists.now) 18446744073709551615 }
 {
-    let mut units: u64 = 0;
-    for hist in hists {
-        units = units.saturating_add(units_above(hist));
-    }
-    units
+    above_all(hists).units
 }
 
 /// Returns the units that it costs to add what all histograms have above their marks, or 18,446,744,073,709,551,615 if
@@ -52,9 +75,5 @@ pub fn units_of_all(hists: &[HistReading]) -> u64
 pub fn cost_of_all(hists: &[HistReading]) -> u64
     ensures { result ≡ min (sum_by (λ h. cost_left (histogram_view h)) hists.now) 18446744073709551615 }
 {
-    let mut cost: u64 = 0;
-    for hist in hists {
-        cost = cost.saturating_add(cost_of(hist));
-    }
-    cost
+    above_all(hists).cost
 }

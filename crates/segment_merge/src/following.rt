@@ -7,8 +7,9 @@ ghost use Rattle.live_segment.specs.Holders.{view_of_recorder};
 ghost use Rattle.live_segment.specs.RecorderState.{KnowsOn};
 ghost use Rattle.segment_merge.specs.Cut.{cut_at};
 ghost use Rattle.segment_merge.specs.Follow.{AreFollowed, FollowsNext, IsCutReported, concerns_one as concerns_one_alone, has_new as has_something_new};
-ghost use Rattle.segment_merge.specs.Steps.{HasRoomFor, IsStep, hists_of};
+ghost use Rattle.segment_merge.specs.Steps.{HasItsPart, HasRoomFor, ToldAlike, hists_of};
 
+use crate::costs::Above;
 use crate::merging::{MergeStop, Part, merge_next, part_of};
 use crate::noting::noted_cut;
 use image_reader::HistReading;
@@ -16,7 +17,7 @@ use live_segment::Recorder;
 use segment_calls::Refusal;
 use std::alloc::{AllocError, Global};
 
-/// What a follower added of a reading.
+/// What a follower added of a reading, and what the reading had above what was noted before.
 #[derive(Drop)]
 pub struct FollowReport {
     /// The name of each histogram that had something new and was reached, in the order of their names, each with the
@@ -26,11 +27,23 @@ pub struct FollowReport {
     pub passed: Vec<MergeStop>,
     /// Why no histogram after that one was reached.
     pub stopped: Option<MergeStop>,
+    /// The units that the reading has above what was noted, in all its histograms, or 18,446,744,073,709,551,615 if there
+    /// are more. Those that are left are these less what was added.
+    pub units: u64,
+    /// What it costs to add all these, with the sums less those that were noted, or 18,446,744,073,709,551,615 if it costs
+    /// more.
+    pub cost: u64,
 }
 
-// A report of nothing, with room for this many histograms.
-pub(crate) fn report_for(alloc: Global, hists: usize) -> Result<FollowReport, AllocError>
+// A report of nothing that was added, with room for this many histograms, and of what they have above what was noted.
+pub(crate) fn report_for(
+    alloc: Global,
+    hists: usize,
+    above: Above,
+) -> Result<FollowReport, AllocError>
     ensures room { IfOk result (HasRoomFor hists) }
+    ensures units { IfOk result (λ report. report.units ≡ above.units) }
+    ensures cost { IfOk result (λ report. report.cost ≡ above.cost) }
     ensures added { IfOk result (λ report. report.added.items ≡ []) }
     ensures passed { IfOk result (λ report. report.passed.items ≡ []) }
     ensures stopped { IfOk result (λ report. report.stopped ≡ None) }
@@ -39,6 +52,8 @@ pub(crate) fn report_for(alloc: Global, hists: usize) -> Result<FollowReport, Al
         added: Vec::with_capacity(alloc, hists)?,
         passed: Vec::with_capacity(alloc, hists)?,
         stopped: None,
+        units: above.units,
+        cost: above.cost,
     })
 }
 
@@ -54,7 +69,7 @@ pub(crate) fn steps_of(
     alloc: Global,
     hists: Vec<HistReading>,
 ) -> Result<Vec<FollowStep>, AllocError>
-    ensures steps { IfOk result (λ steps. All IsStep steps.items) }
+    ensures steps { IfOk result (λ steps. All HasItsPart steps.items) }
     ensures hists { IfOk result (λ steps. hists_of steps.items ≡ map histogram_view hists.items) }
 {
     let mut steps = Vec::with_capacity(alloc, hists.len())?;
@@ -87,11 +102,11 @@ impl FollowStep {
     ghost use Rattle.std.specs.Prelude.{◌≡◌};
     ghost use Rattle.image_reader.specs.Views.{histogram_view};
     ghost use Rattle.segment_merge.specs.Follow.{has_new as has_something_new};
-    ghost use Rattle.segment_merge.specs.Steps.{IsStep};
+    ghost use Rattle.segment_merge.specs.Steps.{HasItsPart};
 
     // Whether there is something to be added.
     fn has_new(&self) -> bool
-        requires { IsStep self.now }
+        requires { HasItsPart self.now }
         ensures { result ≡ has_something_new (histogram_view self.now.hist) }
     {
         match &self.part.left {
@@ -104,6 +119,7 @@ impl FollowStep {
 // Puts where a histogram was cut short into a report, and returns what is noted of it.
 fn cut_short(stop: MergeStop, hist: HistReading, report: &mut FollowReport) -> HistReading
     requires { vec_len report.old.passed < vec_capacity report.old.passed }
+    ensures told { ToldAlike report.old report.new }
     ensures noted { histogram_view result ≡ cut_at stop.items (histogram_view hist) }
     ensures added { report.new.added ≡ report.old.added }
     ensures passed { (vec_len report.new.passed ≤ vec_len report.old.passed + 1) × (vec_capacity report.new.passed ≡ vec_capacity report.old.passed) }
@@ -120,8 +136,9 @@ fn cut_short(stop: MergeStop, hist: HistReading, report: &mut FollowReport) -> H
 
 // Adds what came of the next histogram, if something did, and returns what is noted of it from then on.
 fn follow_next(recorder: &mut Recorder, step: FollowStep, report: &mut FollowReport) -> HistReading
-    requires step { IsStep step }
+    requires step { HasItsPart step }
     requires room { HasRoomFor 1 report.old }
+    ensures told { ToldAlike report.old report.new }
     ensures kept { recorder.new.segment ≡ recorder.old.segment }
     ensures same { KnowsOn recorder.old.state recorder.new.state }
     ensures added { (vec_len report.new.added ≤ vec_len report.old.added + 1) × (vec_capacity report.new.added ≡ vec_capacity report.old.added) }
@@ -150,10 +167,11 @@ pub(crate) fn follow_all(
     report: &mut FollowReport,
     noted: &mut Vec<HistReading>,
 )
-    requires steps { All IsStep steps.items }
+    requires steps { All HasItsPart steps.items }
     requires room { HasRoomFor (vec_len steps) report.old }
     requires report { (report.old.added.items ≡ []) × (report.old.passed.items ≡ []) × (report.old.stopped ≡ None) }
     requires noted { (noted.old.items ≡ []) × (vec_len steps ≤ vec_capacity noted.old) }
+    ensures told { ToldAlike report.old report.new }
     ensures kept { recorder.new.segment ≡ recorder.old.segment }
     ensures same { KnowsOn recorder.old.state recorder.new.state }
     ensures answer { AreFollowed (hists_of steps.items) report.new (map histogram_view noted.new.items) (view_of_recorder recorder.old) (view_of_recorder recorder.new) }

@@ -15,6 +15,7 @@ mod marks;
 mod merging;
 mod noting;
 mod remainder;
+mod took;
 
 pub use costs::{cost_of_all, units_of_all};
 pub use follow_fault::FollowFault;

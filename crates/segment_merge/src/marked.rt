@@ -3,8 +3,8 @@
 ghost use Rattle.std.specs.Prelude.{◌≡◌, ◌≤◌, IfOk, IsPermutation, MatchOption, length, map};
 ghost use Rattle.std.specs.List.{All};
 ghost use Rattle.image_reader.specs.Views.{histogram_view};
-ghost use Rattle.segment_merge.specs.Marks.{HasRoom};
-ghost use Rattle.segment_merge.specs.Noted.{AreByName, AreInOrder, HasFallen, HasNoNote, HasRisen, HaveNotes, IsFallenAt, IsInOrder, IsLessThan, IsMarkedAt, IsMarkedBy, unmarked as without_marks};
+ghost use Rattle.segment_merge.specs.Marks.{ReachesItsMark};
+ghost use Rattle.segment_merge.specs.Noted.{AreByName, AreNotesInOrder, HasFallenBelow, HasNoNote, HasRisen, HaveNotes, IsFallenAt, IsLessThan, IsMarkedAt, IsMarkedBy, IsReadingInOrder, unmarked as without_marks};
 ghost use Rattle.segment_merge.specs.Remainder.{marked as with_their_marks};
 
 use crate::marks::marks_of;
@@ -13,7 +13,7 @@ use std::alloc::{AllocError, Global};
 use std::cmp::Ordering;
 
 // The histograms in the order of their names.
-fn by_name(hists: Vec<HistReading>) -> Result<Vec<HistReading>, AllocError>
+pub(crate) fn by_name(hists: Vec<HistReading>) -> Result<Vec<HistReading>, AllocError>
     ensures moved { IfOk result (λ sorted. IsPermutation hists.items sorted.items) }
     ensures sorted { IfOk result (λ sorted. AreByName sorted.items) }
 {
@@ -122,7 +122,7 @@ pub(crate) fn marked(
     noted: &[HistReading],
     hists: Vec<HistReading>,
 ) -> Result<Option<Vec<HistReading>>, AllocError>
-    ensures { IfOk result (λ found. MatchOption found (AreInOrder (map histogram_view noted.now) → IsInOrder (map histogram_view hists.items) → HasFallen (map histogram_view noted.now) (map histogram_view hists.items)) (λ all. HaveNotes (map histogram_view noted.now) (map histogram_view hists.items) (map histogram_view all.items))) }
+    ensures { IfOk result (λ found. MatchOption found (AreNotesInOrder (map histogram_view noted.now) → IsReadingInOrder (map histogram_view hists.items) → HasFallenBelow (map histogram_view noted.now) (map histogram_view hists.items)) (λ all. HaveNotes (map histogram_view noted.now) (map histogram_view hists.items) (map histogram_view all.items))) }
 {
     let mut all = Vec::with_capacity(alloc, hists.len())?;
     let mut next = 0;
@@ -132,9 +132,7 @@ pub(crate) fn marked(
         };
         let is_noted = came.1;
         all.push_reserved(came.0);
-        if is_noted {
-            next += 1;
-        }
+        next += usize::from(is_noted);
     }
     if next < noted.len() {
         return Ok(None);

@@ -5,7 +5,7 @@ use Rattle.image_reader.specs.Views.{histogram_view}
 use Rattle.live_segment.specs.Holders.{view_of_recorder}
 use Rattle.live_segment.specs.RecorderState.{KnowsOn}
 use Rattle.segment_merge.specs.Follow.{AreFollowed}
-use Rattle.segment_merge.specs.Steps.{HasRoomFor, hists_of}
+use Rattle.segment_merge.specs.Steps.{HasRoomFor, ToldAlike, hists_of}
 use Rattle.segment_merge.proofs.following.follow_all.Given as goal
 
 -- the first histograms are followed, and there is room for the others
@@ -17,6 +17,7 @@ invariant-loop-step l = record {
   few : length l.noted.items ≤ length (into_iter_items l.initial.step-iterator);
   room : length (into_iter_items l.initial.step-iterator) ≤ vec_capacity l.noted;
   report_room : HasRoomFor (length (into_iter_items l.initial.step-iterator) - length l.noted.items) l.report;
+  told : ToldAlike l.fn.report l.report;
   kept : l.recorder.segment ≡ l.fn.recorder.segment;
   same : KnowsOn l.fn.recorder.state l.recorder.state;
   followed : AreFollowed (hists_of (take (length l.noted.items) (into_iter_items l.initial.step-iterator))) l.report (map histogram_view l.noted.items)

@@ -1,16 +1,17 @@
-use Rattle.std.proofs.Common.{rules, ◌≡◌, ◌∙◌, ◌≤◌, ◌+◌, ℕ, Bool, if◌then◌else◌, List, [], ◌∷◌, ◌++◌, length, map, take, drop, refl, sym, ap, subst, arith}
+use Rattle.std.proofs.Common.{rules, ◌≡◌, ◌∙◌, ◌≤◌, ◌+◌, ℕ, Bool, List, [], ◌∷◌, ◌++◌, length, map, drop, sym, ap, subst, arith}
 use Rattle.std.specs.Prelude.{MatchOption, IsPermutation, Option, vec_capacity}
 use Rattle.std.specs.Vec.Iter.{into_iter_items}
 use Rattle.std.proofs.lemmas.Grind.{common_steps}
-use Rattle.std.proofs.lemmas.List.{length-map, length_push, map_push, take_all}
+use Rattle.std.proofs.lemmas.List.{length-map, take_all}
 use Rattle.std.proofs.lemmas.List.Sorted.{IsPermutation-map, length_permutation}
 use Rattle.bucket_ranges.specs.Reading.{Histogram}
 use Rattle.image_reader.specs.Views.{histogram_view}
 use Rattle.image_reader.specs.declared.reading.HistReading.{HistReading}
 use Rattle.segment_merge.specs.Noted.{AreByName, HasRisen, IsFallenAt, IsMarkedAt, unmarked as without_marks}
-use Rattle.segment_merge.proofs.Fallen.{AreBefore, before_more, before_none, current, fallen_here, fallen_left, has_all_permuted, in_order_marked, in_order_permuted, in_order_sorted, never_fall}
-use Rattle.segment_merge.proofs.MarkedSteps.{AreMarkedSoFar, marked_all, marked_more, marked_none, same_more}
-use Rattle.segment_merge.proofs.Underway.{next_of}
+use Rattle.segment_merge.proofs.Fallen.{current, fallen_here, fallen_left, has_all_permuted, in_order_marked, in_order_permuted, in_order_sorted, never_fall}
+use Rattle.segment_merge.proofs.MarkedOnes.{marked_to_more, marked_to_none, place_behind}
+use Rattle.segment_merge.proofs.MarkedSteps.{marked_all}
+use Rattle.segment_merge.proofs.Taken.{one_taken}
 use Rattle.segment_merge.proofs.marked.marked.Goals as goal
 
 pub loop-hist-init : goal.loop-hist-init
@@ -25,42 +26,7 @@ loop-hist-init c =
       finite = tt;
       so_far = ap (λ (l : List HistReading). drop (length l) list) (sym none);
       room = omega (arith, room, long, same);
-      same = subst (λ (l : List HistReading). map without_marks (map histogram_view l) ≡ map without_marks (map histogram_view (take (length l) list))) (sym none) refl;
-      marks = subst (λ (l : List HistReading). AreMarkedSoFar (map histogram_view c.args.noted.now) (map histogram_view l) 0) (sym none)
-          (marked_none (map histogram_view c.args.noted.now));
-      before = λ order. subst (λ (l : List HistReading). AreBefore (map histogram_view c.args.noted.now) (map histogram_view list) 0 (length l)) (sym none)
-          (before_none (map histogram_view c.args.noted.now) (map histogram_view list) 0);
-    }
-
-pub loop-hist-preserved-then-is_noted : goal.loop-hist-preserved-then-is_noted
-loop-hist-preserved-then-is_noted c =
-    let noted : List Histogram = map histogram_view c.args.noted.now in
-    let list : List HistReading = into_iter_items c.into_iter-hist-iterator.result in
-    let all : List HistReading = c.loop-hist.all.items in
-    let rest : List HistReading = into_iter_items c.next.new.self in
-    let hist : HistReading = c.in-Some.hist in
-    let came : HistReading × Bool = c.in-Some-2.came in
-    let pushed : c.push_reserved.new.self.items ≡ all ++ came.0 ∷ [] = c.push_reserved.ensures.items in
-    let here : drop (length all) list ≡ hist ∷ rest = sym c.loop-hist.invariant.so_far ∙ c.in-Some.ensures.steps.0 in
-    let (below, _, behind) = next_of list rest (length all) hist here in
-    let long : length c.push_reserved.new.self.items ≡ length all + 1 = ap length pushed ∙ length_push all came.0 in
-    let is : (without_marks (histogram_view came.0) ≡ without_marks (histogram_view hist)) × HasRisen (histogram_view came.0)
-    × IsMarkedAt noted c.loop-hist.next (histogram_view came.0) came.1 =
-    subst (λ (found : Option (HistReading × Bool)). MatchOption found (IsFallenAt noted c.loop-hist.next (histogram_view hist)) (λ (one : HistReading × Bool).
-    (without_marks (histogram_view one.0) ≡ without_marks (histogram_view hist)) × HasRisen (histogram_view one.0)
-    × IsMarkedAt noted c.loop-hist.next (histogram_view one.0) one.1)) c.in-Some-2.is c.in_ok-came.ensures in record {
-      can = tt;
-      finite = tt;
-      so_far = behind ∙ ap (λ (k : ℕ). drop k list) (sym long);
-      room = omega (arith, c.push_reserved.ensures.capacity, c.loop-hist.invariant.room);
-      same = same_more all c.push_reserved.new.self.items list rest came.0 hist pushed here is.0 c.loop-hist.invariant.same;
-      marks = subst (λ (l : List Histogram). AreMarkedSoFar noted l (c.loop-hist.next + 1)) (sym (ap (map histogram_view) pushed ∙ map_push histogram_view all came.0))
-          (marked_more noted (map histogram_view all) c.loop-hist.next (c.loop-hist.next + 1) (histogram_view came.0) came.1 c.loop-hist.invariant.marks is.1 is.2
-          (ap (λ (b : Bool). if b then c.loop-hist.next + 1 else c.loop-hist.next) (sym c.if-is_noted.true)));
-      before = λ order. subst (AreBefore noted (map histogram_view list) (c.loop-hist.next + 1)) (sym long)
-          (before_more noted (map histogram_view list) c.loop-hist.next (length all) (histogram_view hist) (current list rest (length all) hist here)
-          (histogram_view came.0) came.1 (c.loop-hist.next + 1) order (ap (λ (h : Histogram). h.name) is.0) is.2
-          (ap (λ (b : Bool). if b then c.loop-hist.next + 1 else c.loop-hist.next) (sym c.if-is_noted.true)) (c.loop-hist.invariant.before order));
+      marked = marked_to_none (map histogram_view c.args.noted.now) list c.in_ok-all.all.items none;
     }
 
 pub loop-hist-preserved : goal.loop-hist-preserved
@@ -72,9 +38,8 @@ loop-hist-preserved c =
     let hist : HistReading = c.in-Some.hist in
     let came : HistReading × Bool = c.in-Some-2.came in
     let pushed : c.push_reserved.new.self.items ≡ all ++ came.0 ∷ [] = c.push_reserved.ensures.items in
-    let here : drop (length all) list ≡ hist ∷ rest = sym c.loop-hist.invariant.so_far ∙ c.in-Some.ensures.steps.0 in
-    let (below, _, behind) = next_of list rest (length all) hist here in
-    let long : length c.push_reserved.new.self.items ≡ length all + 1 = ap length pushed ∙ length_push all came.0 in
+    let one = one_taken list (into_iter_items c.loop-hist.hist-iterator) rest all c.push_reserved.new.self.items hist came.0 c.loop-hist.invariant.so_far
+    c.in-Some.ensures.steps.0 pushed in
     let is : (without_marks (histogram_view came.0) ≡ without_marks (histogram_view hist)) × HasRisen (histogram_view came.0)
     × IsMarkedAt noted c.loop-hist.next (histogram_view came.0) came.1 =
     subst (λ (found : Option (HistReading × Bool)). MatchOption found (IsFallenAt noted c.loop-hist.next (histogram_view hist)) (λ (one : HistReading × Bool).
@@ -82,16 +47,10 @@ loop-hist-preserved c =
     × IsMarkedAt noted c.loop-hist.next (histogram_view one.0) one.1)) c.in-Some-2.is c.in_ok-came.ensures in record {
       can = tt;
       finite = tt;
-      so_far = behind ∙ ap (λ (k : ℕ). drop k list) (sym long);
+      so_far = one.behind;
       room = omega (arith, c.push_reserved.ensures.capacity, c.loop-hist.invariant.room);
-      same = same_more all c.push_reserved.new.self.items list rest came.0 hist pushed here is.0 c.loop-hist.invariant.same;
-      marks = subst (λ (l : List Histogram). AreMarkedSoFar noted l c.loop-hist.next) (sym (ap (map histogram_view) pushed ∙ map_push histogram_view all came.0))
-          (marked_more noted (map histogram_view all) c.loop-hist.next c.loop-hist.next (histogram_view came.0) came.1 c.loop-hist.invariant.marks is.1 is.2
-          (ap (λ (b : Bool). if b then c.loop-hist.next + 1 else c.loop-hist.next) (sym c.if-is_noted.false)));
-      before = λ order. subst (AreBefore noted (map histogram_view list) (c.loop-hist.next)) (sym long)
-          (before_more noted (map histogram_view list) c.loop-hist.next (length all) (histogram_view hist) (current list rest (length all) hist here)
-          (histogram_view came.0) came.1 (c.loop-hist.next) order (ap (λ (h : Histogram). h.name) is.0) is.2
-          (ap (λ (b : Bool). if b then c.loop-hist.next + 1 else c.loop-hist.next) (sym c.if-is_noted.false)) (c.loop-hist.invariant.before order));
+      marked = marked_to_more noted list rest all c.push_reserved.new.self.items hist came c.loop-hist.next (c.loop-hist.next + c.from-next.result) one pushed is
+          (place_behind came.1 c.loop-hist.next c.from-next.result c.from-next.ensures) c.loop-hist.invariant.marked;
     }
 
 pub returns : goal.returns
@@ -102,12 +61,12 @@ returns c =
     let gives : list ≡ sorted = search rules in
     let past : length list ≤ length all = first_of (search rules, grind (arith, common_steps)) in
     let same : map without_marks (map histogram_view sorted) ≡ map without_marks (map histogram_view all) =
-    ap (λ (l : List HistReading). map without_marks (map histogram_view l)) (sym gives ∙ sym (take_all (length all) list past)) ∙ sym c.loop-hist.invariant.same in
+    ap (λ (l : List HistReading). map without_marks (map histogram_view l)) (sym gives ∙ sym (take_all (length all) list past)) ∙ sym c.loop-hist.invariant.marked.same in
     let moved = IsPermutation-map histogram_view c.args.hists.items sorted c.in_ok-hist-items.ensures.moved in
     let long = length-map c.args.noted.now histogram_view in record {
       same = subst (IsPermutation (map without_marks (map histogram_view c.args.hists.items))) same
           (IsPermutation-map without_marks (map histogram_view c.args.hists.items) (map histogram_view sorted) moved);
-      by = marked_all (map histogram_view c.args.noted.now) (map histogram_view all) c.loop-hist.next c.loop-hist.invariant.marks
+      by = marked_all (map histogram_view c.args.noted.now) (map histogram_view all) c.loop-hist.next c.loop-hist.invariant.marked.marks
           (omega (arith, long, c.if-next-noted.false));
       order = λ order. in_order_marked (map histogram_view sorted) (map histogram_view all) same
           (in_order_sorted (map histogram_view sorted) (never_fall sorted c.in_ok-hist-items.ensures.sorted)
@@ -134,7 +93,7 @@ returns-in_default c = λ in_order order all.
     (without_marks (histogram_view one.0) ≡ without_marks (histogram_view hist)) × HasRisen (histogram_view one.0)
     × IsMarkedAt noted c.loop-hist.next (histogram_view one.0) one.1)) c.in_default.is c.in_ok-came.ensures in
     fallen_here noted hists c.loop-hist.next n (histogram_view hist) (current list rest n hist here) in_order up (in_order_permuted given hists moved order)
-    (c.loop-hist.invariant.before in_order) fallen (has_all_permuted noted given hists moved all)
+    (c.loop-hist.invariant.marked.before in_order) fallen (has_all_permuted noted given hists moved all)
 
 pub returns-then-next-noted : goal.returns-then-next-noted
 returns-then-next-noted c = λ in_order order all.
@@ -151,4 +110,4 @@ returns-then-next-noted c = λ in_order order all.
     let long = length-map c.args.noted.now histogram_view in
     let many = length-map list histogram_view in
     fallen_left noted hists c.loop-hist.next n (omega (arith, long, c.if-next-noted.true)) (omega (arith, many, past))
-    (c.loop-hist.invariant.before in_order) (has_all_permuted noted given hists moved all)
+    (c.loop-hist.invariant.marked.before in_order) (has_all_permuted noted given hists moved all)

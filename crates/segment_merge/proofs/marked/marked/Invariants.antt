@@ -1,10 +1,8 @@
-use Rattle.std.proofs.Common.{◌≡◌, ◌≤◌, drop, length, map, take}
+use Rattle.std.proofs.Common.{◌≡◌, ◌≤◌, drop, length, map}
 use Rattle.std.specs.Prelude.{vec_capacity}
 use Rattle.std.specs.Vec.Iter.{into_iter_items}
 use Rattle.image_reader.specs.Views.{histogram_view}
-use Rattle.segment_merge.specs.Noted.{AreInOrder, unmarked}
-use Rattle.segment_merge.proofs.Fallen.{AreBefore}
-use Rattle.segment_merge.proofs.MarkedSteps.{AreMarkedSoFar}
+use Rattle.segment_merge.proofs.MarkedOnes.{AreMarkedTo}
 use Rattle.segment_merge.proofs.marked.marked.Given as goal
 
 -- the first histograms have what is noted of them as their marks
@@ -14,8 +12,5 @@ invariant-loop-hist l = record {
   finite : (goal.iterator-loop-hist).is_finite l.hist-iterator;
   so_far : into_iter_items l.hist-iterator ≡ drop (length l.all.items) (into_iter_items l.initial.hist-iterator);
   room : length (into_iter_items l.initial.hist-iterator) ≤ vec_capacity l.all;
-  same : map unmarked (map histogram_view l.all.items) ≡ map unmarked (map histogram_view (take (length l.all.items) (into_iter_items l.initial.hist-iterator)));
-  marks : AreMarkedSoFar (map histogram_view l.noted) (map histogram_view l.all.items) l.next;
-  before : AreInOrder (map histogram_view l.noted)
-      → AreBefore (map histogram_view l.noted) (map histogram_view (into_iter_items l.initial.hist-iterator)) l.next (length l.all.items);
+  marked : AreMarkedTo (map histogram_view l.noted) (into_iter_items l.initial.hist-iterator) l.all.items l.next;
 }

@@ -3,7 +3,7 @@ use Rattle.std.specs.Prelude.{◌⊎◌}
 use Rattle.std.specs.List.{All, zip}
 use Rattle.std.proofs.lemmas.List.{length_push}
 use Rattle.segment_machine.specs.Actor.{units_listed}
-use Rattle.segment_merge.specs.Marks.{HasRoom, IsGone, IsMark, IsNextNoted, count_at, key_marks}
+use Rattle.segment_merge.specs.Marks.{IsGone, IsMark, IsNextNoted, ReachesItsMark, count_at, key_marks}
 use Rattle.segment_merge.proofs.FewerUnits.{below_more, gone_fewer, left_fewer}
 use Rattle.segment_merge.proofs.MarkSteps.{IsTurned, mark_room, marks_whole, risen_more, turned}
 use Rattle.segment_merge.proofs.marks.marks_of.Goals as goal
@@ -39,7 +39,7 @@ loop-count-preserved c =
       some = turns.some;
       units = subst (λ (list : List ℕ). (key : ℤ) → units_listed (key_marks (take (i + 1) counts) list) key + units_listed (drop c.if-mark-gt0.next noted) key ≡ units_listed noted key)
           (sym pushed) turns.units;
-      risen = subst (λ (list : List ℕ). All HasRoom (zip (take (i + 1) counts) list)) (sym pushed)
+      risen = subst (λ (list : List ℕ). All ReachesItsMark (zip (take (i + 1) counts) list)) (sym pushed)
           (risen_more counts marks i mark near many c.loop-count.invariant.risen (mark_room noted c.loop-count.next (count_at counts i).0 (count_at counts i).1 mark is));
       below = λ ascend there. below_more noted counts i c.loop-count.next ascend mark c.if-mark-gt0.next is goes c.loop-count.invariant.some
           (c.loop-count.invariant.below ascend) there;

@@ -39,6 +39,7 @@ of_recorder empty other g f Calls each (Some (contents.Recorder joinable)) new a
     (after, same, (mine, is, made.0, made.1))
 of_recorder empty other g f Calls each (Some (contents.Segment owned)) new answer is = is
 of_recorder empty other g f Calls each (Some (contents.Sums sums)) new answer is = is
+of_recorder empty other g f Calls each (Some (contents.Follower held)) new answer is = is
 of_recorder empty other g f Calls each (Some contents.Nothing) new answer is = is
 
 -- the same, if a status comes with a length

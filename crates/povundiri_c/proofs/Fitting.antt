@@ -74,5 +74,6 @@ module _ {A : Type 0} (counts : A → List (ℤ × ℕ)) (Calls : Hist → Owned
   fits None held' (is, same) = absurd (answered value _ is)
   fits (Some (contents.Segment owned)) held' (after, new, (is, same)) = absurd (answered value _ is)
   fits (Some (contents.Sums sums)) held' (after, new, (is, same)) = absurd (answered value _ is)
+  fits (Some (contents.Follower held)) held' (after, new, (is, same)) = absurd (answered value _ is)
   fits (Some contents.Nothing) held' (after, new, (is, same)) = absurd (answered value _ is)
   fits (Some (contents.Recorder joinable)) held' (after, new, (mine, is, mailbox, calls)) = fits_recorder joinable.owned mine.owned calls

@@ -13,3 +13,4 @@ pub mod Looks
 pub mod Summing
 mod Reading
 mod Merges
+mod Follows

@@ -15,7 +15,7 @@ use Rattle.segment_merge.specs.declared.merging.MergeReport.{MergeReport}
 use Rattle.povundiri_c.specs.declared.contents.Contents.{Contents}
 use Rattle.povundiri_c.specs.declared.joinable_recorder.JoinableRecorder.{JoinableRecorder}
 use Rattle.povundiri_c.specs.Calls.{ByHandle, GivesOfRecorder, OnRecorder}
-use Rattle.povundiri_c.specs.Merging.{Merges, MergesReading, cost_of_reading}
+use Rattle.povundiri_c.specs.Merging.{MergesForCost, MergesReading, cost_of_reading}
 use Rattle.povundiri_c.proofs.Calling.{of_recorder}
 
 -- the state of the recorder before and after is that of the one that is kept
@@ -38,12 +38,12 @@ merges_reading reading owned after (Err why) old new kept was is knows refused =
 -- a closure that merges what costs so much, which is what the reading costs
 pub of_merge : {F : Type 0} (empty other : Result MergeReport ℕ) (g : Once F (MutBor JoinableRecorder × Unit {0}) (Result MergeReport ℕ × (MutBor JoinableRecorder × Unit {0}))) (f : F) (reading : Reading) (cost : ℕ)
     → empty ≡ Err 3 → other ≡ Err 5 → cost ≡ cost_of_reading reading
-    → ((shown left : MutBor JoinableRecorder) (answer : Result MergeReport ℕ) → g.post f (shown, tt) (answer, (left, tt)) → (left.now.mailbox ≡ shown.now.mailbox) × Merges reading cost shown.now.owned answer left.now.owned)
+    → ((shown left : MutBor JoinableRecorder) (answer : Result MergeReport ℕ) → g.post f (shown, tt) (answer, (left, tt)) → (left.now.mailbox ≡ shown.now.mailbox) × MergesForCost reading cost shown.now.owned answer left.now.owned)
     → (old new : Option Contents) (result answer : Result MergeReport ℕ) → ByHandle empty (OnRecorder other (FnOnceReturnsAtMut g f)) old result new → result ≡ answer
-    → GivesOfRecorder (Merges reading (cost_of_reading reading)) old answer new
+    → GivesOfRecorder (MergesForCost reading (cost_of_reading reading)) old answer new
 of_merge empty other g f reading cost none segment same each old new result answer held is =
-    subst (λ (one : Result MergeReport ℕ). GivesOfRecorder (Merges reading (cost_of_reading reading)) old one new) is
-    (subst (λ (spent : ℕ). GivesOfRecorder (Merges reading spent) old result new) same
-    (of_recorder (Err 3) (Err 5) g f (Merges reading cost) each old new result
+    subst (λ (one : Result MergeReport ℕ). GivesOfRecorder (MergesForCost reading (cost_of_reading reading)) old one new) is
+    (subst (λ (spent : ℕ). GivesOfRecorder (MergesForCost reading spent) old result new) same
+    (of_recorder (Err 3) (Err 5) g f (MergesForCost reading cost) each old new result
     (subst (λ (one : Result MergeReport ℕ). ByHandle one (OnRecorder (Err 5) (FnOnceReturnsAtMut g f)) old result new) none
     (subst (λ (one : Result MergeReport ℕ). ByHandle empty (OnRecorder one (FnOnceReturnsAtMut g f)) old result new) segment held))))

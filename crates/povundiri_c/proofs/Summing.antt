@@ -45,6 +45,7 @@ pub no_sums : (it : Contents) → ((sums : Sums) → it ≡ contents.Sums sums �
 no_sums (contents.Sums sums) other = absurd (other sums refl)
 no_sums (contents.Segment owned) other = refl
 no_sums (contents.Recorder joinable) other = refl
+no_sums (contents.Follower held) other = refl
 no_sums contents.Nothing other = refl
 
 -- ---- images

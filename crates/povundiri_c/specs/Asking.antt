@@ -19,7 +19,7 @@ use Rattle.povundiri_c.specs.declared.types.Item.{Item}
 use Rattle.povundiri_c.specs.declared.types.MergeTotals.{MergeTotals}
 use Rattle.povundiri_c.specs.declared.types.Totals.{Totals}
 use Rattle.povundiri_c.specs.Calls.{GivesOfRecorder, IsWritten, SizesOfRecorder}
-use Rattle.povundiri_c.specs.Merging.{IsMergeReturned, IsNotRead, IsReadWithin, Merges, cost_of_reading}
+use Rattle.povundiri_c.specs.Merging.{IsMergeReturned, AreNotRead, IsReadWithin, MergesForCost, cost_of_reading}
 use Rattle.povundiri_c.specs.Recorders.{AtPlace, AtPlaceInRoom, Batches, FindsHist, refused_with, TakesDelta, TakesNext, TakesSnapshot, WalksAll}
 
 -- ---- `hist`
@@ -154,6 +154,6 @@ IsUntouched held totals name totals' name' held' = (held' ≡ held) × (totals' 
 abbrev pub AnswersMergeCall : List ℕ → ℕ → Option Contents → ℕ → MergeTotals → MergeTotals → List ℕ → List ℕ → Option Contents → Type 0
 AnswersMergeCall words most held status totals totals' name name' held' =
     (((held ≡ None) × (status ≡ 3)) × IsUntouched held totals name totals' name' held')
-    ⊎ (((held ≢ None) × IsNotRead words most status) × IsUntouched held totals name totals' name' held')
+    ⊎ (((held ≢ None) × AreNotRead words most status) × IsUntouched held totals name totals' name' held')
     ⊎ ((reading : Reading) × IsReadWithin words most reading × (answer : Result MergeReport ℕ)
-    × GivesOfRecorder (Merges reading (cost_of_reading reading)) held answer held' × IsMergeReturned reading answer status totals' name name')
+    × GivesOfRecorder (MergesForCost reading (cost_of_reading reading)) held answer held' × IsMergeReturned reading answer status totals' name name')

@@ -17,6 +17,7 @@ abbrev pub units_of : Contents → Result ℕ ℕ
 units_of (contents.Segment owned) = Ok (view_of_opener owned.opener).units.share
 units_of (contents.Recorder joinable) = Ok (view_of_state joinable.owned.state).units.share
 units_of (contents.Sums sums) = Err 5
+units_of (contents.Follower held) = Err 5
 units_of contents.Nothing = Err 5
 
 -- how many recorders of a segment were made and not joined
@@ -24,6 +25,7 @@ abbrev pub outstanding_in : Contents → Result ℕ ℕ
 outstanding_in (contents.Segment owned) = Ok (outstanding_of (view_of_opener owned.opener).role)
 outstanding_in (contents.Recorder joinable) = Err 5
 outstanding_in (contents.Sums sums) = Err 5
+outstanding_in (contents.Follower held) = Err 5
 outstanding_in contents.Nothing = Err 5
 
 -- the same of a handle, which may be empty
@@ -48,6 +50,7 @@ abbrev pub OnRecorder : {A : Type 0} → A → (JoinableRecorder → A → Joina
 OnRecorder other Calls (contents.Recorder joinable) answer new = (after : JoinableRecorder) × (new ≡ contents.Recorder after) × Calls joinable answer after
 OnRecorder other Calls (contents.Segment owned) answer new = (answer ≡ other) × (new ≡ contents.Segment owned)
 OnRecorder other Calls (contents.Sums sums) answer new = (answer ≡ other) × (new ≡ contents.Sums sums)
+OnRecorder other Calls (contents.Follower held) answer new = (answer ≡ other) × (new ≡ contents.Follower held)
 OnRecorder other Calls contents.Nothing answer new = (answer ≡ other) × (new ≡ contents.Nothing)
 
 -- What is no recorder returns that, and is unchanged; else the call is of the recorder, which keeps its mailbox.
@@ -56,6 +59,7 @@ ByRecorder other Calls (contents.Recorder joinable) answer new =
     (after : JoinableRecorder) × (new ≡ contents.Recorder after) × (after.mailbox ≡ joinable.mailbox) × Calls joinable.owned answer after.owned
 ByRecorder other Calls (contents.Segment owned) answer new = (answer ≡ other) × (new ≡ contents.Segment owned)
 ByRecorder other Calls (contents.Sums sums) answer new = (answer ≡ other) × (new ≡ contents.Sums sums)
+ByRecorder other Calls (contents.Follower held) answer new = (answer ≡ other) × (new ≡ contents.Follower held)
 ByRecorder other Calls contents.Nothing answer new = (answer ≡ other) × (new ≡ contents.Nothing)
 
 -- a call that returns a status

@@ -28,6 +28,7 @@ abbrev pub BySegment : {A : Type 0} → A → (OwnedSegment → A → OwnedSegme
 BySegment other Calls (contents.Segment owned) answer new = (after : OwnedSegment) × (new ≡ contents.Segment after) × Calls owned answer after
 BySegment other Calls (contents.Recorder joinable) answer new = (answer ≡ other) × (new ≡ contents.Recorder joinable)
 BySegment other Calls (contents.Sums sums) answer new = (answer ≡ other) × (new ≡ contents.Sums sums)
+BySegment other Calls (contents.Follower held) answer new = (answer ≡ other) × (new ≡ contents.Follower held)
 BySegment other Calls contents.Nothing answer new = (answer ≡ other) × (new ≡ contents.Nothing)
 
 -- one that returns a value or a status
@@ -193,6 +194,7 @@ abbrev pub recorder_in : Contents → Option JoinableRecorder
 recorder_in (contents.Recorder joinable) = Some joinable
 recorder_in (contents.Segment owned) = None
 recorder_in (contents.Sums sums) = None
+recorder_in (contents.Follower held) = None
 recorder_in contents.Nothing = None
 
 -- If what is passed is no recorder, it comes back, and the segment is unchanged; else the recorder is served, and may come back. What is

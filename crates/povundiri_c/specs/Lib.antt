@@ -10,5 +10,7 @@ pub mod Segments
 pub mod Status
 pub mod Mailbox
 pub mod Merging
+pub mod Following
+pub mod Followers
 pub mod Looks
 pub mod Sums

@@ -43,6 +43,7 @@ abbrev pub IsLookIn : ℕ → Contents → Result (List ℕ) Refused → Type 0
 IsLookIn room (contents.Segment owned) result = IsLookOfOwned room owned result
 IsLookIn room (contents.Recorder joinable) result = result ≡ Err (refused_with 5)
 IsLookIn room (contents.Sums sums) result = result ≡ Err (refused_with 5)
+IsLookIn room (contents.Follower held) result = result ≡ Err (refused_with 5)
 IsLookIn room contents.Nothing result = result ≡ Err (refused_with 5)
 
 -- an empty handle says so

@@ -30,8 +30,8 @@ pub record IsReadWithin (words : List ℕ) (most : ℕ) (reading : Reading) : Ty
   pub few : SayKeys words most false
 
 -- Why words are not read: their header has this fault; or they read as more keys; or memory ran out.
-abbrev pub IsNotRead : List ℕ → ℕ → ℕ → Type 0
-IsNotRead words most status =
+abbrev pub AreNotRead : List ℕ → ℕ → ℕ → Type 0
+AreNotRead words most status =
     MatchResult (header_of words) (λ head. ((status ≡ 17) × HasMoreKeys words head most true) ⊎ (status ≡ 513))
     (λ fault. status ≡ status_of_image_fault fault)
 
@@ -56,6 +56,7 @@ merge_totals reading added items length = record {
   cost = cost_of_reading reading;
   unspent = units_unspent reading.hists.items;
   items = items;
+  passed = 0;
   name_length = length;
   full = reading.full;
   corrupt = reading.corrupt;
@@ -76,8 +77,8 @@ with_no_memory (Ok value) = Ok value
 with_no_memory (Err why) = Err 13
 
 -- If a recorder may spend fewer units than this, that is returned, and it is unchanged; else it adds the reading.
-abbrev pub Merges : Reading → ℕ → OwnedRecorder → Result MergeReport ℕ → OwnedRecorder → Type 0
-Merges reading cost old given new =
+abbrev pub MergesForCost : Reading → ℕ → OwnedRecorder → Result MergeReport ℕ → OwnedRecorder → Type 0
+MergesForCost reading cost old given new =
     ((view_of_state old.state).units.share < cost → (given ≡ Err 104) × (new ≡ old))
     × (cost ≤ (view_of_state old.state).units.share
     → (answer : Result MergeReport Refusal) × (given ≡ with_no_memory answer) × MergesReading reading old answer new)
@@ -93,13 +94,13 @@ abbrev pub IsNamePut : List ℕ → List ℕ → List ℕ → Type 0
 IsNamePut name old new = (n : ℕ) × (n ≡ min (length name) (length old)) × (new ≡ take n name ++ drop n old)
 
 -- A report is returned: 0, or the status of what stopped the merge, with the name of the histogram and how many of its items were counted.
-abbrev pub IsReported : Reading → MergeReport → ℕ → MergeTotals → List ℕ → List ℕ → Type 0
-IsReported reading report status totals name name' =
+abbrev pub IsMergeReported : Reading → MergeReport → ℕ → MergeTotals → List ℕ → List ℕ → Type 0
+IsMergeReported reading report status totals name name' =
     MatchOption report.stopped ((status ≡ 0) × (totals ≡ merge_totals reading (units_added report) 0 0) × (name' ≡ name))
     (λ stop. (status ≡ status_of_refusal stop.why)
     × (totals ≡ merge_totals reading (units_added report) stop.items (length stop.name.items)) × IsNamePut stop.name.items name name')
 
 -- The same of a merge that may not have begun: then the status says why, and nothing was added.
 abbrev pub IsMergeReturned : Reading → Result MergeReport ℕ → ℕ → MergeTotals → List ℕ → List ℕ → Type 0
-IsMergeReturned reading (Ok report) status totals name name' = IsReported reading report status totals name name'
+IsMergeReturned reading (Ok report) status totals name name' = IsMergeReported reading report status totals name name'
 IsMergeReturned reading (Err why) status totals name name' = (status ≡ why) × (totals ≡ merge_totals reading 0 0 0) × (name' ≡ name)

@@ -90,6 +90,7 @@ IsNotClosed room (contents.Segment owned) why =
     ((room < size_of owned) × (why.status ≡ 7) × (why.length ≡ size_of owned)) ⊎ ((size_of owned ≤ room) × (why.status ≡ 11) × (why.length ≡ 0))
 IsNotClosed room (contents.Recorder joinable) why = (why.status ≡ 5) × (why.length ≡ 0)
 IsNotClosed room (contents.Sums sums) why = (why.status ≡ 5) × (why.length ≡ 0)
+IsNotClosed room (contents.Follower held) why = (why.status ≡ 5) × (why.length ≡ 0)
 IsNotClosed room contents.Nothing why = (why.status ≡ 5) × (why.length ≡ 0)
 
 -- the contents are a segment whose image fits in this many words, and it is returned; or why not

@@ -33,6 +33,7 @@ abbrev pub BySums : {A : Type 0} → A → (Sums → A → Sums → Type 0) → 
 BySums other Calls (contents.Sums sums) answer new = (after : Sums) × (new ≡ contents.Sums after) × Calls sums answer after
 BySums other Calls (contents.Segment owned) answer new = (answer ≡ other) × (new ≡ contents.Segment owned)
 BySums other Calls (contents.Recorder joinable) answer new = (answer ≡ other) × (new ≡ contents.Recorder joinable)
+BySums other Calls (contents.Follower held) answer new = (answer ≡ other) × (new ≡ contents.Follower held)
 BySums other Calls contents.Nothing answer new = (answer ≡ other) × (new ≡ contents.Nothing)
 
 -- one that returns a status
@@ -83,6 +84,7 @@ abbrev pub sums_in : Contents → Option Sums
 sums_in (contents.Sums sums) = Some sums
 sums_in (contents.Segment owned) = None
 sums_in (contents.Recorder joinable) = None
+sums_in (contents.Follower held) = None
 sums_in contents.Nothing = None
 
 -- The other sum is added; or memory ran out, or a total would not fit, and the sum is unchanged. If there is no other, that is returned.
@@ -177,6 +179,7 @@ abbrev pub AskedOfSums : (Sums → Result (Vec ℕ Global) ℕ → Type 0) → C
 AskedOfSums Asks (contents.Sums sums) answer = Asks sums answer
 AskedOfSums Asks (contents.Segment owned) answer = answer ≡ Err 5
 AskedOfSums Asks (contents.Recorder joinable) answer = answer ≡ Err 5
+AskedOfSums Asks (contents.Follower held) answer = answer ≡ Err 5
 AskedOfSums Asks contents.Nothing answer = answer ≡ Err 5
 
 -- and of a handle, which may be empty

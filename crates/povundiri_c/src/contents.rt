@@ -3,28 +3,32 @@
 ghost use Rattle.std.specs.Prelude.{◌≡◌, Err, None, MatchResult, option_map};
 ghost use Rattle.std.specs.Fn.{FnOnceReturnsAtMut};
 ghost use Rattle.povundiri_c.specs.Calls.{ByRecorder, OnRecorder, outstanding_in, units_of};
+ghost use Rattle.povundiri_c.specs.Followers.{ByFollower, FollowsInto, SkipsWords};
 ghost use Rattle.povundiri_c.specs.Joins.{BySegment, GivesRecorder, ServesContents, recorder_in};
 ghost use Rattle.povundiri_c.specs.Looks.{IsLookIn};
 ghost use Rattle.povundiri_c.specs.Recorders.{Adds, AtPlace, refused_with};
 ghost use Rattle.povundiri_c.specs.Segments.{AnswersClose};
 ghost use Rattle.povundiri_c.specs.Sums.{AddsImage, AddsOther, AddsTotalsText, AskedOfSums, BySums, IsSumExport, IsReportAsked, IsSumShow, IsTextOrStatus, IsTotalsOrStatus, sums_in};
 
+use crate::held_follower::HeldFollower;
 use crate::joinable_recorder::JoinableRecorder;
 use crate::owned_segment::{JoinOrLend, OwnedSegment};
 use crate::status::{IN_USE, OTHER_KIND, Refused, SHORT};
 use crate::sums::{add_image, add_other, add_totals, text_of_sums, totals_of_sums};
 use crate::texts::TextAsked;
+use crate::types::MergeTotals;
 use core::mem::replace_with;
 use live_segment::Image;
 use reading_sums::Sums;
 use std::alloc::Global;
 
-/// A segment, a recorder, or a sum; or nothing, while a call takes it out.
+/// A segment, a recorder, a sum, or a follower; or nothing, while a call takes it out.
 #[derive(Drop)]
 pub enum Contents {
     Segment(OwnedSegment),
     Recorder(JoinableRecorder),
     Sums(Sums),
+    Follower(HeldFollower),
     Nothing,
 }
 
@@ -143,6 +147,37 @@ impl Contents {
     {
         match self {
             Contents::Segment(owned) => Ok(owned.outstanding()),
+            _ => Err(OTHER_KIND),
+        }
+    }
+
+    /// Adds what came of an image to the segment of the recorder that others are, if it is a follower.
+    pub(crate) fn follow(
+        &mut self,
+        alloc: Global,
+        recorder: &mut Contents,
+        words: &[u64],
+        most: u64,
+        name: &mut [u8],
+        totals: &mut MergeTotals,
+    ) -> u32
+        ensures { FollowsInto words.now most self.old recorder.old result totals.old totals.new name.old name.new self.new recorder.new }
+    {
+        let Contents::Follower(held) = self else {
+            return OTHER_KIND;
+        };
+        let Contents::Recorder(joinable) = recorder else {
+            return OTHER_KIND;
+        };
+        held.merge(alloc, joinable, words, most, name, totals)
+    }
+
+    /// Notes an image, and returns the units that it has above what was noted, if it is a follower.
+    pub(crate) fn skip(&mut self, alloc: Global, words: &[u64]) -> Result<u64, u32>
+        ensures { ByFollower (Err 5) (SkipsWords words.now) self.old result self.new }
+    {
+        match self {
+            Contents::Follower(held) => held.skip(alloc, words),
             _ => Err(OTHER_KIND),
         }
     }

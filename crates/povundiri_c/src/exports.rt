@@ -1,5 +1,6 @@
 //! The functions that C calls.
 
+mod following;
 mod look;
 mod merging;
 mod reading;

@@ -3,6 +3,7 @@
 ghost use Rattle.std.specs.Prelude.{◌≡◌, false, true, Err, Some, None, IfErr, MatchResult, option_map};
 ghost use Rattle.std.specs.Fn.{FnOnceReturnsAtMut};
 ghost use Rattle.povundiri_c.specs.Calls.{ByHandle, OnRecorder};
+ghost use Rattle.povundiri_c.specs.Followers.{AnswersFollowCall};
 ghost use Rattle.povundiri_c.specs.Joins.{AnswersPassed};
 ghost use Rattle.povundiri_c.specs.OpaqueBoxes.{is_some};
 ghost use Rattle.povundiri_c.specs.Sums.{AnswersAppend};
@@ -12,9 +13,11 @@ use crate::joinable_recorder::JoinableRecorder;
 use crate::opaque_box::OpaqueBox;
 use crate::owned_segment::JoinOrLend;
 use crate::status::{EMPTY, NOT_EMPTY};
+use crate::types::MergeTotals;
 use core::mem::replace;
+use std::alloc::Global;
 
-/// A segment, a recorder, a sum, or nothing. C begins with zeros.
+/// A segment, a recorder, a sum, a follower, or nothing. C begins with zeros.
 #[repr(C)]
 #[derive(Drop)]
 pub struct Handle {
@@ -86,6 +89,28 @@ impl Handle {
             return EMPTY;
         }
         self.boxed.get_mut().add_other(other.boxed.get_mut())
+    }
+
+    /// Adds what came of an image by the follower that it holds, and by the recorder that another handle holds. If one of
+    /// them holds nothing, the status says so.
+    pub(crate) fn follow(
+        &mut self,
+        alloc: Global,
+        recorder: &mut Handle,
+        words: &[u64],
+        most: u64,
+        name: &mut [u8],
+        totals: &mut MergeTotals,
+    ) -> u32
+        ensures { AnswersFollowCall words.now most self.old.boxed.held recorder.old.boxed.held result totals.old totals.new name.old name.new self.new.boxed.held recorder.new.boxed.held }
+    {
+        if !self.full || !recorder.full {
+            return EMPTY;
+        }
+        let recorder = recorder.boxed.get_mut();
+        self.boxed
+            .get_mut()
+            .follow(alloc, recorder, words, most, name, totals)
     }
 
     /// Calls what it holds, which stays where it is. A handle that holds nothing returns `empty`, and stays so.

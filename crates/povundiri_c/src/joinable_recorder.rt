@@ -3,10 +3,12 @@
 ghost use Rattle.std.specs.Arc.{arc_value};
 ghost use Rattle.std.specs.Prelude.{◌≡◌, Err, IfOk};
 ghost use Rattle.live_segment.specs.RecorderState.{Knows};
+ghost use Rattle.povundiri_c.specs.Following.{FollowsReading};
 ghost use Rattle.povundiri_c.specs.Mailbox.{BelongsTo, cursors_of};
-ghost use Rattle.povundiri_c.specs.Merging.{Merges};
+ghost use Rattle.povundiri_c.specs.Merging.{MergesForCost};
 ghost use Rattle.povundiri_c.specs.Recorders.{Adds, AtPlace, AtPlaceInRoom, Batches, Finds, FindsHist, Limits, Marks, refused_with, TakesDelta, TakesNext, TakesSnapshot, WalksAll};
 
+use crate::following::{FollowAsked, followed};
 use crate::mailbox::Mailbox;
 use crate::merging::{MergeAsked, merged};
 use crate::status::{DONE, LIST_ENDS, NO_CURSOR, NO_MEMORY, Refused, SHORT, UNKNOWN, of_refusal};
@@ -14,7 +16,7 @@ use core::mem::replace_with;
 use image_reader::Reading;
 use live_segment::{Delta, Hist, Refusal, Snapshot, Spec};
 use owned_recorder::OwnedRecorder;
-use segment_merge::MergeReport;
+use segment_merge::{FollowFault, FollowReport, Follower, MergeReport};
 use std::alloc::Global;
 use std::sync::Arc;
 
@@ -127,7 +129,7 @@ impl JoinableRecorder {
         cost: u64,
     ) -> Result<MergeReport, u32>
         ensures kept { self.new.mailbox ≡ self.old.mailbox }
-        ensures answer { Merges reading.now cost self.old.owned result self.new.owned }
+        ensures answer { MergesForCost reading.now cost self.old.owned result self.new.owned }
     {
         if u64::from(self.owned.units()) < cost {
             return Err(of_refusal(Refusal::NoUnits));
@@ -137,6 +139,17 @@ impl JoinableRecorder {
             Ok(report) => Ok(report),
             Err(_) => Err(NO_MEMORY),
         }
+    }
+
+    /// Adds what came of a reading, and returns the follower.
+    pub(crate) fn follow(
+        &mut self,
+        asked: FollowAsked,
+    ) -> (Follower, Result<FollowReport, FollowFault>)
+        ensures kept { self.new.mailbox ≡ self.old.mailbox }
+        ensures answer { FollowsReading asked.reading asked.most asked.follower self.old.owned result.1 result.0 self.new.owned }
+    {
+        replace_with(&mut self.owned, asked, followed)
     }
 
     /// Marks the segment as corrupt.

@@ -1,7 +1,7 @@
 //! What a dead segment counted is added by a recorder that C holds.
 
 ghost use Rattle.std.specs.Prelude.{◌≡◌, min, sum_by, IfOk, MatchResult};
-ghost use Rattle.povundiri_c.specs.Merging.{IsNamePut, IsNotRead, IsReadWithin, IsReported, MergesReading, merge_totals};
+ghost use Rattle.povundiri_c.specs.Merging.{IsNamePut, AreNotRead, IsReadWithin, IsMergeReported, MergesReading, merge_totals};
 
 use crate::image_units::unspent;
 use crate::status::{DONE, TOO_MANY_KEYS, of_image_fault, of_refusal};
@@ -21,7 +21,7 @@ pub(crate) struct MergeAsked<'a> {
 
 /// What the words read as, if that is at most so many keys; or the status says why not.
 pub(crate) fn read_within(alloc: Global, words: &[u64], most_keys: u64) -> Result<Reading, u32>
-    ensures { MatchResult result (IsReadWithin words.now most_keys) (IsNotRead words.now most_keys) }
+    ensures { MatchResult result (IsReadWithin words.now most_keys) (AreNotRead words.now most_keys) }
 {
     match has_more_keys(alloc, words, most_keys) {
         Ok(true) => return Err(TOO_MANY_KEYS),
@@ -44,6 +44,7 @@ pub(crate) fn totals_of(reading: &Reading) -> MergeTotals
         cost: cost_of_all(&reading.hists),
         unspent: unspent(&reading.hists),
         items: 0,
+        passed: 0,
         name_length: 0,
         full: reading.full,
         corrupt: reading.corrupt,
@@ -64,8 +65,8 @@ pub(crate) fn merged(
     (OwnedRecorder::of_parts(segment, state), answer)
 }
 
-// The units that were added to all histograms, or the greatest `u64` if there are more.
-fn units_in(lines: &[(Vec<u8>, u64)]) -> u64
+/// The units that were added to all histograms, or the greatest `u64` if there are more.
+pub(crate) fn units_in(lines: &[(Vec<u8>, u64)]) -> u64
     ensures { result ≡ min (sum_by (λ line. line.1) lines.now) 18446744073709551615 }
 {
     let mut units: u64 = 0;
@@ -75,8 +76,8 @@ fn units_in(lines: &[(Vec<u8>, u64)]) -> u64
     units
 }
 
-// Puts as much of a name to the front of an array as that has room for.
-fn put_name(found: &[u8], name: &mut [u8])
+/// Puts as much of a name to the front of an array as that has room for.
+pub(crate) fn put_name(found: &[u8], name: &mut [u8])
     ensures { IsNamePut found.now name.old name.new }
 {
     let length = found.len().min(name.len());
@@ -92,7 +93,7 @@ pub(crate) fn put_report(
     totals: &mut MergeTotals,
 ) -> u32
     requires { totals.old ≡ merge_totals reading.now 0 0 0 }
-    ensures { IsReported reading.now report.now result totals.new name.old name.new }
+    ensures { IsMergeReported reading.now report.now result totals.new name.old name.new }
 {
     totals.added = units_in(&report.added);
     totals.left = totals.left.saturating_sub(totals.added);

@@ -22,7 +22,7 @@ pub(crate) const NOT_EMPTY: u32 = 4;
 /// The handle is of another kind than the call needs: a segment's instead of a recorder's, and so on.
 pub(crate) const OTHER_KIND: u32 = 5;
 
-/// The recorder is one of another segment.
+/// The recorder is one of another segment; of a follower, the image.
 pub(crate) const OTHER_SEGMENT: u32 = 6;
 
 /// The caller's array is too small.
@@ -67,6 +67,12 @@ pub(crate) const BAD_TOTALS: u32 = 20;
 /// A segment of version 1, which cannot be looked at. The number is that of an image which is not adopted for this
 /// reason.
 const OLD_VERSION: u32 = 302;
+
+/// A reading has less than was noted of it.
+pub(crate) const FELL: u32 = 21;
+
+/// What came of a reading costs more units than the caller allows.
+pub(crate) const COSTS_MORE: u32 = 22;
 
 /// Why a call is refused: its status, and a length: how much room is needed if the status is `SHORT`; of a batch, how
 /// many items were counted; if the status is `BAD_TOTALS`, the number of a line; else 0.

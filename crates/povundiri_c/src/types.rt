@@ -68,15 +68,17 @@ pub struct Totals {
 pub struct MergeTotals {
     /// How many units were added.
     pub added: u64,
-    /// How many units that no delta took of the image were not added.
+    /// How many units were not added: of those that no delta took of the image, or that came since it was followed.
     pub left: u64,
-    /// How many units it costs to add all that no delta took.
+    /// How many units it costs to add all of these.
     pub cost: u64,
     /// How many units the image has left.
     pub unspent: u64,
-    /// How many items of the histogram that stopped the merge were counted.
+    /// How many items were counted of the histogram that stopped the merge, or of the first that was passed over.
     pub items: usize,
-    /// How long the name of that histogram is; 0 if none did.
+    /// Of a follower: how many histograms were passed over. Else 0.
+    pub passed: usize,
+    /// How long the name of that histogram is; 0 if there is none.
     pub name_length: usize,
     /// Whether the image is marked as full.
     pub full: bool,

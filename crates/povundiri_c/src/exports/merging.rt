@@ -2,7 +2,7 @@
 
 ghost use Rattle.std.specs.Prelude.{◌≡◌};
 ghost use Rattle.povundiri_c.specs.Asking.{AnswersMergeCall};
-ghost use Rattle.povundiri_c.specs.Merging.{Merges};
+ghost use Rattle.povundiri_c.specs.Merging.{MergesForCost};
 
 use crate::handle::Handle;
 use crate::merging::{put_report, read_within, totals_of};
@@ -45,7 +45,7 @@ pub extern "C" fn povundiri_proved_merge(
         Err(OTHER_KIND),
         |joinable|
             ensures kept { joinable.new.mailbox ≡ joinable.old.mailbox }
-            ensures answer { Merges reading cost joinable.old.owned result joinable.new.owned }
+            ensures answer { MergesForCost reading cost joinable.old.owned result joinable.new.owned }
         { joinable.merge(alloc, &reading, cost) },
     ) {
         Ok(report) => put_report(&reading, &report, name, totals),

@@ -192,9 +192,9 @@ pub extern "C" fn povundiri_proved_close(
     }
 }
 
-/// Gives up a segment, a recorder or a sum: its handle is empty then, and `none` is put in its place. 4 if `none` holds
-/// something [full], 3 if the handle holds nothing [empty], and all is unchanged; else 0, and it holds nothing
-/// from then on [done].
+/// Gives up a segment, a recorder, a sum or a follower: its handle is empty then, and `none` is put in its place. 4 if
+/// `none` holds something [full], 3 if the handle holds nothing [empty], and all is unchanged; else 0, and it holds
+/// nothing from then on [done].
 #[unsafe(no_mangle)]
 pub extern "C" fn povundiri_proved_drop(handle: &mut Handle, none: Handle) -> u32
     ensures full { is_some none.boxed.held ≡ true → (result ≡ 4) × (handle.new ≡ handle.old) }

@@ -1,7 +1,7 @@
 //! What the statuses that only programs in C and C++ see mean, and what to do.
 
 /// Each status by the name that `povundiri_status_text` has for it, with what it means and what to do, as in `TEXTS`.
-pub const C_TEXTS: [(&str, &str, &str); 20] = [
+pub const C_TEXTS: [(&str, &str, &str); 27] = [
     (
         "Done",
         "In C: the call did what it says.",
@@ -34,8 +34,8 @@ pub const C_TEXTS: [(&str, &str, &str); 20] = [
     ),
     (
         "OtherSegment",
-        "In C: the recorder is of another segment.",
-        "Pass each recorder with the segment that made it.",
+        "In C: the recorder is of another segment; of a follower, the image is.",
+        "Pass each recorder with the segment that made it, and each follower the images of one segment.",
     ),
     (
         "Short",
@@ -91,6 +91,41 @@ pub const C_TEXTS: [(&str, &str, &str); 20] = [
         "BadPrefix",
         "In C: no name of a metric may begin with the prefix of an export.",
         "Pass a letter or `_` and then letters, digits and `_`, or a null pointer for `povundiri`.",
+    ),
+    (
+        "Fell",
+        "In C: of an image that is followed, a count is less than what was noted of it, or a histogram is gone or has another spec. Nothing was added.",
+        "Pass the images of a segment in the order in which they were taken. A segment that somebody damages or forges may fall.",
+    ),
+    (
+        "CostsMore",
+        "In C: what came of an image that is followed costs more units than the caller allows. Nothing was added.",
+        "Allow more if you trust the image, or skip it. A forged one may claim any number.",
+    ),
+    (
+        "NotOwner",
+        "In C: the folder of a recording is another user's. Nothing was done.",
+        "Record and fold as the user whose folder it is; root may fold any. Where processes of several users record into one folder, the options say so (`POVUNDIRI_FILE_ANY_OWNER`).",
+    ),
+    (
+        "FolderInUse",
+        "In C: a recording is to be made in a folder that is neither empty nor a recording's. Nothing is changed in it.",
+        "Name another folder. One that has a segment, a damaged file or totals is a recording's again once it has nothing else.",
+    ),
+    (
+        "NoRecording",
+        "In C: the folder is no recording's.",
+        "Name the folder that a recording was opened with.",
+    ),
+    (
+        "BadOptions",
+        "In C: the options have a flag or a mode that may not be, or a size or a member that this library does not know.",
+        "Begin with `POVUNDIRI_RECORDING_OPTIONS` or `POVUNDIRI_FILE_OPTIONS`, and compile against the headers of the library that is linked.",
+    ),
+    (
+        "BadUnit",
+        "In C++: the name says another unit than that of its metric of times. The unit is what stands after the last `_` or `.` before the labels.",
+        "Give the metric the unit of its name, as `scale<std::chrono::microseconds>` to `request_us`, or the name that of the metric.",
     ),
     (
         "Forked",

@@ -1,9 +1,5 @@
 -- Why the program did not do what it was asked to, and its exit status then.
-use Rattle.std.specs.Prelude.{◌≡◌, ◌≢◌, ◌⊎◌, ⊤, ℕ}
-use Rattle.clap.specs.Words.{kind_of}
-use Rattle.clap.specs.declared.error.Error.{Error}
-use Rattle.clap.specs.declared.error.kind.ErrorKind.{ErrorKind}
-use Rattle.clap.specs.declared.error.kind.ErrorKind.TheVariants.{DisplayHelp, DisplayVersion, OutOfMemory}
+use Rattle.std.specs.Prelude.{◌≡◌, ⊤, ℕ}
 use Rattle.persist_report_core.specs.declared.fault.CliFault.{CliFault}
 use Rattle.sum_commands.specs.declared.fault.InputFault.{InputFault}
 use Rattle.sum_commands.specs.declared.fault.InputFault.TheVariants as of_input
@@ -40,11 +36,11 @@ input_status (of_input.Image fault) = fault_status fault
 input_status (of_input.BadTotals line) = 3
 input_status of_input.TooMany = 3
 
--- the status of a failure: 2 for a command line that the program does not support, 4 for a file that another process has
+-- the status of a failure: 2 for a mistake in the command line, 4 for a file that another process has
 -- locked, and 3 for a scale that has a fault, for families that clash, for a sum to subtract that is not part of the other, for a
 -- difference that does not fit, for an image that is not whole, and for inputs that were left out
 abbrev pub failure_status : Failure → ℕ
-failure_status (Usage error) = 2
+failure_status (Usage wrong) = 2
 failure_status (Fault fault) = fault_status fault
 failure_status (Explained fault lines) = fault_status fault
 failure_status (Busy lines) = 4
@@ -55,32 +51,6 @@ failure_status (Since fault name lines) = 3
 failure_status (TooMany lines) = 3
 failure_status (NotWhole lines) = 3
 failure_status Left = 3
-
--- what the failure is if the command line is not parsed: out of memory is no mistake in the words
-abbrev pub IsFailureOf : Error → Failure → Type 0
-IsFailureOf error failure =
-    ((kind_of error ≡ OutOfMemory) × (failure ≡ Fault NoMemory))
-    ⊎ ((kind_of error ≢ OutOfMemory) × (failure ≡ Usage error))
-
--- neither help, nor the version, nor out of memory
-pub record IsMistake (kind : ErrorKind) : Type 0 where
-  pub no_help : kind ≢ DisplayHelp
-  pub no_version : kind ≢ DisplayVersion
-  pub no_want : kind ≢ OutOfMemory
-
--- a failure of usage is caused by a mistake in the words
-abbrev pub UsageIsMistake : Failure → Type 0
-UsageIsMistake (Usage error) = IsMistake (kind_of error)
-UsageIsMistake (Fault fault) = ⊤
-UsageIsMistake (Explained fault lines) = ⊤
-UsageIsMistake (Busy lines) = ⊤
-UsageIsMistake (Scale fault lines) = ⊤
-UsageIsMistake (Clash first second lines) = ⊤
-UsageIsMistake (Input fault name lines) = ⊤
-UsageIsMistake (Since fault name lines) = ⊤
-UsageIsMistake (TooMany lines) = ⊤
-UsageIsMistake (NotWhole lines) = ⊤
-UsageIsMistake Left = ⊤
 
 -- why a file is not locked: another process has its lock, or the system cannot lock it
 abbrev pub IsBusyOrWrite : Unopened → Type 0

@@ -1,7 +1,5 @@
 //! The lines that follow the line of a fault, if they are asked for.
 
-ghost use Rattle.persist_report.specs.Failure.{UsageIsMistake};
-
 use crate::cause::Cause;
 use crate::context::Context;
 use crate::failure::Failure;
@@ -99,16 +97,13 @@ fn is_unread(fault: &CliFault, known: FaultContext<'_, '_>) -> bool {
     }
 }
 
-/// Returns the failure of a fault, with the lines that follow it if the command explains its faults. `Usage` comes only
-/// for a mistake on the command line. If memory runs out for the lines, there are none; nor are there if standard
-/// output is a pipe whose reader has closed it.
+/// Returns the failure of a fault, with the lines that follow it if the command explains its faults. If memory runs out
+/// for the lines, there are none; nor are there if standard output is a pipe whose reader has closed it.
 pub fn failure_of<R: AllocGlobal>(
     context: &Context<'_, R>,
     fault: CliFault,
     known: FaultContext<'_, '_>,
-) -> Failure
-    ensures { UsageIsMistake result }
-{
+) -> Failure {
     if !context.explains || is_unread(&fault, known) {
         return Failure::Fault(fault);
     }
@@ -130,10 +125,8 @@ pub fn remedies_of<R: AllocGlobal>(context: &Context<'_, R>, line: &str) -> Stri
     }
 }
 
-/// Returns the failure of a file that could not be opened; `Usage` comes only for a mistake on the command line.
-pub fn unopened<R: AllocGlobal>(context: &Context<'_, R>, cause: Cause, path: &str) -> Failure
-    ensures { UsageIsMistake result }
-{
+/// Returns the failure of a file that could not be opened.
+pub fn unopened<R: AllocGlobal>(context: &Context<'_, R>, cause: Cause, path: &str) -> Failure {
     let Cause { fault, reason } = cause;
     let device = Origin::File(path);
     let input = Source {
@@ -157,11 +150,12 @@ fn busy_lines(alloc: Global, path: &str) -> Result<String, AllocError> {
     Ok(lines)
 }
 
-/// Returns the failure of a file to be written that was not opened; `Usage` comes only for a mistake on the command
-/// line.
-pub fn unopened_out<R: AllocGlobal>(context: &Context<'_, R>, why: Unopened, path: &str) -> Failure
-    ensures { UsageIsMistake result }
-{
+/// Returns the failure of a file to be written that was not opened.
+pub fn unopened_out<R: AllocGlobal>(
+    context: &Context<'_, R>,
+    why: Unopened,
+    path: &str,
+) -> Failure {
     match why {
         Unopened::Failed(cause) => unopened(context, cause, path),
         Unopened::Busy if context.explains => match busy_lines(context.alloc(), path) {

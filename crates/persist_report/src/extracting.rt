@@ -1,7 +1,6 @@
 //! The command that takes a segment out of any file.
 
-ghost use Rattle.std.specs.Prelude.{◌≡◌, false, IfErr};
-ghost use Rattle.persist_report.specs.Failure.{UsageIsMistake};
+ghost use Rattle.std.specs.Prelude.{◌≡◌, false};
 ghost use Rattle.segment_image.specs.Watched.{has_failed};
 
 use crate::context::Context;
@@ -46,14 +45,11 @@ fn extract_both<E: Eprint, I: Read, W: Write>(
 }
 
 /// Finds a segment in a file, writes its image to another, and to the error stream how many bytes come before it. The
-/// image takes the other file's place after that line. No copy is kept of what is read: it may be long. `Usage` comes
-/// only for a mistake on the command line.
+/// image takes the other file's place after that line. No copy is kept of what is read: it may be long.
 pub fn extract_file<
     'a,
     R: Files<File = File> + Clock + Input + Print + Eprint + RandomSource + AllocGlobal,
->(context: &Context<'_, R>, file: &'a str, out: &'a str, nth: Nth) -> Result<(), Failure>
-    ensures { IfErr result UsageIsMistake }
-{
+>(context: &Context<'_, R>, file: &'a str, out: &'a str, nth: Nth) -> Result<(), Failure> {
     let mut reader = open(context, file, None)?;
     let mut image = open_out(context, out)?;
     let outcome = extract_both(context.rt, context.alloc(), &mut reader, nth, &mut image);

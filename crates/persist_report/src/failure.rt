@@ -1,14 +1,14 @@
 //! Why the program did not do what it was asked to, and its exit status then.
 
 ghost use Rattle.std.specs.Prelude.{◌≡◌};
-ghost use Rattle.persist_report.specs.Failure.{IsFailureOf, failure_status, fault_status, input_status};
-ghost use Rattle.persist_report.specs.declared.failure.Failure.TheVariants.{Fault};
+ghost use Rattle.persist_report.specs.Failure.{failure_status, fault_status, input_status};
+ghost use Rattle.persist_report.specs.declared.failure.Failure.TheVariants.{Fault, Usage};
 ghost use Rattle.persist_report_core.specs.declared.fault.CliFault.TheVariants.{NoMemory};
 
 use bucket_ranges::SpecFault;
-use clap::error::ErrorKind;
 use fault_texts::Shown;
 use persist_report_core::CliFault;
+use report_asks::Wrong;
 use std::alloc::AllocError;
 use std::fmt;
 use sum_commands::InputFault;
@@ -16,8 +16,8 @@ use sum_commands::InputFault;
 /// Why the program did not do what it was asked to. Its text is whole lines for the error stream.
 #[derive(Drop)]
 pub enum Failure {
-    /// The command line is not one that the program supports.
-    Usage(clap::Error),
+    /// The command line has this mistake.
+    Usage(Wrong),
     /// What it asks for failed.
     Fault(CliFault),
     /// It failed, and these lines follow the line of the fault.
@@ -115,23 +115,18 @@ impl From<AllocError> for Failure {
     }
 }
 
-impl From<clap::Error> for Failure {
-    ghost from_gives = { IsFailureOf };
+impl From<Wrong> for Failure {
+    ghost from_gives = { λ wrong failure. failure ≡ Usage wrong };
 
-    // Reading the command line takes memory too. If memory runs out, that is no mistake in the words.
-    fn from(error: clap::Error) -> Failure {
-        if error.kind() == ErrorKind::OutOfMemory {
-            Failure::Fault(CliFault::NoMemory)
-        } else {
-            Failure::Usage(error)
-        }
+    fn from(wrong: Wrong) -> Failure {
+        Failure::Usage(wrong)
     }
 }
 
 impl fmt::Display for Failure {
     fn fmt<W: fmt::Write>(&self, f: &mut fmt::Formatter<W>) -> fmt::Result {
         match self {
-            Failure::Usage(error) => write!(f, "{error}"),
+            Failure::Usage(wrong) => writeln!(f, "persist_report: {wrong}"),
             Failure::Fault(fault) => writeln!(f, "persist_report: {fault}"),
             Failure::Explained(fault, lines) => write!(f, "persist_report: {fault}\n{lines}"),
             Failure::Busy(lines) => write!(f, "persist_report: Busy\n{lines}"),

@@ -1,7 +1,6 @@
 //! The command that writes an export with a family for each histogram.
 
-ghost use Rattle.std.specs.Prelude.{◌≡◌, false, IfErr};
-ghost use Rattle.persist_report.specs.Failure.{UsageIsMistake};
+ghost use Rattle.std.specs.Prelude.{◌≡◌, false};
 ghost use Rattle.segment_image.specs.Watched.{has_failed};
 
 use crate::context::Context;
@@ -13,7 +12,7 @@ use fault_texts::remedy_lines_of;
 use image_reader::{Reading, read};
 use persist_report_core::{CliFault, damage_of, image_in, read_input, write_and_flush};
 use reading_texts::{FamilyFault, Label, families_text};
-use report_requests::DASH;
+use report_asks::DASH;
 use segment_image::Watched;
 use std::alloc::Global;
 use std::fs::File;
@@ -70,15 +69,12 @@ fn read_families<R: Read>(
     }
 }
 
-/// Returns the failure of two names that clash. If memory runs out for the lines that explain it, there are none;
-/// `Usage` comes only for a mistake on the command line.
+/// Returns the failure of two names that clash. If memory runs out for the lines that explain it, there are none.
 pub fn clash_failure<R: AllocGlobal>(
     context: &Context<'_, R>,
     first: Vec<u8>,
     second: Vec<u8>,
-) -> Failure
-    ensures { UsageIsMistake result }
-{
+) -> Failure {
     let alloc = context.alloc();
     let lines = if context.explains {
         match remedy_lines_of(alloc, "Clash") {
@@ -105,8 +101,7 @@ fn damage<R>(context: &Context<'_, R>, reading: &Reading) -> Result<(), CliFault
 
 /// Writes the metrics of the image in what a reader has left, a family for each histogram: to the file `to`, or to
 /// standard output if there is none. If the families of two histograms clash, nothing is written. If what was read is
-/// not whole and has to be, that is a fault, which comes after the text. `Usage` comes only for a mistake on the
-/// command line.
+/// not whole and has to be, that is a fault, which comes after the text.
 pub fn write_families<
     'a,
     R: Files<File = File> + Clock + Print + RandomSource + AllocGlobal,
@@ -119,7 +114,6 @@ pub fn write_families<
     to: Option<&'a str>,
 ) -> Result<(), Failure>
     requires { has_failed reader ≡ false }
-    ensures { IfErr result UsageIsMistake }
 {
     let mut writer = open_out(context, to.unwrap_or(DASH))?;
     match read_families(context.alloc(), &mut reader, prefix, labels) {

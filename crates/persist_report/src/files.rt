@@ -2,8 +2,7 @@
 //! before it reads anything. That file is unchanged until the command has done all else. `-` is standard input, and as
 //! OUT standard output.
 
-ghost use Rattle.std.specs.Prelude.{◌≡◌, false, IfErr, IfOk};
-ghost use Rattle.persist_report.specs.Failure.{UsageIsMistake};
+ghost use Rattle.std.specs.Prelude.{◌≡◌, false, IfOk};
 ghost use Rattle.segment_image.specs.Watched.{has_failed};
 
 use crate::cause::Cause;
@@ -20,7 +19,7 @@ use image_reader::Reading;
 use persist_commands::{OpenGate, merge_files, resume_script, run_script};
 use persist_report_core::{CliFault, damage_of};
 use reading_shows::{Form, first_missing, write_text};
-use report_requests::{DASH, Workers};
+use report_asks::{DASH, Workers};
 use std::alloc::Global;
 use std::fs::File;
 use std::io::{Printer, Read};
@@ -32,14 +31,13 @@ use std::time::Clock;
 use std::{fs, io};
 
 /// Opens a file that is there, to read it, or standard input for `-`. What is read is put into the copy, if there is
-/// one. On `Ok` the file has not failed [file]; `Usage` comes only for a mistake on the command line [fault].
+/// one. On `Ok` the file has not failed.
 pub fn open<'a, R: Files + Input + AllocGlobal>(
     context: &Context<'_, R>,
     path: &'a str,
     copy: Option<Vec<u8>>,
 ) -> Result<Stream<'a, Incoming<R::File, R::Reader>>, Failure>
-    ensures file { IfOk result (λ file. has_failed file ≡ false) }
-    ensures fault { IfErr result UsageIsMistake }
+    ensures { IfOk result (λ file. has_failed file ≡ false) }
 {
     if path == DASH {
         let input = Incoming::Standard(context.rt.reader());
@@ -51,14 +49,12 @@ pub fn open<'a, R: Files + Input + AllocGlobal>(
     }
 }
 
-/// Opens the file that is written, or standard output for `-`. On `Ok` it has not failed [file]; `Usage` comes only for
-/// a mistake on the command line [fault].
+/// Opens the file that is written, or standard output for `-`. On `Ok` it has not failed.
 pub fn open_out<'a, 'r, R: Files<File = File> + Clock + Print + RandomSource + AllocGlobal>(
     context: &Context<'r, R>,
     path: &'a str,
 ) -> Result<Stream<'a, Output<File, Printer<'r, R>>>, Failure>
-    ensures file { IfOk result (λ file. has_failed file ≡ false) }
-    ensures fault { IfErr result UsageIsMistake }
+    ensures { IfOk result (λ file. has_failed file ≡ false) }
 {
     if path == DASH {
         let output = Output::Standard(io::writer(context.rt));
@@ -71,16 +67,14 @@ pub fn open_out<'a, 'r, R: Files<File = File> + Clock + Print + RandomSource + A
 }
 
 /// Returns the failure of a fault. BASE, if there is one, is read before the input; `output` is where a write failed,
-/// and why. `Usage` comes only for a mistake on the command line.
+/// and why.
 pub fn failed<'a, R: AllocGlobal, I>(
     context: &Context<'_, R>,
     fault: CliFault,
     base: Option<&Noted<'a, I>>,
     input: &Noted<'a, I>,
     output: (Origin<'a>, Option<io::Error>),
-) -> Failure
-    ensures { UsageIsMistake result }
-{
+) -> Failure {
     let last = match base {
         Some(base) if !input.is_used() => base,
         _ => input,
@@ -98,9 +92,8 @@ pub fn failed<'a, R: AllocGlobal, I>(
     failure_of(context, fault, known)
 }
 
-/// Ends a command over files with this outcome: the image that it wrote takes its place, or is removed. BASE, if
-/// there is one, was read before the input; `reason` is why standard output failed. `Usage` comes only for a mistake
-/// on the command line.
+/// Ends a command over files with this outcome: the image that it wrote takes its place, or is removed. BASE, if there
+/// is one, was read before the input; `reason` is why standard output failed.
 pub fn end<'a, R: Files<File = File> + AllocGlobal, I, P: Drop>(
     context: &Context<'_, R>,
     outcome: Result<(), CliFault>,
@@ -108,9 +101,7 @@ pub fn end<'a, R: Files<File = File> + AllocGlobal, I, P: Drop>(
     input: &Noted<'a, I>,
     image: Noted<'a, Output<File, P>>,
     reason: Option<io::Error>,
-) -> Result<(), Failure>
-    ensures { IfErr result UsageIsMistake }
-{
+) -> Result<(), Failure> {
     let (out, written) = (image.origin(), image.reason());
     let Err(cause) = image.into_inner().end(context.rt, outcome) else {
         return Ok(());
@@ -139,15 +130,13 @@ pub fn check(
     }
 }
 
-/// Writes a form of what a reader has left to standard output, and then sees what is wrong with what was read. `Usage`
-/// comes only for a mistake on the command line.
+/// Writes a form of what a reader has left to standard output, and then sees what is wrong with what was read.
 pub fn write_from<R: Print + AllocGlobal, I: Read + Drop>(
     context: &Context<'_, R>,
     form: Form<'_>,
     mut reader: Stream<'_, I>,
 ) -> Result<(), Failure>
     requires { has_failed reader ≡ false }
-    ensures { IfErr result UsageIsMistake }
 {
     let mut writer = context.output();
     let outcome = match write_text(context.alloc(), form, &mut reader, &mut writer) {
@@ -173,13 +162,12 @@ fn say_what_is_read<R: Files + Eprint>(rt: &R) {
 
 /// Opens the file of an image, or standard input if no file is named, or `-`; or a look at the file, if that is asked
 /// for. If no file is named and standard input is a terminal, a line on the error stream reports this. On `Ok` it has
-/// not failed [file]; `Usage` comes only for a mistake on the command line [fault].
+/// not failed.
 pub fn open_image<'a, R: Files<File = File> + Input + Eprint + AllocGlobal>(
     context: &Context<'_, R>,
     file: Option<&'a str>,
 ) -> Result<Stream<'a, Incoming<R::File, R::Reader>>, Failure>
-    ensures file { IfOk result (λ file. has_failed file ≡ false) }
-    ensures fault { IfErr result UsageIsMistake }
+    ensures { IfOk result (λ file. has_failed file ≡ false) }
 {
     if context.is_live {
         return open_look(context, file);
@@ -192,27 +180,27 @@ pub fn open_image<'a, R: Files<File = File> + Input + Eprint + AllocGlobal>(
 
 /// Writes a form of the image in a file to standard output; of that on standard input if no file is named, or `-`. If
 /// no file is named and standard input is a terminal, a line on the error stream reports this. If what was read is not
-/// whole and has to be, or lacks a histogram that was named, that is a fault, which comes after the text. `Usage` comes
-/// only for a mistake on the command line.
+/// whole and has to be, or lacks a histogram that was named, that is a fault, which comes after the text.
 pub fn write_file<R: Files<File = File> + Input + Print + Eprint + AllocGlobal>(
     context: &Context<'_, R>,
     form: Form<'_>,
     file: Option<&str>,
-) -> Result<(), Failure>
-    ensures { IfErr result UsageIsMistake }
-{
+) -> Result<(), Failure> {
     let reader = open_image(context, file)?;
     write_from(context, form, reader)
 }
 
 /// Runs the script in a file, and writes the image to another and its report to standard output. The image takes the
-/// other file's place after the report. `Usage` comes only for a mistake on the command line.
+/// other file's place after the report.
 pub fn run_file<
     'a,
     R: Files<File = File> + Clock + Input + Print + RandomSource + AllocGlobal + Threads + Wait,
->(context: &Context<'_, R>, script: &'a str, out: &'a str, workers: Workers) -> Result<(), Failure>
-    ensures { IfErr result UsageIsMistake }
-{
+>(
+    context: &Context<'_, R>,
+    script: &'a str,
+    out: &'a str,
+    workers: Workers,
+) -> Result<(), Failure> {
     let mut reader = open(context, script, context.copy())?;
     let mut image = open_out(context, out)?;
     let mut report = context.output();
@@ -237,8 +225,7 @@ pub fn run_file<
 }
 
 /// Continues from the image in a file and runs the script in another on it. Writes the new image to a third file and
-/// its report to standard output. The image takes the third file's place after the report. `Usage` comes only for a
-/// mistake on the command line.
+/// its report to standard output. The image takes the third file's place after the report.
 pub fn resume_file<
     'a,
     R: Files<File = File> + Clock + Input + Print + RandomSource + AllocGlobal + Threads + Wait,
@@ -248,9 +235,7 @@ pub fn resume_file<
     script: &'a str,
     out: &'a str,
     workers: Workers,
-) -> Result<(), Failure>
-    ensures { IfErr result UsageIsMistake }
-{
+) -> Result<(), Failure> {
     let mut first = open(context, base, context.copy())?;
     let mut second = open(context, script, context.copy())?;
     let mut image = open_out(context, out)?;
@@ -276,14 +261,11 @@ pub fn resume_file<
     )
 }
 
-/// Merges the images in two files into a new one, and writes it to a third. `Usage` comes only for a mistake on the
-/// command line.
+/// Merges the images in two files into a new one, and writes it to a third.
 pub fn merge_files_into<
     'a,
     R: Files<File = File> + Clock + Input + Print + RandomSource + AllocGlobal,
->(context: &Context<'_, R>, base: &'a str, dead: &'a str, out: &'a str) -> Result<(), Failure>
-    ensures { IfErr result UsageIsMistake }
-{
+>(context: &Context<'_, R>, base: &'a str, dead: &'a str, out: &'a str) -> Result<(), Failure> {
     let mut first = open(context, base, context.copy())?;
     let mut second = open(context, dead, context.copy())?;
     let mut image = open_out(context, out)?;

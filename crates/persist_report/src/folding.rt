@@ -6,9 +6,6 @@
 //!
 //! A segment that somebody records into has its lock, and stays. A fold waits for none.
 
-ghost use Rattle.std.specs.Prelude.{IfErr};
-ghost use Rattle.persist_report.specs.Failure.{UsageIsMistake};
-
 use crate::cause::Cause;
 use crate::context::Context;
 use crate::explaining::{remedies_of, unopened, unopened_out};
@@ -265,9 +262,7 @@ fn unwritten<R: AllocGlobal>(
     error: io::Error,
     folder: &str,
     name: &str,
-) -> Failure
-    ensures { UsageIsMistake result }
-{
+) -> Failure {
     match path_in(context.alloc(), folder, name) {
         Ok(path) => unopened(context, Cause::of_write(error), path.as_str()),
         Err(_) => Failure::Fault(CliFault::NoMemory),
@@ -281,9 +276,7 @@ fn next_totals<R: AllocGlobal>(
     totals: Totals,
     standing: &[(u64, u64)],
     finals: &[Final<'_>],
-) -> Result<Totals, Failure>
-    ensures { IfErr result UsageIsMistake }
-{
+) -> Result<Totals, Failure> {
     let alloc = context.alloc();
     let added: Vec<(u64, u64)> = finals
         .iter()
@@ -305,9 +298,7 @@ fn fold_some<R: Files<File = File> + AllocGlobal>(
     folder: &str,
     mut work: Work,
     segments: &[Segment],
-) -> Result<Work, Failure>
-    ensures { IfErr result UsageIsMistake }
-{
+) -> Result<Work, Failure> {
     let finals = work.add_finals(context.rt, segments)?;
     if finals.is_empty() {
         return Ok(work);
@@ -343,9 +334,7 @@ fn fold_some<R: Files<File = File> + AllocGlobal>(
 fn fold_locked<R: Files<File = File> + AllocGlobal>(
     context: &Context<'_, R>,
     folder: &str,
-) -> Result<Work, Failure>
-    ensures { IfErr result UsageIsMistake }
-{
+) -> Result<Work, Failure> {
     let text = totals_text_in(context, folder)?;
     let totals = totals_from(context, folder, text.as_deref())?;
     let segments = match segments_in(context.rt, folder) {
@@ -367,9 +356,10 @@ fn fold_locked<R: Files<File = File> + AllocGlobal>(
 }
 
 // Checks that a folder is a recording's.
-fn check_mark<R: Files + AllocGlobal>(context: &Context<'_, R>, folder: &str) -> Result<(), Failure>
-    ensures { IfErr result UsageIsMistake }
-{
+fn check_mark<R: Files + AllocGlobal>(
+    context: &Context<'_, R>,
+    folder: &str,
+) -> Result<(), Failure> {
     let mark = path_in(context.alloc(), folder, MARK)?;
     match fs::symlink_metadata(context.rt, mark.as_str()) {
         Ok(_) => Ok(()),
@@ -381,9 +371,7 @@ fn check_mark<R: Files + AllocGlobal>(context: &Context<'_, R>, folder: &str) ->
 fn lock_folds<R: Files<File = File> + Clock + AllocGlobal>(
     context: &Context<'_, R>,
     folder: &str,
-) -> Result<File, Failure>
-    ensures { IfErr result UsageIsMistake }
-{
+) -> Result<File, Failure> {
     let path = path_in(context.alloc(), folder, FOLD_LOCK)?;
     let mut options = OpenOptions::new();
     options
@@ -402,14 +390,11 @@ fn lock_folds<R: Files<File = File> + Clock + AllocGlobal>(
 }
 
 /// Adds the final segments of a recording's folder to its totals, and removes them. Those that cannot be read stay, and
-/// are reported: then it ends with `Left`. `Busy` comes if another fold is at work, and `Usage` only for a mistake on
-/// the command line.
+/// are reported: then it ends with `Left`. `Busy` comes if another fold is at work.
 pub fn fold_folder<R: Files<File = File> + Clock + Eprint + AllocGlobal>(
     context: &Context<'_, R>,
     folder: &str,
-) -> Result<(), Failure>
-    ensures { IfErr result UsageIsMistake }
-{
+) -> Result<(), Failure> {
     check_mark(context, folder)?;
     let lock = lock_folds(context, folder)?;
     let work = fold_locked(context, folder)?;

@@ -1,8 +1,5 @@
 //! The inputs of a command that writes a text: files, lists of files and folders.
 
-ghost use Rattle.std.specs.Prelude.{IfErr};
-ghost use Rattle.persist_report.specs.Failure.{UsageIsMistake};
-
 use crate::cause::Cause;
 use crate::context::Context;
 use crate::explaining::unopened;
@@ -11,8 +8,8 @@ use crate::leftover::is_new_name;
 use crate::recorded::{Recorded, read_folder};
 use crate::standing::{is_recording, names_in, path_in};
 use persist_report_core::CliFault;
-use report_requests::{DASH, Inputs, two_inputs};
-use std::alloc::{AllocError, Global};
+use report_asks::{DASH, Inputs, Wrong};
+use std::alloc::AllocError;
 use std::fs::File;
 use std::rt::Files;
 use std::{fs, io};
@@ -103,9 +100,7 @@ fn put_recorded<R: Files<File = File> + AllocGlobal>(
     context: &Context<'_, R>,
     names: &mut Vec<Named>,
     folder: &str,
-) -> Result<(), Failure>
-    ensures { IfErr result UsageIsMistake }
-{
+) -> Result<(), Failure> {
     let reading = read_folder(context, folder)?;
     let path = String::from_str(context.alloc(), folder)?;
     put_named(names, path, What::Recorded(reading.recorded))?;
@@ -121,9 +116,7 @@ pub fn put_input<R: Files<File = File> + AllocGlobal>(
     context: &Context<'_, R>,
     names: &mut Vec<Named>,
     path: &str,
-) -> Result<(), Failure>
-    ensures { IfErr result UsageIsMistake }
-{
+) -> Result<(), Failure> {
     if is_folder(context.rt, path) {
         if is_recording(context.rt, path)? {
             return put_recorded(context, names, path);
@@ -153,9 +146,7 @@ fn put_lines<R: Files<File = File> + AllocGlobal>(
     context: &Context<'_, R>,
     names: &mut Vec<Named>,
     lines: &str,
-) -> Result<(), Failure>
-    ensures { IfErr result UsageIsMistake }
-{
+) -> Result<(), Failure> {
     for line in lines.lines() {
         if !line.is_empty() {
             put_input(context, names, line)?;
@@ -169,9 +160,7 @@ fn put_list<R: Files<File = File> + Input + AllocGlobal>(
     context: &Context<'_, R>,
     names: &mut Vec<Named>,
     list: &str,
-) -> Result<(), Failure>
-    ensures { IfErr result UsageIsMistake }
-{
+) -> Result<(), Failure> {
     match list_bytes(context.rt, list) {
         Ok(lines) => put_lines(context, names, lines.as_str()),
         Err(error) => Err(unopened(context, Cause::of(CliFault::Read, error), list)),
@@ -190,11 +179,9 @@ fn dashes_among(names: &[Named], others: usize) -> usize {
 }
 
 // Refuses standard input if it is named twice: among some names, and by the others, which name it `others` times.
-fn check_dashes_among(alloc: Global, names: &[Named], others: usize) -> Result<(), Failure>
-    ensures { IfErr result UsageIsMistake }
-{
+fn check_dashes_among(names: &[Named], others: usize) -> Result<(), Failure> {
     if dashes_among(names, others) > 1 {
-        return Err(Failure::Usage(two_inputs(alloc)?));
+        return Err(Failure::Usage(Wrong::TwoInputs));
     }
     Ok(())
 }
@@ -204,9 +191,7 @@ fn put_files<R: Files<File = File> + AllocGlobal>(
     context: &Context<'_, R>,
     names: &mut Vec<Named>,
     files: &[&str],
-) -> Result<(), Failure>
-    ensures { IfErr result UsageIsMistake }
-{
+) -> Result<(), Failure> {
     for file in files {
         put_input(context, names, file)?;
     }
@@ -218,9 +203,7 @@ fn put_named_files<R: Files<File = File> + AllocGlobal>(
     context: &Context<'_, R>,
     names: &mut Vec<Named>,
     inputs: &Inputs<'_>,
-) -> Result<(), Failure>
-    ensures { IfErr result UsageIsMistake }
-{
+) -> Result<(), Failure> {
     if inputs.files.is_empty() && inputs.list.is_none() {
         return put_input(context, names, DASH);
     }
@@ -233,12 +216,10 @@ fn put_listed_files<R: Files<File = File> + Input + AllocGlobal>(
     names: &mut Vec<Named>,
     list: Option<&str>,
     others: usize,
-) -> Result<(), Failure>
-    ensures { IfErr result UsageIsMistake }
-{
+) -> Result<(), Failure> {
     let Some(list) = list else { return Ok(()) };
     put_list(context, names, list)?;
-    check_dashes_among(context.alloc(), names, others)
+    check_dashes_among(names, others)
 }
 
 // Appends the names of all inputs, in their order.
@@ -246,23 +227,18 @@ fn put_names<R: Files<File = File> + Input + AllocGlobal>(
     context: &Context<'_, R>,
     names: &mut Vec<Named>,
     inputs: &Inputs<'_>,
-) -> Result<(), Failure>
-    ensures { IfErr result UsageIsMistake }
-{
+) -> Result<(), Failure> {
     let others = inputs.other_dashes();
     put_named_files(context, names, inputs)?;
-    check_dashes_among(context.alloc(), names, others)?;
+    check_dashes_among(names, others)?;
     put_listed_files(context, names, inputs.list, others)
 }
 
-/// Returns the names of all inputs, in their order. `Usage` comes only for a mistake on the command line, such as
-/// standard input that is named twice.
+/// Returns the names of all inputs, in their order. `Usage` comes if standard input is named twice.
 pub fn names_of<R: Files<File = File> + Input + AllocGlobal>(
     context: &Context<'_, R>,
     inputs: &Inputs<'_>,
-) -> Result<Vec<Named>, Failure>
-    ensures { IfErr result UsageIsMistake }
-{
+) -> Result<Vec<Named>, Failure> {
     let mut names = Vec::new(context.alloc());
     match put_names(context, &mut names, inputs) {
         Ok(()) => Ok(names),

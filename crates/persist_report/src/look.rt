@@ -1,7 +1,6 @@
 //! Looks at the segment in a file that is in use: its image is written to another file, or is what a text shows.
 
-ghost use Rattle.std.specs.Prelude.{◌≡◌, false, IfErr, IfOk};
-ghost use Rattle.persist_report.specs.Failure.{UsageIsMistake};
+ghost use Rattle.std.specs.Prelude.{◌≡◌, false, IfOk};
 ghost use Rattle.segment_image.specs.Watched.{has_failed};
 
 use crate::cause::Cause;
@@ -15,7 +14,7 @@ use crate::part::Part;
 use fault_texts::Origin;
 use persist_commands::look_file;
 use persist_report_core::CliFault;
-use report_requests::{DASH, no_file};
+use report_asks::{DASH, Wrong};
 use std::collections::VecDeque;
 use std::fs;
 use std::fs::File;
@@ -45,8 +44,7 @@ fn open_at<'a, R: Files<File = File> + Input + AllocGlobal>(
     at: Option<u64>,
     copy: Option<Vec<u8>>,
 ) -> Result<Stream<'a, Incoming<R::File, R::Reader>>, Failure>
-    ensures file { IfOk result (λ file. has_failed file ≡ false) }
-    ensures fault { IfErr result UsageIsMistake }
+    ensures { IfOk result (λ file. has_failed file ≡ false) }
 {
     let Some(at) = at else {
         return open(context, path, copy);
@@ -63,15 +61,12 @@ fn open_at<'a, R: Files<File = File> + Input + AllocGlobal>(
 
 /// Looks at the segment in a file that is in use, which is read three times, and writes its image to another, or to
 /// standard output if none is named. If a byte is named, the segment begins there, as in the memory of a process.
-/// `Usage` comes only for a mistake on the command line.
 pub fn look_into<'a, R: Files<File = File> + Clock + Input + Print + RandomSource + AllocGlobal>(
     context: &Context<'_, R>,
     file: &'a str,
     at: Option<u64>,
     out: Option<&'a str>,
-) -> Result<(), Failure>
-    ensures { IfErr result UsageIsMistake }
-{
+) -> Result<(), Failure> {
     let mut first = open_at(context, file, at, None)?;
     let mut second = open_at(context, file, at, None)?;
     let mut third = open_at(context, file, at, context.copy())?;
@@ -88,14 +83,11 @@ pub fn look_into<'a, R: Files<File = File> + Clock + Input + Print + RandomSourc
     end(context, outcome, None, last, image.into_inner(), None)
 }
 
-/// Returns the bytes of the image of a look at the segment in a file, which is read three times. `Usage` comes only for
-/// a mistake on the command line.
+/// Returns the bytes of the image of a look at the segment in a file, which is read three times.
 pub fn look_at<R: Files<File = File> + Input + AllocGlobal>(
     context: &Context<'_, R>,
     file: &str,
-) -> Result<VecDeque<u8>, Failure>
-    ensures { IfErr result UsageIsMistake }
-{
+) -> Result<VecDeque<u8>, Failure> {
     let mut first = open_at(context, file, context.at, None)?;
     let mut second = open_at(context, file, context.at, None)?;
     let mut third = open_at(context, file, context.at, context.copy())?;
@@ -118,14 +110,13 @@ pub fn look_at<R: Files<File = File> + Input + AllocGlobal>(
     Err(failed(context, fault, None, last, (Origin::Output, None)))
 }
 
-/// Opens the image of a look at the segment in a file that is in use. On `Ok` it has not failed [file]; `Usage` comes
-/// only for a mistake on the command line, as when no file is named, or `-` [fault].
+/// Opens the image of a look at the segment in a file that is in use. On `Ok` it has not failed; `Usage` comes if no
+/// file is named, or `-`.
 pub fn open_look<'a, R: Files<File = File> + Input + AllocGlobal>(
     context: &Context<'_, R>,
     file: Option<&'a str>,
 ) -> Result<Stream<'a, Incoming<R::File, R::Reader>>, Failure>
-    ensures file { IfOk result (λ file. has_failed file ≡ false) }
-    ensures fault { IfErr result UsageIsMistake }
+    ensures { IfOk result (λ file. has_failed file ≡ false) }
 {
     match file {
         Some(path) if path != DASH => {
@@ -133,6 +124,6 @@ pub fn open_look<'a, R: Files<File = File> + Input + AllocGlobal>(
             let look = Incoming::Look(bytes);
             Ok(Noted::stream(look, Origin::File(path), context.copy()))
         }
-        _ => Err(Failure::Usage(no_file(context.alloc())?)),
+        _ => Err(Failure::Usage(Wrong::NoFile)),
     }
 }

@@ -36,16 +36,17 @@ mod sum_writing;
 mod summing;
 mod terminal;
 mod texts;
+mod unmet;
 
 use std::process::ExitCode;
 
 fn main(rt: HostRuntime) -> ExitCode {
     match run::run(&rt) {
         Ok(()) => ExitCode::SUCCESS,
-        Err(failure) => {
-            let status = failure.status();
+        Err(unmet) => {
+            let status = unmet.status();
             // If the error stream itself fails, nothing can be reported.
-            let _ = rt.eprint(failure);
+            let _ = rt.eprint(unmet);
             ExitCode::from(status)
         }
     }

@@ -8,8 +8,7 @@
 //! after the second one; and if it begins again, it looks at new segments alone: what had ended before it first began
 //! is in the looks that it has.
 
-ghost use Rattle.std.specs.Prelude.{◌≡◌, IfErr, IfOk, OnErr};
-ghost use Rattle.persist_report.specs.Failure.{UsageIsMistake};
+ghost use Rattle.std.specs.Prelude.{◌≡◌, IfOk, OnErr};
 ghost use Rattle.sum_commands.specs.Sources.{AddsSome};
 
 use crate::context::Context;
@@ -288,9 +287,7 @@ fn read_once<R: Files<File = File> + AllocGlobal>(
     context: &Context<'_, R>,
     folder: &str,
     looks: &mut Looks,
-) -> Result<Option<FolderReading>, Failure>
-    ensures { IfErr result UsageIsMistake }
-{
+) -> Result<Option<FolderReading>, Failure> {
     let before = totals_text_in(context, folder)?;
     let totals = totals_from(context, folder, before.as_deref())?;
     let serial = serial_of(&totals);
@@ -318,13 +315,11 @@ fn read_once<R: Files<File = File> + AllocGlobal>(
 }
 
 /// Returns the reading of a recording's folder. `Busy` comes if folds ended, or files went away, as often as it was
-/// read; `Usage` only for a mistake on the command line.
+/// read.
 pub fn read_folder<R: Files<File = File> + AllocGlobal>(
     context: &Context<'_, R>,
     folder: &str,
-) -> Result<FolderReading, Failure>
-    ensures { IfErr result UsageIsMistake }
-{
+) -> Result<FolderReading, Failure> {
     let mut looks = Looks {
         all: Vec::new(context.alloc()),
         bytes: 0,

@@ -1,8 +1,5 @@
 //! Texts of looks that are written again and again.
 
-ghost use Rattle.std.specs.Prelude.{IfErr};
-ghost use Rattle.persist_report.specs.Failure.{UsageIsMistake};
-
 use crate::context::Context;
 use crate::failure::Failure;
 use crate::files::{check, open_image, open_out};
@@ -12,7 +9,7 @@ use image_reader::Reading;
 use jiff::Timestamp;
 use persist_report_core::CliFault;
 use reading_shows::{Choice, Form, Style, write_text};
-use report_requests::{DASH, Repeat};
+use report_asks::{DASH, Repeat};
 use std::fs::File;
 use std::random::RandomSource;
 use std::rt::Files;
@@ -111,9 +108,7 @@ fn show_look<
     context: &Context<'_, R>,
     shown: Shown<'a>,
     earlier: Option<&Reading>,
-) -> Result<Option<Reading>, Failure>
-    ensures { IfErr result UsageIsMistake }
-{
+) -> Result<Option<Reading>, Failure> {
     let form = form_since(shown, earlier);
     let mut reader = open_image(context, shown.file)?;
     let mut writer = open_out(context, shown.to.unwrap_or(DASH))?;
@@ -135,7 +130,7 @@ fn show_look<
 }
 
 /// Writes texts of looks, one after the other, each but the first with what was counted since the one before. The first
-/// fault ends it. `Usage` comes only for a mistake on the command line.
+/// fault ends it.
 pub fn show_again<
     R: Files<File = File> + Clock + Input + Print + Eprint + RandomSource + AllocGlobal,
 >(
@@ -143,9 +138,7 @@ pub fn show_again<
     shown: Shown<'_>,
     division: Division,
     repeat: Repeat,
-) -> Result<(), Failure>
-    ensures { IfErr result UsageIsMistake }
-{
+) -> Result<(), Failure> {
     let mut earlier = None;
     for number in 0..repeat.times() {
         if number > 0 {

@@ -1,7 +1,7 @@
 //! Does what the command line asks for.
 
 ghost use Rattle.std.specs.Prelude.{IfErr};
-ghost use Rattle.persist_report.specs.Failure.{UsageIsMistake};
+ghost use Rattle.persist_report.specs.Unmet.{UsageIsMistake};
 
 use crate::context::Context;
 use crate::extracting::extract_file;
@@ -17,10 +17,12 @@ use crate::sources::source_of;
 use crate::sum_writing::Text;
 use crate::terminal::columns;
 use crate::texts::{write_export, write_inputs};
+use crate::unmet::Unmet;
 use fault_texts::{AllTexts, is_asked, nearest_name, texts_for};
 use persist_report_core::CliFault;
 use reading_shows::{Choice, Form, ListStyle, Source, Style};
-use report_requests::{Inputs, Repeat, Request, Task, check_dashes, no_fault, not_text};
+use report_asks::{Inputs, Repeat, Wrong};
+use report_requests::{Request, Task, Unasked, check_dashes};
 use std::fs::File;
 use std::random::RandomSource;
 use std::rt::{Env, Files};
@@ -32,8 +34,8 @@ use std::{env, io};
 /// Does what the arguments ask for.
 ///
 /// `Usage` comes if they ask for nothing that the program does, never for help, the version or if memory runs out;
-/// `Fault` if the request failed, `NoMemory` also if memory ran out when the arguments were read, and `Write` also if
-/// a help or version text could not be written.
+/// `Failed` if the request failed: with `NoMemory` also if memory ran out when the arguments were read, and with `Write`
+/// also if a help or version text could not be written.
 pub fn run<
     R: Env
         + Files<File = File>
@@ -45,62 +47,65 @@ pub fn run<
         + AllocGlobal
         + Threads
         + Wait,
->(rt: &R) -> Result<(), Failure>
+>(rt: &R) -> Result<(), Unmet>
     ensures { IfErr result UsageIsMistake }
 {
-    let words = words(rt)?;
-    match Request::of(rt.alloc(), words.as_slice(), columns(rt)) {
+    let words = match words(rt) {
+        Ok(words) => words,
+        Err(failure) => return Err(Unmet::of(rt.alloc(), failure)),
+    };
+    let outcome = match Request::of(rt.alloc(), words.as_slice(), columns(rt)) {
         Ok(request) => {
-            let Request {
-                task,
-                inputs,
-                explains,
-                wants_whole,
-                is_live,
-                at,
-                repeat,
-            } = request;
-            let context = Context {
-                rt,
-                explains: explains || is_asked(rt),
-                wants_whole,
-                is_live,
-                at,
-            };
-            match repeat {
-                None => meet(&context, &task, &inputs)?,
-                Some(repeat) => meet_again(&context, &task, &inputs, repeat)?,
+            let context = context_of(rt, &request);
+            match request.repeat {
+                None => meet(&context, &request.task, &request.inputs),
+                Some(repeat) => meet_again(&context, &request.task, &request.inputs, repeat),
             }
         }
-        Err(error) if error.use_stderr() => return Err(Failure::from(error)),
-        Err(shown) => rt.print(shown).map_err(|_| CliFault::Write)?,
+        Err(Unasked::Help(shown)) => rt.print(shown).map_err(|_| Failure::Fault(CliFault::Write)),
+        Err(Unasked::Mistake(error)) => return Err(Unmet::Usage(error)),
+        Err(Unasked::NoMemory) => Err(Failure::Fault(CliFault::NoMemory)),
+    };
+    match outcome {
+        Ok(()) => Ok(()),
+        Err(failure) => Err(Unmet::of(rt.alloc(), failure)),
     }
-    Ok(())
 }
 
-fn words<R: Env + AllocGlobal>(rt: &R) -> Result<Vec<String>, Failure>
-    ensures { IfErr result UsageIsMistake }
-{
+// What a command runs with, by its request.
+fn context_of<'r, R: Env + Files + AllocGlobal>(
+    rt: &'r R,
+    request: &Request<'_>,
+) -> Context<'r, R> {
+    Context {
+        rt,
+        explains: request.explains || is_asked(rt),
+        wants_whole: request.wants_whole,
+        is_live: request.is_live,
+        at: request.at,
+    }
+}
+
+// The words of the command line.
+fn words<R: Env + AllocGlobal>(rt: &R) -> Result<Vec<String>, Failure> {
     match env::args(rt) {
         Ok(words) => Ok(words.collect(rt.alloc())?),
         Err(error) if error.kind() == io::ErrorKind::OutOfMemory => {
             Err(Failure::Fault(CliFault::NoMemory))
         }
-        Err(_) => Err(Failure::Usage(not_text(rt.alloc())?)),
+        Err(_) => Err(Failure::Usage(Wrong::NotText)),
     }
 }
 
 // Writes what the fault of a name means, or what each means if there is no name.
-fn explain<R: Print + AllocGlobal>(rt: &R, name: Option<&str>) -> Result<(), Failure>
-    ensures { IfErr result UsageIsMistake }
-{
+fn explain<R: Print + AllocGlobal>(rt: &R, name: Option<&str>) -> Result<(), Failure> {
     match name {
         None => rt.print(AllTexts).map_err(|_| CliFault::Write)?,
         Some(name) => match texts_for(rt.alloc(), name)? {
             Some(texts) => rt.print(texts).map_err(|_| CliFault::Write)?,
             None => {
                 let nearest = nearest_name(rt.alloc(), name)?;
-                return Err(Failure::Usage(no_fault(rt.alloc(), nearest)?));
+                return Err(Failure::Usage(Wrong::NoFault(nearest)));
             }
         },
     }
@@ -156,10 +161,8 @@ fn meet<
         + AllocGlobal
         + Threads
         + Wait,
->(context: &Context<'_, R>, task: &Task<'_>, inputs: &Inputs<'_>) -> Result<(), Failure>
-    ensures { IfErr result UsageIsMistake }
-{
-    check_dashes(context.alloc(), task)?;
+>(context: &Context<'_, R>, task: &Task<'_>, inputs: &Inputs<'_>) -> Result<(), Failure> {
+    check_dashes(task)?;
     match *task {
         Task::Report { has_rows_alone, to } => {
             write_inputs(context, inputs, Text::Form(report_form(has_rows_alone)), to)
@@ -252,13 +255,11 @@ fn meet_again<
     task: &Task<'_>,
     inputs: &Inputs<'_>,
     repeat: Repeat,
-) -> Result<(), Failure>
-    ensures { IfErr result UsageIsMistake }
-{
+) -> Result<(), Failure> {
     if let Some(shown) = shown_by(task)
         && !is_of_many(context.rt, inputs)
     {
-        check_dashes(context.alloc(), task)?;
+        check_dashes(task)?;
         return show_again(context, shown, division_of(task), repeat);
     }
     for number in 0..repeat.times() {

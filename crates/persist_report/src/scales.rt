@@ -1,8 +1,5 @@
 //! The command that prints the record of a histogram of a scale.
 
-ghost use Rattle.std.specs.Prelude.{IfErr};
-ghost use Rattle.persist_report.specs.Failure.{UsageIsMistake};
-
 use crate::context::Context;
 use crate::explaining::{FaultContext, failure_of};
 use crate::failure::Failure;
@@ -20,9 +17,7 @@ fn lines_of(alloc: Global, fault: SpecFault) -> Result<String, AllocError> {
 }
 
 // The failure of a fault of a scale. If memory runs out for the lines that explain it, there are none.
-fn refused<R: AllocGlobal>(context: &Context<'_, R>, fault: SpecFault) -> Failure
-    ensures { UsageIsMistake result }
-{
+fn refused<R: AllocGlobal>(context: &Context<'_, R>, fault: SpecFault) -> Failure {
     let alloc = context.alloc();
     match fault {
         SpecFault::NoMemory => Failure::Fault(CliFault::NoMemory),
@@ -35,9 +30,10 @@ fn refused<R: AllocGlobal>(context: &Context<'_, R>, fault: SpecFault) -> Failur
 }
 
 // Writes a text to standard output.
-fn write_text<R: Print + AllocGlobal>(context: &Context<'_, R>, text: &[u8]) -> Result<(), Failure>
-    ensures { IfErr result UsageIsMistake }
-{
+fn write_text<R: Print + AllocGlobal>(
+    context: &Context<'_, R>,
+    text: &[u8],
+) -> Result<(), Failure> {
     let mut output = context.output();
     let Err(fault) = write_and_flush(&mut output, text) else {
         return Ok(());
@@ -56,14 +52,12 @@ fn write_text<R: Print + AllocGlobal>(context: &Context<'_, R>, text: &[u8]) -> 
 
 /// Writes the record of a script that asks for a custom histogram of a name, whose values are those of a scale.
 ///
-/// `Scale` comes if the scale has a fault; `Usage` comes only for a mistake on the command line.
+/// `Scale` comes if the scale has a fault.
 pub fn print_scale<R: Print + AllocGlobal>(
     context: &Context<'_, R>,
     name: &str,
     scale: Scale,
-) -> Result<(), Failure>
-    ensures { IfErr result UsageIsMistake }
-{
+) -> Result<(), Failure> {
     let Scale { min, max, bits } = scale;
     match log_linear(context.alloc(), min, max, bits) {
         Ok(Spec::Custom(values)) => {

@@ -1,7 +1,6 @@
 //! The command that says how large a segment has to be.
 
-ghost use Rattle.std.specs.Prelude.{◌≡◌, false, IfErr};
-ghost use Rattle.persist_report.specs.Failure.{UsageIsMistake};
+ghost use Rattle.std.specs.Prelude.{◌≡◌, false};
 ghost use Rattle.segment_image.specs.Watched.{has_failed};
 
 use crate::context::Context;
@@ -12,7 +11,8 @@ use crate::noted::Stream;
 use bucket_ranges::limits::MAX_UNITS;
 use fault_texts::{Origin, Source};
 use persist_report_core::{CliFault, Script, ScriptFault, read_script, write_and_flush};
-use report_requests::{SizeTask, no_hist, no_page};
+use report_asks::Wrong;
+use report_requests::SizeTask;
 use segment_calls::Refusal;
 use segment_image::Watched;
 use size_texts::{Sizes, sizes_of, values_of};
@@ -112,7 +112,6 @@ fn size_from<R: Print + AllocGlobal, I: Read + Drop>(
     task: &SizeTask<'_>,
 ) -> Result<(), Failure>
     requires { has_failed reader ≡ false }
-    ensures { IfErr result UsageIsMistake }
 {
     let mut output = context.output();
     let alloc = context.alloc();
@@ -141,9 +140,7 @@ fn size_from<R: Print + AllocGlobal, I: Read + Drop>(
 fn size_hists<R: Print + AllocGlobal>(
     context: &Context<'_, R>,
     task: &SizeTask<'_>,
-) -> Result<(), Failure>
-    ensures { IfErr result UsageIsMistake }
-{
+) -> Result<(), Failure> {
     let alloc = context.alloc();
     let text = script_text(alloc, &task.hists, task.page.unwrap_or(USUAL_PAGE))?;
     match read_script(alloc, &mut Watched::new(text.as_bytes()), MAX_UNITS) {
@@ -152,20 +149,17 @@ fn size_hists<R: Print + AllocGlobal>(
             Ok(write_sizes(alloc, &script, task, &mut output)?)
         }
         Err(ScriptFault::NoMemory) => Err(Failure::Fault(CliFault::NoMemory)),
-        Err(_) => Err(Failure::Usage(no_hist(alloc)?)),
+        Err(_) => Err(Failure::Usage(Wrong::NoHist)),
     }
 }
 
-/// Says how large a segment has to be: for the script in a file, or for the histograms of options. `Usage` comes only
-/// for a mistake on the command line.
+/// Says how large a segment has to be: for the script in a file, or for the histograms of options.
 pub fn size_of_task<R: Files + Input + Print + AllocGlobal>(
     context: &Context<'_, R>,
     task: &SizeTask<'_>,
-) -> Result<(), Failure>
-    ensures { IfErr result UsageIsMistake }
-{
+) -> Result<(), Failure> {
     if task.page.is_some_and(|page| page % 16 != 0) {
-        return Err(Failure::Usage(no_page(context.alloc())?));
+        return Err(Failure::Usage(Wrong::NoPage));
     }
     match task.script {
         Some(path) => {

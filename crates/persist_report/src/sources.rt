@@ -2,7 +2,7 @@
 
 use crate::inputs::Named;
 use reading_shows::Source;
-use report_requests::DASH;
+use report_asks::DASH;
 
 // What standard input is called among several inputs.
 const INPUT: &str = "standard input";

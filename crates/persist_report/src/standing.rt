@@ -1,8 +1,5 @@
 //! What is in a recording's folder. `docs/FORMAT.md` has the names.
 
-ghost use Rattle.std.specs.Prelude.{IfErr};
-ghost use Rattle.persist_report.specs.Failure.{UsageIsMistake};
-
 use crate::cause::Cause;
 use crate::context::Context;
 use crate::explaining::unopened;
@@ -130,14 +127,11 @@ fn read_totals<R: Files + AllocGlobal>(rt: &R, path: &str) -> io::Result<Option<
     }
 }
 
-/// Returns the text of the totals of a folder; none if there is no such file. `Usage` comes only for a mistake on the
-/// command line.
+/// Returns the text of the totals of a folder; none if there is no such file.
 pub fn totals_text_in<R: Files + AllocGlobal>(
     context: &Context<'_, R>,
     folder: &str,
-) -> Result<Option<Vec<u8>>, Failure>
-    ensures { IfErr result UsageIsMistake }
-{
+) -> Result<Option<Vec<u8>>, Failure> {
     let path = path_in(context.alloc(), folder, TOTALS)?;
     match read_totals(context.rt, path.as_str()) {
         Ok(text) => Ok(text),
@@ -145,15 +139,12 @@ pub fn totals_text_in<R: Files + AllocGlobal>(
     }
 }
 
-/// Returns what the text of the totals of a folder says: without a text, that nothing was folded. `Usage` comes only
-/// for a mistake on the command line.
+/// Returns what the text of the totals of a folder says: without a text, that nothing was folded.
 pub fn totals_from<R: AllocGlobal>(
     context: &Context<'_, R>,
     folder: &str,
     text: Option<&[u8]>,
-) -> Result<Totals, Failure>
-    ensures { IfErr result UsageIsMistake }
-{
+) -> Result<Totals, Failure> {
     let alloc = context.alloc();
     let Some(text) = text else {
         return Ok(Totals {

@@ -1,9 +1,8 @@
 //! The texts of sums of inputs.
 
-ghost use Rattle.std.specs.Prelude.{◌≡◌, false, map, All, IfErr, IfOk};
+ghost use Rattle.std.specs.Prelude.{◌≡◌, false, map, All};
 ghost use Rattle.image_reader.specs.Readable.{IsReadable};
 ghost use Rattle.image_reader.specs.Views.{histogram_view};
-ghost use Rattle.persist_report.specs.Failure.{UsageIsMistake};
 ghost use Rattle.segment_image.specs.Watched.{has_failed};
 ghost use Rattle.reading_sums.specs.Whole.{IsWellFormed};
 
@@ -25,7 +24,7 @@ use reading_shows::{
 };
 use reading_sums::{MinusFault, Sums};
 use reading_texts::{FamilyFault, Label, export_text, families_text, table_text};
-use report_requests::{DASH, Inputs, no_overview};
+use report_asks::{DASH, Inputs, Wrong};
 use std::alloc::{AllocError, Global};
 use std::fs::File;
 use std::io::Read;
@@ -54,14 +53,12 @@ struct Composed {
     wrong: Result<(), Failure>,
 }
 
-/// Returns the failure of an input; `Usage` comes only for a mistake on the command line.
+/// Returns the failure of an input.
 pub fn input_failure<R: AllocGlobal>(
     context: &Context<'_, R>,
     fault: InputFault,
     path: &str,
-) -> Failure
-    ensures { UsageIsMistake result }
-{
+) -> Failure {
     if fault.is_no_memory() {
         return Failure::Fault(CliFault::NoMemory);
     }
@@ -81,9 +78,7 @@ fn first_failure<R: AllocGlobal>(
     context: &Context<'_, R>,
     names: &[Named],
     left: Vec<Left>,
-) -> Result<(), Failure>
-    ensures { IfErr result UsageIsMistake }
-{
+) -> Result<(), Failure> {
     for one in left {
         if let Some(name) = names.get(one.place) {
             return Err(input_failure(context, one.fault, name.path.as_str()));
@@ -93,9 +88,7 @@ fn first_failure<R: AllocGlobal>(
 }
 
 // The failure of a subtraction: the sum to subtract is not part of the other, or the difference does not fit.
-fn minus_failure<R: AllocGlobal>(context: &Context<'_, R>, fault: MinusFault) -> Failure
-    ensures { UsageIsMistake result }
-{
+fn minus_failure<R: AllocGlobal>(context: &Context<'_, R>, fault: MinusFault) -> Failure {
     match fault {
         MinusFault::NoMemory => Failure::Fault(CliFault::NoMemory),
         MinusFault::TooMany => Failure::TooMany(remedies_of(context, "TooMany")),
@@ -118,9 +111,7 @@ fn less_earlier<R: Files<File = File> + Clock + Input + Eprint + AllocGlobal + T
     sums: Sums,
     earlier: &str,
     workers: usize,
-) -> Result<Sums, Failure>
-    ensures { IfErr result UsageIsMistake }
-{
+) -> Result<Sums, Failure> {
     let mut names = Vec::new(context.alloc());
     put_input(context, &mut names, earlier)?;
     let before = sum_of_names(
@@ -147,7 +138,6 @@ fn families_of<R: AllocGlobal>(
     labels: &[Label<'_>],
 ) -> Result<Vec<u8>, Failure>
     requires { All IsReadable (map histogram_view reading.now.hists.items) }
-    ensures { IfErr result UsageIsMistake }
 {
     match families_text(context.alloc(), reading, prefix.as_bytes(), labels) {
         Ok(text) => Ok(text),
@@ -183,7 +173,6 @@ fn form_text<R: AllocGlobal>(
 ) -> Result<Vec<u8>, Failure>
     requires formed { IsWellFormed sums.now }
     requires readable { All IsReadable (map histogram_view reading.now.hists.items) }
-    ensures { IfErr result UsageIsMistake }
 {
     let alloc = context.alloc();
     let text = match form {
@@ -205,7 +194,7 @@ fn form_text<R: AllocGlobal>(
             let head = head_of(alloc, sums, left)?;
             page_of_sum(alloc, &head, reading, source, shows_all, choice)
         }
-        Form::Info { .. } => return Err(Failure::Usage(no_overview(alloc)?)),
+        Form::Info { .. } => return Err(Failure::Usage(Wrong::NoOverview)),
     };
     Ok(text?)
 }
@@ -217,9 +206,7 @@ fn wrong_with<R: AllocGlobal>(
     reading: &ImageReading,
     is_damaged: bool,
     left: u64,
-) -> Result<(), Failure>
-    ensures { IfErr result UsageIsMistake }
-{
+) -> Result<(), Failure> {
     if context.wants_whole && is_damaged {
         return Err(Failure::NotWhole(remedies_of(context, "NotWhole")));
     }
@@ -245,10 +232,7 @@ fn make_composed<R: AllocGlobal>(
     sums: Sums,
     is_damaged: bool,
     left: u64,
-) -> Result<Composed, Failure>
-    ensures mistake { IfErr result UsageIsMistake }
-    ensures wrong { IfOk result (λ composed. IfErr composed.wrong UsageIsMistake) }
-{
+) -> Result<Composed, Failure> {
     let alloc = context.alloc();
     if !sums.is_well_formed()? {
         return Err(Failure::NotWhole(remedies_of(context, "NotWhole")));
@@ -276,10 +260,7 @@ fn compose<R: Files<File = File> + Clock + Input + Eprint + AllocGlobal + Thread
     inputs: &Inputs<'_>,
     names: &[Named],
     text: Text<'_>,
-) -> Result<Composed, Failure>
-    ensures mistake { IfErr result UsageIsMistake }
-    ensures wrong { IfOk result (λ composed. IfErr composed.wrong UsageIsMistake) }
-{
+) -> Result<Composed, Failure> {
     let how = Reading {
         is_live: context.is_live,
         is_strict: inputs.is_strict,
@@ -319,10 +300,7 @@ fn write_composed<R: Files<File = File> + Clock + Print + RandomSource + AllocGl
     context: &Context<'_, R>,
     composed: Composed,
     to: Option<&str>,
-) -> Result<(), Failure>
-    requires { IfErr composed.wrong UsageIsMistake }
-    ensures { IfErr result UsageIsMistake }
-{
+) -> Result<(), Failure> {
     let mut writer = open_out(context, to.unwrap_or(DASH))?;
     let written = write_and_flush(&mut writer, &composed.text);
     let output = writer.into_inner();
@@ -343,7 +321,7 @@ fn write_composed<R: Files<File = File> + Clock + Print + RandomSource + AllocGl
 }
 
 /// Writes a text of the sum of inputs: to the file `to`, or to standard output if there is none. Inputs that cannot be
-/// read are reported and left out, or the first of them ends it. `Usage` comes only for a mistake on the command line.
+/// read are reported and left out, or the first of them ends it.
 pub fn write_sum<
     R: Files<File = File>
         + Clock
@@ -359,9 +337,7 @@ pub fn write_sum<
     inputs: &Inputs<'_>,
     text: Text<'_>,
     to: Option<&str>,
-) -> Result<(), Failure>
-    ensures { IfErr result UsageIsMistake }
-{
+) -> Result<(), Failure> {
     let names = names_of(context, inputs)?;
     let composed = compose(context, inputs, &names, text)?;
     write_composed(context, composed, to)
@@ -375,8 +351,7 @@ fn source_in<'a>(text: Text<'a>) -> TextSource<'a> {
     }
 }
 
-/// Writes a text of the totals that a reader has left, as that of a sum. `Usage` comes only for a mistake on the
-/// command line.
+/// Writes a text of the totals that a reader has left, as that of a sum.
 pub fn write_totals<
     R: Files<File = File> + Clock + Print + RandomSource + AllocGlobal,
     I: Read + Drop,
@@ -387,7 +362,6 @@ pub fn write_totals<
     to: Option<&str>,
 ) -> Result<(), Failure>
     requires { has_failed reader ≡ false }
-    ensures { IfErr result UsageIsMistake }
 {
     let mut sums = Sums::new(context.alloc());
     let added = add_from(context.alloc(), &mut sums, InputKind::Totals, &mut reader);

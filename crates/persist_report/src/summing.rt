@@ -15,7 +15,7 @@ use crate::recorded::add_recorded;
 use fault_texts::Origin;
 use persist_report_core::{CliFault, read_input};
 use reading_sums::Sums;
-use report_requests::DASH;
+use report_asks::DASH;
 use segment_image::{Watched, read_bytes};
 use std::alloc::Global;
 use std::fs::File;

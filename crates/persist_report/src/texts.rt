@@ -1,8 +1,7 @@
 //! The commands that write a text of an image: to standard output, or to a file that is replaced when the text is
 //! complete.
 
-ghost use Rattle.std.specs.Prelude.{◌≡◌, false, IfErr};
-ghost use Rattle.persist_report.specs.Failure.{UsageIsMistake};
+ghost use Rattle.std.specs.Prelude.{◌≡◌, false};
 ghost use Rattle.segment_image.specs.Watched.{has_failed};
 
 use crate::cause::Cause;
@@ -19,7 +18,7 @@ use crate::sum_writing::{Text, write_sum, write_totals};
 use persist_report_core::CliFault;
 use reading_shows::{Form, write_text};
 use reading_texts::{Label, are_line_labels, is_prefix};
-use report_requests::{Inputs, no_labels, no_prefix};
+use report_asks::{Inputs, Wrong};
 use std::alloc::{AllocError, Global};
 use std::fs::File;
 use std::io::Read;
@@ -31,16 +30,14 @@ use std::time::Clock;
 use sum_commands::InputKind;
 
 /// Ends the output of a text with how its writing ended, and what is wrong with what was read: a file is replaced if
-/// the text is complete. `Usage` comes only for a mistake on the command line.
+/// the text is complete.
 pub fn end_text<'a, R: Files<File = File> + AllocGlobal, I: Drop, P: Drop>(
     context: &Context<'_, R>,
     reader: Stream<'a, I>,
     writer: Stream<'a, Output<File, P>>,
     written: Result<(), CliFault>,
     found: Result<(), CliFault>,
-) -> Result<(), Failure>
-    ensures { IfErr result UsageIsMistake }
-{
+) -> Result<(), Failure> {
     let (input, output) = (reader.into_inner(), writer.into_inner());
     let (place, reason) = (output.origin(), output.reason());
     let cause = match (output.into_inner().end(context.rt, written), found) {
@@ -70,7 +67,6 @@ fn write_to<'a, R: Files<File = File> + Clock + Print + RandomSource + AllocGlob
     to: &'a str,
 ) -> Result<(), Failure>
     requires { has_failed reader ≡ false }
-    ensures { IfErr result UsageIsMistake }
 {
     let mut writer = open_out(context, to)?;
     let (written, found) = match write_text(context.alloc(), form, &mut reader, &mut writer) {
@@ -86,7 +82,6 @@ fn write_to<'a, R: Files<File = File> + Clock + Print + RandomSource + AllocGlob
 /// Writes a text of the one image that is named, or of that on standard input if no file is named, or `-`, or of the
 /// sum of all inputs: to the file `to`, or to standard output if there is none. If no file is named and standard input
 /// is a terminal, a line on the error stream reports this. What is wrong with what was read comes after the text.
-/// `Usage` comes only for a mistake on the command line.
 pub fn write_inputs<
     'a,
     R: Files<File = File>
@@ -103,9 +98,7 @@ pub fn write_inputs<
     inputs: &Inputs<'a>,
     text: Text<'_>,
     to: Option<&'a str>,
-) -> Result<(), Failure>
-    ensures { IfErr result UsageIsMistake }
-{
+) -> Result<(), Failure> {
     if is_of_many(context.rt, inputs) {
         return write_sum(context, inputs, text, to);
     }
@@ -141,8 +134,7 @@ fn labels_of<'a>(alloc: Global, words: &[&'a str]) -> Result<Option<Vec<Label<'a
 }
 
 /// Writes the metrics of an image, if their names may begin with the prefix, and all lines may have these labels, each
-/// given as KEY=VALUE; with a family for each histogram if that is asked for. `Usage` comes only for a mistake on
-/// the command line.
+/// given as KEY=VALUE; with a family for each histogram if that is asked for.
 pub fn write_export<
     'a,
     R: Files<File = File>
@@ -161,11 +153,9 @@ pub fn write_export<
     words: &[&str],
     has_families: bool,
     to: Option<&'a str>,
-) -> Result<(), Failure>
-    ensures { IfErr result UsageIsMistake }
-{
+) -> Result<(), Failure> {
     if !is_prefix(prefix.as_bytes()) {
-        return Err(Failure::Usage(no_prefix(context.alloc())?));
+        return Err(Failure::Usage(Wrong::NoPrefix));
     }
     match labels_of(context.alloc(), words)? {
         Some(labels) if are_line_labels(&labels) => {
@@ -177,6 +167,6 @@ pub fn write_export<
             };
             write_inputs(context, inputs, text, to)
         }
-        _ => Err(Failure::Usage(no_labels(context.alloc())?)),
+        _ => Err(Failure::Usage(Wrong::NoLabels)),
     }
 }

@@ -1,13 +1,10 @@
 -- Where a command line may name `-`: it is standard input as an input, and standard output as OUT.
-use Rattle.std.specs.Prelude.{◌≡◌, ◌≢◌, ◌⊎◌, ⊤, ℕ, List, codes}
-use Rattle.clap.specs.declared.error.kind.ErrorKind.{ErrorKind}
-use Rattle.clap.specs.declared.error.kind.ErrorKind.TheVariants.{ArgumentConflict, OutOfMemory}
+use Rattle.std.specs.Prelude.{◌≡◌, ◌≢◌, ◌⊎◌, ⊤}
+use Rattle.report_asks.specs.Inputs.{dash}
+use Rattle.report_asks.specs.declared.wrong.Wrong.{Wrong}
+use Rattle.report_asks.specs.declared.wrong.Wrong.TheVariants.{NoFile, TwoInputs, TwoOutputs}
 use Rattle.report_requests.specs.declared.task.Task.{Task}
 use Rattle.report_requests.specs.declared.task.Task.TheVariants.{Report, Export, Info, Show, Run, Resume, Merge, Look, Fold, Extract, Size, Scale, Explain}
-
--- the path that is standard input, or standard output
-abbrev pub dash : List ℕ
-dash = codes "-"
 
 -- whether a task names `-` only where it may: not as OUT if it also writes a report, not as two inputs, and not as a file that is read
 -- three times. Commands that write a text read standard input if no file or `-` is named.
@@ -26,6 +23,19 @@ DashesFit (Size task) = ⊤
 DashesFit (Scale name scale) = ⊤
 DashesFit (Explain name) = ⊤
 
--- what an error is about: arguments that do not go together, or memory that ran out
-abbrev pub IsConflictOrNoMemory : ErrorKind → Type 0
-IsConflictOrNoMemory kind = (kind ≡ ArgumentConflict) ⊎ (kind ≡ OutOfMemory)
+-- where a task names `-` that it may not, and which mistake that is
+abbrev pub IsDashMistake : Task → Wrong → Type 0
+IsDashMistake (Run script out workers) wrong = (out.now ≡ dash) × (wrong ≡ TwoOutputs)
+IsDashMistake (Resume base script out workers) wrong =
+    ((out.now ≡ dash) × (wrong ≡ TwoOutputs)) ⊎ ((base.now ≡ dash) × (script.now ≡ dash) × (wrong ≡ TwoInputs))
+IsDashMistake (Merge base dead out) wrong = (base.now ≡ dash) × (dead.now ≡ dash) × (wrong ≡ TwoInputs)
+IsDashMistake (Look file at out) wrong = (file.now ≡ dash) × (wrong ≡ NoFile)
+IsDashMistake (Report rows to) wrong = ⊥
+IsDashMistake (Export prefix labels families to) wrong = ⊥
+IsDashMistake (Info file human) wrong = ⊥
+IsDashMistake (Show file names part style list page to) wrong = ⊥
+IsDashMistake (Fold folder) wrong = ⊥
+IsDashMistake (Extract file out nth) wrong = ⊥
+IsDashMistake (Size task) wrong = ⊥
+IsDashMistake (Scale name scale) wrong = ⊥
+IsDashMistake (Explain name) wrong = ⊥

@@ -1,2 +1,2 @@
 pub mod Dashes
-pub mod Inputs
+pub mod Mistakes

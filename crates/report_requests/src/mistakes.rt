@@ -1,67 +1,45 @@
-//! What is wrong with a command line whose words `clap` takes.
+//! The parser's errors for what is wrong with a command line whose words it takes.
 
 ghost use Rattle.std.specs.Prelude.{◌≡◌, IfOk};
 ghost use Rattle.clap.specs.Words.{kind_of};
+ghost use Rattle.report_requests.specs.Mistakes.{IsMistake, mistake_kind};
 
 use crate::command::command;
-use clap::Error;
+use crate::size::size_command;
 use clap::error::ErrorKind;
+use clap::{Command, Error};
+use report_asks::Wrong;
 use std::alloc::{AllocError, Global};
 
-/// Returns what is wrong with a command line in which an argument is not UTF-8 text: a mistake in a value. The one
-/// error is that memory runs out.
-pub fn not_text(alloc: Global) -> Result<Error, AllocError>
-    ensures { IfOk result (λ error. kind_of error ≡ ErrorKind.ValueValidation) }
+// The kind of the error for a mistake: one in what goes together, or one in a value.
+fn mistake_kind(wrong: Wrong) -> ErrorKind
+    ensures kind { result ≡ mistake_kind wrong }
+    ensures mistake { IsMistake result }
 {
-    command(alloc)?.error(
-        ErrorKind::ValueValidation,
-        "invalid UTF-8 was detected in one or more arguments",
-    )
-}
-
-/// Returns what is wrong with a command line that asks for a fault that does not exist: a wrong value. It names the
-/// fault that was meant, if one is like it. The only error is that memory runs out.
-pub fn no_fault(alloc: Global, nearest: Option<&str>) -> Result<Error, AllocError>
-    ensures { IfOk result (λ error. kind_of error ≡ ErrorKind.InvalidValue) }
-{
-    let mut message = String::from_str(alloc, "no fault has this name")?;
-    if let Some(name) = nearest {
-        message.push_str("; did you mean ")?;
-        message.push_str(name)?;
-        message.push_str("?")?;
+    match wrong {
+        Wrong::TwoInputs | Wrong::TwoOutputs | Wrong::NoFile => ErrorKind::ArgumentConflict,
+        Wrong::NoOverview => ErrorKind::ArgumentConflict,
+        Wrong::NoFault(_) => ErrorKind::InvalidValue,
+        Wrong::NotText | Wrong::NoPrefix | Wrong::NoLabels => ErrorKind::ValueValidation,
+        Wrong::NoPage | Wrong::NoHist => ErrorKind::ValueValidation,
     }
-    command(alloc)?.error(ErrorKind::InvalidValue, message.as_str())
 }
 
-/// Returns what is wrong with a command line whose prefix is invalid: a mistake in a value. The only error is that
-/// memory runs out.
-pub fn no_prefix(alloc: Global) -> Result<Error, AllocError>
-    ensures { IfOk result (λ error. kind_of error ≡ ErrorKind.ValueValidation) }
-{
-    command(alloc)?.error(
-        ErrorKind::ValueValidation,
-        "a prefix has letters, digits and _ alone, and no digit first",
-    )
+// The command whose usage the text has.
+fn command_of<'a>(alloc: Global, wrong: Wrong) -> Result<Command<'a>, AllocError> {
+    match wrong {
+        Wrong::NoPage | Wrong::NoHist => size_command(alloc),
+        _ => command(alloc),
+    }
 }
 
-/// Returns what is wrong with a command line that asks for the overview of a sum, which has no header: a mistake in
-/// what goes together. The only error is that memory runs out.
-pub fn no_overview(alloc: Global) -> Result<Error, AllocError>
-    ensures { IfOk result (λ error. kind_of error ≡ ErrorKind.ArgumentConflict) }
+/// Returns the parser's error for a mistake, with the text of that and the usage. Its kind is that of the mistake
+/// [kind]: never help, the version or out of memory [mistake]. The only error is that memory runs out.
+pub fn error_of(alloc: Global, wrong: Wrong) -> Result<Error, AllocError>
+    ensures kind { IfOk result (λ error. kind_of error ≡ mistake_kind wrong) }
+    ensures mistake { IfOk result (λ error. IsMistake (kind_of error)) }
 {
-    command(alloc)?.error(
-        ErrorKind::ArgumentConflict,
-        "an overview is of one image, and not of a sum",
-    )
-}
-
-/// Returns what is wrong with a command line whose labels no line may have: a mistake in a value. The only error is
-/// that memory runs out.
-pub fn no_labels(alloc: Global) -> Result<Error, AllocError>
-    ensures { IfOk result (λ error. kind_of error ≡ ErrorKind.ValueValidation) }
-{
-    command(alloc)?.error(
-        ErrorKind::ValueValidation,
-        "a label is KEY=VALUE: KEY has letters, digits and _ alone, no digit first, no __, is none of le, name, value, kind, histogram and flag, and comes once; VALUE is not empty",
-    )
+    let message: String = format!(in alloc; "{wrong}")?;
+    let error = command_of(alloc, wrong)?.error(mistake_kind(wrong), message.as_str())?;
+    Ok(error)
 }

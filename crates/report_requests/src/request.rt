@@ -1,15 +1,16 @@
 //! What the program is asked to do.
 
+ghost use Rattle.std.specs.Prelude.{IfErr};
+ghost use Rattle.report_requests.specs.Mistakes.{HasItsKind};
+
 use crate::command::command;
 use crate::explain::explain_task;
 use crate::export::export_task;
 use crate::extract::extract_task;
 use crate::fold::fold_task;
 use crate::info::info_task;
-use crate::inputs::Inputs;
 use crate::look::look_task;
 use crate::merge::merge_task;
-use crate::repeat::Repeat;
 use crate::report::report_task;
 use crate::resume::resume_task;
 use crate::run::run_task;
@@ -19,8 +20,10 @@ use crate::size::size_task;
 use crate::sum_options::inputs_found;
 use crate::task::Task;
 use crate::text_options::repeat_found;
+use crate::unasked::Unasked;
+use clap::ArgMatches;
 use clap::error::ErrorKind;
-use clap::{ArgMatches, Error};
+use report_asks::{Inputs, Repeat};
 use std::alloc::{AllocError, Global};
 use std::convert::AsStr;
 
@@ -86,8 +89,11 @@ impl<'a> Request<'a> {
     /// Returns what a command line asks for, whose first word is the program's name. A line of a text has `columns`
     /// columns, unless the words say how many.
     ///
-    /// The error says what is wrong with the words, or has the help or the version that they ask for.
-    pub fn of<S: AsStr>(alloc: Global, words: &'a [S], columns: u16) -> Result<Request<'a>, Error> {
+    /// The error is `Mistake` for a mistake in the words, `Help` if they ask for the help or the version, and else
+    /// `NoMemory`.
+    pub fn of<S: AsStr>(alloc: Global, words: &'a [S], columns: u16) -> Result<Request<'a>, Unasked>
+        ensures { IfErr result HasItsKind }
+    {
         let mut command = command(alloc)?;
         let matches = command.try_get_matches_from_mut(words)?;
         if let Some((name, found)) = matches.subcommand() {
@@ -104,6 +110,7 @@ impl<'a> Request<'a> {
                 });
             }
         }
-        Err(command.error(ErrorKind::MissingSubcommand, "a subcommand is required")?)
+        let missing = command.error(ErrorKind::MissingSubcommand, "a subcommand is required")?;
+        Err(Unasked::Mistake(missing))
     }
 }

@@ -3,8 +3,8 @@
 use crate::arguments::{command_with, explain_flag, file};
 use crate::run::workers_option;
 use crate::task::Task;
-use crate::workers::Workers;
 use clap::{ArgMatches, Command};
+use report_asks::Workers;
 use std::alloc::{AllocError, Global};
 
 // What the command does.

@@ -2,8 +2,8 @@
 
 use crate::arguments::{command_with, explain_flag, file, option};
 use crate::task::Task;
-use crate::workers::Workers;
 use clap::{Arg, ArgMatches, Command, value_parser};
+use report_asks::Workers;
 use std::alloc::{AllocError, Global};
 
 // What the command does.

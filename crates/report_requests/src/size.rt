@@ -1,11 +1,7 @@
 //! The command `size`.
 
-ghost use Rattle.std.specs.Prelude.{◌≡◌, IfOk};
-ghost use Rattle.clap.specs.Words.{kind_of};
-
 use crate::arguments::{command_with, explain_flag, option, put};
-use clap::error::ErrorKind;
-use clap::{Arg, ArgAction, ArgMatches, Command, Error, value_parser};
+use clap::{Arg, ArgAction, ArgMatches, Command, value_parser};
 use segment_image::layout::{MAX_PAGE, MAX_SIZE, MIN_PAGE};
 use std::alloc::{AllocError, Global};
 
@@ -94,26 +90,4 @@ pub fn size_task<'a>(alloc: Global, size: &ArgMatches<'a>) -> Result<SizeTask<'a
         page: size.get_one::<u64>("page"),
         values: size.get_one::<u64>("values"),
     })
-}
-
-/// Returns what is wrong with a command line whose page is invalid: a mistake in a value. The only error is that memory
-/// runs out.
-pub fn no_page(alloc: Global) -> Result<Error, AllocError>
-    ensures { IfOk result (λ error. kind_of error ≡ ErrorKind.ValueValidation) }
-{
-    size_command(alloc)?.error(
-        ErrorKind::ValueValidation,
-        "a page has a multiple of 16 words",
-    )
-}
-
-/// Returns what is wrong with a command line that names no histogram: a mistake in a value. The only error is that
-/// memory runs out.
-pub fn no_hist(alloc: Global) -> Result<Error, AllocError>
-    ensures { IfOk result (λ error. kind_of error ≡ ErrorKind.ValueValidation) }
-{
-    size_command(alloc)?.error(
-        ErrorKind::ValueValidation,
-        "a histogram is NAME,linear,MIN,MAX,BUCKETS or NAME,boolean or NAME,custom,VALUE,.. or NAME,sparse",
-    )
 }

@@ -1,9 +1,8 @@
 //! The arguments of the commands that write a text of a sum.
 
 use crate::arguments::{flag, option, put};
-use crate::inputs::Inputs;
-use crate::workers::Workers;
 use clap::{Arg, ArgAction, ArgMatches, value_parser};
+use report_asks::{Inputs, Workers};
 use std::alloc::{AllocError, Global};
 
 /// The images that are read.

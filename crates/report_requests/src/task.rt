@@ -3,7 +3,7 @@
 use crate::nth::Nth;
 use crate::scale::Scale;
 use crate::size::SizeTask;
-use crate::workers::Workers;
+use report_asks::Workers;
 use text_styles::{ListStyle, Style};
 
 /// What a command does. The image in `file` is that on standard input if there is no file. A text goes to the file

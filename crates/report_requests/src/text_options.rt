@@ -1,8 +1,8 @@
 //! The options of the commands that write a text.
 
 use crate::arguments::{flag, option, put};
-use crate::repeat::Repeat;
 use clap::{Arg, ArgMatches, value_parser};
+use report_asks::Repeat;
 use std::alloc::{AllocError, Global};
 
 /// The file that a text is written to.

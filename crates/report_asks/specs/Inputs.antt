@@ -1,7 +1,10 @@
 -- What a command that writes a text reads.
-use Rattle.std.specs.Prelude.{◌≡◌, ◌<◌, ◌≤◌, ◌⊎◌, length, true, IsSome, IsNone, MatchOption}
-use Rattle.report_requests.specs.declared.inputs.Inputs.{Inputs}
-use Rattle.report_requests.specs.Dashes.{dash}
+use Rattle.std.specs.Prelude.{◌≡◌, ◌<◌, ◌≤◌, ◌⊎◌, ℕ, List, codes, length, true, IsSome, IsNone, MatchOption}
+use Rattle.report_asks.specs.declared.inputs.Inputs.{Inputs}
+
+-- the path that is standard input, or standard output
+abbrev pub dash : List ℕ
+dash = codes "-"
 
 -- whether one file or folder is read, or standard input: nothing else is named, and no list
 pub record AreOne (inputs : Inputs) : Type 0 where

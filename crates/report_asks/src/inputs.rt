@@ -1,11 +1,12 @@
 //! What a command that writes a text reads.
 
 ghost use Rattle.std.specs.Prelude.{◌≡◌, ◌≤◌, ◌↔◌, true, slice_get, MatchOption};
-ghost use Rattle.report_requests.specs.Dashes.{dash};
-ghost use Rattle.report_requests.specs.Inputs.{AreOne, AskForSum, EarlierIsDash, ListIsDash};
+ghost use Rattle.report_asks.specs.Inputs.{AreOne, AskForSum, EarlierIsDash, ListIsDash, dash};
 
-use crate::dashes::DASH;
 use crate::workers::Workers;
+
+/// The name of standard input and, as OUT, of standard output.
+pub const DASH: &str = "-";
 
 /// What a command that writes a text reads.
 #[derive(Drop)]

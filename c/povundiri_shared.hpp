@@ -25,6 +25,7 @@
 #define POVUNDIRI_SHARED_HPP
 
 #include <array>
+#include <chrono>
 
 #include "povundiri.hpp"
 #include "povundiri_shared.h"
@@ -135,6 +136,12 @@ public:
         const Status status = recorders_[hist.at_].try_add(hist.hists_[hist.at_], value, count);
         return is_spent(status) ? try_later(status, hist, value, count) : status;
     }
+
+    // A time needs a unit, which a histogram does not have.
+    template <typename Ticks, typename Period>
+    bool add(SharedHist, std::chrono::duration<Ticks, Period>, std::uint32_t = 1) = delete;  // ticks<std::chrono::microseconds>(time)
+    template <typename Ticks, typename Period>
+    Status try_add(SharedHist, std::chrono::duration<Ticks, Period>, std::uint32_t = 1) = delete;  // ticks<std::chrono::microseconds>(time)
 
     // The histogram of a name, which is made in each memory where there is none. It is enough if one has it: of those that have no room for
     // it, that are marked as corrupt, or that have the name with another spec, the status of the first is returned only if none has it. On

@@ -23,7 +23,7 @@ int main(int count, char **words) {
     const struct povundiri_shape shape = {65536, 4096, 7, 0, 2};
     struct povundiri_handle segment = {0};
     struct povundiri_file file = {0};
-    struct povundiri_opened opened;
+    struct povundiri_opened opened = POVUNDIRI_OPENED;
     uint32_t status;
     if (count != 2) return 2;
     status = povundiri_open(words[1], shape, POVUNDIRI_ADOPT_OR_SET_ASIDE, NULL, &file, &segment, &opened);

@@ -16,7 +16,7 @@ Notes& open_notes() {  // in a mapped file, so that a kill leaves them
     void* const at = is_there ? mmap(nullptr, sizeof(Notes), PROT_READ | PROT_WRITE, MAP_SHARED, file, 0) : MAP_FAILED;
     return at == MAP_FAILED ? throw std::system_error(errno, std::generic_category(), "notes") : *static_cast<Notes*>(at);
 }
-void serve(povundiri::Metric gap, Notes& notes) {  // counts the nanoseconds from one call to the next
+void serve(povundiri::Timed<std::chrono::nanoseconds> gap, Notes& notes) {  // counts the times from one call to the next
     for (auto now = Clock::now(), last = now;; last = now, now = Clock::now()) {
         ++notes.begun;
         if (gap.add(now - last)) ++notes.confirmed;
@@ -25,8 +25,8 @@ void serve(povundiri::Metric gap, Notes& notes) {  // counts the nanoseconds fro
 int main(int words, char**) try {
     Notes& notes = open_notes();
     povundiri::Recording recording("metrics");
-    const povundiri::Metric gap = recording.custom("gap_ns", {100, 200, 500, 1'000, 10'000, 100'000, 1'000'000});
-    const std::string total = "gap_ns,total,", report = recording.report();
+    const auto gap = recording.scale<std::chrono::nanoseconds>("gap_ns{service=demo}", Clock::duration(16), Clock::duration(1'000'000), 1);
+    const std::string total = "gap_ns{service=demo},total,", report = recording.report();
     const Number has = std::stoull(report.substr(report.find(total) + total.size()));
     const Number starts = notes.starts, confirmed = notes.confirmed, begun = notes.begun;
     std::printf("start %llu: %llu samples confirmed <= %llu in the folder <= %llu begun\n", starts + 1, confirmed, has, begun);

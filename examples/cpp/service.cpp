@@ -1,4 +1,5 @@
-// A small service. Four threads answer requests and record how long each took, into a folder, until the service is ended or killed.
+// A small service. Four threads answer requests and record how long each took, by its route, into a folder, until the service is ended or
+// killed.
 // When it starts again, it continues with what the one before left, and says so. Whatever becomes of its figures, it goes on answering:
 //
 //   - where a segment is full, or has no units left, the next one is begun;
@@ -14,6 +15,7 @@
 //     ./service metrics & sleep 1; kill -9 $!
 //     ./service metrics latency.prom & sleep 2; kill $!
 
+#include <array>
 #include <atomic>
 #include <chrono>
 #include <csignal>
@@ -30,9 +32,12 @@
 
 namespace {
 
-using povundiri::Status;
-
 constexpr unsigned kThreads = 4;
+constexpr std::array<const char*, 3> kRoutes{"/", "/cart", "/item"};
+
+using namespace std::chrono_literals;
+using Clock = std::chrono::steady_clock;
+using Latency = povundiri::Family<povundiri::Timed<std::chrono::microseconds>>;
 
 std::atomic<bool> ends{false};
 std::atomic<std::uint64_t> served{0}, missed{0};
@@ -40,13 +45,13 @@ std::atomic<std::uint64_t> served{0}, missed{0};
 // Stands for work: it takes up to a millisecond.
 void answer_request(std::mt19937& chance) { std::this_thread::sleep_for(std::chrono::microseconds(chance() % 1000)); }
 
-void serve(povundiri::Metric latency, unsigned seed) {
+void serve(const Latency& latency, unsigned seed) {
     std::mt19937 chance(seed);
     while (!ends) {
-        const auto start = std::chrono::steady_clock::now();
+        const char* const route = kRoutes[chance() % kRoutes.size()];
+        const auto start = Clock::now();
         answer_request(chance);
-        const auto taken = std::chrono::duration_cast<std::chrono::microseconds>(std::chrono::steady_clock::now() - start);
-        if (!latency.add(taken)) ++missed;
+        if (!latency.with({route}).add(Clock::now() - start)) ++missed;
         ++served;
     }
 }
@@ -75,21 +80,22 @@ povundiri::Recording open_recording(const char* folder) {
     return recording;
 }
 
-povundiri::Metric latency_of(povundiri::Recording& recording) {
-    povundiri::Metric latency;
-    const Status status = recording.try_hist("latency_us", {POVUNDIRI_LINEAR, 1, 10'000, 20}, {}, latency);
-    if (status != Status::Done) std::fprintf(stderr, "latency_us is not recorded: %s\n", povundiri::text(status));
-    return latency;
+// A metric for each route. Where there is no recording, it is empty, and its metrics count nothing.
+Latency latency_of(povundiri::Recording& recording) try {
+    return recording.scale_family<std::chrono::microseconds>("latency_us", {"route"}, 1us, 10s, 5, kRoutes.size());
+} catch (const std::exception& fault) {
+    std::fprintf(stderr, "latency_us is not recorded: %s\n", fault.what());
+    return {};
 }
 
 void run(const char* folder, const char* metrics) {
     povundiri::Recording recording = open_recording(folder);
-    const povundiri::Metric latency = latency_of(recording);
+    const Latency latency = latency_of(recording);
     std::fflush(stdout);
     std::vector<std::thread> threads;
     try {
         threads.reserve(kThreads + 1);
-        while (threads.size() < kThreads) threads.emplace_back(serve, latency, static_cast<unsigned>(threads.size()));
+        while (threads.size() < kThreads) threads.emplace_back(serve, std::cref(latency), static_cast<unsigned>(threads.size()));
         if (metrics != nullptr) threads.emplace_back(publish, std::ref(recording), metrics);
     } catch (const std::exception& fault) {
         std::fprintf(stderr, "%zu threads run: %s\n", threads.size(), fault.what());
